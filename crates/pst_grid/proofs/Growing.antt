@@ -1,0 +1,110 @@
+-- How many steps are made for the triples that are remembered.
+use Rattle.std.proofs.Common.{◌≡◌, ℕ, ◌+◌, ◌*◌, ◌<◌, ◌≤◌, List, [], ◌∷◌, ◌++◌, length, sum, get_or, Bool, true, false, ◌||◌, if◌then◌else◌, refl, sym, ap, subst, ◌∙◌, arith, true≢false, append_assoc, length-append, map}
+use Rattle.std.specs.List.{list_any, IsDistinct, AllByRecursion}
+use Rattle.std.proofs.lemmas.List.{length-map}
+use Rattle.pst_grid.specs.Bounds.{HasNoRepeats, IsBounded, Each, Leads}
+use Rattle.pst_grid.specs.Merges.{one_more, none_done}
+use Rattle.pst_grid.specs.Remembered.{IsReached, IsGrown}
+use Rattle.pst_grid.specs.declared.position.Position.{Position}
+use Rattle.pst_grid.specs.declared.answer.Turn.{Turn}
+use Rattle.pst_grid.specs.declared.answer.Turn.TheVariants.{Next}
+use Rattle.pst_grid.proofs.Remembering.{Each-map, Each-append}
+
+append-nil : {K : Type 0} (xs : List K) → xs ++ [] ≡ xs
+append-nil [] = refl
+append-nil (x ∷ xs) = ap (λ ys. x ∷ ys) (append-nil xs)
+
+-- none of a joined list passes a test that none of the parts passes
+none-append : (K : Type 0) (test : K → Bool) (ks ls : List K) → list_any test ks ≡ false → Each (λ k. test k ≡ false) ls → list_any test (ks ++ ls) ≡ false
+none-append K test [] [] e h = refl
+none-append K test [] (l ∷ ls) e h = ap (λ b. b || list_any test ls) h.0 ∙ none-append K test [] ls refl h.1
+none-append K test (k ∷ ks) ls e h = by (test k) refl (λ f. none-append K test ks ls f h)
+  where
+    by : (b : Bool) → test k ≡ b → (list_any test ks ≡ false → list_any test (ks ++ ls) ≡ false) → list_any test ((k ∷ ks) ++ ls) ≡ false
+    by true f rest = absurd (true≢false (sym (ap (λ b. b || list_any test ks) f) ∙ e))
+    by false f rest = ap (λ b. b || list_any test (ks ++ ls)) f ∙ rest (sym (ap (λ b. b || list_any test ks) f) ∙ e)
+
+module _ {S F : Type 0} (turn : S → ℕ → ℕ → Turn S F) (lengths : List ℕ) where
+  module _ (n : ℕ) (done : List ℕ) (state : S) where
+    pub grown-none : (keys : List (Position S)) (i s t : ℕ) → t ≤ s + i → IsGrown turn lengths i n done state keys keys s t
+    grown-none keys i s t h = record { added = []; keys = sym (append-nil keys); reached = tt; deep = tt; steps = omega arith }
+
+    pub grown-more : (i : ℕ) (a b c : List (Position S)) (s t u : ℕ) → IsGrown turn lengths i n done state a b s t → IsGrown turn lengths 1 n done state b c t u
+        → IsGrown turn lengths (i + 1) n done state a c s u
+    grown-more i a b c s t u p q = record {
+      added = p.added ++ q.added;
+      keys = q.keys ∙ ap (λ ks. ks ++ q.added) p.keys ∙ append_assoc a p.added q.added;
+      reached = Each-append (IsReached turn lengths done state) p.added q.added p.reached q.reached;
+      deep = Each-append (λ k. n ≤ sum k.done.items) p.added q.added p.deep q.deep;
+      steps = let e = length-append p.added q.added in let x = p.steps in let y = q.steps in
+          let z : length lengths * length (p.added ++ q.added) ≡ length lengths * length p.added + length lengths * length q.added = ap (λ k. length lengths * k) e ∙ (omega arith) in omega arith;
+    }
+
+  -- behind a true event
+  pub grown-behind : (done : List ℕ) (state : S) (b : ℕ) (next : S) (there : List ℕ) (old new : List (Position S)) (s t u : ℕ) → get_or done b 0 < get_or lengths b 0 → turn state b (get_or done b 0) ≡ Next next
+      → there ≡ one_more done b → sum (one_more done b) ≡ sum done + 1 → t ≤ s + 1
+      → IsGrown turn lengths 0 (sum there) there next old new t u → IsGrown turn lengths 1 (sum done + 1) done state old new s u
+  grown-behind done state b next there old new s t u left e d more h q =
+      let p = subst (λ x. IsGrown turn lengths 0 (sum x) x next old new t u) d q in
+      record {
+        added = p.added;
+        keys = p.keys;
+        reached = Each-map (IsReached turn lengths (one_more done b) next) (IsReached turn lengths done state) (λ k r. (b ∷ r.0, (left, (next, e, r.1)))) p.added p.reached;
+        deep = Each-map (λ k. sum (one_more done b) ≤ sum k.done.items) (λ k. sum done + 1 ≤ sum k.done.items) (λ k r. omega arith) p.added p.deep;
+        steps = let x = p.steps in omega arith;
+      }
+
+  -- the position itself, which is new
+  pub grown-insert : (done : List ℕ) (state : S) (i : ℕ) (old now new : List (Position S)) (s t : ℕ) (k : Position S) (test : Position S → Bool) → i ≤ length lengths
+      → IsGrown turn lengths i (sum done + 1) done state old now s t → k.done.items ≡ done → k.state ≡ state
+      → list_any test old ≡ false → ((l : Position S) → test l ≡ true → l.done.items ≡ done) → new ≡ (if list_any test now then now else now ++ k ∷ [])
+      → IsGrown turn lengths 0 (sum done) done state old new s t
+  grown-insert done state i old now new s t k test h p d e absent same is = record {
+    added = p.added ++ k ∷ [];
+    keys = is ∙ ap (λ b. if b then now else now ++ k ∷ []) not_there ∙ ap (λ ks. ks ++ k ∷ []) p.keys ∙ append_assoc old p.added (k ∷ []);
+    reached = Each-append (IsReached turn lengths done state) p.added (k ∷ []) p.reached (([], (sym d, sym e)), tt);
+    deep = Each-append (λ l. sum done ≤ sum l.done.items) p.added (k ∷ []) (Each-map (λ l. sum done + 1 ≤ sum l.done.items) (λ l. sum done ≤ sum l.done.items) (λ l r. omega arith) p.added p.deep) (omega (arith, ap sum d), tt);
+    steps = let x = p.steps in let f = length-append p.added (k ∷ []) in
+        let z : length lengths * length (p.added ++ k ∷ []) ≡ length lengths * length p.added + length lengths = ap (λ n. length lengths * n) f ∙ (omega arith) in omega arith;
+  }
+    where
+      others : (l : Position S) → sum done + 1 ≤ sum l.done.items → test l ≡ false
+      others l r = by (test l) refl
+        where
+          by : (b : Bool) → test l ≡ b → test l ≡ false
+          by true f = absurd (let q = ap sum (same l f) in omega arith)
+          by false f = f
+
+      not_there : list_any test now ≡ false
+      not_there = ap (list_any test) p.keys ∙ none-append (Position S) test old p.added absent (Each-map (λ l. sum done + 1 ≤ sum l.done.items) (λ l. test l ≡ false) others p.added p.deep)
+
+-- the place and the state
+abbrev pub seen_as : {S : Type 0} → Position S → List ℕ × S
+seen_as k = (k.done.items, k.state)
+
+module _ {S : Type 0} (eq : Position S → Position S → Bool) (law : (a b : Position S) → a.done.items ≡ b.done.items → a.state ≡ b.state → eq a b ≡ true) where
+  others-differ : (k : Position S) (ks : List (Position S)) → AllByRecursion (λ l. eq k l ≡ false) ks → Each (λ p. seen_as k ≡ p → ⊥) (map seen_as ks)
+  others-differ k [] h = tt
+  others-differ k (l ∷ ks) h = ((λ e. true≢false (sym (law k l (ap (λ p. p.0) e) (ap (λ p. p.1) e)) ∙ h.0)), others-differ k ks h.1)
+
+  pub no-repeats : (ks : List (Position S)) → IsDistinct eq ks → HasNoRepeats (map seen_as ks)
+  unfolding IsDistinct
+  no-repeats [] h = tt
+  no-repeats (k ∷ ks) h = (others-differ k ks h.0, no-repeats ks h.1)
+
+Each-seen : {S : Type 0} (P : List ℕ × S → Type 0) (ks : List (Position S)) → Each (λ k. P (seen_as k)) ks → Each P (map seen_as ks)
+Each-seen P [] h = tt
+Each-seen P (k ∷ ks) h = (h.0, Each-seen P ks h.1)
+
+module _ {S F : Type 0} (turn : S → ℕ → ℕ → Turn S F) (lengths : List ℕ) where
+  pub bounded : (done : List ℕ) (start state : S) (old new : List (Position S)) (s t : ℕ) (eq : Position S → Position S → Bool)
+      → ((a b : Position S) → a.done.items ≡ b.done.items → a.state ≡ b.state → eq a b ≡ true) → IsDistinct eq new
+      → done ≡ none_done lengths → state ≡ start → old ≡ [] → s ≡ 0 → IsGrown turn lengths 0 (sum done) done state old new s t → IsBounded turn lengths start t
+  bounded done start state old new s t eq law distinct d e none zero_steps p =
+      let keys : new ≡ p.added = p.keys ∙ ap (λ ks. ks ++ p.added) none in
+      let reached = subst (λ n. Each (IsReached turn lengths (none_done lengths) n) p.added) e (subst (λ x. Each (IsReached turn lengths x state) p.added) d p.reached) in (
+        map seen_as p.added,
+        no-repeats eq law p.added (subst (IsDistinct eq) keys distinct),
+        Each-seen (λ q. (u : List ℕ) × Leads turn lengths (none_done lengths) start u q.0 q.1) p.added reached,
+        (let x = p.steps in let y = length-map p.added seen_as in let z = ap (λ n. length lengths * n) y in omega arith),
+      )

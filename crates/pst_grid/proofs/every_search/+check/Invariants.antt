@@ -1,0 +1,18 @@
+use Rattle.std.proofs.Common.{ℕ, ◌+◌, ◌-◌, ◌*◌, ◌<◌, slice_index, sum}
+use Rattle.pst_grid.proofs.Completing.{BeginsBelow}
+use Rattle.pst_grid.specs.Checked.{HasChecked}
+use Rattle.pst_grid.specs.Remembered.{IsGrown}
+use Rattle.pst_grid.proofs.every_search.+check.Given as goal
+
+abbrev pub decreases-check : goal.decreases-check
+decreases-check g l = 2 * (sum l.lengths.now - sum l.search.now.done.items) + 1
+
+abbrev pub decreases-check_branch : goal.decreases-check_branch
+decreases-check_branch g l = 2 * (sum l.lengths.now - sum l.search.now.done.items)
+
+abbrev pub invariant-check-loop-branch : goal.invariant-check-loop-branch
+invariant-check-loop-branch g l = record {
+  checked : HasChecked (g.S.Steps.turn l.steps) l.lengths l.position.state (BeginsBelow l.lengths l.initial.search.done.items l.branch) l.initial.search l.search l.seen.keys;
+  grown : IsGrown (g.S.Steps.turn l.steps) l.lengths l.branch (sum l.initial.search.done.items + 1) l.initial.search.done.items l.position.state l.initial.seen.keys l.seen.keys l.initial.search.steps l.search.steps;
+  some_left : (b : ℕ) × (slice_index l.initial.search.done.items b < slice_index l.lengths b);
+}

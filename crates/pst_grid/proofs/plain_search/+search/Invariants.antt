@@ -1,0 +1,16 @@
+use Rattle.std.proofs.Common.{ℕ, ◌+◌, ◌-◌, ◌*◌, ◌<◌, slice_index, sum}
+use Rattle.pst_grid.proofs.Completing.{BeginsBelow}
+use Rattle.pst_grid.specs.Covered.{HasCovered}
+use Rattle.pst_grid.proofs.plain_search.+search.Given as goal
+
+abbrev pub decreases-explore : goal.decreases-explore
+decreases-explore g l = 2 * (sum l.lengths.now - sum l.search.now.done.items) + 1
+
+abbrev pub decreases-visit : goal.decreases-visit
+decreases-visit g l = 2 * (sum l.lengths.now - sum l.search.now.done.items)
+
+abbrev pub invariant-explore-loop-branch : goal.invariant-explore-loop-branch
+invariant-explore-loop-branch g l = record {
+  covered : HasCovered (g.S.Steps.turn l.steps) l.state (BeginsBelow l.lengths l.initial.search.done.items l.branch) l.initial.search l.search;
+  some_left : (b : ℕ) × (slice_index l.initial.search.done.items b < slice_index l.lengths b);
+}

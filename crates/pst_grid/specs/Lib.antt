@@ -1,0 +1,10 @@
+-- what the public contracts cite
+pub mod Merges
+pub mod Turns
+pub mod Answers
+pub mod Bounds
+-- what the contracts within a search cite
+pub mod Completions
+pub mod Covered
+pub mod Remembered
+pub mod Checked

@@ -1,0 +1,165 @@
+//! The search for a merge that is not true to its end, which remembers the positions that it has searched from.
+ghost use Rattle.std.specs.Prelude.{◌≡◌, ℕ, ◌+◌, ◌-◌, ◌*◌, ◌++◌, ◌∷◌, ◌^◌, ◌<◌, ◌≤◌, length, sum, slice_index, IfOk, OnOk, MatchOption};
+ghost use Rattle.pst_grid.specs.Answers.{IsEveryAnswer};
+ghost use Rattle.pst_grid.specs.Bounds.{IsBounded};
+ghost use Rattle.pst_grid.specs.Checked.{IsChecked, AreAllTrue};
+ghost use Rattle.pst_grid.specs.Completions.{IsAt, Completes, Begins, fill_from};
+ghost use Rattle.pst_grid.specs.Merges.{one_more};
+ghost use Rattle.pst_grid.specs.Remembered.{IsGrown};
+ghost use Rattle.pst_grid.specs.Turns.{AreCommands};
+
+use crate::position::Position;
+use crate::search::{Search, is_done};
+use crate::{EveryAnswer, Steps, Turn, Why};
+use indexmap::IndexSet;
+use std::alloc::{AllocError, Global};
+
+/// A merge that is not true to its end: after `at` true events it stops.
+#[derive(Drop)]
+pub(crate) struct FailedMerge<F> {
+    pub word: Vec<usize>,
+    pub at: usize,
+    pub why: Why<F>,
+}
+
+/// The least merge behind a stop of a branch's next command.
+fn failed_merge<F: Drop>(
+    alloc: Global,
+    lengths: &[usize],
+    search: &Search<F>,
+    branch: usize,
+    why: Why<F>,
+) -> Result<FailedMerge<F>, AllocError>
+    requires branches { length search.now.done.items ≡ length lengths.now }
+    requires branch { branch < length search.now.done.items }
+    requires room { slice_index search.now.done.items branch + 1 < 2 ^ 64 }
+    ensures why { IfOk result (λ x. x.why ≡ why) }
+    ensures at { IfOk result (λ x. x.at ≡ length search.now.word.items) }
+    ensures word { IfOk result (λ x. x.word.items
+        ≡ search.now.word.items ++ branch ∷ fill_from 0 lengths.now (one_more search.now.done.items branch)) }
+{
+    Ok(FailedMerge {
+        word: search.least_merge(alloc, lengths, branch)?,
+        at: search.word.len(),
+        why,
+    })
+}
+
+/// Searches the completions of the word for the least that is not true to its end.
+#[cycle(check)]
+fn check<S: Steps>(
+    alloc: Global,
+    steps: &S,
+    lengths: &[usize],
+    search: &mut Search<S::Fault>,
+    seen: &mut IndexSet<Position<S::State>>,
+    state: S::State,
+) -> Result<Option<FailedMerge<S::Fault>>, AllocError>
+    requires place { IsAt lengths.now search.old.done.items }
+    requires state { S.is_state steps.now state }
+    requires commands { AreCommands (S.is_command steps.now) lengths.now }
+    requires all_true { AreAllTrue (S.turn steps.now) lengths.now seen.old.keys }
+    ensures grown { OnOk result (IsGrown (S.turn steps.now) lengths.now 0 (sum search.old.done.items)
+        search.old.done.items state seen.old.keys seen.new.keys search.old.steps search.new.steps) }
+    ensures checked { IfOk result (IsChecked (S.turn steps.now) lengths.now state
+        (Completes lengths.now search.old.done.items) search.old search.new seen.new.keys) }
+{
+    if is_done(lengths, &search.done) {
+        return Ok(None);
+    }
+    let position = Position {
+        done: search.done.to_vec(alloc)?,
+        state,
+    };
+    if seen.contains(&position) {
+        return Ok(None);
+    }
+    for branch in 0..lengths.len() {
+        match check_branch(alloc, steps, lengths, search, seen, &position.state, branch)? {
+            Some(failed) => {
+                seen.insert(position)?;
+                return Ok(Some(failed));
+            }
+            None => {}
+        }
+    }
+    seen.insert(position)?;
+    Ok(None)
+}
+
+/// Searches those completions of the word that begin with the branch.
+#[cycle(check)]
+fn check_branch<S: Steps>(
+    alloc: Global,
+    steps: &S,
+    lengths: &[usize],
+    search: &mut Search<S::Fault>,
+    seen: &mut IndexSet<Position<S::State>>,
+    state: &S::State,
+    branch: usize,
+) -> Result<Option<FailedMerge<S::Fault>>, AllocError>
+    requires place { IsAt lengths.now search.old.done.items }
+    requires state { S.is_state steps.now state.now }
+    requires commands { AreCommands (S.is_command steps.now) lengths.now }
+    requires branch { branch < length lengths.now }
+    requires all_true { AreAllTrue (S.turn steps.now) lengths.now seen.old.keys }
+    ensures grown { OnOk result (IsGrown (S.turn steps.now) lengths.now 1 (sum search.old.done.items + 1)
+        search.old.done.items state.now seen.old.keys seen.new.keys search.old.steps search.new.steps) }
+    ensures checked { IfOk result (IsChecked (S.turn steps.now) lengths.now state.now
+        (Begins lengths.now search.old.done.items branch) search.old search.new seen.new.keys) }
+{
+    let index = search.done[branch];
+    if index >= lengths[branch] {
+        return Ok(None);
+    }
+    search.steps = search.steps.saturating_add(1);
+    match steps.step(alloc, state, branch, index)? {
+        Turn::Next(next) => {
+            search.enter(lengths, branch)?;
+            match check(alloc, steps, lengths, search, seen, next)? {
+                Some(failed) => Ok(Some(failed)),
+                None => {
+                    search.leave(branch);
+                    Ok(None)
+                }
+            }
+        }
+        Turn::Stop(why) => Ok(Some(failed_merge(alloc, lengths, search, branch, why)?)),
+    }
+}
+
+/// What the search answers in the end.
+fn every_answer<F: Drop>(failed: Option<FailedMerge<F>>) -> EveryAnswer<F>
+    ensures { MatchOption failed (result ≡ EveryAnswer.All) (λ x. result ≡ EveryAnswer.Not x.word x.at x.why) }
+{
+    match failed {
+        Some(FailedMerge { word, at, why }) => EveryAnswer::Not { word, at, why },
+        None => EveryAnswer::All,
+    }
+}
+
+/// Whether all merges of branches of these lengths, from the state `start`, are true to their ends, or else the least
+/// that is not.
+///
+/// Branch `b` has `lengths[b]` commands. Merges are ordered as words of branch numbers. The number beside the answer is
+/// how many steps were made, up to `usize::MAX`: at most as many as there are branches for each place and state that is
+/// reached. `AllocError` where memory is refused.
+pub fn every<S: Steps>(
+    alloc: Global,
+    steps: &S,
+    lengths: &[usize],
+    start: &S::State,
+) -> Result<(EveryAnswer<S::Fault>, usize), AllocError>
+    requires state { S.is_state steps.now start.now }
+    requires commands { AreCommands (S.is_command steps.now) lengths.now }
+    ensures answer { IfOk result (λ r. IsEveryAnswer (S.turn steps.now) lengths.now start.now r.0) }
+    ensures bound { IfOk result (λ r. IsBounded (S.turn steps.now) lengths.now start.now r.1) }
+{
+    let mut search = Search::new(alloc, lengths)?;
+    let mut seen = IndexSet::new(alloc);
+    let first = steps.copy(alloc, start)?;
+    let failed = check(alloc, steps, lengths, &mut search, &mut seen, first)?;
+    // The length is not used: `len` says that the set has no repeats.
+    let _ = seen.len();
+    Ok((every_answer(failed), search.steps))
+}

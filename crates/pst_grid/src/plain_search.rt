@@ -1,0 +1,98 @@
+//! The search by plain backtracking, which remembers nothing.
+ghost use Rattle.std.specs.Prelude.{◌≡◌, ℕ, ◌+◌, ◌-◌, ◌*◌, ◌<◌, ◌≤◌, length, sum, slice_index, IfOk, OnOk, MatchBool, MatchOption};
+ghost use Rattle.pst_grid.specs.Answers.{IsAnswer};
+ghost use Rattle.pst_grid.specs.Completions.{IsAt, Completes, Begins};
+ghost use Rattle.pst_grid.specs.Covered.{IsExplored};
+ghost use Rattle.pst_grid.specs.Turns.{AreCommands};
+
+use crate::search::{Search, is_done};
+use crate::{SomeAnswer, Steps, Turn, Why};
+use std::alloc::{AllocError, Global};
+
+/// Searches the completions of the word. The answer is whether one is true to its end, which is then the word.
+#[cycle(search)]
+fn explore<S: Steps>(
+    alloc: Global,
+    steps: &S,
+    lengths: &[usize],
+    search: &mut Search<S::Fault>,
+    state: &S::State,
+) -> Result<bool, AllocError>
+    requires place { IsAt lengths.now search.old.done.items }
+    requires state { S.is_state steps.now state.now }
+    requires commands { AreCommands (S.is_command steps.now) lengths.now }
+    ensures { IfOk result (IsExplored (S.turn steps.now) state.now
+        (Completes lengths.now search.old.done.items) search.old search.new) }
+{
+    if is_done(lengths, &search.done) {
+        return Ok(true);
+    }
+    for branch in 0..lengths.len() {
+        if visit(alloc, steps, lengths, search, state, branch)? {
+            return Ok(true);
+        }
+    }
+    Ok(false)
+}
+
+/// Searches those completions of the word that begin with the branch.
+#[cycle(search)]
+fn visit<S: Steps>(
+    alloc: Global,
+    steps: &S,
+    lengths: &[usize],
+    search: &mut Search<S::Fault>,
+    state: &S::State,
+    branch: usize,
+) -> Result<bool, AllocError>
+    requires place { IsAt lengths.now search.old.done.items }
+    requires state { S.is_state steps.now state.now }
+    requires commands { AreCommands (S.is_command steps.now) lengths.now }
+    requires branch { branch < length lengths.now }
+    ensures { IfOk result (IsExplored (S.turn steps.now) state.now
+        (Begins lengths.now search.old.done.items branch) search.old search.new) }
+{
+    let index = search.done[branch];
+    if index >= lengths[branch] {
+        return Ok(false);
+    }
+    search.steps = search.steps.saturating_add(1);
+    match steps.step(alloc, state, branch, index)? {
+        Turn::Next(next) => {
+            search.enter(lengths, branch)?;
+            if explore(alloc, steps, lengths, search, &next)? {
+                return Ok(true);
+            }
+            search.leave(branch);
+            Ok(false)
+        }
+        Turn::Stop(Why::False) => {
+            search.note_false();
+            Ok(false)
+        }
+        Turn::Stop(Why::Fault(fault)) => {
+            search.note_fault(alloc, lengths, branch, fault)?;
+            Ok(false)
+        }
+    }
+}
+
+/// What [`crate::some`] answers, by plain backtracking: the number of steps has no bound but the number of merges, and
+/// each step is made anew wherever it is met. It is the slow program to compare with.
+///
+/// The number beside the answer is how many steps were made, up to `usize::MAX`. `AllocError` where memory is refused.
+pub fn some_plainly<S: Steps>(
+    alloc: Global,
+    steps: &S,
+    lengths: &[usize],
+    start: &S::State,
+) -> Result<(SomeAnswer<S::Fault>, usize), AllocError>
+    requires state { S.is_state steps.now start.now }
+    requires commands { AreCommands (S.is_command steps.now) lengths.now }
+    ensures { IfOk result (λ r. IsAnswer (S.turn steps.now) lengths.now start.now r.0) }
+{
+    let mut search = Search::new(alloc, lengths)?;
+    let found = explore(alloc, steps, lengths, &mut search, start)?;
+    let steps_made = search.steps;
+    Ok((search.into_answer(found), steps_made))
+}

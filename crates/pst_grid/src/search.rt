@@ -1,0 +1,201 @@
+//! Where a search stands and what it has seen, for each of the searches.
+ghost use Rattle.std.specs.Prelude.{◌≡◌, ◌+◌, ◌-◌, ◌*◌, ◌^◌, ◌++◌, ◌∷◌, [], ◌<◌, ◌≤◌, ℕ, length, take, max, sum, slice_index, slice_set, IfOk, OnOk, MatchBool, MatchOption, Some, None};
+ghost use Rattle.pst_grid.specs.Completions.{IsAt, fill_from};
+ghost use Rattle.pst_grid.specs.Merges.{one_more, none_done};
+
+use crate::SomeAnswer;
+use std::alloc::{AllocError, Global};
+
+/// A merge whose run faults, after `at` true events.
+#[derive(Drop)]
+pub(crate) struct FaultedMerge<F> {
+    pub word: Vec<usize>,
+    pub at: usize,
+    pub fault: F,
+}
+
+/// The least faulting merge so far, and the most events that a merge so far has true before its false one.
+#[derive(Drop)]
+pub(crate) struct Best<F> {
+    pub fault: Option<FaultedMerge<F>>,
+    pub far: usize,
+}
+
+/// Where a search stands, and what it has seen.
+#[derive(Drop)]
+pub(crate) struct Search<F> {
+    // How many commands of each branch are done, and the letters that led there.
+    pub done: Vec<usize>,
+    pub word: Vec<usize>,
+    pub best: Best<F>,
+    // How many steps were made.
+    pub steps: usize,
+}
+
+impl<F: Drop> Search<F> {
+    /// A search at the start of branches of these lengths, that has seen nothing.
+    pub(crate) fn new(alloc: Global, lengths: &[usize]) -> Result<Search<F>, AllocError>
+        ensures done { IfOk result (λ s. s.done.items ≡ none_done lengths.now) }
+        ensures place { IfOk result (λ s. IsAt lengths.now s.done.items) }
+        ensures depth { IfOk result (λ s. sum s.done.items ≡ length s.word.items) }
+        ensures word { IfOk result (λ s. s.word.items ≡ []) }
+        ensures fault { IfOk result (λ s. s.best.fault ≡ None) }
+        ensures far { IfOk result (λ s. s.best.far ≡ 0) }
+        ensures steps { IfOk result (λ s. s.steps ≡ 0) }
+    {
+        Ok(Search {
+            done: vec![in alloc; 0; lengths.len()]?,
+            word: Vec::new(alloc),
+            best: Best {
+                fault: None,
+                far: 0,
+            },
+            steps: 0,
+        })
+    }
+
+    /// Goes on by one command of a branch.
+    pub(crate) fn enter(&mut self, lengths: &[usize], branch: usize) -> Result<(), AllocError>
+        requires place { IsAt lengths.now self.old.done.items }
+        requires left { slice_index self.old.done.items branch < slice_index lengths.now branch }
+        ensures place { OnOk result (IsAt lengths.now self.new.done.items) }
+        ensures depth { OnOk result (sum self.old.done.items ≡ length self.old.word.items
+            → sum self.new.done.items ≡ length self.new.word.items) }
+        ensures fewer_left { OnOk result (2 * (sum lengths.now - sum self.new.done.items) + 1
+            < 2 * (sum lengths.now - sum self.old.done.items)) }
+        ensures done { OnOk result (self.new.done.items ≡ one_more self.old.done.items branch) }
+        ensures word { OnOk result (self.new.word.items ≡ self.old.word.items ++ branch ∷ []) }
+        ensures best { self.new.best ≡ self.old.best }
+        ensures steps { self.new.steps ≡ self.old.steps }
+    {
+        self.word.push(branch)?;
+        let index = self.done[branch];
+        let length = lengths[branch];
+        prove!(index < length);
+        self.done[branch] = index + 1;
+        Ok(())
+    }
+
+    /// Goes back by one command of a branch.
+    pub(crate) fn leave(&mut self, branch: usize)
+        requires branch { branch < length self.old.done.items }
+        requires done { 0 < slice_index self.old.done.items branch }
+        ensures done { self.new.done.items
+            ≡ slice_set self.old.done.items branch (slice_index self.old.done.items branch - 1) }
+        ensures word { self.new.word.items ≡ take (length self.old.word.items - 1) self.old.word.items }
+        ensures best { self.new.best ≡ self.old.best }
+        ensures steps { self.new.steps ≡ self.old.steps }
+    {
+        let _ = self.word.pop();
+        self.done[branch] -= 1;
+    }
+
+    /// Notes that the next event behind the word is false.
+    pub(crate) fn note_false(&mut self)
+        ensures done { self.new.done.items ≡ self.old.done.items }
+        ensures word { self.new.word.items ≡ self.old.word.items }
+        ensures fault { self.new.best.fault ≡ self.old.best.fault }
+        ensures steps { self.new.steps ≡ self.old.steps }
+        ensures far { self.new.best.far ≡ max self.old.best.far (length self.old.word.items) }
+    {
+        self.best.far = self.best.far.max(self.word.len());
+    }
+
+    /// Notes that a branch's next command faults behind the word, if it is the first fault.
+    pub(crate) fn note_fault(
+        &mut self,
+        alloc: Global,
+        lengths: &[usize],
+        branch: usize,
+        fault: F,
+    ) -> Result<(), AllocError>
+        requires branches { length self.old.done.items ≡ length lengths.now }
+        requires branch { branch < length self.old.done.items }
+        requires room { slice_index self.old.done.items branch + 1 < 2 ^ 64 }
+        ensures done { OnOk result (self.new.done.items ≡ self.old.done.items) }
+        ensures word { OnOk result (self.new.word.items ≡ self.old.word.items) }
+        ensures far { OnOk result (self.new.best.far ≡ self.old.best.far) }
+        ensures steps { self.new.steps ≡ self.old.steps }
+        ensures later { OnOk result (MatchOption self.old.best.fault (Unit {0}) (λ g. self.new.best.fault ≡ Some g)) }
+        ensures first { OnOk result (MatchOption self.old.best.fault (MatchOption self.new.best.fault ⊥
+            (λ g. (g.fault ≡ fault) × (g.at ≡ length self.old.word.items)
+            × (g.word.items ≡ self.old.word.items ++ branch ∷ fill_from 0 lengths.now (one_more self.old.done.items branch)))) (λ _. Unit {0})) }
+    {
+        if self.best.fault.is_none() {
+            self.best.fault = Some(FaultedMerge {
+                word: self.least_merge(alloc, lengths, branch)?,
+                at: self.word.len(),
+                fault,
+            });
+        }
+        Ok(())
+    }
+
+    /// The least merge that begins with the word and then the branch's next command.
+    pub(crate) fn least_merge(
+        &self,
+        alloc: Global,
+        lengths: &[usize],
+        branch: usize,
+    ) -> Result<Vec<usize>, AllocError>
+        requires branches { length self.now.done.items ≡ length lengths.now }
+        requires branch { branch < length self.now.done.items }
+        requires room { slice_index self.now.done.items branch + 1 < 2 ^ 64 }
+        ensures { IfOk result (λ v. v.items
+            ≡ self.now.word.items ++ branch ∷ fill_from 0 lengths.now (one_more self.now.done.items branch)) }
+    {
+        let mut word = self.word.to_vec(alloc)?;
+        word.push(branch)?;
+        let mut done = self.done.to_vec(alloc)?;
+        done[branch] += 1;
+        complete(lengths, &done, word)
+    }
+
+    /// What the search answers in the end: whether it found a merge that is true to its end, which is then its word.
+    pub(crate) fn into_answer(self, found: bool) -> SomeAnswer<F>
+        ensures { MatchBool found (result ≡ SomeAnswer.Found self.word)
+            (MatchOption self.best.fault (result ≡ SomeAnswer.Nothing self.best.far)
+            (λ f. result ≡ SomeAnswer.Faulted f.word f.at f.fault)) }
+    {
+        let Search { word, best, .. } = self;
+        if found {
+            return SomeAnswer::Found { word };
+        }
+        match best.fault {
+            Some(faulted) => SomeAnswer::Faulted {
+                word: faulted.word,
+                at: faulted.at,
+                fault: faulted.fault,
+            },
+            None => SomeAnswer::Nothing { far: best.far },
+        }
+    }
+}
+
+/// Whether no command is left.
+pub(crate) fn is_done(lengths: &[usize], done: &[usize]) -> bool
+    requires { length done.now ≡ length lengths.now }
+    ensures { MatchBool result ((b : ℕ) → slice_index lengths.now b ≤ slice_index done.now b)
+        ((b : ℕ) × (slice_index done.now b < slice_index lengths.now b)) }
+{
+    for branch in 0..lengths.len() {
+        if done[branch] < lengths[branch] {
+            return false;
+        }
+    }
+    true
+}
+
+/// The word, and behind it the commands that are left, branch by branch.
+fn complete(lengths: &[usize], done: &[usize], word: Vec<usize>) -> Result<Vec<usize>, AllocError>
+    requires { length done.now ≡ length lengths.now }
+    ensures { IfOk result (λ v. v.items ≡ word.items ++ fill_from 0 lengths.now done.now) }
+{
+    let mut whole = word;
+    for branch in 0..lengths.len() {
+        for _ in done[branch]..lengths[branch] {
+            whole.push(branch)?;
+        }
+    }
+    Ok(whole)
+}

@@ -1,0 +1,126 @@
+//! The search for a merge that is true to its end, which remembers the positions that it has searched from.
+ghost use Rattle.std.specs.Prelude.{◌≡◌, ℕ, ◌+◌, ◌-◌, ◌*◌, ◌<◌, ◌≤◌, length, sum, slice_index, IfOk, OnOk, MatchBool, MatchOption};
+ghost use Rattle.pst_grid.specs.Answers.{IsAnswer};
+ghost use Rattle.pst_grid.specs.Bounds.{IsBounded};
+ghost use Rattle.pst_grid.specs.Completions.{IsAt, Completes, Begins};
+ghost use Rattle.pst_grid.specs.Remembered.{AreAccounted, IsSearched, IsGrown};
+ghost use Rattle.pst_grid.specs.Turns.{AreCommands};
+
+use crate::position::Position;
+use crate::search::{Search, is_done};
+use crate::{SomeAnswer, Steps, Turn, Why};
+use indexmap::IndexSet;
+use std::alloc::{AllocError, Global};
+
+/// Searches the completions of the word. The answer is whether one is true to its end, which is then the word.
+#[cycle(search)]
+fn explore<S: Steps>(
+    alloc: Global,
+    steps: &S,
+    lengths: &[usize],
+    search: &mut Search<S::Fault>,
+    seen: &mut IndexSet<Position<S::State>>,
+    state: S::State,
+) -> Result<bool, AllocError>
+    requires place { IsAt lengths.now search.old.done.items }
+    requires depth { sum search.old.done.items ≡ length search.old.word.items }
+    requires state { S.is_state steps.now state }
+    requires commands { AreCommands (S.is_command steps.now) lengths.now }
+    requires accounted { AreAccounted (S.turn steps.now) lengths.now search.old.best seen.old.keys }
+    ensures grown { OnOk result (IsGrown (S.turn steps.now) lengths.now 0 (sum search.old.done.items)
+        search.old.done.items state seen.old.keys seen.new.keys search.old.steps search.new.steps) }
+    ensures searched { IfOk result (IsSearched (S.turn steps.now) lengths.now state
+        (Completes lengths.now search.old.done.items) search.old search.new seen.new.keys) }
+{
+    if is_done(lengths, &search.done) {
+        return Ok(true);
+    }
+    let position = Position {
+        done: search.done.to_vec(alloc)?,
+        state,
+    };
+    if seen.contains(&position) {
+        return Ok(false);
+    }
+    for branch in 0..lengths.len() {
+        if visit(alloc, steps, lengths, search, seen, &position.state, branch)? {
+            seen.insert(position)?;
+            return Ok(true);
+        }
+    }
+    seen.insert(position)?;
+    Ok(false)
+}
+
+/// Searches those completions of the word that begin with the branch.
+#[cycle(search)]
+fn visit<S: Steps>(
+    alloc: Global,
+    steps: &S,
+    lengths: &[usize],
+    search: &mut Search<S::Fault>,
+    seen: &mut IndexSet<Position<S::State>>,
+    state: &S::State,
+    branch: usize,
+) -> Result<bool, AllocError>
+    requires place { IsAt lengths.now search.old.done.items }
+    requires depth { sum search.old.done.items ≡ length search.old.word.items }
+    requires state { S.is_state steps.now state.now }
+    requires commands { AreCommands (S.is_command steps.now) lengths.now }
+    requires branch { branch < length lengths.now }
+    requires accounted { AreAccounted (S.turn steps.now) lengths.now search.old.best seen.old.keys }
+    ensures grown { OnOk result (IsGrown (S.turn steps.now) lengths.now 1 (sum search.old.done.items + 1)
+        search.old.done.items state.now seen.old.keys seen.new.keys search.old.steps search.new.steps) }
+    ensures searched { IfOk result (IsSearched (S.turn steps.now) lengths.now state.now
+        (Begins lengths.now search.old.done.items branch) search.old search.new seen.new.keys) }
+{
+    let index = search.done[branch];
+    if index >= lengths[branch] {
+        return Ok(false);
+    }
+    search.steps = search.steps.saturating_add(1);
+    match steps.step(alloc, state, branch, index)? {
+        Turn::Next(next) => {
+            search.enter(lengths, branch)?;
+            if explore(alloc, steps, lengths, search, seen, next)? {
+                return Ok(true);
+            }
+            search.leave(branch);
+            Ok(false)
+        }
+        Turn::Stop(Why::False) => {
+            search.note_false();
+            Ok(false)
+        }
+        Turn::Stop(Why::Fault(fault)) => {
+            search.note_fault(alloc, lengths, branch, fault)?;
+            Ok(false)
+        }
+    }
+}
+
+/// Searches all merges of branches of these lengths, from the state `start`, for the least that is true to its end.
+///
+/// Branch `b` has `lengths[b]` commands. Merges are ordered as words of branch numbers. The number beside the answer is
+/// how many steps were made, up to `usize::MAX`: at most as many as there are branches for each place and state that is
+/// reached. `AllocError` where memory is refused.
+pub fn some<S: Steps>(
+    alloc: Global,
+    steps: &S,
+    lengths: &[usize],
+    start: &S::State,
+) -> Result<(SomeAnswer<S::Fault>, usize), AllocError>
+    requires state { S.is_state steps.now start.now }
+    requires commands { AreCommands (S.is_command steps.now) lengths.now }
+    ensures answer { IfOk result (λ r. IsAnswer (S.turn steps.now) lengths.now start.now r.0) }
+    ensures bound { IfOk result (λ r. IsBounded (S.turn steps.now) lengths.now start.now r.1) }
+{
+    let mut search = Search::new(alloc, lengths)?;
+    let mut seen = IndexSet::new(alloc);
+    let first = steps.copy(alloc, start)?;
+    let found = explore(alloc, steps, lengths, &mut search, &mut seen, first)?;
+    // The length is not used: `len` says that the set has no repeats.
+    let _ = seen.len();
+    let steps_made = search.steps;
+    Ok((search.into_answer(found), steps_made))
+}

@@ -1,0 +1,47 @@
+//! The system that a search steps through.
+ghost use Rattle.std.specs.Prelude.{◌≡◌, ℕ, IfOk, true};
+ghost use Rattle.pst_grid.specs.declared.answer.Turn.{Turn};
+ghost use Rattle.pst_grid.specs.Turns.{OnNext};
+
+use crate::Turn;
+use std::alloc::{AllocError, Global};
+use std::hash::Hash;
+
+/// States, and a step of each command of each branch from a state. A step is a function of its arguments.
+pub trait Steps {
+    /// A state: plain data, of which `==` tells apart all that differ.
+    type State: Eq + Hash + Drop;
+
+    /// Why an event faults.
+    type Fault: Drop;
+
+    // The states that a step may be asked from.
+    ghost is_state: { Self → Self.State → Type 0 };
+
+    // The commands that a step may be asked for, by branch and index.
+    ghost is_command: { Self → ℕ → ℕ → Type 0 };
+
+    // What the step of a branch's command, by its index, answers from a state.
+    ghost turn: { Self → Self.State → ℕ → ℕ → Turn Self.State Self.Fault };
+
+    /// The step of the command `index` (from 0) of the branch `branch` (from 0), from this state.
+    /// `AllocError` where memory is refused.
+    fn step(
+        &self,
+        alloc: Global,
+        state: &Self::State,
+        branch: usize,
+        index: usize,
+    ) -> Result<Turn<Self::State, Self::Fault>, AllocError>
+        requires state { is_state self.now state.now }
+        requires command { is_command self.now branch index }
+        ensures answer { IfOk result (λ t. t ≡ turn self.now state.now branch index) }
+        ensures next { IfOk result (λ t. OnNext t (is_state self.now)) };
+
+    /// The same state once more. `AllocError` where memory is refused.
+    fn copy(&self, alloc: Global, state: &Self::State) -> Result<Self::State, AllocError>
+        ensures { IfOk result (λ s. s ≡ state.now) };
+
+    // Equal states are the same state.
+    ghost exact: { (a b : Self.State) → Self.State.eq a b ≡ true → a ≡ b };
+}

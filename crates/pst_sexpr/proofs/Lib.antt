@@ -1,0 +1,13 @@
+pub mod Classes
+pub mod Complete
+pub mod Sound
+pub mod Ended
+pub mod Viable
+pub mod Faults
+pub mod Trees
+pub mod Answer
+pub mod Spelled
+pub mod Sequence
+pub mod Again
+pub mod One
+pub mod Made

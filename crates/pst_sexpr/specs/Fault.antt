@@ -1,0 +1,24 @@
+-- Faults, and what a function answers that may be refused memory.
+use Rattle.std.specs.Prelude.{◌≡◌, ℕ, ◌⊎◌, List, Result, Ok, Err, codes}
+use Rattle.pst_sexpr.specs.declared.fault.SexprFault.{SexprFault}
+use Rattle.pst_sexpr.specs.declared.fault.FaultKind.{FaultKind}
+use Rattle.pst_sexpr.specs.declared.fault.FaultKind.TheVariants.{BadByte, UnclosedText, UnclosedNode, StrayClose, TooDeep, TooLarge, NoMemory}
+
+-- the bytes of a kind's name
+abbrev pub name_of : FaultKind → List ℕ
+name_of BadByte = codes "BadByte"
+name_of UnclosedText = codes "UnclosedText"
+name_of UnclosedNode = codes "UnclosedNode"
+name_of StrayClose = codes "StrayClose"
+name_of TooDeep = codes "TooDeep"
+name_of TooLarge = codes "TooLarge"
+name_of NoMemory = codes "NoMemory"
+
+-- the fault of a reader that was refused memory
+abbrev pub no_memory : SexprFault
+no_memory = record { kind = NoMemory; place = 0 }
+
+-- What a function answered, its Ok seen by view, is what the definition gives, unless memory was refused.
+abbrev pub Gives : {X Y : Type 0} → (X → Y) → Result X SexprFault → Result Y SexprFault → Type 0
+Gives view (Ok x) defined = defined ≡ Ok (view x)
+Gives view (Err fault) defined = (fault ≡ no_memory) ⊎ (defined ≡ Err fault)

@@ -1,0 +1,9 @@
+pub mod Fault
+pub mod Bytes
+pub mod Grammar
+pub mod Reading
+pub mod Scan
+pub mod Lawful
+pub mod Spelling
+pub mod Writing
+pub mod Out

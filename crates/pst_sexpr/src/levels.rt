@@ -1,0 +1,80 @@
+//! The nodes that are open, the innermost first.
+
+ghost use Rattle.pst_sexpr.specs.declared.levels.Level.{Level};
+ghost use Rattle.std.specs.Prelude.{◌≡◌, List, [], ◌∷◌, length, OnOk, MatchOption};
+
+use crate::form::Form;
+use pst_items::Items;
+use std::alloc::{AllocError, Global};
+use std::marker::Model;
+
+/// An open node: where its bracket stands, and the trees that stand before it at its level.
+#[derive(Drop)]
+pub struct Level {
+    pub place: usize,
+    pub done: Items<Form>,
+}
+
+/// The open nodes. Contracts see the innermost first.
+#[derive(Drop)]
+pub struct Levels {
+    levels: Vec<Level>,
+}
+
+impl Model for Levels {
+    ghost use Rattle.std.specs.Prelude.{List, reverse};
+    ghost use Rattle.pst_sexpr.specs.declared.levels.Level.{Level};
+
+    ghost Value = { List Level };
+
+    ghost use Rattle.pst_sexpr.specs.contracts.form.Form as coding;
+    ghost use Rattle.std.specs.Coded.{codes};
+
+    ghost coded = { Prim.hlevel (codes, coding.the_row.coded) };
+
+    ghost view = { λ nodes. reverse nodes.levels.items };
+}
+
+impl Levels {
+    /// No node. Takes no memory.
+    pub fn new(alloc: Global) -> Levels
+        ensures { result ≡ [] }
+    {
+        Levels {
+            levels: Vec::new(alloc),
+        }
+    }
+
+    /// How many nodes are open.
+    pub fn len(&self) -> usize
+        ensures { result ≡ length self.now }
+    {
+        self.levels.len()
+    }
+
+    /// Opens a node in the innermost.
+    pub fn push(&mut self, level: Level) -> Result<(), AllocError>
+        ensures { OnOk result (self.new ≡ level ∷ self.old) }
+    {
+        self.levels.push(level)?;
+        Ok(())
+    }
+
+    /// Closes the innermost node, if there is one.
+    pub fn pop(&mut self) -> Option<Level>
+        ensures { MatchOption result ((self.old ≡ []) × (self.new ≡ [])) (λ level. self.old ≡ level ∷ self.new) }
+    {
+        self.levels.pop()
+    }
+
+    /// Where the innermost node begins.
+    pub fn innermost(&self) -> Option<usize>
+        ensures { MatchOption result (self.now ≡ [])
+            (λ place. (level : Level) × (rest : List Level) × (self.now ≡ level ∷ rest) × (level.place ≡ place)) }
+    {
+        match self.levels.last() {
+            None => None,
+            Some(level) => Some(level.place),
+        }
+    }
+}

@@ -1,0 +1,31 @@
+//! Trees of words, texts and brackets: their reader, their writer, and the writers of bytes that every text goes to.
+//!
+//! `read` answers the trees that a file spells, or its first fault; `write` gives the one spelling of a tree.
+//! `specs/Grammar.antt` has the grammar, `specs/Reading.antt` the faults, `specs/Spelling.antt` what is written.
+#![tactic(auto)]
+
+mod bytes;
+mod fault;
+mod form;
+pub mod laws;
+mod levels;
+mod limits;
+mod out;
+mod put;
+mod reader;
+mod scan;
+mod sink;
+#[cfg(test)]
+mod tests;
+mod tree;
+mod writer;
+
+pub use fault::{FaultKind, SexprFault};
+pub use form::Form;
+pub use limits::{MAX_BYTES, MAX_LEVELS};
+pub use out::Out;
+pub use put::{put_all, put_each};
+pub use reader::read;
+pub use sink::{Failed, Sink, WriteFailed};
+pub use tree::Tree;
+pub use writer::write;

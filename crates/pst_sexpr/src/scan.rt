@@ -1,0 +1,246 @@
+//! One pass over the bytes, with a stack of the open nodes.
+
+ghost use Rattle.std.specs.Prelude.{◌≡◌, ◌∷◌, ◌++◌, [], IsTrue, length, ◌<◌, ℕ};
+ghost use Rattle.pst_sexpr.specs.Scan as spec;
+ghost use Rattle.pst_sexpr.specs.Fault.{Gives};
+
+use crate::bytes::{is_blank, is_escaped_byte, is_text_byte, is_word_byte};
+use crate::fault::{FaultKind, SexprFault};
+use crate::form::Form;
+use crate::levels::{Level, Levels};
+use crate::limits::MAX_LEVELS;
+use pst_items::{Items, Text};
+use std::alloc::Global;
+use std::mem;
+
+#[derive(Clone, Copy, Debug, Drop, PartialEq, Eq)]
+enum Mode {
+    /// Between trees or in a word.
+    Plain,
+    /// In a text.
+    Quoted,
+    /// In a text, behind `\`.
+    Escaped,
+    /// In a comment.
+    Comment,
+}
+
+/// What is known of the bytes so far.
+#[derive(Drop)]
+struct Scanner {
+    /// Where the next byte stands.
+    mode: Mode,
+    /// Where the last text begins.
+    quote: usize,
+    /// The bytes so far of the word or text.
+    part: Text,
+    /// The trees so far in the innermost node.
+    done: Items<Form>,
+    /// The open nodes.
+    nodes: Levels,
+}
+
+impl Scanner {
+    /// Before the first byte.
+    fn new(alloc: Global) -> Scanner
+        ensures { result ≡ spec.start }
+    {
+        Scanner {
+            mode: Mode::Plain,
+            quote: 0,
+            part: Text::new(alloc),
+            done: Items::new(alloc),
+            nodes: Levels::new(alloc),
+        }
+    }
+
+    /// Ends the word, if there is one.
+    fn end_word(&mut self, alloc: Global) -> Result<(), SexprFault>
+        ensures { Gives (λ _. self.new) result (Ok (spec.after_word self.old)) }
+    {
+        if !self.part.is_empty() {
+            let word = mem::replace(&mut self.part, Text::new(alloc));
+            self.done.push(Form::Word(word))?;
+        }
+        Ok(())
+    }
+
+    /// Begins a node at the place.
+    fn open(&mut self, alloc: Global, place: usize) -> Result<(), SexprFault>
+        ensures { Gives (λ _. self.new) result (spec.opened MAX_LEVELS place self.old) }
+    {
+        if self.nodes.len() >= MAX_LEVELS {
+            return Err(SexprFault {
+                kind: FaultKind::TooDeep,
+                place,
+            });
+        }
+        let done = mem::replace(&mut self.done, Items::new(alloc));
+        self.nodes.push(Level { place, done })?;
+        Ok(())
+    }
+
+    /// Ends the innermost node.
+    fn close(&mut self, place: usize) -> Result<(), SexprFault>
+        ensures { Gives (λ _. self.new) result (spec.closed place self.old) }
+    {
+        match self.nodes.pop() {
+            None => Err(SexprFault {
+                kind: FaultKind::StrayClose,
+                place,
+            }),
+            Some(level) => {
+                let inner = mem::replace(&mut self.done, level.done);
+                self.done.push(Form::Node(inner))?;
+                Ok(())
+            }
+        }
+    }
+
+    /// Reads a byte between trees.
+    #[tactic(auto, unfolding(crate::specs::Scan::between))]
+    fn between(&mut self, alloc: Global, place: usize, byte: u8) -> Result<(), SexprFault>
+        ensures { Gives (λ _. self.new) result (spec.between MAX_LEVELS place byte self.old) }
+    {
+        if is_blank(byte) {
+            return Ok(());
+        }
+        match byte {
+            b'(' => self.open(alloc, place),
+            b')' => self.close(place),
+            b'"' => {
+                self.mode = Mode::Quoted;
+                self.quote = place;
+                Ok(())
+            }
+            b';' => {
+                self.mode = Mode::Comment;
+                Ok(())
+            }
+            _ => Err(SexprFault {
+                kind: FaultKind::BadByte,
+                place,
+            }),
+        }
+    }
+
+    /// Reads a byte in a word or between trees.
+    #[tactic(auto, unfolding(crate::specs::Scan::plain))]
+    fn plain(&mut self, alloc: Global, place: usize, byte: u8) -> Result<(), SexprFault>
+        ensures { Gives (λ _. self.new) result (spec.plain MAX_LEVELS place byte self.old) }
+    {
+        if is_word_byte(byte) {
+            self.part.push(byte)?;
+            return Ok(());
+        }
+        self.end_word(alloc)?;
+        self.between(alloc, place, byte)
+    }
+
+    /// Reads a byte in a text.
+    #[tactic(auto, unfolding(crate::specs::Scan::quoted))]
+    fn quoted(&mut self, alloc: Global, place: usize, byte: u8) -> Result<(), SexprFault>
+        ensures { Gives (λ _. self.new) result (spec.quoted place byte self.old) }
+    {
+        if byte == b'"' {
+            let text = mem::replace(&mut self.part, Text::new(alloc));
+            self.done.push(Form::Text(text))?;
+            self.mode = Mode::Plain;
+            return Ok(());
+        }
+        if byte == b'\\' {
+            self.mode = Mode::Escaped;
+            return Ok(());
+        }
+        if !is_text_byte(byte) {
+            return Err(SexprFault {
+                kind: FaultKind::BadByte,
+                place,
+            });
+        }
+        self.part.push(byte)?;
+        Ok(())
+    }
+
+    /// Reads the byte behind `\`.
+    #[tactic(auto, unfolding(crate::specs::Scan::escaped))]
+    fn escaped(&mut self, place: usize, byte: u8) -> Result<(), SexprFault>
+        ensures { Gives (λ _. self.new) result (spec.escaped place byte self.old) }
+    {
+        if !is_escaped_byte(byte) {
+            return Err(SexprFault {
+                kind: FaultKind::BadByte,
+                place,
+            });
+        }
+        self.part.push(byte)?;
+        self.mode = Mode::Quoted;
+        Ok(())
+    }
+
+    /// Reads a byte in a comment.
+    #[tactic(auto, unfolding(crate::specs::Scan::comment))]
+    fn comment(&mut self, byte: u8)
+        ensures { self.new ≡ spec.comment byte self.old }
+    {
+        if byte == b'\n' {
+            self.mode = Mode::Plain;
+        }
+    }
+
+    /// Reads the byte at the place.
+    fn step(&mut self, alloc: Global, place: usize, byte: u8) -> Result<(), SexprFault>
+        ensures { Gives (λ _. self.new) result (spec.step MAX_LEVELS self.old place byte) }
+    {
+        match self.mode {
+            Mode::Plain => self.plain(alloc, place, byte),
+            Mode::Quoted => self.quoted(alloc, place, byte),
+            Mode::Escaped => self.escaped(place, byte),
+            Mode::Comment => {
+                self.comment(byte);
+                Ok(())
+            }
+        }
+    }
+
+    /// The trees, where the bytes end here.
+    fn finish(mut self, alloc: Global) -> Result<Items<Form>, SexprFault>
+        ensures { Gives (λ trees. trees) result (spec.finish self) }
+    {
+        match self.mode {
+            Mode::Quoted | Mode::Escaped => {
+                return Err(SexprFault {
+                    kind: FaultKind::UnclosedText,
+                    place: self.quote,
+                });
+            }
+            Mode::Plain | Mode::Comment => {}
+        }
+        self.end_word(alloc)?;
+        if let Some(place) = self.nodes.innermost() {
+            return Err(SexprFault {
+                kind: FaultKind::UnclosedNode,
+                place,
+            });
+        }
+        Ok(self.done)
+    }
+}
+
+/// The state after all bytes.
+fn scan(alloc: Global, bytes: &[u8]) -> Result<Scanner, SexprFault>
+    ensures { Gives (λ scanner. scanner) result (spec.run MAX_LEVELS spec.start 0 bytes.now) }
+{
+    let mut scanner = Scanner::new(alloc);
+    for (place, byte) in bytes.iter().enumerate() {
+        scanner.step(alloc, place, *byte)?;
+    }
+    Ok(scanner)
+}
+
+/// The trees that the bytes spell, or the first fault.
+pub fn forms(alloc: Global, bytes: &[u8]) -> Result<Items<Form>, SexprFault>
+    ensures { Gives (λ trees. trees) result (spec.outcome MAX_LEVELS spec.start 0 bytes.now) }
+{
+    scan(alloc, bytes)?.finish(alloc)
+}

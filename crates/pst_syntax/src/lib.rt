@@ -1,0 +1,2 @@
+//! Models as text: their reader.
+#![tactic(auto)]
