@@ -38,11 +38,11 @@ and-true true c h = (refl, h)
 and-true false c h = absurd (true≢false (sym h))
 
 module _ {S : Type 0} (eq : S → S → Bool) where
-  -- equal triples are the same
+  -- equal positions are the same
   pub position-same : ((a b : S) → eq a b ≡ true → a ≡ b) → (v done : List ℕ) (s : S) (k : Position S) → v ≡ done → bytes_eq v k.done.items && eq s k.state ≡ true → (k.done.items ≡ done) × (k.state ≡ s)
   position-same law v done s k e h = let b = and-true _ _ h in (sym ((bytes_eq-Decides v k.done.items).0 b.0) ∙ e, sym (law s k.state b.1))
 
-  -- and triples that are the same are equal
+  -- and positions that are the same are equal
   pub position-equal : ((a : S) → eq a a ≡ true) → (k l : Position S) → k.done.items ≡ l.done.items → k.state ≡ l.state → bytes_eq k.done.items l.done.items && eq k.state l.state ≡ true
   position-equal law k l d e = ap (λ b. b && eq k.state l.state) ((bytes_eq-Decides k.done.items l.done.items).1 d) ∙ subst (λ s. eq k.state s ≡ true) e (law k.state)
 

@@ -12,7 +12,16 @@ use Rattle.pst_sexpr.specs.Spelling.{spelling, escape, escaped, followed, spaced
 use Rattle.pst_sexpr.proofs.Sound.{join}
 use Rattle.pst_sexpr.proofs.Again.{again, ends_followed, ends_at_close, blank_space}
 
-levels_node : (kids : List Form) → levels (Node kids) ≡ suc (greatest (map levels kids))
+-- how many levels each form has
+pub levels_word : (bytes : List ℕ) → levels (Word bytes) ≡ 0
+unfolding levels
+levels_word bytes = ap levels (sym (rolls-Word bytes)) ∙ fold-roll-Form ℕ layer_levels (Form-F.Word bytes)
+
+pub levels_text : (bytes : List ℕ) → levels (Text bytes) ≡ 0
+unfolding levels
+levels_text bytes = ap levels (sym (rolls-Text bytes)) ∙ fold-roll-Form ℕ layer_levels (Form-F.Text bytes)
+
+pub levels_node : (kids : List Form) → levels (Node kids) ≡ suc (greatest (map levels kids))
 unfolding levels
 levels_node kids = ap levels (sym (rolls-Node kids)) ∙ fold-roll-Form ℕ layer_levels (Form-F.Node kids)
 
@@ -63,3 +72,6 @@ pub text_is_tree : (bytes : List ℕ) → IsTextBytes bytes → IsTree (Text byt
 text_is_tree bytes h =
     let e = escapes_of bytes h in
     record { bytes = 34 ∷ e.0 ++ 34 ∷ []; left = []; begins = text e.1 nothing }
+
+-- for the crates above, which make trees
+pub ruleset level_equations = (levels_word, levels_text, levels_node)

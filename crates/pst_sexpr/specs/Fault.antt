@@ -1,5 +1,5 @@
 -- Faults, and what a function answers that may be refused memory.
-use Rattle.std.specs.Prelude.{◌≡◌, ℕ, ◌⊎◌, List, Result, Ok, Err, codes}
+use Rattle.std.specs.Prelude.{◌≡◌, ℕ, ◌⊎◌, List, Result, Ok, Err, ◌++◌, codes, decimal}
 use Rattle.pst_sexpr.specs.declared.fault.SexprFault.{SexprFault}
 use Rattle.pst_sexpr.specs.declared.fault.FaultKind.{FaultKind}
 use Rattle.pst_sexpr.specs.declared.fault.FaultKind.TheVariants.{BadByte, UnclosedText, UnclosedNode, StrayClose, TooDeep, TooLarge, NoMemory}
@@ -13,6 +13,10 @@ name_of StrayClose = codes "StrayClose"
 name_of TooDeep = codes "TooDeep"
 name_of TooLarge = codes "TooLarge"
 name_of NoMemory = codes "NoMemory"
+
+-- how a fault is printed, as `BadByte at 2`
+abbrev pub text_of : SexprFault → List ℕ
+text_of fault = name_of fault.kind ++ codes " at " ++ decimal fault.place
 
 -- the fault of a reader that was refused memory
 abbrev pub no_memory : SexprFault

@@ -53,6 +53,11 @@ pub struct SexprFault {
 }
 
 impl fmt::Display for SexprFault {
+    ghost use Rattle.std.specs.Prelude.{Some};
+    ghost use Rattle.pst_sexpr.specs.Fault.{text_of};
+
+    ghost output = { λ fault. Some (text_of fault) };
+
     fn fmt<W: fmt::Write>(&self, f: &mut fmt::Formatter<W>) -> fmt::Result {
         let name = self.kind.name();
         let place = self.place;

@@ -1,0 +1,7 @@
+pub mod Forms
+pub mod Fitting
+pub mod Counting
+pub mod Operating
+pub mod Sound
+pub mod Table
+pub mod Calls

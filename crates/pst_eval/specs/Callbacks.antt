@@ -1,0 +1,130 @@
+-- What each callback of a model means, and which calls of it are lawful.
+use Rattle.std.specs.Prelude.{◌≡◌, ℕ, ⊤, Bool, true, false, List, [], ◌∷◌, map, reverse, Option, Some, None, Result, Ok, Err}
+use Rattle.pst_meaning.specs.Meaning.{Env, called, mean, frame}
+use Rattle.pst_model.specs.Parts.{state_of, opening_of, calls_of, operation_of, parameters_of, types_of}
+use Rattle.pst_model.specs.declared.expr.Expr.{Expr}
+use Rattle.pst_model.specs.declared.model.Item.{Item}
+use Rattle.pst_model.specs.declared.model.Op.{Op}
+use Rattle.pst_model.specs.declared.model.Source.{Source}
+use Rattle.pst_operators.specs.Outcome.{Outcome, Gives, Faults, Stuck}
+use Rattle.pst_rules.specs.WellTyped.{name_s, name_r}
+use Rattle.pst_value.specs.Fits.{fits, fit_each}
+use Rattle.pst_value.specs.declared.fault.Fault.{Fault}
+use Rattle.pst_value.specs.declared.ty.Ty.{Ty}
+use Rattle.pst_value.specs.declared.ty.Ty.TheVariants as ty
+use Rattle.pst_value.specs.declared.value.Value.{Value}
+
+-- the turns that a callback starts with
+abbrev pub max_turns : ℕ
+max_turns = 1000000
+
+-- an expression of the model in the names that it sees, over all functions
+unfoldable pub at_names : Source → Expr → Env → Outcome (Value × ℕ)
+at_names m e env = mean m.items (called m.items (reverse m.items)) e env max_turns
+
+-- an expression that stands in the model
+abbrev pub of_expr : Source → Option Expr → Env → Outcome (Value × ℕ)
+of_expr m None env = Stuck
+of_expr m (Some e) env = at_names m e env
+
+-- the opening state
+unfoldable pub init_of : Source → Outcome (Value × ℕ)
+init_of m = of_expr m (opening_of m.items) []
+
+-- the calls to pick from
+unfoldable pub command_of : Source → Value → Outcome (Value × ℕ)
+command_of m s = of_expr m (calls_of m.items) ((name_s, s) ∷ [])
+
+abbrev pub pre_in : Source → Option Op → Value → List Value → Outcome (Value × ℕ)
+pre_in m None s args = Stuck
+pre_in m (Some o) s args = at_names m o.pre ((name_s, s) ∷ frame o.params args)
+
+-- the precondition of an operation, on the state and the arguments
+unfoldable pub pre_of : Source → ℕ → Value → List Value → Outcome (Value × ℕ)
+pre_of m op s args = pre_in m (operation_of m.items op) s args
+
+abbrev pub next_in : Source → Option Op → Value → List Value → Value → Outcome (Value × ℕ)
+next_in m None s args r = Stuck
+next_in m (Some o) s args r = at_names m o.next ((name_r, r) ∷ (name_s, s) ∷ frame o.params args)
+
+-- the next state, where `r` names the result
+unfoldable pub next_of : Source → ℕ → Value → List Value → Value → Outcome (Value × ℕ)
+next_of m op s args r = next_in m (operation_of m.items op) s args r
+
+abbrev pub post_in : Source → Option Op → Value → List Value → Value → Outcome (Value × ℕ)
+post_in m None s args r = Stuck
+post_in m (Some o) s args r = at_names m o.post ((name_r, r) ∷ (name_s, s) ∷ frame o.params args)
+
+-- the postcondition, where `r` is the plain result
+unfoldable pub post_of : Source → ℕ → Value → List Value → Value → Outcome (Value × ℕ)
+post_of m op s args r = post_in m (operation_of m.items op) s args r
+
+-- what a callback answers: a value and the turns left, or a fault
+abbrev pub Says : Outcome (Value × ℕ) → Result (Value × ℕ) Fault → Type 0
+Says o (Ok p) = o ≡ Gives p
+Says o (Err why) = o ≡ Faults why
+
+-- ---- lawful calls
+
+-- whether a value fits a type over the operations of the model
+abbrev pub fits_in : Source → (free vars : List Ty) → Value → Ty → Bool
+fits_in m free vars v t = fits free vars (parameters_of m.items) v t
+
+abbrev pub is_state_in : (m : Source) (free vars : List Ty) → Value → Option Ty → Bool
+is_state_in m free vars v None = false
+is_state_in m free vars v (Some t) = fits_in m free vars v t
+
+-- whether a value fits the state's type
+unfoldable pub is_state : Source → (free vars : List Ty) → Value → Bool
+is_state m free vars v = is_state_in m free vars v (state_of m.items)
+
+abbrev pub args_fit_in : (m : Source) (free vars : List Ty) → Option Op → List Value → Bool
+args_fit_in m free vars None args = false
+args_fit_in m free vars (Some o) args = fit_each (map (fits free vars (parameters_of m.items)) args) (types_of o.params)
+
+-- whether there is the operation, and the arguments fit its parameters' types
+unfoldable pub args_fit : Source → (free vars : List Ty) → ℕ → List Value → Bool
+args_fit m free vars op args = args_fit_in m free vars (operation_of m.items op) args
+
+abbrev pub result_fits_in : (m : Source) (free vars : List Ty) → Option Op → Value → Bool
+result_fits_in m free vars None r = false
+result_fits_in m free vars (Some o) r = fits_in m free vars r o.result
+
+-- whether a value fits the operation's result type
+unfoldable pub result_fits : Source → (free vars : List Ty) → ℕ → Value → Bool
+result_fits m free vars op r = result_fits_in m free vars (operation_of m.items op) r
+
+abbrev pub ref_fits_in : (m : Source) (free vars : List Ty) → Option Op → Value → Bool
+ref_fits_in m free vars None r = false
+ref_fits_in m free vars (Some o) r = fits_in m free vars r (ty.Ref o.result)
+
+-- whether a value refers to a result of the operation
+unfoldable pub ref_fits : Source → (free vars : List Ty) → ℕ → Value → Bool
+ref_fits m free vars op r = ref_fits_in m free vars (operation_of m.items op) r
+
+-- what `pre` may be asked
+pub record PreFits (m : Source) (op : ℕ) (s : Value) (args : List Value) (free vars : List Ty) : Type 0 where
+  pub state : is_state m free vars s ≡ true
+  pub arguments : args_fit m free vars op args ≡ true
+
+-- what `next` may be asked
+pub record NextFits (m : Source) (op : ℕ) (s : Value) (args : List Value) (r : Value) (free vars : List Ty) : Type 0 where
+  pub state : is_state m free vars s ≡ true
+  pub arguments : args_fit m free vars op args ≡ true
+  pub result : ref_fits m free vars op r ≡ true
+
+-- what `post` may be asked: no variable stands open
+pub record PostFits (m : Source) (op : ℕ) (s : Value) (args : List Value) (r : Value) (vars : List Ty) : Type 0 where
+  pub state : is_state m [] vars s ≡ true
+  pub arguments : args_fit m [] vars op args ≡ true
+  pub result : result_fits m [] vars op r ≡ true
+
+-- a value that is given fits the type
+abbrev pub Given : Source → (free vars : List Ty) → Ty → Result (Value × ℕ) Fault → Type 0
+Given m free vars t (Ok p) = fits_in m free vars p.0 t ≡ true
+Given m free vars t (Err why) = ⊤
+
+-- a value that is given fits the state's type
+abbrev pub GivenState : Source → (free vars : List Ty) → Result (Value × ℕ) Fault → Type 0
+GivenState m free vars (Ok p) = is_state m free vars p.0 ≡ true
+GivenState m free vars (Err why) = ⊤
