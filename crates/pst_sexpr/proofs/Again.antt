@@ -1,14 +1,14 @@
 -- What is written is read again.
-use Rattle.std.proofs.Common.{◌≡◌, ℕ, zero, suc, ◌+◌, ◌<◌, length, Bool, true, false, List, [], ◌∷◌, ◌++◌, map, refl, ap, sym, ◌∙◌, subst, append_assoc, cond, arith}
+use Rattle.std.proofs.Common.{◌≡◌, ℕ, true, false, List, [], ◌∷◌, ◌++◌, map, refl, ap, sym, ◌∙◌, subst, append_assoc}
 use Rattle.std.proofs.lemmas.List.{append-nil}
 use Rattle.std.proofs.lemmas.Bool.{ne_eqb, or_from}
 use Rattle.pst_sexpr.specs.declared.form.Form.{Form}
 use Rattle.pst_sexpr.specs.declared.form.Form.TheVariants.{Word, Text, Node}
 use Rattle.pst_sexpr.specs.Bytes.{is_blank, is_word_byte, is_text_byte, is_escaped_byte}
-use Rattle.pst_sexpr.specs.Grammar.{IsWordBytes, EndsWord, IsLine, Escapes, none, itself, behind, Begins, nothing, blank, comment, last_comment, word, text, node}
+use Rattle.pst_sexpr.specs.Grammar.{EndsWord, Escapes, none, itself, behind, Begins, nothing, blank, comment, last_comment, word, text, node}
 use Rattle.pst_sexpr.specs.Reading.{max_levels, Spells}
 use Rattle.pst_sexpr.specs.Lawful.{IsTree}
-use Rattle.pst_sexpr.specs.Spelling.{spelling, escape, escaped, gap, followed, spaced}
+use Rattle.pst_sexpr.specs.Spelling.{spelling, escape, followed, spaced}
 use Rattle.pst_sexpr.proofs.Classes.{text_apart}
 use Rattle.pst_sexpr.proofs.Spelled.{spelling_word, spelling_text, spelling_node}
 

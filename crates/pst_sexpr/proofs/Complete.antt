@@ -1,13 +1,10 @@
 -- What the grammar spells is scanned to its trees.
-use Rattle.std.proofs.Common.{◌≡◌, ◌≢◌, ℕ, suc, ◌+◌, ◌<◌, ◌≤◌, Bool, true, false, refl, sym, ap, ◌∙◌, subst, arith, cond, eqb, ltb, Result, Ok, Err, List, [], ◌∷◌, ◌++◌, length, append_assoc}
+use Rattle.std.proofs.Common.{◌≡◌, ℕ, suc, ◌+◌, ◌<◌, true, refl, sym, ap, ◌∙◌, arith, Ok, List, [], ◌∷◌, ◌++◌, length, append_assoc}
 use Rattle.std.proofs.lemmas.Bool.{lt-ltb, ne_eqb}
 use Rattle.std.proofs.lemmas.List.{append-nil}
-use Rattle.std.proofs.lemmas.Bool.Decides.{nat_tests}
 use Rattle.pst_sexpr.specs.declared.form.Form.{Form}
 use Rattle.pst_sexpr.specs.declared.form.Form.TheVariants.{Word, Text, Node}
-use Rattle.pst_sexpr.specs.declared.fault.SexprFault.{SexprFault}
 use Rattle.pst_sexpr.specs.declared.levels.Level.{Level}
-use Rattle.pst_sexpr.specs.declared.scan.Mode.{Mode}
 use Rattle.pst_sexpr.specs.declared.scan.Mode.TheVariants.{Plain, Quoted, Escaped, Comment}
 use Rattle.pst_sexpr.specs.declared.scan.Scanner.{Scanner}
 use Rattle.pst_sexpr.specs.Bytes.{is_blank, is_word_byte, is_text_byte, is_escaped_byte}

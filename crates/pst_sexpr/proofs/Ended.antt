@@ -1,24 +1,20 @@
 -- What the end of the bytes says.
-use Rattle.std.proofs.Common.{◌≡◌, ◌≢◌, ℕ, suc, ◌+◌, ◌<◌, ◌≤◌, Bool, true, false, refl, sym, ap, ◌∙◌, subst, arith, cond, eqb, ltb, Result, Ok, Err, List, [], ◌∷◌, ◌++◌, length, append_assoc, length-append}
-use Rattle.std.proofs.lemmas.Bool.{lt-ltb, ne_eqb, eqb-true, eqb-false, ltb-true, cond_both}
+use Rattle.std.proofs.Common.{◌≡◌, ℕ, ◌+◌, refl, sym, subst, arith, Result, Ok, Err, List, [], ◌∷◌, ◌++◌, length, append_assoc}
 use Rattle.std.proofs.lemmas.List.{append-nil}
 use Rattle.std.specs.Result.{IfOk}
 use Rattle.pst_sexpr.specs.declared.form.Form.{Form}
-use Rattle.pst_sexpr.specs.declared.form.Form.TheVariants.{Word, Text, Node}
 use Rattle.pst_sexpr.specs.declared.fault.SexprFault.{SexprFault}
 use Rattle.pst_sexpr.specs.declared.levels.Level.{Level}
 use Rattle.pst_sexpr.specs.declared.scan.Mode.{Mode}
 use Rattle.pst_sexpr.specs.declared.scan.Mode.TheVariants.{Plain, Quoted, Escaped, Comment}
 use Rattle.pst_sexpr.specs.declared.scan.Scanner.{Scanner}
-use Rattle.pst_sexpr.specs.Bytes.{is_blank, is_word_byte, is_text_byte, is_escaped_byte}
-use Rattle.pst_sexpr.specs.Grammar.{IsWordBytes, EndsWord, IsLine, Escapes, none, itself, behind, Begins, nothing, blank, comment, last_comment, word, text, node}
+use Rattle.pst_sexpr.specs.Bytes.{is_escaped_byte}
+use Rattle.pst_sexpr.specs.Grammar.{none, behind, Begins, nothing, last_comment}
 use Rattle.pst_sexpr.specs.Scan as spec
 use Rattle.pst_sexpr.specs.Scan.{step, step_by, run, finish, outcome, scanner, with_word, and_then, between, plain, quoted, escaped, opened, closed, closed_by}
-use Rattle.pst_sexpr.proofs.Classes.{blank_ends_word, text_apart}
 use Rattle.std.specs.Result.{MatchResult}
-use Rattle.std.proofs.lemmas.Result.{IfOk-at_ok, MatchResult-at_ok, MatchResult-at_err}
+use Rattle.std.proofs.lemmas.Result.{MatchResult-at_ok}
 use Rattle.pst_sexpr.specs.declared.fault.FaultKind.{FaultKind}
-use Rattle.pst_sexpr.specs.declared.fault.FaultKind.TheVariants.{BadByte, UnclosedText, UnclosedNode, StrayClose, TooDeep, TooLarge, NoMemory}
 use Rattle.pst_sexpr.specs.Scan.{finish_by, ends_plain}
 use Rattle.pst_sexpr.specs.Reading.{Unclosed, in_text, in_node, deeper}
 use Rattle.pst_sexpr.proofs.Sound.{join, Escapes-join, UpTo, extend, end_word, Holds, Holds_by, run_holds}

@@ -1,16 +1,15 @@
 -- Trees that are made, and not read.
-use Rattle.std.proofs.Common.{◌≡◌, ℕ, zero, suc, ◌+◌, ◌<◌, ◌≤◌, max, length, true, List, [], ◌∷◌, ◌++◌, map, refl, ap, sym, ◌∙◌, subst, append_assoc, arith, ◌⊎◌, ⊎_elim}
+use Rattle.std.proofs.Common.{◌≡◌, ℕ, suc, ◌+◌, ◌<◌, ◌≤◌, length, List, [], ◌∷◌, ◌++◌, map, ap, sym, ◌∙◌, subst, append_assoc, arith, ⊎_elim}
 use Rattle.std.proofs.lemmas.List.{append-nil}
-use Rattle.pst_sexpr.specs.declared.form.Form.{Form, fold-Form, fold-roll-Form}
+use Rattle.pst_sexpr.specs.declared.form.Form.{Form, fold-roll-Form}
 use Rattle.pst_sexpr.specs.declared.form.Form.TheVariants.{Word, Text, Node, rolls-Word, rolls-Text, rolls-Node}
 use Rattle.pst_sexpr.specs.declared.form.Form.TheOpen.{Form-F}
-use Rattle.pst_sexpr.specs.Bytes.{is_text_byte, is_escaped_byte}
 use Rattle.pst_sexpr.specs.Grammar.{IsWordBytes, EndsWord, Escapes, none, itself, behind, Begins, nothing, blank, comment, last_comment, word, text, node}
 use Rattle.pst_sexpr.specs.Reading.{max_levels}
 use Rattle.pst_sexpr.specs.Lawful.{IsTree, AreTrees, IsTextBytes, greatest, levels, layer_levels}
-use Rattle.pst_sexpr.specs.Spelling.{spelling, escape, escaped, followed, spaced}
+use Rattle.pst_sexpr.specs.Spelling.{spelling, followed}
 use Rattle.pst_sexpr.proofs.Sound.{join}
-use Rattle.pst_sexpr.proofs.Again.{again, ends_followed, ends_at_close, blank_space}
+use Rattle.pst_sexpr.proofs.Again.{again, ends_followed, ends_at_close}
 
 -- how many levels each form has
 pub levels_word : (bytes : List ℕ) → levels (Word bytes) ≡ 0

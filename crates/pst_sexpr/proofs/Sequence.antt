@@ -4,13 +4,13 @@
 -- `nothing_yet` begins it, `then_all` goes over a piece, `all_written` ends it. At the exit of a `?` there is `then_fails`,
 -- and `then_last` where the answer of the last piece is returned as it is. They take what is left behind the piece (often `_`),
 -- and last that the rest is the piece and what is left: `refl` where the text is written as `one ++ (two ++ three)`.
-use Rattle.std.proofs.Common.{◌≡◌, ℕ, Bool, true, false, List, [], ◌∷◌, ◌++◌, Option, Result, Ok, Err, refl, ap, sym, ◌∙◌, subst, append_assoc, append-nil}
+use Rattle.std.proofs.Common.{◌≡◌, ℕ, Bool, false, List, [], ◌++◌, Option, Result, Ok, Err, refl, ap, sym, ◌∙◌, subst, append_assoc, append-nil}
 use Rattle.std.specs.Io.KnownBytes.{Appends}
 use Rattle.std.proofs.KnownBytes.{Appends-nil, Appends-trans}
 use Rattle.std.specs.Result.{IsErr}
-use Rattle.std.proofs.lemmas.Result.{MatchResult-from_err, MatchResult-weaker}
+use Rattle.std.proofs.lemmas.Result.{MatchResult-from_err}
 use Rattle.pst_sexpr.specs.declared.sink.WriteFailed.{WriteFailed}
-use Rattle.pst_sexpr.specs.Writing.{WritesAll, WritesPart, Writes}
+use Rattle.pst_sexpr.specs.Writing.{WritesPart, Writes}
 
 -- all of the text but the rest was appended, and the sink has not failed
 pub record WritesUpTo (before after : Option (List ℕ)) (broken : Bool) (text rest : List ℕ) : Type 0 where

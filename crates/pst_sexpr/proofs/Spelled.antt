@@ -1,13 +1,8 @@
 -- What is written is spelled so.
-use Rattle.std.proofs.Common.{◌≡◌, ℕ, zero, suc, ◌+◌, ◌<◌, length, get_or, drop, drop-cons, add-one, Bool, true, false, List, [], ◌∷◌, ◌++◌, map, refl, ap, sym, ◌∙◌, subst, append_assoc, cond}
-use Rattle.std.proofs.lemmas.List.{append-nil}
-use Rattle.pst_sexpr.specs.declared.form.Form.{Form, fold-Form, fold-roll-Form}
+use Rattle.std.proofs.Common.{◌≡◌, ℕ, zero, suc, ◌+◌, ◌<◌, length, get_or, drop, drop-cons, add-one, List, [], ◌∷◌, ◌++◌, map, refl, ap, sym, ◌∙◌}
+use Rattle.pst_sexpr.specs.declared.form.Form.{Form, fold-roll-Form}
 use Rattle.pst_sexpr.specs.declared.form.Form.TheVariants.{Word, Text, Node, rolls-Word, rolls-Text, rolls-Node}
 use Rattle.pst_sexpr.specs.declared.form.Form.TheOpen.{Form-F}
-use Rattle.pst_sexpr.specs.Bytes.{is_blank, is_word_byte, is_text_byte, is_escaped_byte}
-use Rattle.pst_sexpr.specs.Grammar.{IsWordBytes, EndsWord, IsLine, Escapes, none, itself, behind, Begins, nothing, blank, comment, last_comment, word, text, node}
-use Rattle.pst_sexpr.specs.Reading.{max_levels, Spells}
-use Rattle.pst_sexpr.specs.Lawful.{IsTree}
 use Rattle.pst_sexpr.specs.Spelling.{spelling, escape, escaped, gap, followed, spaced, spell}
 
 pub spelling_word : (w : List ℕ) → spelling (Word w) ≡ w

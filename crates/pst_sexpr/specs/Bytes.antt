@@ -1,5 +1,5 @@
 -- The classes of bytes.
-use Rattle.std.specs.Prelude.{◌≡◌, ℕ, Bool, true, false, not, ◌&&◌, ◌||◌, ◌==◌, nat_lt, List, [], ◌∷◌}
+use Rattle.std.specs.Prelude.{ℕ, Bool, not, ◌&&◌, ◌||◌, ◌==◌, nat_lt}
 
 -- white space: tab, line end, return, space
 unfoldable pub is_blank : ℕ → Bool

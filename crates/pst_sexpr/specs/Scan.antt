@@ -1,11 +1,11 @@
 -- The reader's automaton: one byte after another, with the open nodes. It is private to the crate, and stands here because the
 -- contracts of the reader's private functions cite it; no public contract does.
-use Rattle.std.specs.Prelude.{◌≡◌, ℕ, suc, ◌+◌, ◌<◌, Bool, true, false, ◌==◌, nat_lt, if◌then◌else◌, List, [], ◌∷◌, ◌++◌, length, Result, Ok, Err}
+use Rattle.std.specs.Prelude.{ℕ, suc, ◌==◌, nat_lt, if◌then◌else◌, List, [], ◌∷◌, ◌++◌, length, Result, Ok, Err}
 use Rattle.pst_sexpr.specs.declared.form.Form.{Form}
 use Rattle.pst_sexpr.specs.declared.form.Form.TheVariants.{Word, Text, Node}
 use Rattle.pst_sexpr.specs.declared.fault.SexprFault.{SexprFault}
 use Rattle.pst_sexpr.specs.declared.fault.FaultKind.{FaultKind}
-use Rattle.pst_sexpr.specs.declared.fault.FaultKind.TheVariants.{BadByte, UnclosedText, UnclosedNode, StrayClose, TooDeep, TooLarge}
+use Rattle.pst_sexpr.specs.declared.fault.FaultKind.TheVariants.{BadByte, UnclosedText, UnclosedNode, StrayClose, TooDeep}
 use Rattle.pst_sexpr.specs.declared.levels.Level.{Level}
 use Rattle.pst_sexpr.specs.declared.scan.Mode.{Mode}
 use Rattle.pst_sexpr.specs.declared.scan.Mode.TheVariants.{Plain, Quoted, Escaped, Comment}

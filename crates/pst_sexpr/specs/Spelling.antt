@@ -1,5 +1,5 @@
 -- What is written of a tree.
-use Rattle.std.specs.Prelude.{ℕ, zero, suc, Bool, true, false, if◌then◌else◌, List, [], ◌∷◌, ◌++◌, map}
+use Rattle.std.specs.Prelude.{ℕ, zero, suc, if◌then◌else◌, List, [], ◌∷◌, ◌++◌}
 use Rattle.pst_sexpr.specs.declared.form.Form.{Form, fold-Form}
 use Rattle.pst_sexpr.specs.declared.form.Form.TheOpen.{Form-F}
 use Rattle.pst_sexpr.specs.Bytes.{is_escaped_byte}

@@ -62,7 +62,8 @@ impl Levels {
 
     /// Closes the innermost node, if there is one.
     pub fn pop(&mut self) -> Option<Level>
-        ensures { MatchOption result ((self.old ≡ []) × (self.new ≡ [])) (λ level. self.old ≡ level ∷ self.new) }
+        ensures { MatchOption result ((self.old ≡ []) × (self.new ≡ []))
+            (λ level. self.old ≡ level ∷ self.new) }
     {
         self.levels.pop()
     }
@@ -70,7 +71,8 @@ impl Levels {
     /// Where the innermost node begins.
     pub fn innermost(&self) -> Option<usize>
         ensures { MatchOption result (self.now ≡ [])
-            (λ place. (level : Level) × (rest : List Level) × (self.now ≡ level ∷ rest) × (level.place ≡ place)) }
+            (λ place. (level : Level) × (rest : List Level)
+            × (self.now ≡ level ∷ rest) × (level.place ≡ place)) }
     {
         match self.levels.last() {
             None => None,

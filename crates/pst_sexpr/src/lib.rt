@@ -1,7 +1,8 @@
-//! Trees of words, texts and brackets: their reader, their writer, and the writers of bytes that every text goes to.
+//! Trees of words, texts and brackets: their reader and their writer, and the sinks that texts go to.
 //!
-//! `read` answers the trees that a file spells, or its first fault; `write` gives the one spelling of a tree.
-//! `specs/Grammar.antt` has the grammar, `specs/Reading.antt` the faults, `specs/Spelling.antt` what is written.
+//! `read` answers the trees that a file spells, or its first fault. `write` writes the one spelling
+//! of a tree. `specs/Grammar.antt` has the grammar, `specs/Reading.antt` the faults,
+//! `specs/Spelling.antt` and `specs/Writing.antt` what is written.
 #![tactic(auto)]
 
 mod bytes;

@@ -9,7 +9,8 @@ use std::io::{ErrorKind, Write};
 /// A sink that gives its bytes to a writer: standard output, a file, a `Vec<u8>` ..
 ///
 /// It has taken what its writer holds, where that is known, as for a `Vec<u8>`.
-/// A write that was interrupted is tried again. After any other error, and where the writer takes nothing, it has failed.
+/// A write that was interrupted is tried again. After any other error, and where the writer takes
+/// nothing, it has failed.
 #[derive(Drop)]
 pub struct Out<W> {
     writer: W,

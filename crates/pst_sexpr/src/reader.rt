@@ -38,7 +38,8 @@ fn trees(alloc: Global, bytes: &[u8]) -> Result<Vec<Tree>, SexprFault>
 
 /// Reads a file of trees, in one pass.
 ///
-/// The fault is the first from left to right; `TooLarge` comes before all others. `NoMemory`: memory was refused.
+/// The fault is the first from left to right; `TooLarge` comes before all others.
+/// `NoMemory`: memory was refused.
 pub fn read(alloc: Global, bytes: &[u8]) -> Result<Vec<Tree>, SexprFault>
     // What is read is spelled so.
     ensures found { IfOk result (λ trees. (length bytes.now ≤ max_bytes) × Spells bytes.now trees.items) }

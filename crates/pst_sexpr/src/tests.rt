@@ -1,8 +1,11 @@
 ghost use Rattle.std.specs.Prelude.{Bool, List, ℕ, Option, Some};
 
-use crate::{Failed, FaultKind, Form, MAX_BYTES, MAX_LEVELS, Out, SexprFault, Sink, Tree, put_all, put_each, read, write};
+use crate::{
+    Failed, FaultKind, Form, MAX_BYTES, MAX_LEVELS, Out, SexprFault, Sink, Tree, put_all, put_each,
+    read, write,
+};
 use pst_items::Text;
-use std::alloc::{AllocError, Global};
+use std::alloc::Global;
 use std::test::Fail;
 
 /// A sink in memory with room for a number of bytes.

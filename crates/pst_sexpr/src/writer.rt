@@ -71,7 +71,8 @@ fn write_form<W: Sink>(form: &Form, sink: &mut W) -> Result<(), WriteFailed>
 #[cycle(writing)]
 fn write_spaced<W: Sink>(forms: &[Form], sink: &mut W) -> Result<(), WriteFailed>
     requires { W.broken sink.old ≡ false }
-    ensures { Writes (W.taken sink.old) (W.taken sink.new) (W.broken sink.new) result (spaced (map spelling forms.now)) }
+    ensures { Writes (W.taken sink.old) (W.taken sink.new) (W.broken sink.new) result
+        (spaced (map spelling forms.now)) }
 {
     for (place, form) in forms.iter().enumerate() {
         write_gap(place, sink)?;
@@ -80,14 +81,15 @@ fn write_spaced<W: Sink>(forms: &[Form], sink: &mut W) -> Result<(), WriteFailed
     Ok(())
 }
 
-/// Writes the tree in its one spelling: a space between the trees of a node, and no other white space.
+/// Writes the tree in its one spelling: a space between the trees of a node, and nowhere else.
 ///
 /// Takes no memory. The sink must not have failed.
 /// `WriteFailed`: the sink has failed, and a beginning of the spelling went out.
 pub fn write<W: Sink>(tree: &Tree, sink: &mut W) -> Result<(), WriteFailed>
     requires { W.broken sink.old ≡ false }
     // What goes out is the spelling of the tree.
-    ensures written { Writes (W.taken sink.old) (W.taken sink.new) (W.broken sink.new) result (spelling tree.now) }
+    ensures written { Writes (W.taken sink.old) (W.taken sink.new) (W.broken sink.new) result
+        (spelling tree.now) }
     // Its spelling is read as the tree and as nothing else.
     ensures reads_back { Spells (spelling tree.now) (tree.now ∷ []) }
 {

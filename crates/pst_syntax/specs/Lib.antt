@@ -1,0 +1,11 @@
+pub mod Heads
+pub mod Names
+pub mod Integers
+pub mod Shape
+pub mod Shown
+pub mod Reading
+pub mod FaultName
+pub mod Counting
+pub mod ItemShape
+pub mod ShownItems
+pub mod Items

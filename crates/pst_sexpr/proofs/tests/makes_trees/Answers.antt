@@ -1,5 +1,4 @@
-use Rattle.std.proofs.Common.{◌≡◌, ◌<◌, ◌⊎◌, inl, inr, [], ◌∷◌, map, refl, sym, ap, ◌∙◌, subst, arith}
-use Rattle.pst_sexpr.specs.declared.form.Form.TheVariants.{Word, Text}
+use Rattle.std.proofs.Common.{◌≡◌, ◌<◌, inl, inr, [], ◌∷◌, ◌++◌, map, refl, sym, ap, ◌∙◌, subst, arith}
 use Rattle.pst_sexpr.specs.Bytes.{is_word_byte, is_text_byte, is_escaped_byte}
 use Rattle.pst_sexpr.specs.Grammar.{IsWordBytes}
 use Rattle.pst_sexpr.specs.Lawful.{IsTextBytes, greatest, levels}
@@ -21,6 +20,11 @@ text-requires g c =
 
 pub node-requires : goal.node-requires
 node-requires g c =
-    let e : c.push-2.new.self.items ≡ Word c.from_string.result ∷ Text c.from_string-2.result ∷ [] =
-    cc (c.new-trees.ensures.items, c.in_ok-push.ensures.items, c.in_ok-push-2.ensures.items, c.word.ensures, c.text.ensures) in
-    subst (λ l. greatest (map levels l) < max_levels) (sym e) (rw (levels_word c.from_string.result, levels_text c.from_string-2.result) (omega arith))
+    let word = c.word.result in
+    let text = c.text.result in
+    let first = c.in_ok-push.ensures.items ∙ ap (λ l. l ++ word ∷ []) c.new-trees.ensures.items in
+    let e : c.push-2.new.self.items ≡ word ∷ text ∷ [] = c.in_ok-push-2.ensures.items ∙ ap (λ l. l ++ text ∷ []) first in
+    let no_word : levels word ≡ 0 = ap levels c.word.ensures ∙ levels_word c.from_string.result in
+    let no_text : levels text ≡ 0 = ap levels c.text.ensures ∙ levels_text c.from_string-2.result in
+    let low : greatest (levels word ∷ levels text ∷ []) < max_levels = rw (no_word, no_text) (omega arith) in
+    subst (λ l. greatest (map levels l) < max_levels) (sym e) low

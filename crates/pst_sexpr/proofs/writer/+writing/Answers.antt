@@ -1,4 +1,4 @@
-use Rattle.std.proofs.Common.{◌≡◌, ◌++◌, ◌∷◌, [], List, ℕ, refl, ap, sym, ◌∙◌, map, arith}
+use Rattle.std.proofs.Common.{◌++◌, ◌∷◌, [], refl, ap, sym, ◌∙◌, map, arith}
 use Rattle.pst_sexpr.specs.Spelling.{escape, spaced, spelling}
 use Rattle.pst_sexpr.proofs.Spelled.{spelling_word, spelling_text, spelling_node, next_part}
 use Rattle.pst_sexpr.proofs.Sequence.{nothing_yet, then_all, then_fails, then_last, writes_is}

@@ -1,0 +1,3 @@
+pub mod FaultName
+pub mod Matches
+pub mod Shape

@@ -1,0 +1,69 @@
+//! Commands and cases.
+ghost use Rattle.std.specs.Prelude.{◌≡◌, None};
+
+use pst_items::Items;
+use pst_value::Value;
+use std::marker::Model;
+
+/// A call of an operation, by its number from 0, with arguments that may name the results of earlier commands.
+#[derive(Debug, PartialEq, Eq, Drop)]
+pub struct Command {
+    pub op: u32,
+    pub args: Items<Value>,
+}
+
+/// A symbolic test case: a prefix, and branches that run at once after it. Commands are numbered from 1: the prefix, then each branch in turn.
+#[derive(Debug, PartialEq, Eq, Drop)]
+pub struct Case {
+    pub prefix: Items<Command>,
+    pub branches: Items<Items<Command>>,
+}
+
+/// A case that keeps the shape of some model: its limits, its variables, and the types of its arguments. Contracts see it as its case.
+#[derive(Debug, Drop)]
+pub struct Shaped {
+    case: Case,
+}
+
+impl Model for Shaped {
+    ghost use Rattle.std.specs.Coded.{codes};
+    ghost use Rattle.pst_case.specs.declared.case.Case.{Case};
+    ghost use Rattle.pst_case.specs.contracts.case.Case as coding;
+    ghost use Rattle.pst_case.specs.Shape.{HasShape};
+
+    ghost Value = { Case };
+
+    ghost coded = { coding.the_row.coded };
+
+    ghost view = { λ s. s.case };
+
+    ghost invariant = { λ s. HasShape s.case };
+}
+
+impl Shaped {
+    ghost use Rattle.pst_case.specs.Shape.{HasShape};
+
+    /// Keeps a case that has the shape of some model.
+    pub fn new(case: Case) -> Shaped
+        requires { HasShape case }
+        ensures { result ≡ case }
+    {
+        Shaped { case }
+    }
+
+    /// The case.
+    pub fn case(&self) -> &Case
+        ensures same { result.now ≡ self.now }
+        ensures shape { HasShape self.now }
+    {
+        &self.case
+    }
+
+    /// The case, out of its `Shaped`.
+    pub fn into_case(self) -> Case
+        ensures { result ≡ self }
+    {
+        let Shaped { case } = self;
+        case
+    }
+}

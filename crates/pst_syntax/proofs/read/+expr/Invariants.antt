@@ -1,0 +1,27 @@
+use Rattle.std.proofs.Common.{◌≡◌, ◌+◌, ◌*◌, ◌++◌, drop, Result, Ok}
+use Rattle.pst_syntax.specs.Reading.{◌>>=◌, each, expr_of, clause_of}
+use Rattle.pst_syntax.proofs.read.+expr.Given as goal
+
+abbrev pub decreases-expr : goal.decreases-expr
+decreases-expr l = 4 * l.room
+
+abbrev pub decreases-expr_parts : goal.decreases-expr_parts
+decreases-expr_parts l = 4 * l.room + 3
+
+abbrev pub decreases-exprs : goal.decreases-exprs
+decreases-exprs l = 4 * l.room + 1
+
+abbrev pub decreases-clauses : goal.decreases-clauses
+decreases-clauses l = 4 * l.room + 2
+
+abbrev pub decreases-clause : goal.decreases-clause
+decreases-clause l = 4 * l.room + 1
+
+abbrev pub invariant-exprs-loop-form : goal.invariant-exprs-loop-form
+invariant-exprs-loop-form l = each (expr_of l.room) l.forms ≡ (each (expr_of l.room) (drop l.form-index l.forms) >>= (λ more. Ok (l.expressions ++ more)))
+
+abbrev pub invariant-clauses-loop-form : goal.invariant-clauses-loop-form
+invariant-clauses-loop-form l = each (clause_of (expr_of l.room)) l.forms ≡ (each (clause_of (expr_of l.room)) (drop l.form-index l.forms) >>= (λ more. Ok (l.clauses ++ more)))
+
+abbrev pub decreases-boxed : goal.decreases-boxed
+decreases-boxed l = 4 * l.room + 1

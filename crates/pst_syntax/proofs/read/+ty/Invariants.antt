@@ -1,0 +1,15 @@
+use Rattle.std.proofs.Common.{◌≡◌, ◌+◌, ◌*◌, ◌++◌, drop, Result, Ok}
+use Rattle.pst_syntax.specs.Reading.{◌>>=◌, each, ty_of}
+use Rattle.pst_syntax.proofs.read.+ty.Given as goal
+
+abbrev pub decreases-ty : goal.decreases-ty
+decreases-ty l = 3 * l.room
+
+abbrev pub decreases-ty_parts : goal.decreases-ty_parts
+decreases-ty_parts l = 3 * l.room + 2
+
+abbrev pub decreases-tys : goal.decreases-tys
+decreases-tys l = 3 * l.room + 1
+
+abbrev pub invariant-tys-loop-form : goal.invariant-tys-loop-form
+invariant-tys-loop-form l = each (ty_of l.room) l.forms ≡ (each (ty_of l.room) (drop l.form-index l.forms) >>= (λ more. Ok (l.types ++ more)))

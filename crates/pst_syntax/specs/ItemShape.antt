@@ -1,0 +1,86 @@
+-- The table of items: what an item, a callback and a parameter are, one level deep.
+use Rattle.std.specs.Prelude.{ℕ, Bool, true, false, if◌then◌else◌, List, [], ◌∷◌, Option, Some, None, codes}
+use Rattle.std.specs.Str.{bytes_eq}
+use Rattle.pst_sexpr.specs.declared.form.Form.{Form}
+use Rattle.pst_syntax.specs.Shape.{word_of, node_of, made, where_true}
+
+pub data ItemShape : Type 0 where
+  StateItem : Form → ItemShape
+  InitItem : Form → ItemShape
+  CommandItem : Form → ItemShape
+  FunItem : Bool → List ℕ → List Form → Form → Form → ItemShape
+  OpItem : List ℕ → List Form → Form → List Form → ItemShape
+
+pub data CallbackShape : Type 0 where
+  Pre : Form → CallbackShape
+  Next : Form → CallbackShape
+  Post : Form → CallbackShape
+
+-- an item with one part
+abbrev pub single : List Form → (Form → ItemShape) → Option ItemShape
+single (part ∷ []) shape = Some (shape part)
+single _ shape = None
+
+-- a function, and whether it is marked post
+abbrev pub as_fun : Bool → List Form → Option ItemShape
+as_fun is_post (x ∷ ps ∷ t ∷ e ∷ []) = made (word_of x) (λ x. made (node_of ps) (λ ps. Some (FunItem is_post x ps t e)))
+as_fun is_post _ = None
+
+abbrev pub as_op : List Form → Option ItemShape
+as_op (x ∷ ps ∷ t ∷ callbacks) = made (word_of x) (λ x. made (node_of ps) (λ ps. Some (OpItem x ps t callbacks)))
+as_op _ = None
+
+-- THE TABLE OF ITEMS
+abbrev pub item_headed : List ℕ → List Form → Option ItemShape
+item_headed word parts =
+    if bytes_eq word (codes "state") then single parts StateItem
+    else if bytes_eq word (codes "init") then single parts InitItem
+    else if bytes_eq word (codes "command") then single parts CommandItem
+    else if bytes_eq word (codes "fun") then as_fun false parts
+    else if bytes_eq word (codes "postfun") then as_fun true parts
+    else if bytes_eq word (codes "op") then as_op parts
+    else None
+
+abbrev pub item_node : List Form → Option ItemShape
+item_node [] = None
+item_node (first ∷ parts) = made (word_of first) (λ word. item_headed word parts)
+
+-- which form of item a tree has
+unfoldable pub item_shape : Form → Option ItemShape
+item_shape form = made (node_of form) item_node
+
+-- THE TABLE OF CALLBACKS
+abbrev pub callback_headed : List ℕ → Form → Option CallbackShape
+callback_headed word e =
+    if bytes_eq word (codes "pre") then Some (Pre e)
+    else if bytes_eq word (codes "next") then Some (Next e)
+    else if bytes_eq word (codes "post") then Some (Post e)
+    else None
+
+abbrev pub callback_node : List Form → Option CallbackShape
+callback_node (first ∷ e ∷ []) = made (word_of first) (λ word. callback_headed word e)
+callback_node _ = None
+
+-- which callback a tree has the form of
+unfoldable pub callback_shape : Form → Option CallbackShape
+callback_shape form = made (node_of form) callback_node
+
+abbrev pub param_node : List Form → Option (List ℕ × Form)
+param_node (x ∷ t ∷ []) = made (word_of x) (λ x. Some (x, t))
+param_node _ = None
+
+-- a parameter: its name and its type
+unfoldable pub param_shape : Form → Option (List ℕ × Form)
+param_shape form = made (node_of form) param_node
+
+abbrev pub as_model : List ℕ → List Form → Option (List ℕ × List Form)
+as_model word [] = None
+as_model word (x ∷ items) = made (word_of x) (λ x. where_true (bytes_eq word (codes "model")) (x, items))
+
+abbrev pub model_node : List Form → Option (List ℕ × List Form)
+model_node [] = None
+model_node (first ∷ parts) = made (word_of first) (λ word. as_model word parts)
+
+-- a model: its name and its items
+unfoldable pub model_shape : Form → Option (List ℕ × List Form)
+model_shape form = made (node_of form) model_node

@@ -1,0 +1,45 @@
+-- Lawful names.
+use Rattle.std.specs.Prelude.{◌&&◌, ◌||◌, ◌==◌, not, ℕ, nat_le, Bool, true, false, List, [], ◌∷◌, length, Option, Some, None, codes}
+use Rattle.std.specs.List.{list_all}
+use Rattle.std.specs.Str.{bytes_eq}
+use Rattle.pst_syntax.specs.declared.heads.Head.{Head}
+use Rattle.pst_syntax.specs.Heads.{head_of}
+
+abbrev pub is_between : ℕ → ℕ → ℕ → Bool
+is_between low high byte = nat_le low byte && nat_le byte high
+
+-- a letter, a digit, `_` or `-`
+abbrev pub is_name_byte : ℕ → Bool
+is_name_byte byte = is_between 97 122 byte || is_between 65 90 byte || is_between 48 57 byte || (byte == 95) || (byte == 45)
+
+-- a lower-case letter, and then letters, digits, `_` and `-`
+abbrev pub is_name : List ℕ → Bool
+is_name [] = false
+is_name (byte ∷ bytes) = is_between 97 122 byte && list_all is_name_byte bytes
+
+abbrev pub is_head : Option Head → Bool
+is_head None = false
+is_head (Some head) = true
+
+-- the words that no function, parameter or bound name may be
+unfoldable pub is_reserved : List ℕ → Bool
+is_reserved word = bytes_eq word (codes "true") || bytes_eq word (codes "false") || bytes_eq word (codes "s") || bytes_eq word (codes "r") || is_head (head_of word)
+
+-- what a function, a parameter or a bound name may be
+abbrev pub is_free : List ℕ → Bool
+is_free word = is_name word && not (is_reserved word)
+
+-- a name has at most so many bytes
+abbrev pub max_name : ℕ
+max_name = 32
+
+abbrev pub is_short : List ℕ → Bool
+is_short word = nat_le (length word) max_name
+
+-- a used name that a function, a parameter or a bound name may have
+unfoldable pub is_used : List ℕ → Bool
+is_used word = is_free word && is_short word
+
+-- a used name that an operation may have
+unfoldable pub is_used_operation : List ℕ → Bool
+is_used_operation word = is_name word && is_short word

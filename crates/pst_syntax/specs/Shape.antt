@@ -1,0 +1,161 @@
+-- The tables: what a tree is, one level deep.
+use Rattle.std.specs.Prelude.{◌||◌, ℕ, Bool, true, false, if◌then◌else◌, List, [], ◌∷◌, Option, Some, None, codes}
+use Rattle.std.specs.Str.{bytes_eq}
+use Rattle.pst_sexpr.specs.declared.form.Form.{Form, out-Form}
+use Rattle.pst_sexpr.specs.declared.form.Form.TheOpen.{Form-F}
+use Rattle.pst_model.specs.declared.expr.Unary.{Unary as UnaryOp}
+use Rattle.pst_model.specs.declared.expr.Binary.{Binary as BinaryOp}
+use Rattle.pst_syntax.specs.declared.heads.Head.{Head}
+use Rattle.pst_syntax.specs.declared.heads.Head.TheVariants as head
+use Rattle.pst_syntax.specs.Heads.{head_of}
+use Rattle.pst_syntax.specs.Names.{is_used, is_used_operation}
+use Rattle.pst_syntax.specs.Integers.{is_integer, is_place}
+
+-- an expression, whose parts are trees yet
+pub data Shape : Type 0 where
+  Integer : List ℕ → Shape
+  Truth : Bool → Shape
+  Quoted : List ℕ → Shape
+  Used : List ℕ → Shape
+  Let : List ℕ → Form → Form → Shape
+  If : Form → Form → Form → Shape
+  And : Form → Form → Shape
+  Or : Form → Form → Shape
+  Unary : UnaryOp → Form → Shape
+  Binary : BinaryOp → Form → Form → Shape
+  Tuple : List Form → Shape
+  At : Form → List ℕ → Shape
+  ListOf : Form → List Form → Shape
+  For : List Form → Form → Shape
+  Fold : List ℕ → Form → List ℕ → Form → Form → Shape
+  Call : List ℕ → List Form → Shape
+  Apply : List ℕ → List Form → Shape
+
+abbrev pub word_at : Form-F Form → Option (List ℕ)
+word_at (Form-F.Word word) = Some word
+word_at _ = None
+
+-- the bytes of a word
+abbrev pub word_of : Form → Option (List ℕ)
+word_of form = word_at (out-Form form)
+
+abbrev pub node_at : Form-F Form → Option (List Form)
+node_at (Form-F.Node parts) = Some parts
+node_at _ = None
+
+-- the parts of a node
+abbrev pub node_of : Form → Option (List Form)
+node_of form = node_at (out-Form form)
+
+-- where something stands there, what is made of it
+abbrev pub made : {A B : Type 0} → Option A → (A → Option B) → Option B
+made None f = None
+made (Some a) f = f a
+
+-- it stands there where the test holds
+abbrev pub where_true : {A : Type 0} → Bool → A → Option A
+where_true true a = Some a
+where_true false a = None
+
+-- one or more
+abbrev pub some_of : List Form → Option (List Form)
+some_of [] = None
+some_of (form ∷ forms) = Some (form ∷ forms)
+
+abbrev pub word_shape : List ℕ → Option Shape
+word_shape word =
+    if is_integer word then Some (Integer word)
+    else if bytes_eq word (codes "true") then Some (Truth true)
+    else if bytes_eq word (codes "false") then Some (Truth false)
+    else where_true (bytes_eq word (codes "s") || bytes_eq word (codes "r") || is_used word) (Used word)
+
+-- THE TABLE OF EXPRESSIONS: what stands behind each head word
+abbrev pub headed : Head → List Form → Option Shape
+headed head.Let (x ∷ e ∷ b ∷ []) = made (word_of x) (λ x. Some (Let x e b))
+headed head.If (c ∷ a ∷ b ∷ []) = Some (If c a b)
+headed head.And (a ∷ b ∷ []) = Some (And a b)
+headed head.Or (a ∷ b ∷ []) = Some (Or a b)
+headed (head.Unary operator) (a ∷ []) = Some (Unary operator a)
+headed (head.Binary operator) (a ∷ b ∷ []) = Some (Binary operator a b)
+headed head.Tuple es = made (some_of es) (λ es. Some (Tuple es))
+headed head.At (e ∷ i ∷ []) = made (word_of i) (λ i. where_true (is_place i) (At e i))
+headed head.List (t ∷ es) = Some (ListOf t es)
+headed head.For (cs ∷ b ∷ []) = made (node_of cs) (λ cs. made (some_of cs) (λ cs. Some (For cs b)))
+headed head.Fold (x ∷ e ∷ acc ∷ i ∷ b ∷ []) = made (word_of x) (λ x. made (word_of acc) (λ acc. Some (Fold x e acc i b)))
+headed head.Call (op ∷ es) = made (word_of op) (λ op. where_true (is_used_operation op) (Call op es))
+headed _ _ = None
+
+-- another word applies a function
+abbrev pub applied : Option Head → List ℕ → List Form → Option Shape
+applied (Some head) word parts = headed head parts
+applied None word parts = where_true (is_used word) (Apply word parts)
+
+abbrev pub node_shape : List Form → Option Shape
+node_shape [] = None
+node_shape (first ∷ parts) = made (word_of first) (λ word. applied (head_of word) word parts)
+
+abbrev pub shape_at : Form-F Form → Option Shape
+shape_at (Form-F.Word word) = word_shape word
+shape_at (Form-F.Text text) = Some (Quoted text)
+shape_at (Form-F.Node parts) = node_shape parts
+
+-- which form of expression a tree has
+unfoldable pub shape_of : Form → Option Shape
+shape_of form = shape_at (out-Form form)
+
+-- a type, whose parts are trees yet
+pub data TyShape : Type 0 where
+  IntType : TyShape
+  BoolType : TyShape
+  TextType : TyShape
+  CallType : TyShape
+  TupleType : List Form → TyShape
+  ListType : Form → TyShape
+  RefType : Form → TyShape
+
+-- THE TABLE OF TYPES
+abbrev pub ty_word : List ℕ → Option TyShape
+ty_word word =
+    if bytes_eq word (codes "int") then Some IntType
+    else if bytes_eq word (codes "bool") then Some BoolType
+    else if bytes_eq word (codes "text") then Some TextType
+    else if bytes_eq word (codes "call") then Some CallType
+    else None
+
+abbrev pub ty_headed : Option Head → List Form → Option TyShape
+ty_headed (Some head.Tuple) ts = made (some_of ts) (λ ts. Some (TupleType ts))
+ty_headed (Some head.List) (t ∷ []) = Some (ListType t)
+ty_headed (Some head.Ref) (t ∷ []) = Some (RefType t)
+ty_headed _ _ = None
+
+abbrev pub ty_node : List Form → Option TyShape
+ty_node [] = None
+ty_node (first ∷ parts) = made (word_of first) (λ word. ty_headed (head_of word) parts)
+
+abbrev pub ty_at : Form-F Form → Option TyShape
+ty_at (Form-F.Word word) = ty_word word
+ty_at (Form-F.Text text) = None
+ty_at (Form-F.Node parts) = ty_node parts
+
+-- which form of type a tree has
+unfoldable pub ty_shape : Form → Option TyShape
+ty_shape form = ty_at (out-Form form)
+
+-- a clause, whose parts are trees yet
+pub data ClauseShape : Type 0 where
+  InEach : List ℕ → Form → ClauseShape
+  WhenTrue : Form → ClauseShape
+
+-- THE TABLE OF CLAUSES
+abbrev pub clause_headed : Option Head → List Form → Option ClauseShape
+clause_headed (Some head.In) (x ∷ e ∷ []) = made (word_of x) (λ x. Some (InEach x e))
+clause_headed (Some head.When) (c ∷ []) = Some (WhenTrue c)
+clause_headed _ _ = None
+
+abbrev pub clause_node : List Form → Option ClauseShape
+clause_node [] = None
+clause_node (first ∷ parts) = made (word_of first) (λ word. clause_headed (head_of word) parts)
+
+-- which form of clause a tree has
+unfoldable pub clause_shape : Form → Option ClauseShape
+clause_shape form = made (node_of form) clause_node

@@ -1,0 +1,102 @@
+//! Why a model is refused.
+
+ghost use Rattle.std.specs.Prelude.{◌≡◌};
+ghost use Rattle.pst_syntax.specs.FaultName.{name_of};
+ghost use Rattle.pst_syntax.specs.Items.{FaultOf};
+
+use std::alloc::{AllocError, AllocFailed};
+
+/// What is refused. At one tree the first of this list is answered.
+#[derive(Clone, Copy, Debug, PartialEq, Eq, Drop)]
+pub enum FaultKind {
+    /// No form of the language stands here.
+    UnknownForm,
+    /// A declared name is not lawful.
+    BadName,
+    /// What may stand once stands here for the second time.
+    DoubleName,
+    /// A limit is passed.
+    OverLimit,
+    /// A state, an init, a command or a callback is missing.
+    Missing,
+    /// Memory was refused.
+    NoMemory,
+}
+
+impl FaultKind {
+    /// The kind's name, as `UnknownForm`.
+    pub fn name(&self) -> &'static str
+        ensures { result.now ≡ name_of self.now }
+    {
+        match self {
+            FaultKind::UnknownForm => "UnknownForm",
+            FaultKind::BadName => "BadName",
+            FaultKind::DoubleName => "DoubleName",
+            FaultKind::OverLimit => "OverLimit",
+            FaultKind::Missing => "Missing",
+            FaultKind::NoMemory => "NoMemory",
+        }
+    }
+}
+
+impl From<AllocError> for FaultKind {
+    ghost use Rattle.std.specs.Prelude.{◌≡◌};
+    ghost use Rattle.pst_syntax.specs.declared.fault.FaultKind.TheVariants.{NoMemory};
+
+    ghost from_gives = { λ _ e. e ≡ NoMemory };
+
+    fn from(_: AllocError) -> FaultKind {
+        FaultKind::NoMemory
+    }
+}
+
+impl<T: Drop> From<AllocFailed<T>> for FaultKind {
+    ghost use Rattle.std.specs.Prelude.{◌≡◌};
+    ghost use Rattle.pst_syntax.specs.declared.fault.FaultKind.TheVariants.{NoMemory};
+
+    ghost from_gives = { λ _ e. e ≡ NoMemory };
+
+    fn from(_: AllocFailed<T>) -> FaultKind {
+        FaultKind::NoMemory
+    }
+}
+
+/// What is refused, and in which item of the model, from 1. Item 0 is the model itself.
+#[derive(Clone, Copy, Debug, PartialEq, Eq, Drop)]
+pub struct SyntaxFault {
+    pub kind: FaultKind,
+    /// The item, from 1; 0 for the model itself, and where memory was refused.
+    pub item: usize,
+}
+
+/// The fault of that kind in that item; without memory there is no item.
+pub fn fault(kind: FaultKind, item: usize) -> SyntaxFault
+    ensures { FaultOf kind item result }
+{
+    match kind {
+        FaultKind::NoMemory => SyntaxFault { kind, item: 0 },
+        _ => SyntaxFault { kind, item },
+    }
+}
+
+impl From<AllocError> for SyntaxFault {
+    ghost use Rattle.std.specs.Prelude.{◌≡◌};
+    ghost use Rattle.pst_syntax.specs.declared.fault.FaultKind.TheVariants.{NoMemory};
+
+    ghost from_gives = { λ _ e. e ≡ record { kind = NoMemory; item = 0 } };
+
+    fn from(_: AllocError) -> SyntaxFault {
+        SyntaxFault { kind: FaultKind::NoMemory, item: 0 }
+    }
+}
+
+impl<T: Drop> From<AllocFailed<T>> for SyntaxFault {
+    ghost use Rattle.std.specs.Prelude.{◌≡◌};
+    ghost use Rattle.pst_syntax.specs.declared.fault.FaultKind.TheVariants.{NoMemory};
+
+    ghost from_gives = { λ _ e. e ≡ record { kind = NoMemory; item = 0 } };
+
+    fn from(_: AllocFailed<T>) -> SyntaxFault {
+        SyntaxFault { kind: FaultKind::NoMemory, item: 0 }
+    }
+}

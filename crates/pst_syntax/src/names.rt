@@ -1,0 +1,100 @@
+//! Lawful names.
+
+ghost use Rattle.std.specs.Prelude.{◌≡◌};
+ghost use Rattle.std.specs.List.{list_all};
+ghost use Rattle.pst_syntax.specs.Names as spec;
+ghost use Rattle.pst_syntax.specs.Reading.{Gives, declared};
+
+use crate::fault::FaultKind;
+use crate::heads::head_of;
+use pst_items::Text;
+use std::alloc::Global;
+
+/// The most bytes of a name.
+const MAX_NAME: usize = 32;
+
+fn is_name_byte(byte: u8) -> bool
+    ensures { result ≡ spec.is_name_byte byte }
+{
+    (97 <= byte && byte <= 122)
+        || (65 <= byte && byte <= 90)
+        || (48 <= byte && byte <= 57)
+        || byte == 95
+        || byte == 45
+}
+
+fn all_name_bytes(bytes: &[u8]) -> bool
+    ensures { result ≡ list_all spec.is_name_byte bytes.now }
+{
+    bytes.iter().all(|byte| is_name_byte(*byte))
+}
+
+fn begins_name(bytes: &[u8]) -> bool
+    ensures { result ≡ spec.is_name bytes.now }
+{
+    match bytes {
+        [] => false,
+        [first, rest @ ..] => 97 <= *first && *first <= 122 && all_name_bytes(rest),
+    }
+}
+
+/// Whether a word is a lower-case letter and then letters, digits, `_` and `-`.
+pub fn is_name(word: &Text) -> bool
+    ensures { result ≡ spec.is_name word.now }
+{
+    begins_name(word.as_bytes())
+}
+
+fn is_short(word: &Text) -> bool
+    ensures { result ≡ spec.is_short word.now }
+{
+    word.len() <= MAX_NAME
+}
+
+/// Whether a word means something of its own where a name could stand.
+#[tactic(auto, unfolding(crate::specs::Names::is_reserved))]
+fn is_reserved(word: &str) -> bool
+    ensures { result ≡ spec.is_reserved word.now }
+{
+    word == "true" || word == "false" || word == "s" || word == "r" || head_of(word).is_some()
+}
+
+/// Whether a function, a parameter or a bound name may be named so, whatever its length.
+pub fn is_free(word: &Text) -> bool
+    ensures { result ≡ spec.is_free word.now }
+{
+    is_name(word) && !is_reserved(word.as_str())
+}
+
+/// Whether a word may be used as the name of a function, a parameter or a bound name.
+#[tactic(auto, unfolding(crate::specs::Names::is_used))]
+pub fn is_used(word: &Text) -> bool
+    ensures { result ≡ spec.is_used word.now }
+{
+    is_free(word) && is_short(word)
+}
+
+/// Whether a word may be used as the name of an operation.
+#[tactic(auto, unfolding(crate::specs::Names::is_used_operation))]
+pub fn is_used_operation(word: &Text) -> bool
+    ensures { result ≡ spec.is_used_operation word.now }
+{
+    is_name(word) && is_short(word)
+}
+
+/// A name where it is declared: whether it is lawful there, and whether it is taken.
+#[tactic(auto, unfolding(crate::specs::Reading::declared))]
+pub fn declared(alloc: Global, is_lawful: bool, is_taken: bool, word: &Text) -> Result<Text, FaultKind>
+    ensures { Gives result (declared is_lawful is_taken word.now) }
+{
+    if !is_lawful {
+        return Err(FaultKind::BadName);
+    }
+    if is_taken {
+        return Err(FaultKind::DoubleName);
+    }
+    if !is_short(word) {
+        return Err(FaultKind::OverLimit);
+    }
+    Ok(word.copy(alloc)?)
+}

@@ -1,0 +1,244 @@
+//! Reading expressions, types and clauses.
+
+ghost use Rattle.std.specs.Prelude.{◌≡◌, ◌-◌, ◌<◌};
+ghost use Rattle.pst_syntax.specs.Reading as spec;
+ghost use Rattle.pst_syntax.specs.Reading.{Gives};
+ghost use Rattle.pst_syntax.specs.Shown.{shown, shown_ty, shown_clause};
+
+use crate::fault::FaultKind;
+use crate::integer::integer;
+use crate::names::{declared, is_free};
+use crate::shape::{Shape, shape_of};
+use crate::ty_shape::{ClauseShape, TyShape, clause_shape, ty_shape};
+use pst_items::{Boxed, Items, Text};
+use pst_model::{Clause, Expr};
+use pst_sexpr::Form;
+use pst_value::Ty;
+use std::alloc::Global;
+
+/// The most bytes of a text.
+const MAX_TEXT: usize = 65_536;
+
+/// The most items of a tuple, clauses of a comprehension, and parameters.
+pub const MAX_PARTS: usize = 8;
+
+/// The most levels of a type.
+pub const TY_ROOM: usize = 16;
+
+/// The most levels of an expression.
+pub const EXPR_ROOM: usize = 64;
+
+/// A bound name.
+fn bound(alloc: Global, name: &Text) -> Result<Text, FaultKind>
+    ensures { Gives result (spec.bound name.now) }
+{
+    declared(alloc, is_free(name), false, name)
+}
+
+/// A bound name beside another one.
+fn bound_beside(alloc: Global, other: &Text, name: &Text) -> Result<Text, FaultKind>
+    ensures { Gives result (spec.bound_beside other.now name.now) }
+{
+    declared(alloc, is_free(name), other.as_str() == name.as_str(), name)
+}
+
+fn int(word: &Text) -> Result<Expr, FaultKind>
+    ensures { Gives result (spec.int_of word.now) }
+{
+    match integer(word) {
+        Some(number) => Ok(Expr::Int(number)),
+        None => Err(FaultKind::OverLimit),
+    }
+}
+
+fn text(alloc: Global, text: &Text) -> Result<Expr, FaultKind>
+    ensures { Gives result (spec.text_of text.now) }
+{
+    if text.len() > MAX_TEXT {
+        return Err(FaultKind::OverLimit);
+    }
+    Ok(Expr::Text(text.copy(alloc)?))
+}
+
+fn item_at(tuple: Boxed<Expr>, place: &Text) -> Result<Expr, FaultKind>
+    ensures { Gives result (spec.item_at tuple place.now) }
+{
+    match integer(place) {
+        Some(place) => Ok(Expr::At(tuple, place.max(0) as u64)),
+        None => Err(FaultKind::OverLimit),
+    }
+}
+
+/// A type, with so many levels of room.
+#[cycle(ty)]
+#[tactic(auto, using(crate::proofs::Rooms::ty_rooms))]
+pub fn ty(alloc: Global, form: &Form, room: usize) -> Result<Ty, FaultKind>
+    ensures { Gives result (spec.ty_of room form.now) }
+{
+    let Some(shape) = ty_shape(form) else {
+        return Err(FaultKind::UnknownForm);
+    };
+    if room == 0 {
+        return Err(FaultKind::OverLimit);
+    }
+    ty_parts(alloc, &shape, room - 1)
+}
+
+#[cycle(ty)]
+fn ty_parts(alloc: Global, shape: &TyShape<'_>, room: usize) -> Result<Ty, FaultKind>
+    ensures { Gives result (spec.ty_parts (spec.ty_of room) (shown_ty shape.now)) }
+{
+    match shape {
+        TyShape::Int => Ok(Ty::Int),
+        TyShape::Bool => Ok(Ty::Bool),
+        TyShape::Text => Ok(Ty::Text),
+        TyShape::Call => Ok(Ty::Call),
+        TyShape::Tuple(types) => {
+            if types.len() > MAX_PARTS {
+                return Err(FaultKind::OverLimit);
+            }
+            Ok(Ty::Tuple(tys(alloc, types, room)?))
+        }
+        TyShape::List(item) => Ok(Ty::List(Boxed::new(alloc, ty(alloc, item, room)?)?)),
+        TyShape::Ref(target) => Ok(Ty::Ref(Boxed::new(alloc, ty(alloc, target, room)?)?)),
+    }
+}
+
+#[cycle(ty)]
+fn tys(alloc: Global, forms: &[Form], room: usize) -> Result<Items<Ty>, FaultKind>
+    ensures { Gives result (spec.each (spec.ty_of room) forms.now) }
+{
+    let mut types = Items::new(alloc);
+    for form in forms {
+        types.push(ty(alloc, form, room)?)?;
+    }
+    Ok(types)
+}
+
+/// An expression, with so many levels of room.
+#[cycle(expr)]
+#[tactic(auto, using(crate::proofs::Rooms::expr_rooms))]
+pub fn expr(alloc: Global, form: &Form, room: usize) -> Result<Expr, FaultKind>
+    ensures { Gives result (spec.expr_of room form.now) }
+{
+    let Some(shape) = shape_of(form) else {
+        return Err(FaultKind::UnknownForm);
+    };
+    if room == 0 {
+        return Err(FaultKind::OverLimit);
+    }
+    expr_parts(alloc, &shape, room - 1)
+}
+
+#[cycle(expr)]
+fn expr_parts(alloc: Global, shape: &Shape<'_>, room: usize) -> Result<Expr, FaultKind>
+    ensures { Gives result (spec.expr_parts (spec.ty_of spec.ty_room) (spec.expr_of room) (shown shape.now)) }
+{
+    match shape {
+        Shape::Integer(word) => int(word),
+        Shape::Truth(truth) => Ok(Expr::Bool(*truth)),
+        Shape::Quoted(bytes) => text(alloc, bytes),
+        Shape::Used(name) => Ok(Expr::Name(name.copy(alloc)?)),
+        Shape::Let(name, value, body) => {
+            let name = bound(alloc, name)?;
+            let value = boxed(alloc, value, room)?;
+            Ok(Expr::Let(name, value, boxed(alloc, body, room)?))
+        }
+        Shape::If(test, yes, no) => {
+            let test = boxed(alloc, test, room)?;
+            let yes = boxed(alloc, yes, room)?;
+            Ok(Expr::If(test, yes, boxed(alloc, no, room)?))
+        }
+        Shape::And(a, b) => {
+            let a = boxed(alloc, a, room)?;
+            Ok(Expr::And(a, boxed(alloc, b, room)?))
+        }
+        Shape::Or(a, b) => {
+            let a = boxed(alloc, a, room)?;
+            Ok(Expr::Or(a, boxed(alloc, b, room)?))
+        }
+        Shape::Unary(operator, a) => Ok(Expr::Unary(*operator, boxed(alloc, a, room)?)),
+        Shape::Binary(operator, a, b) => {
+            let a = boxed(alloc, a, room)?;
+            Ok(Expr::Binary(*operator, a, boxed(alloc, b, room)?))
+        }
+        Shape::Tuple(items) => {
+            if items.len() > MAX_PARTS {
+                return Err(FaultKind::OverLimit);
+            }
+            Ok(Expr::Tuple(exprs(alloc, items, room)?))
+        }
+        Shape::At(tuple, place) => item_at(boxed(alloc, tuple, room)?, place),
+        Shape::List(item, items) => {
+            let item = ty(alloc, item, TY_ROOM)?;
+            Ok(Expr::List(item, exprs(alloc, items, room)?))
+        }
+        Shape::For(parts, body) => {
+            if parts.len() > MAX_PARTS {
+                return Err(FaultKind::OverLimit);
+            }
+            let clauses = clauses(alloc, parts, room)?;
+            Ok(Expr::For(clauses, boxed(alloc, body, room)?))
+        }
+        Shape::Fold(name, list, built, first, body) => {
+            let new_name = bound(alloc, name)?;
+            let list = boxed(alloc, list, room)?;
+            let built = bound_beside(alloc, name, built)?;
+            let first = boxed(alloc, first, room)?;
+            Ok(Expr::Fold(new_name, list, built, first, boxed(alloc, body, room)?))
+        }
+        Shape::Call(operation, arguments) => {
+            let arguments = exprs(alloc, arguments, room)?;
+            Ok(Expr::Call(operation.copy(alloc)?, arguments))
+        }
+        Shape::Apply(function, arguments) => {
+            let arguments = exprs(alloc, arguments, room)?;
+            Ok(Expr::Apply(function.copy(alloc)?, arguments))
+        }
+    }
+}
+
+#[cycle(expr)]
+fn boxed(alloc: Global, form: &Form, room: usize) -> Result<Boxed<Expr>, FaultKind>
+    ensures { Gives result (spec.expr_of room form.now) }
+{
+    Ok(Boxed::new(alloc, expr(alloc, form, room)?)?)
+}
+
+#[cycle(expr)]
+fn exprs(alloc: Global, forms: &[Form], room: usize) -> Result<Items<Expr>, FaultKind>
+    ensures { Gives result (spec.each (spec.expr_of room) forms.now) }
+{
+    let mut expressions = Items::new(alloc);
+    for form in forms {
+        expressions.push(expr(alloc, form, room)?)?;
+    }
+    Ok(expressions)
+}
+
+#[cycle(expr)]
+fn clauses(alloc: Global, forms: &[Form], room: usize) -> Result<Items<Clause>, FaultKind>
+    ensures { Gives result (spec.each (spec.clause_of (spec.expr_of room)) forms.now) }
+{
+    let mut clauses = Items::new(alloc);
+    for form in forms {
+        clauses.push(clause(alloc, form, room)?)?;
+    }
+    Ok(clauses)
+}
+
+#[cycle(expr)]
+fn clause(alloc: Global, form: &Form, room: usize) -> Result<Clause, FaultKind>
+    ensures { Gives result (spec.clause_of (spec.expr_of room) form.now) }
+{
+    let Some(shape) = clause_shape(form) else {
+        return Err(FaultKind::UnknownForm);
+    };
+    match shape {
+        ClauseShape::In(name, list) => {
+            let name = bound(alloc, name)?;
+            Ok(Clause::In(name, expr(alloc, list, room)?))
+        }
+        ClauseShape::When(test) => Ok(Clause::When(expr(alloc, test, room)?)),
+    }
+}

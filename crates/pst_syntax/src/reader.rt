@@ -1,0 +1,69 @@
+//! Reading a model.
+
+ghost use Rattle.std.specs.Prelude.{◌≡◌, ◌∷◌, []};
+ghost use Rattle.pst_sexpr.specs.Lawful.{IsTree};
+ghost use Rattle.pst_syntax.specs.Items as spec;
+ghost use Rattle.pst_syntax.specs.Items.{Answers, model_of};
+
+use crate::count::room_after;
+use crate::fault::{FaultKind, SyntaxFault, fault};
+use crate::item_shape::{ModelShape, model_shape};
+use crate::items::{has_command, has_init, has_state, item_of};
+use crate::model::Model;
+use crate::names::{declared, is_name};
+use pst_items::Items;
+use pst_model::{Item, Source};
+use pst_sexpr::{Form, Tree};
+use std::alloc::Global;
+
+/// The most trees of a model, its own among them.
+const MAX_TREES: usize = 20_000;
+
+fn items_of(alloc: Global, forms: &[Form]) -> Result<Items<Item>, SyntaxFault>
+    ensures { Answers result (spec.items_from [] forms.now) }
+{
+    let mut items = Items::new(alloc);
+    for form in forms {
+        let number = items.len() + 1;
+        match item_of(alloc, items.as_slice(), form) {
+            Ok(item) => items.push(item)?,
+            Err(kind) => return Err(fault(kind, number)),
+        }
+    }
+    Ok(items)
+}
+
+/// The model that a tree spells.
+fn source_of(alloc: Global, form: &Form) -> Result<Source, SyntaxFault>
+    ensures { Answers result (model_of (form.now ∷ [])) }
+{
+    if room_after(form, MAX_TREES).is_none() {
+        return Err(fault(FaultKind::OverLimit, 0));
+    }
+    let Some(ModelShape { name, items }) = model_shape(form) else {
+        return Err(fault(FaultKind::UnknownForm, 0));
+    };
+    let name = match declared(alloc, is_name(name), false, name) {
+        Ok(name) => name,
+        Err(kind) => return Err(fault(kind, 0)),
+    };
+    let items = items_of(alloc, items)?;
+    if !(has_state(items.as_slice()) && has_init(items.as_slice()) && has_command(items.as_slice())) {
+        return Err(fault(FaultKind::Missing, 0));
+    }
+    Ok(Source { name, items })
+}
+
+/// Reads the model that the first tree spells; further trees are not looked at.
+///
+/// The fault is the first one, where each tree is judged before its parts, and these from left to right. Its item is the
+/// one in which it stands, from 1, or 0 for the model itself, as where there is no tree. `NoMemory`: memory was refused.
+pub fn read_model(alloc: Global, trees: &[Tree]) -> Result<Model, SyntaxFault>
+    ensures { Answers result (model_of trees.now) }
+{
+    let Some(tree) = trees.first() else {
+        return Err(fault(FaultKind::Missing, 0));
+    };
+    let source = source_of(alloc, tree.form())?;
+    Ok(Model::new(source))
+}

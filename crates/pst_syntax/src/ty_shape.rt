@@ -1,0 +1,88 @@
+//! What a tree is as a type or a clause, one level deep.
+
+ghost use Rattle.std.specs.Prelude.{◌≡◌};
+ghost use Rattle.pst_syntax.specs.Shape as spec;
+ghost use Rattle.pst_syntax.specs.Shown.{shown_ty_option, shown_clause_option};
+
+use crate::heads::{Head, head_of};
+use crate::shape::{node_of, some_of, word_of};
+use pst_items::Text;
+use pst_sexpr::Form;
+
+/// A type, whose parts are trees yet.
+#[derive(Drop)]
+pub enum TyShape<'a> {
+    Int,
+    Bool,
+    Text,
+    Call,
+    Tuple(&'a [Form]),
+    List(&'a Form),
+    Ref(&'a Form),
+}
+
+/// A clause, whose parts are trees yet.
+#[derive(Drop)]
+pub enum ClauseShape<'a> {
+    In(&'a Text, &'a Form),
+    When(&'a Form),
+}
+
+fn ty_word(word: &str) -> Option<TyShape<'_>>
+    ensures { shown_ty_option result ≡ spec.ty_word word.now }
+{
+    if word == "int" {
+        Some(TyShape::Int)
+    } else if word == "bool" {
+        Some(TyShape::Bool)
+    } else if word == "text" {
+        Some(TyShape::Text)
+    } else if word == "call" {
+        Some(TyShape::Call)
+    } else {
+        None
+    }
+}
+
+fn ty_node(parts: &[Form]) -> Option<TyShape<'_>>
+    ensures { shown_ty_option result ≡ spec.ty_node parts.now }
+{
+    let (first, parts) = parts.split_first()?;
+    match (head_of(word_of(first)?.as_str())?, parts) {
+        (Head::Tuple, types) => Some(TyShape::Tuple(some_of(types)?)),
+        (Head::List, [ty]) => Some(TyShape::List(ty)),
+        (Head::Ref, [ty]) => Some(TyShape::Ref(ty)),
+        _ => None,
+    }
+}
+
+/// Which form of type a tree has.
+#[tactic(auto, unfolding(crate::specs::Shape::ty_shape))]
+pub fn ty_shape(form: &Form) -> Option<TyShape<'_>>
+    ensures { shown_ty_option result ≡ spec.ty_shape form.now }
+{
+    match form {
+        Form::Word(word) => ty_word(word.as_str()),
+        Form::Text(_) => None,
+        Form::Node(parts) => ty_node(parts.as_slice()),
+    }
+}
+
+fn clause_node(parts: &[Form]) -> Option<ClauseShape<'_>>
+    ensures { shown_clause_option result ≡ spec.clause_node parts.now }
+{
+    let (first, parts) = parts.split_first()?;
+    match (head_of(word_of(first)?.as_str())?, parts) {
+        (Head::In, [name, list]) => Some(ClauseShape::In(word_of(name)?, list)),
+        (Head::When, [test]) => Some(ClauseShape::When(test)),
+        _ => None,
+    }
+}
+
+/// Which form of clause a tree has.
+#[tactic(auto, unfolding(crate::specs::Shape::clause_shape))]
+pub fn clause_shape(form: &Form) -> Option<ClauseShape<'_>>
+    ensures { shown_clause_option result ≡ spec.clause_shape form.now }
+{
+    clause_node(node_of(form)?)
+}

@@ -1,0 +1,27 @@
+-- The decision agrees with the rules.
+use Rattle.std.specs.Prelude.{◌≡◌, ◌↔◌, Bool, true, List, Some}
+use Rattle.pst_model.specs.declared.expr.Expr.{Expr}
+use Rattle.pst_model.specs.declared.model.Item.{Item}
+use Rattle.pst_rules.specs.Rules.{Context, Has, Typed}
+use Rattle.pst_rules.specs.WellTyped.{WellItem}
+use Rattle.pst_typing.specs.Decision.{type_of}
+use Rattle.pst_typing.specs.Items.{well_item}
+use Rattle.pst_value.specs.declared.ty.Ty.{Ty}
+
+-- the type that is found is given by the rules
+abbrev pub FoundIsTyped : Type 0
+FoundIsTyped = (items earlier : List Item) (post : Bool) (G : Context) (e : Expr) (T : Ty)
+    → type_of items earlier post e G ≡ Some T → Typed items earlier post (Has G e T)
+
+-- the type that the rules give is found
+abbrev pub TypedIsFound : Type 0
+TypedIsFound = (items earlier : List Item) (post : Bool) (G : Context) (e : Expr) (T : Ty)
+    → Typed items earlier post (Has G e T) → type_of items earlier post e G ≡ Some T
+
+-- an item that passes the test is well typed
+abbrev pub PassedIsWell : Type 0
+PassedIsWell = (items : List Item) (S : Ty) (earlier : List Item) (i : Item) → well_item items S earlier i ≡ true → WellItem items S earlier i
+
+-- an item that is well typed passes the test
+abbrev pub WellIsPassed : Type 0
+WellIsPassed = (items : List Item) (S : Ty) (earlier : List Item) (i : Item) → WellItem items S earlier i → well_item items S earlier i ≡ true

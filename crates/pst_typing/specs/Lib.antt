@@ -1,0 +1,5 @@
+pub mod Answers
+pub mod Decision
+pub mod Items
+pub mod Laws
+pub mod Scope

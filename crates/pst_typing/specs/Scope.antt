@@ -1,0 +1,18 @@
+-- What the borrowed names and the context of the checker stand for.
+use Rattle.std.specs.Prelude.{List, ◌∷◌, map, reverse}
+use Rattle.pst_model.specs.declared.expr.Clause.{Clause}
+use Rattle.pst_model.specs.declared.expr.Expr.{Expr}
+use Rattle.pst_rules.specs.Rules.{Context, context_of}
+use Rattle.pst_typing.specs.Decision.{Finds, Part, type_of, part_of}
+use Rattle.pst_typing.specs.declared.context.Context.{Context as Surroundings}
+use Rattle.pst_typing.specs.declared.scope.Scope.{Scope, Parameters, With'}
+
+abbrev pub names_of : Scope → Context
+names_of (Parameters params) = context_of params.now
+names_of (With' name ty r outer) = (name.now, ty.now) ∷ names_of outer
+
+abbrev pub type_in : Surroundings → Expr → Finds
+type_in c = type_of c.items.now (reverse c.earlier.now) c.is_post
+
+abbrev pub parts_in : Surroundings → List Clause → List Part
+parts_in c clauses = map (part_of c.items.now (reverse c.earlier.now) c.is_post) clauses
