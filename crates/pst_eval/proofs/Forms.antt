@@ -134,3 +134,7 @@ module _ (vars : List Ty) (ops : List (List Ty)) where
   known_form v t h =
       let r = known_at (out-Value v) t (opened [] vars ops v (ty.Ref t) (Ty-F.Ref t) (ty.outs-Ref t) h) in
       (r.0, r.1, back [] vars ops v _ r.2, r.3)
+
+-- a value of type bool is a truth value
+pub not_bool : (ops : List (List Ty)) (v : Value) → fits [] [] ops v ty.Bool ≡ true → ((b : Bool) → v ≡ value.Bool b → ⊥) → ⊥
+not_bool ops v h other = let r = bool_form [] [] ops v h in other r.0 (r.1 ∙ value.rolls-Bool r.0)

@@ -67,6 +67,21 @@ fn finds_the_first_fault(rt: HostRuntime) {
 }
 
 #[test]
+fn finds_the_open_node_of_a_cut_file(rt: HostRuntime) {
+    let text = b"(a (b c) d)";
+    let innermost: [usize; 10] = [0, 0, 0, 3, 3, 3, 3, 0, 0, 0];
+    assert!(rt; fault_of(rt.alloc(), b"").is_none());
+    for (last, place) in innermost.iter().enumerate() {
+        let unclosed = SexprFault {
+            kind: FaultKind::UnclosedNode,
+            place: *place,
+        };
+        assert!(rt; fault_of(rt.alloc(), &text[..last + 1]) == Some(unclosed));
+    }
+    assert!(rt; fault_of(rt.alloc(), text).is_none());
+}
+
+#[test]
 fn finds_what_is_too_deep(rt: HostRuntime) {
     let open = [b'('; 101];
     let unclosed = SexprFault {

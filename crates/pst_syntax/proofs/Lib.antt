@@ -1,3 +1,5 @@
 pub mod Growing
 pub mod Rooms
 pub mod Counted
+pub mod Complete
+pub mod First

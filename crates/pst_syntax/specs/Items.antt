@@ -1,5 +1,5 @@
 -- Reading items and the model.
-use Rattle.std.specs.Prelude.{◌≡◌, ◌&&◌, ℕ, suc, ◌+◌, nat_le, nat_lt, Bool, true, false, if◌then◌else◌, List, [], ◌∷◌, ◌++◌, length, Option, Some, None, Result, Ok, Err}
+use Rattle.std.specs.Prelude.{◌≡◌, ◌&&◌, ℕ, suc, ◌+◌, ◌≤◌, nat_le, nat_lt, Bool, true, false, if◌then◌else◌, List, [], ◌∷◌, ◌++◌, length, Option, Some, None, Result, Ok, Err}
 use Rattle.std.specs.List.{list_any, count_by}
 use Rattle.std.specs.Str.{bytes_eq}
 use Rattle.pst_sexpr.specs.declared.form.Form.{Form}
@@ -181,6 +181,14 @@ pub record IsModel (source : Source) : Type 0 where
   pub tree : Form
   pub lawful : IsTree tree
   pub reads : model_of (tree ∷ []) ≡ Ok source
+
+-- what stands in each model
+pub record HasItems (items : List Item) : Type 0 where
+  pub state : count_by is_state items ≡ 1
+  pub init : count_by is_init items ≡ 1
+  pub command : count_by is_command items ≡ 1
+  pub functions : count_by is_fun items ≤ max_declared
+  pub operations : count_by is_op items ≤ max_declared
 
 -- ---- what the reader ensures
 

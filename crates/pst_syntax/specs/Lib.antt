@@ -9,3 +9,4 @@ pub mod Counting
 pub mod ItemShape
 pub mod ShownItems
 pub mod Items
+pub mod Faults

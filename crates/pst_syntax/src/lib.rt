@@ -7,6 +7,7 @@ mod heads;
 mod integer;
 mod item_shape;
 mod items;
+pub mod laws;
 mod model;
 mod names;
 mod read;

@@ -47,6 +47,10 @@ parts_at _ = None
 abbrev pub part_types : Ty → Option (List Ty)
 part_types t = parts_at (out-Ty t)
 
+-- the type of a tuple's item, by its place from 1
+abbrev pub part_type : Ty → ℕ → Option Ty
+part_type t place = part_types t >>= (λ ts. numbered ts place)
+
 abbrev pub referred_at : Ty-F Ty → Option Ty
 referred_at (Ty-F.Ref t) = Some t
 referred_at _ = None
@@ -54,6 +58,14 @@ referred_at _ = None
 -- the type of the result that a reference names
 abbrev pub referred_type : Ty → Option Ty
 referred_type t = referred_at (out-Ty t)
+
+abbrev pub is_ref_at : Ty-F Ty → Bool
+is_ref_at (Ty-F.Ref t) = true
+is_ref_at _ = false
+
+-- whether it is a reference type
+abbrev pub is_ref : Ty → Bool
+is_ref t = is_ref_at (out-Ty t)
 
 abbrev pub is_sequence_at : Ty-F Ty → Bool
 is_sequence_at Ty-F.Text = true
@@ -70,6 +82,14 @@ is_sequence t = is_sequence_at (out-Ty t)
 abbrev pub both_int : Ty → Ty → Bool
 both_int R S = same_ty R ty.Int && same_ty S ty.Int
 
+-- whether both are `int`, or both `text`
+abbrev pub are_ordered : Ty → Ty → Bool
+are_ordered R S = same_ty R S && (same_ty R ty.Int || same_ty R ty.Text)
+
+-- whether `=` compares them: in mode post any type, else one without references and calls
+abbrev pub are_compared : (post : Bool) → Ty → Ty → Bool
+are_compared post R S = same_ty R S && (post || not (holds_ref R))
+
 abbrev pub unary_type : (post : Bool) → Unary → Ty → Option Ty
 unary_type post Not S = where_true (same_ty S ty.Bool) (Some ty.Bool)
 unary_type post Len S = where_true (is_sequence S) (Some ty.Int)
@@ -81,10 +101,10 @@ binary_type post Sub R S = where_true (both_int R S) (Some ty.Int)
 binary_type post Mul R S = where_true (both_int R S) (Some ty.Int)
 binary_type post Div R S = where_true (both_int R S) (Some ty.Int)
 binary_type post Rem R S = where_true (both_int R S) (Some ty.Int)
-binary_type post Less R S = where_true (same_ty R S && (same_ty R ty.Int || same_ty R ty.Text)) (Some ty.Bool)
-binary_type post LessEqual R S = where_true (same_ty R S && (same_ty R ty.Int || same_ty R ty.Text)) (Some ty.Bool)
-binary_type post Equal R S = where_true (same_ty R S && (post || not (holds_ref R))) (Some ty.Bool)
-binary_type post Same R S = where_true (same_ty R S) (referred_type R) >>= (λ _. Some ty.Bool)
+binary_type post Less R S = where_true (are_ordered R S) (Some ty.Bool)
+binary_type post LessEqual R S = where_true (are_ordered R S) (Some ty.Bool)
+binary_type post Equal R S = where_true (are_compared post R S) (Some ty.Bool)
+binary_type post Same R S = where_true (same_ty R S && is_ref R) (Some ty.Bool)
 binary_type post Append R S = where_true (same_ty R S && is_sequence R) (Some R)
 binary_type post Nth R S = where_true (same_ty S ty.Int) (item_type R)
 binary_type post Range R S = where_true (both_int R S) (Some (ty.List ty.Int))
@@ -139,7 +159,7 @@ type_at items earlier post (Expr-F.Or a b) G = where_true (is_ty (a G) ty.Bool &
 type_at items earlier post (Expr-F.Unary op e) G = e G >>= unary_type post op
 type_at items earlier post (Expr-F.Binary op a b) G = a G >>= (λ R. b G >>= binary_type post op R)
 type_at items earlier post (Expr-F.Tuple es) G = all_types es G >>= (λ Ts. Some (ty.Tuple Ts))
-type_at items earlier post (Expr-F.At e place) G = e G >>= part_types >>= (λ Ts. numbered Ts place)
+type_at items earlier post (Expr-F.At e place) G = e G >>= (λ T. part_type T place)
 type_at items earlier post (Expr-F.List T es) G = where_true (nat_le (length es) limit && all_have es G T) (Some (ty.List T))
 type_at items earlier post (Expr-F.For cs b) G = built_type cs b G >>= (λ T. Some (ty.List T))
 type_at items earlier post (Expr-F.Fold x e acc i b) G = e G >>= item_type >>= (λ S. i G >>= (λ T. where_true (is_ty (b ((acc, T) ∷ (x, S) ∷ G)) T) (Some T)))

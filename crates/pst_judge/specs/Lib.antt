@@ -1,0 +1,3 @@
+pub mod Replay
+pub mod Verdict
+pub mod Words

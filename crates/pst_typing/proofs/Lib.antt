@@ -1,0 +1,3 @@
+pub mod Holding
+pub mod Steps
+pub mod Weight

@@ -1,0 +1,177 @@
+//! The types of what operators give, and of the parts of types.
+ghost use Rattle.std.specs.Prelude.{◌≡◌, Some};
+ghost use Rattle.std.specs.List.{list_all};
+ghost use Rattle.pst_typing.specs.Answers.{Answers};
+ghost use Rattle.pst_typing.specs.Decision as spec;
+ghost use Rattle.pst_value.specs.Text as lawful;
+ghost use Rattle.pst_value.specs.declared.ty.Ty.TheVariants.{Int as int, Text as text};
+
+use crate::refusal::Refusal;
+use crate::types::{copy_type, holds_ref};
+use pst_items::Boxed;
+use pst_model::{Binary, Unary};
+use pst_value::{LIMIT, Ty};
+use std::alloc::Global;
+
+/// A type, where a test is passed.
+fn where_true(test: bool, ty: Ty) -> Result<Ty, Refusal>
+    ensures { Answers (spec.where_true test (Some ty)) result }
+{
+    if test { Ok(ty) } else { Err(Refusal::Ill) }
+}
+
+fn is_sequence(ty: &Ty) -> bool
+    ensures { result ≡ spec.is_sequence ty.now }
+{
+    match ty {
+        Ty::Text | Ty::List(_) => true,
+        _ => false,
+    }
+}
+
+fn is_ref(ty: &Ty) -> bool
+    ensures { result ≡ spec.is_ref ty.now }
+{
+    match ty {
+        Ty::Ref(_) => true,
+        _ => false,
+    }
+}
+
+fn both_int(first: &Ty, second: &Ty) -> bool
+    ensures { result ≡ spec.both_int first.now second.now }
+{
+    *first == Ty::Int && *second == Ty::Int
+}
+
+/// Whether both are `int`, or both `text`.
+fn are_ordered(first: &Ty, second: &Ty) -> bool
+    ensures { result ≡ spec.are_ordered first.now second.now }
+{
+    *first == *second && (*first == Ty::Int || *first == Ty::Text)
+}
+
+/// Whether `=` compares them: in mode post any type, else one without references.
+fn are_compared(is_post: bool, first: &Ty, second: &Ty) -> bool
+    ensures { result ≡ spec.are_compared is_post first.now second.now }
+{
+    *first == *second && (is_post || !holds_ref(first))
+}
+
+/// The type of a list's items.
+pub fn item_type(list: Ty) -> Result<Ty, Refusal>
+    ensures { Answers (spec.item_type list) result }
+{
+    match list {
+        Ty::List(item) => Ok(item.into_inner()),
+        _ => Err(Refusal::Ill),
+    }
+}
+
+/// The type of the result that a reference names.
+fn referred_type(reference: Ty) -> Result<Ty, Refusal>
+    ensures { Answers (spec.referred_type reference) result }
+{
+    match reference {
+        Ty::Ref(named) => Ok(named.into_inner()),
+        _ => Err(Refusal::Ill),
+    }
+}
+
+/// The type of a tuple's item, by its place from 1.
+pub fn part_type(alloc: Global, tuple: &Ty, place: u64) -> Result<Ty, Refusal>
+    ensures { Answers (spec.part_type tuple.now place) result }
+{
+    let Ty::Tuple(types) = tuple else {
+        return Err(Refusal::Ill);
+    };
+    if place == 0 {
+        return Err(Refusal::Ill);
+    }
+    match types.get(place as usize - 1) {
+        Some(ty) => Ok(copy_type(alloc, ty)?),
+        None => Err(Refusal::Ill),
+    }
+}
+
+/// The type of an operator's value, by that of its operand.
+pub fn unary_type(is_post: bool, operator: Unary, operand: Ty) -> Result<Ty, Refusal>
+    ensures { Answers (spec.unary_type is_post operator operand) result }
+{
+    match operator {
+        Unary::Not => where_true(operand == Ty::Bool, Ty::Bool),
+        Unary::Len => where_true(is_sequence(&operand), Ty::Int),
+        Unary::Deref => {
+            if !is_post {
+                return Err(Refusal::Ill);
+            }
+            referred_type(operand)
+        }
+    }
+}
+
+/// The type of an operator's value, by those of its operands.
+pub fn binary_type(
+    alloc: Global,
+    is_post: bool,
+    operator: Binary,
+    first: Ty,
+    second: &Ty,
+) -> Result<Ty, Refusal>
+    ensures { Answers (spec.binary_type is_post operator first second.now) result }
+{
+    match operator {
+        Binary::Add | Binary::Sub | Binary::Mul | Binary::Div | Binary::Rem => {
+            where_true(both_int(&first, second), Ty::Int)
+        }
+        Binary::Less | Binary::LessEqual => where_true(are_ordered(&first, second), Ty::Bool),
+        Binary::Equal => where_true(are_compared(is_post, &first, second), Ty::Bool),
+        Binary::Same => where_true(first == *second && is_ref(&first), Ty::Bool),
+        Binary::Append => where_true(first == *second && is_sequence(&first), first),
+        Binary::Nth => {
+            if *second != Ty::Int {
+                return Err(Refusal::Ill);
+            }
+            item_type(first)
+        }
+        Binary::Range => {
+            let list = Ty::List(Boxed::new(alloc, Ty::Int)?);
+            where_true(both_int(&first, second), list)
+        }
+    }
+}
+
+/// The type of an integer: an `i64` is always in range.
+pub fn int_type(number: i64) -> Result<Ty, Refusal>
+    ensures { Answers (spec.where_true (lawful.is_i64 number) (Some int)) result }
+{
+    where_true(is_i64(number), Ty::Int)
+}
+
+fn is_i64(number: i64) -> bool
+    ensures { result ≡ lawful.is_i64 number }
+{
+    let _in_range = number;
+    true
+}
+
+/// The type of a text.
+pub fn text_type(bytes: &[u8]) -> Result<Ty, Refusal>
+    ensures { Answers (spec.where_true (lawful.is_text bytes.now) (Some text)) result }
+{
+    where_true(is_text(bytes), Ty::Text)
+}
+
+/// Whether it has at most `LIMIT` bytes, each 32 to 126.
+#[tactic(auto, using(pst_value::proofs::Typing::within))]
+fn is_text(bytes: &[u8]) -> bool
+    ensures { result ≡ lawful.is_text bytes.now }
+{
+    bytes.len() <= LIMIT && all_printable(bytes)
+}
+
+fn all_printable(bytes: &[u8]) -> bool
+    ensures { result ≡ list_all lawful.is_printable bytes.now }
+{
+    bytes.iter().all(|byte| 32 <= *byte && *byte <= 126)
+}

@@ -1,0 +1,101 @@
+//! Types copied, and searched for references and calls.
+ghost use Rattle.std.specs.Prelude.{◌≡◌, IfOk};
+ghost use Rattle.std.specs.List.{list_any};
+ghost use Rattle.pst_model.specs.Parts.{types_of};
+ghost use Rattle.pst_rules.specs.Kinds as kinds;
+
+use pst_items::{Boxed, Items};
+use pst_model::Param;
+use pst_value::Ty;
+use std::alloc::{AllocError, Global};
+
+/// An equal type.
+#[cycle(copy)]
+pub fn copy_type(alloc: Global, ty: &Ty) -> Result<Ty, AllocError>
+    ensures { IfOk result (λ copy. copy ≡ ty.now) }
+{
+    match ty {
+        Ty::Int => Ok(Ty::Int),
+        Ty::Bool => Ok(Ty::Bool),
+        Ty::Text => Ok(Ty::Text),
+        Ty::Tuple(items) => Ok(Ty::Tuple(copy_all(alloc, items.as_slice())?)),
+        Ty::List(item) => Ok(Ty::List(Boxed::new(alloc, copy_type(alloc, item.get())?)?)),
+        Ty::Ref(named) => Ok(Ty::Ref(Boxed::new(alloc, copy_type(alloc, named.get())?)?)),
+        Ty::Call => Ok(Ty::Call),
+    }
+}
+
+#[cycle(copy)]
+fn copy_all(alloc: Global, types: &[Ty]) -> Result<Items<Ty>, AllocError>
+    ensures { IfOk result (λ copies. copies ≡ types.now) }
+{
+    let mut copies = Items::new(alloc);
+    for ty in types {
+        copies.push(copy_type(alloc, ty)?)?;
+    }
+    Ok(copies)
+}
+
+/// Whether `ref` or `call` stands in a type.
+#[cycle(refs)]
+#[tactic(auto, using(crate::proofs::Holding::refs))]
+pub fn holds_ref(ty: &Ty) -> bool
+    ensures { result ≡ kinds.holds_ref ty.now }
+{
+    match ty {
+        Ty::Int | Ty::Bool | Ty::Text => false,
+        Ty::Tuple(items) => any_holds_ref(items.as_slice()),
+        Ty::List(item) => holds_ref(item.get()),
+        Ty::Ref(_) | Ty::Call => true,
+    }
+}
+
+#[cycle(refs)]
+fn any_holds_ref(types: &[Ty]) -> bool
+    ensures { result ≡ list_any kinds.holds_ref types.now }
+{
+    for ty in types {
+        if holds_ref(ty) {
+            return true;
+        }
+    }
+    false
+}
+
+/// Whether `call` stands in a type.
+#[cycle(calls)]
+#[tactic(auto, using(crate::proofs::Holding::calls))]
+pub fn holds_call(ty: &Ty) -> bool
+    ensures { result ≡ kinds.holds_call ty.now }
+{
+    match ty {
+        Ty::Int | Ty::Bool | Ty::Text => false,
+        Ty::Tuple(items) => any_holds_call(items.as_slice()),
+        Ty::List(item) | Ty::Ref(item) => holds_call(item.get()),
+        Ty::Call => true,
+    }
+}
+
+#[cycle(calls)]
+fn any_holds_call(types: &[Ty]) -> bool
+    ensures { result ≡ list_any kinds.holds_call types.now }
+{
+    for ty in types {
+        if holds_call(ty) {
+            return true;
+        }
+    }
+    false
+}
+
+/// Whether `call` stands in the type of a parameter.
+pub fn parameters_hold_call(params: &[Param]) -> bool
+    ensures { result ≡ list_any kinds.holds_call (types_of params.now) }
+{
+    for param in params {
+        if holds_call(&param.ty) {
+            return true;
+        }
+    }
+    false
+}
