@@ -1,8 +1,9 @@
 //! Commands and cases.
-ghost use Rattle.std.specs.Prelude.{◌≡◌, None};
+ghost use Rattle.std.specs.Prelude.{◌≡◌, IfOk, None};
 
 use pst_items::Items;
 use pst_value::Value;
+use std::alloc::{AllocError, Global};
 use std::marker::Model;
 
 /// A call of an operation, by its number from 0, with arguments that may name the results of earlier commands.
@@ -23,6 +24,54 @@ pub struct Case {
 #[derive(Debug, Drop)]
 pub struct Shaped {
     case: Case,
+}
+
+fn copy_values(alloc: Global, values: &[Value]) -> Result<Items<Value>, AllocError>
+    ensures { IfOk result (λ copies. copies ≡ values.now) }
+{
+    let mut copies = Items::new(alloc);
+    for value in values {
+        copies.push(value.copy(alloc)?)?;
+    }
+    Ok(copies)
+}
+
+impl Command {
+    /// An equal command.
+    pub fn copy(&self, alloc: Global) -> Result<Command, AllocError>
+        ensures { IfOk result (λ copy. copy ≡ self.now) }
+    {
+        Ok(Command {
+            op: self.op,
+            args: copy_values(alloc, self.args.as_slice())?,
+        })
+    }
+}
+
+fn copy_commands(alloc: Global, commands: &[Command]) -> Result<Items<Command>, AllocError>
+    ensures { IfOk result (λ copies. copies ≡ commands.now) }
+{
+    let mut copies = Items::new(alloc);
+    for command in commands {
+        copies.push(command.copy(alloc)?)?;
+    }
+    Ok(copies)
+}
+
+impl Case {
+    /// An equal case.
+    pub fn copy(&self, alloc: Global) -> Result<Case, AllocError>
+        ensures { IfOk result (λ copy. copy ≡ self.now) }
+    {
+        let mut branches = Items::new(alloc);
+        for branch in self.branches.as_slice() {
+            branches.push(copy_commands(alloc, branch.as_slice())?)?;
+        }
+        Ok(Case {
+            prefix: copy_commands(alloc, self.prefix.as_slice())?,
+            branches,
+        })
+    }
 }
 
 impl Model for Shaped {
@@ -65,5 +114,14 @@ impl Shaped {
     {
         let Shaped { case } = self;
         case
+    }
+
+    /// An equal shaped case.
+    pub fn copy(&self, alloc: Global) -> Result<Shaped, AllocError>
+        ensures { IfOk result (λ copy. copy ≡ self.now) }
+    {
+        Ok(Shaped {
+            case: self.case.copy(alloc)?,
+        })
     }
 }

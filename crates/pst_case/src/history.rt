@@ -1,8 +1,10 @@
 //! What was recorded of a case.
+ghost use Rattle.std.specs.Prelude.{◌≡◌, IfOk};
 
 use crate::case::Shaped;
 use pst_items::Items;
 use pst_value::Value;
+use std::alloc::{AllocError, Global};
 
 /// What a system answered to a command.
 #[derive(Debug, PartialEq, Eq, Drop)]
@@ -29,4 +31,61 @@ pub struct History {
 pub struct Run {
     pub shaped: Shaped,
     pub history: Option<History>,
+}
+
+impl Reply {
+    /// An equal reply.
+    pub fn copy(&self, alloc: Global) -> Result<Reply, AllocError>
+        ensures { IfOk result (λ copy. copy ≡ self.now) }
+    {
+        match self {
+            Reply::Value(value) => Ok(Reply::Value(value.copy(alloc)?)),
+            Reply::Misfit => Ok(Reply::Misfit),
+            Reply::Failed => Ok(Reply::Failed),
+            Reply::NotRun => Ok(Reply::NotRun),
+        }
+    }
+}
+
+fn copy_replies(alloc: Global, replies: &[Reply]) -> Result<Items<Reply>, AllocError>
+    ensures { IfOk result (λ copies. copies ≡ replies.now) }
+{
+    let mut copies = Items::new(alloc);
+    for reply in replies {
+        copies.push(reply.copy(alloc)?)?;
+    }
+    Ok(copies)
+}
+
+impl History {
+    /// An equal history.
+    pub fn copy(&self, alloc: Global) -> Result<History, AllocError>
+        ensures { IfOk result (λ copy. copy ≡ self.now) }
+    {
+        let mut branches = Items::new(alloc);
+        for branch in self.branches.as_slice() {
+            branches.push(copy_replies(alloc, branch.as_slice())?)?;
+        }
+        Ok(History {
+            prefix: copy_replies(alloc, self.prefix.as_slice())?,
+            branches,
+        })
+    }
+}
+
+impl Run {
+    /// An equal run.
+    pub fn copy(&self, alloc: Global) -> Result<Run, AllocError>
+        ensures shaped { IfOk result (λ copy. copy.shaped ≡ self.now.shaped) }
+        ensures history { IfOk result (λ copy. copy.history ≡ self.now.history) }
+    {
+        let history = match &self.history {
+            Some(history) => Some(history.copy(alloc)?),
+            None => None,
+        };
+        Ok(Run {
+            shaped: self.shaped.copy(alloc)?,
+            history,
+        })
+    }
 }

@@ -29,10 +29,10 @@ zeros (suc n) (suc b) = zeros n b
 pub IsAt-none : (lengths : List ℕ) → IsAt lengths (none_done lengths)
 IsAt-none lengths = record { branches = length-replicate (length lengths) 0; within = λ b. omega (arith, zeros (length lengths) b) }
 
-merge : (lengths word : List ℕ) → IsMerge lengths word → Completes lengths (none_done lengths) word
+pub merge : (lengths word : List ℕ) → IsMerge lengths word → Completes lengths (none_done lengths) word
 merge lengths word h = λ b. omega (arith, zeros (length lengths) b, h b)
 
-completes : (lengths word : List ℕ) → Completes lengths (none_done lengths) word → IsMerge lengths word
+pub completes : (lengths word : List ℕ) → Completes lengths (none_done lengths) word → IsMerge lengths word
 completes lengths word h = λ b. omega (arith, zeros (length lengths) b, h b)
 
 module _ {S F : Type 0} (turn : S → ℕ → ℕ → Turn S F) (lengths : List ℕ) (state : S) where

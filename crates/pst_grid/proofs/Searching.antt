@@ -38,7 +38,7 @@ module _ (lengths done : List ℕ) (b : ℕ) (at : IsAt lengths done) (left : ge
   pub sum-more : sum (one_more done b) ≡ sum done + 1
   sum-more = omega (arith, sum_by-set (λ x. x) done b (get_or done b 0 + 1) 0 IsAt-branch)
 
-sum-le : (xs ys : List ℕ) → length xs ≡ length ys → ((b : ℕ) → get_or xs b 0 ≤ get_or ys b 0) → sum xs ≤ sum ys
+pub sum-le : (xs ys : List ℕ) → length xs ≡ length ys → ((b : ℕ) → get_or xs b 0 ≤ get_or ys b 0) → sum xs ≤ sum ys
 sum-le [] ys e h = omega arith
 sum-le (x ∷ xs) [] e h = absurd (omega arith)
 sum-le (x ∷ xs) (y ∷ ys) e h = let k : x ≤ y = h 0 in let i = sum-le xs ys (omega arith) (λ b. h (suc b)) in omega (arith, sum_by-cons (λ a. a) x xs, sum_by-cons (λ a. a) y ys)

@@ -7,8 +7,8 @@ use Rattle.pst_grid.specs.declared.answer.Why.TheVariants as why
 use Rattle.pst_judge.specs.Replay.{replayed, recorded, branch_lengths}
 use Rattle.pst_judge.specs.Words.{side_of}
 use Rattle.pst_judge.specs.declared.place.Place.{Place}
-use Rattle.pst_judge.specs.declared.verdict.Verdict.{Verdict}
-use Rattle.pst_judge.specs.declared.verdict.Verdict.TheVariants.{Explained, Faulted, Unexplained, Broken}
+use Rattle.pst_judge.specs.declared.verdicts.Verdict.{Verdict}
+use Rattle.pst_judge.specs.declared.verdicts.Verdict.TheVariants.{Explained, Faulted, Unexplained, Broken}
 use Rattle.pst_model.specs.declared.model.Source.{Source}
 use Rattle.pst_value.specs.declared.value.Value.{Value}
 

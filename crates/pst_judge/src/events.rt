@@ -131,3 +131,33 @@ fn split_replies(replies: &[Reply]) -> Option<(&Reply, &[Reply])>
 {
     replies.split_first()
 }
+
+/// The events of branches before which so many commands stand, after those of others.
+pub fn branches_events(
+    alloc: Global,
+    results: &[Option<Value>],
+    number: u32,
+    branches: &[Items<Command>],
+    replies: &[Items<Reply>],
+    mut events: Items<Items<Event>>,
+) -> Result<Items<Items<Event>>, AllocError>
+    requires { number + length (joined branches.now) < 2 ^ 32 }
+    ensures { IfOk result (λ all. all ≡ events ++ spec.branches_events results.now number branches.now replies.now) }
+{
+    let Some((branch, branches)) = split_parts(branches) else {
+        return Ok(events);
+    };
+    let Some((answers, replies)) = split_branches(replies) else {
+        return Ok(events);
+    };
+    let empty = Items::new(alloc);
+    let here = part_events(alloc, results, number, branch.as_slice(), answers.as_slice(), empty)?;
+    events.push(here)?;
+    branches_events(alloc, results, number + branch.len() as u32, branches, replies, events)
+}
+
+fn split_parts(branches: &[Items<Command>]) -> Option<(&Items<Command>, &[Items<Command>])>
+    ensures { MatchOption result (branches.now ≡ []) (λ p. (branches.now ≡ p.0.now ∷ p.1.now) × (length (joined branches.now) ≡ length p.0.now + length (joined p.1.now))) }
+{
+    branches.split_first()
+}

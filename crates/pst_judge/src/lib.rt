@@ -2,10 +2,15 @@
 #![tactic(auto)]
 
 mod events;
+mod judging;
 mod place;
+mod prefix;
 mod replay;
-mod verdict;
+mod search;
+mod verdicts;
 
 pub use events::Event;
+
+pub use judging::verdict;
 pub use place::{Callback, Place, Side};
-pub use verdict::Verdict;
+pub use verdicts::Verdict;

@@ -87,7 +87,7 @@ follows items i m = record {
   init = omega (arith, count_more is_init items i, m.init);
   command = omega (arith, count_more is_command items i, m.command);
   functions = omega (arith, count_more is_fun items i, m.functions);
-  operations = omega (arith, count_more is_op items i, m.operations)
+  operations = omega (arith, count_more is_op items i, m.operations);
 }
 
 state_follows : (items : List Item) (t : Ty) → Bounded items → count_by is_state items ≡ 0 → MayFollow items (item.State t)
@@ -164,7 +164,7 @@ has items b e =
       init = omega (arith, some_counted is_init items q.1, b.init);
       command = omega (arith, some_counted is_command items p.1, b.command);
       functions = b.functions;
-      operations = b.operations
+      operations = b.operations;
     }
 
 completed : (b : Bool) (x : List ℕ) (items : List Item) (source : Source) → complete b x items ≡ Ok source → (b ≡ true) × (items ≡ source.items)

@@ -124,7 +124,7 @@ expr_parts_same t tks ht e ks h (For cs b) =
     limited (are_few cs) _ _
     (rw (all_append (part_faults (clause_faults ks) tks ks) (map Clause cs) (Expression b ∷ []))
     (onward (each (clause_of e) cs) _ (all_faults (part_faults (clause_faults ks) tks ks) (map Clause cs)) _ (each_same (clause_of e) (part_faults (clause_faults ks) tks ks) Clause (clause_of_same e ks h) cs)
-        (λ cs. ended _ (ks b) (done (e b) _ (ks b) (h b)))))
+    (λ cs. ended _ (ks b) (done (e b) _ (ks b) (h b)))))
 expr_parts_same t tks ht e ks h (Fold x a acc i b) =
     onward (bound x) _ (name_faults (is_free x) false x) _ (declared_same (is_free x) false x) (λ y.
     onward (e a) _ (ks a) _ (h a) (λ a.

@@ -4,6 +4,7 @@ use Rattle.pst_sexpr.specs.declared.form.Form.{Form}
 use Rattle.pst_syntax.specs.declared.fault.FaultKind.TheVariants.{UnknownForm, OverLimit}
 use Rattle.pst_syntax.specs.Shape.{Shape, TyShape, shape_of, ty_shape}
 use Rattle.pst_syntax.specs.Reading.{ty_of, ty_parts, expr_of, expr_parts, ty_room, known}
+
 pub ty_unknown : (room : ℕ) (f : Form) → ty_shape f ≡ None → ty_of room f ≡ Err UnknownForm
 unfolding ty_of
 ty_unknown zero f h = ap (λ s. known s (λ s. Err OverLimit)) h
@@ -33,4 +34,5 @@ expr_inside zero f s ne h = absurd (ne refl)
 expr_inside (suc n) f s ne h = ap (λ s. known s (expr_parts (ty_of ty_room) (expr_of n))) h ∙ ap (λ k. expr_parts (ty_of ty_room) (expr_of k) s) (let e : n ≡ suc n - 1 = omega arith in e)
 
 pub ruleset ty_rooms = (ty_unknown, ty_full, ty_inside)
+
 pub ruleset expr_rooms = (expr_unknown, expr_full, expr_inside)

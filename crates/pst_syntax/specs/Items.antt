@@ -115,13 +115,13 @@ has_room test seen = nat_lt (count_by test seen) max_declared
 abbrev pub fun_of : Bool → List Item → List ℕ → List Form → Form → Form → Read Fun
 fun_of is_post seen x ps t e =
     declared (is_free x) (list_any (is_fun_named x) seen) x >>= (λ x. params_of ps >>= (λ ps. whole_ty t >>= (λ t. whole_expr e >>= (λ e.
-        Ok (record { is_post = is_post; name = x; params = ps; result = t; body = e })))))
+    Ok (record { is_post = is_post; name = x; params = ps; result = t; body = e })))))
 
 abbrev pub op_parts : List Item → List ℕ → List Form → Form → List Form → Read Op
 op_parts seen x ps t callbacks =
     declared (is_name x) (list_any (is_op_named x) seen) x >>= (λ x. params_of ps >>= (λ ps. whole_ty t >>= (λ t.
-        callbacks_from no_callbacks callbacks >>= all_callbacks >>= (λ all.
-        Ok (record { name = x; params = ps; result = t; pre = all.pre; next = all.next; post = all.post })))))
+    callbacks_from no_callbacks callbacks >>= all_callbacks >>= (λ all.
+    Ok (record { name = x; params = ps; result = t; pre = all.pre; next = all.next; post = all.post })))))
 
 -- an item after others
 abbrev pub item_parts : List Item → ItemShape → Read Item

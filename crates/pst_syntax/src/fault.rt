@@ -5,6 +5,8 @@ ghost use Rattle.pst_syntax.specs.FaultName.{name_of};
 ghost use Rattle.pst_syntax.specs.Items.{FaultOf};
 
 use std::alloc::{AllocError, AllocFailed};
+use std::error::Error;
+use std::fmt;
 
 /// What is refused. At one tree the first of this list is answered.
 #[derive(Clone, Copy, Debug, PartialEq, Eq, Drop)]
@@ -69,6 +71,21 @@ pub struct SyntaxFault {
     pub item: usize,
 }
 
+impl fmt::Display for SyntaxFault {
+    ghost use Rattle.std.specs.Prelude.{Some};
+    ghost use Rattle.pst_syntax.specs.FaultName.{text_of};
+
+    ghost output = { λ fault. Some (text_of fault) };
+
+    fn fmt<W: fmt::Write>(&self, f: &mut fmt::Formatter<W>) -> fmt::Result {
+        let name = self.kind.name();
+        let item = self.item;
+        write!(f, "{name} item {item}")
+    }
+}
+
+impl Error for SyntaxFault {}
+
 /// The fault of that kind in that item; without memory there is no item.
 pub fn fault(kind: FaultKind, item: usize) -> SyntaxFault
     ensures { FaultOf kind item result }
@@ -86,7 +103,10 @@ impl From<AllocError> for SyntaxFault {
     ghost from_gives = { λ _ e. e ≡ record { kind = NoMemory; item = 0 } };
 
     fn from(_: AllocError) -> SyntaxFault {
-        SyntaxFault { kind: FaultKind::NoMemory, item: 0 }
+        SyntaxFault {
+            kind: FaultKind::NoMemory,
+            item: 0,
+        }
     }
 }
 
@@ -97,6 +117,9 @@ impl<T: Drop> From<AllocFailed<T>> for SyntaxFault {
     ghost from_gives = { λ _ e. e ≡ record { kind = NoMemory; item = 0 } };
 
     fn from(_: AllocFailed<T>) -> SyntaxFault {
-        SyntaxFault { kind: FaultKind::NoMemory, item: 0 }
+        SyntaxFault {
+            kind: FaultKind::NoMemory,
+            item: 0,
+        }
     }
 }

@@ -4,7 +4,6 @@ ghost use Rattle.std.specs.Prelude.{◌≡◌, ◌+◌, ◌-◌, ◌*◌, pos};
 ghost use Rattle.std.specs.List.{list_all};
 ghost use Rattle.pst_syntax.specs.Integers as spec;
 
-
 use pst_items::Text;
 
 fn all_digits(bytes: &[u8]) -> bool
@@ -38,7 +37,9 @@ pub fn is_integer(word: &Text) -> bool
 fn next(number: u64, digit: u8) -> Option<u64>
     ensures { result ≡ spec.in_u64 (number * 10 + (digit - 48)) }
 {
-    number.checked_mul(10)?.checked_add(u64::from(digit.saturating_sub(48)))
+    number
+        .checked_mul(10)?
+        .checked_add(u64::from(digit.saturating_sub(48)))
 }
 
 /// The number that digits spell, where it has at most 64 bits.

@@ -67,7 +67,13 @@ fn fun_shape(is_post: bool, parts: &[Form]) -> Option<ItemShape<'_>>
     };
     let name = word_of(name)?;
     let params = node_of(params)?;
-    Some(ItemShape::Fun(FunShape { is_post, name, params, result, body }))
+    Some(ItemShape::Fun(FunShape {
+        is_post,
+        name,
+        params,
+        result,
+        body,
+    }))
 }
 
 fn op_shape(parts: &[Form]) -> Option<ItemShape<'_>>
@@ -78,7 +84,12 @@ fn op_shape(parts: &[Form]) -> Option<ItemShape<'_>>
     };
     let name = word_of(name)?;
     let params = node_of(params)?;
-    Some(ItemShape::Op(OpShape { name, params, result, callbacks }))
+    Some(ItemShape::Op(OpShape {
+        name,
+        params,
+        result,
+        callbacks,
+    }))
 }
 
 fn item_headed<'a>(word: &str, parts: &'a [Form]) -> Option<ItemShape<'a>>
@@ -146,7 +157,10 @@ pub fn param_shape(form: &Form) -> Option<ParamShape<'_>>
     let [name, ty] = node_of(form)? else {
         return None;
     };
-    Some(ParamShape { name: word_of(name)?, ty })
+    Some(ParamShape {
+        name: word_of(name)?,
+        ty,
+    })
 }
 
 fn model_headed<'a>(word: &str, parts: &'a [Form]) -> Option<ModelShape<'a>>

@@ -7,7 +7,10 @@ ghost use Rattle.pst_syntax.specs.Reading.{Gives};
 ghost use Rattle.pst_syntax.specs.ShownItems.{shown_callback, shown_param};
 
 use crate::fault::FaultKind;
-use crate::item_shape::{CallbackShape, FunShape, ItemShape, OpShape, ParamShape, callback_shape, item_shape, param_shape};
+use crate::item_shape::{
+    CallbackShape, FunShape, ItemShape, OpShape, ParamShape, callback_shape, item_shape,
+    param_shape,
+};
 use crate::names::{declared, is_free, is_name};
 use crate::read::{EXPR_ROOM, MAX_PARTS, TY_ROOM, expr, ty};
 use pst_items::{Items, Text};
@@ -36,7 +39,9 @@ fn whole_expr(alloc: Global, form: &Form) -> Result<Expr, FaultKind>
 fn is_param(params: &[Param], word: &Text) -> bool
     ensures { result ≡ spec.is_param params.now word.now }
 {
-    params.iter().any(|param| param.name.as_str() == word.as_str())
+    params
+        .iter()
+        .any(|param| param.name.as_str() == word.as_str())
 }
 
 fn param_of(alloc: Global, params: &[Param], shape: &ParamShape<'_>) -> Result<Param, FaultKind>
@@ -72,7 +77,11 @@ pub struct Callbacks {
     post: Option<Expr>,
 }
 
-fn callback_of(alloc: Global, mut callbacks: Callbacks, shape: &CallbackShape<'_>) -> Result<Callbacks, FaultKind>
+fn callback_of(
+    alloc: Global,
+    mut callbacks: Callbacks,
+    shape: &CallbackShape<'_>,
+) -> Result<Callbacks, FaultKind>
     ensures { Gives result (spec.callback_of callbacks (shown_callback shape.now)) }
 {
     match shape {
@@ -101,7 +110,11 @@ fn callback_of(alloc: Global, mut callbacks: Callbacks, shape: &CallbackShape<'_
 fn callbacks_of(alloc: Global, forms: &[Form]) -> Result<Callbacks, FaultKind>
     ensures { Gives result (spec.callbacks_from spec.no_callbacks forms.now) }
 {
-    let mut callbacks = Callbacks { pre: None, next: None, post: None };
+    let mut callbacks = Callbacks {
+        pre: None,
+        next: None,
+        post: None,
+    };
     for form in forms {
         let Some(shape) = callback_shape(form) else {
             return Err(FaultKind::UnknownForm);
@@ -182,14 +195,22 @@ fn has_op(items: &[Item], word: &Text) -> bool
 fn has_fun_room(items: &[Item]) -> bool
     ensures { result ≡ spec.has_room spec.is_fun items.now }
 {
-    items.iter().filter(|item| matches!(item, Item::Fun(_))).count() < MAX_DECLARED
+    items
+        .iter()
+        .filter(|item| matches!(item, Item::Fun(_)))
+        .count()
+        < MAX_DECLARED
 }
 
 /// Whether one more operation may come.
 fn has_op_room(items: &[Item]) -> bool
     ensures { result ≡ spec.has_room spec.is_op items.now }
 {
-    items.iter().filter(|item| matches!(item, Item::Op(_))).count() < MAX_DECLARED
+    items
+        .iter()
+        .filter(|item| matches!(item, Item::Op(_)))
+        .count()
+        < MAX_DECLARED
 }
 
 fn fun_of(alloc: Global, seen: &[Item], shape: &FunShape<'_>) -> Result<Fun, FaultKind>
@@ -200,7 +221,13 @@ fn fun_of(alloc: Global, seen: &[Item], shape: &FunShape<'_>) -> Result<Fun, Fau
     let params = params_of(alloc, shape.params)?;
     let result = whole_ty(alloc, shape.result)?;
     let body = whole_expr(alloc, shape.body)?;
-    Ok(Fun { is_post: shape.is_post, name, params, result, body })
+    Ok(Fun {
+        is_post: shape.is_post,
+        name,
+        params,
+        result,
+        body,
+    })
 }
 
 fn op_parts(alloc: Global, seen: &[Item], shape: &OpShape<'_>) -> Result<Op, FaultKind>
@@ -211,7 +238,14 @@ fn op_parts(alloc: Global, seen: &[Item], shape: &OpShape<'_>) -> Result<Op, Fau
     let params = params_of(alloc, shape.params)?;
     let result = whole_ty(alloc, shape.result)?;
     let AllCallbacks { pre, next, post } = all_callbacks(callbacks_of(alloc, shape.callbacks)?)?;
-    Ok(Op { name, params, result, pre, next, post })
+    Ok(Op {
+        name,
+        params,
+        result,
+        pre,
+        next,
+        post,
+    })
 }
 
 /// An item after others.

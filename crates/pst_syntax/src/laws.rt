@@ -10,17 +10,14 @@ ghost use Rattle.pst_syntax.specs.Items.{IsModel, HasItems};
 /// A model has one state, one init and one command, and at most 64 functions and 64 operations.
 pub fn model_items()
     ensures { (source : Source) → IsModel source → HasItems source.items }
-{
-}
+{}
 
 /// An expression is refused by the first of its faults, and read where it has none.
 pub fn first_refusal_of_expr()
     ensures { (room : ℕ) (form : Form) → refusal (expr_of room form) ≡ first (expr_faults room form) }
-{
-}
+{}
 
 /// A type is refused by the first of its faults, and read where it has none.
 pub fn first_refusal_of_ty()
     ensures { (room : ℕ) (form : Form) → refusal (ty_of room form) ≡ first (ty_faults room form) }
-{
-}
+{}

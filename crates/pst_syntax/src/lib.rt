@@ -13,6 +13,8 @@ mod names;
 mod read;
 mod reader;
 mod shape;
+#[cfg(test)]
+mod tests;
 mod ty_shape;
 
 pub use fault::{FaultKind, SyntaxFault};

@@ -84,7 +84,12 @@ pub fn is_used_operation(word: &Text) -> bool
 
 /// A name where it is declared: whether it is lawful there, and whether it is taken.
 #[tactic(auto, unfolding(crate::specs::Reading::declared))]
-pub fn declared(alloc: Global, is_lawful: bool, is_taken: bool, word: &Text) -> Result<Text, FaultKind>
+pub fn declared(
+    alloc: Global,
+    is_lawful: bool,
+    is_taken: bool,
+    word: &Text,
+) -> Result<Text, FaultKind>
     ensures { Gives result (declared is_lawful is_taken word.now) }
 {
     if !is_lawful {

@@ -48,7 +48,10 @@ fn source_of(alloc: Global, form: &Form) -> Result<Source, SyntaxFault>
         Err(kind) => return Err(fault(kind, 0)),
     };
     let items = items_of(alloc, items)?;
-    if !(has_state(items.as_slice()) && has_init(items.as_slice()) && has_command(items.as_slice())) {
+    if !(has_state(items.as_slice())
+        && has_init(items.as_slice())
+        && has_command(items.as_slice()))
+    {
         return Err(fault(FaultKind::Missing, 0));
     }
     Ok(Source { name, items })

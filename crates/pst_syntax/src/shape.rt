@@ -117,9 +117,13 @@ fn headed(head: Head, parts: &[Form]) -> Option<Shape<'_>>
         (Head::At, [tuple, place]) => at_shape(tuple, word_of(place)?),
         (Head::List, [ty, items @ ..]) => Some(Shape::List(ty, items)),
         (Head::For, [clauses, body]) => Some(Shape::For(some_of(node_of(clauses)?)?, body)),
-        (Head::Fold, [name, list, built, first, body]) => Some(
-            Shape::Fold(word_of(name)?, list, word_of(built)?, first, body),
-        ),
+        (Head::Fold, [name, list, built, first, body]) => Some(Shape::Fold(
+            word_of(name)?,
+            list,
+            word_of(built)?,
+            first,
+            body,
+        )),
         (Head::Call, [operation, arguments @ ..]) => call_shape(word_of(operation)?, arguments),
         _ => None,
     }
@@ -132,7 +136,11 @@ fn node_shape(parts: &[Form]) -> Option<Shape<'_>>
     let word = word_of(first)?;
     match head_of(word.as_str()) {
         Some(head) => headed(head, parts),
-        None => if is_used(word) { Some(Shape::Apply(word, parts)) } else { None },
+        None => if is_used(word) {
+            Some(Shape::Apply(word, parts))
+        } else {
+            None
+        },
     }
 }
 

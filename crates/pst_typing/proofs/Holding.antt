@@ -1,6 +1,8 @@
 -- `holds_ref` and `holds_call` at each form of a type.
-use Rattle.std.proofs.Common.{◌≡◌, Bool, true, false, ◌||◌, List, [], ◌∷◌, map, refl, sym, ap, ◌∙◌}
+use Rattle.std.proofs.Common.{◌≡◌, ℕ, zero, suc, ◌<◌, length, get_or, arith, Bool, true, false, ◌||◌, List, [], ◌∷◌, map, refl, sym, ap, ◌∙◌}
 use Rattle.std.specs.List.{list_any}
+use Rattle.pst_model.specs.Parts.{types_of}
+use Rattle.pst_model.specs.declared.model.Param.{Param}
 use Rattle.pst_rules.specs.Kinds.{holds_ref, holds_ref_at, holds_call, holds_call_at}
 use Rattle.pst_value.proofs.Holding.{list_any-map}
 use Rattle.pst_value.specs.declared.ty.Ty.{Ty, Int, Bool as Truth, Text, Tuple, List as ListOf, Ref, Call, fold-Ty, fold-roll-Ty}
@@ -88,3 +90,13 @@ holds_call-Call = fold-Call Bool holds_call_at
 pub ruleset refs = (holds_ref-Int, holds_ref-Truth, holds_ref-Text, holds_ref-Tuple, holds_ref-ListOf, holds_ref-Ref, holds_ref-Call)
 
 pub ruleset calls = (holds_call-Int, holds_call-Truth, holds_call-Text, holds_call-Tuple, holds_call-ListOf, holds_call-Ref, holds_call-Call)
+
+or_true : (a b : Bool) → b ≡ true → (a || b) ≡ true
+or_true true b h = refl
+or_true false b h = h
+
+-- a parameter whose type holds a call
+pub calls_among : (ps : List Param) (i : ℕ) (d : Param) → i < length ps → holds_call (get_or ps i d).ty ≡ true → list_any holds_call (types_of ps) ≡ true
+calls_among [] i d h k = absurd (omega arith)
+calls_among (p ∷ ps) zero d h k = ap (λ b. b || list_any holds_call (types_of ps)) k
+calls_among (p ∷ ps) (suc i) d h k = or_true (holds_call p.ty) _ (calls_among ps i d (omega arith) k)

@@ -1,3 +1,11 @@
+pub mod Complete
+pub mod Exactly
+pub mod Forms
+pub mod Found
 pub mod Holding
+pub mod Ill
+pub mod Judging
+pub mod Operating
 pub mod Steps
 pub mod Weight
+pub mod WellItems

@@ -1,11 +1,13 @@
 -- The decision agrees with the rules.
-use Rattle.std.specs.Prelude.{◌≡◌, ◌↔◌, Bool, true, List, Some}
+use Rattle.std.specs.Prelude.{◌≡◌, ℕ, Bool, true, List, [], Some, None}
 use Rattle.pst_model.specs.declared.expr.Expr.{Expr}
 use Rattle.pst_model.specs.declared.model.Item.{Item}
+use Rattle.pst_model.specs.declared.model.Source.{Source}
 use Rattle.pst_rules.specs.Rules.{Context, Has, Typed}
-use Rattle.pst_rules.specs.WellTyped.{WellItem}
+use Rattle.pst_rules.specs.WellTyped.{WellItem, WellItems, WellModel}
 use Rattle.pst_typing.specs.Decision.{type_of}
-use Rattle.pst_typing.specs.Items.{well_item}
+use Rattle.pst_typing.specs.Items.{well_item, first_ill}
+use Rattle.pst_typing.specs.Least.{IsLeastIll, IsIll}
 use Rattle.pst_value.specs.declared.ty.Ty.{Ty}
 
 -- the type that is found is given by the rules
@@ -25,3 +27,15 @@ PassedIsWell = (items : List Item) (S : Ty) (earlier : List Item) (i : Item) →
 -- an item that is well typed passes the test
 abbrev pub WellIsPassed : Type 0
 WellIsPassed = (items : List Item) (S : Ty) (earlier : List Item) (i : Item) → WellItem items S earlier i → well_item items S earlier i ≡ true
+
+-- where the search gives no number, all items are well typed
+abbrev pub NoneIsWell : Type 0
+NoneIsWell = (items : List Item) (S : Ty) → first_ill items S 1 [] items ≡ None → WellItems items S [] items
+
+-- where it gives a number, that is of the least item that is not
+abbrev pub SomeIsLeast : Type 0
+SomeIsLeast = (items : List Item) (S : Ty) (number : ℕ) → first_ill items S 1 [] items ≡ Some number → IsLeastIll items S number
+
+-- no model with an item that is not well typed is well typed
+abbrev pub IllIsNotWell : Type 0
+IllIsNotWell = (source : Source) (number : ℕ) → IsIll source number → WellModel source → ⊥

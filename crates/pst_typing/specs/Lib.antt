@@ -1,5 +1,9 @@
 pub mod Answers
+pub mod Checked
 pub mod Decision
+pub mod FaultName
 pub mod Items
 pub mod Laws
+pub mod Least
+pub mod Operations
 pub mod Scope

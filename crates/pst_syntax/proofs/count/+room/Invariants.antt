@@ -12,5 +12,5 @@ decreases-room_after_all l = 2 * l.room + 1
 abbrev pub invariant-room_after_all-loop-form : goal.invariant-room_after_all-loop-form
 invariant-room_after_all-loop-form l = record {
   same : spent (sum (map trees_in l.forms)) l.fn.room ≡ spent (sum (map trees_in (drop l.form-index l.forms))) l.room;
-  less : l.room ≤ l.fn.room
+  less : l.room ≤ l.fn.room;
 }

@@ -1,0 +1,142 @@
+//! Items that are well typed.
+ghost use Rattle.std.specs.Prelude.{◌≡◌, true, false, [], ◌∷◌, reverse, IfOk};
+ghost use Rattle.pst_rules.specs.WellTyped as rules;
+ghost use Rattle.pst_typing.specs.Items as spec;
+ghost use Rattle.pst_typing.specs.Scope.{names_of, type_in};
+ghost use Rattle.pst_value.specs.Fits.{is_ty};
+ghost use Rattle.pst_value.specs.declared.ty.Ty.TheVariants.{Bool as truth, List as list, Call as call};
+
+use crate::context::Context;
+use crate::expressions::type_of;
+use crate::scope::Scope;
+use crate::types::{copy_type, holds_call, holds_ref, parameters_hold_call};
+use pst_items::Boxed;
+use pst_model::{Expr, Item, Op};
+use pst_value::Ty;
+use std::alloc::{AllocError, Global};
+
+/// Whether an expression has a type.
+fn has_type(
+    expr: &Expr,
+    ty: &Ty,
+    context: &Context<'_>,
+    scope: &Scope<'_>,
+) -> Result<bool, AllocError>
+    ensures { IfOk result (λ has. has ≡ is_ty (type_in context.now expr.now (names_of scope.now)) ty.now) }
+{
+    match type_of(expr, context, scope)? {
+        Some(found) => Ok(found == *ty),
+        None => Ok(false),
+    }
+}
+
+fn has_pre(alloc: Global, items: &[Item], state: &Ty, op: &Op) -> Result<bool, AllocError>
+    ensures { IfOk result (λ has. has ≡ spec.has_type items.now false (rules.pre_context state.now op.now) op.now.pre truth) }
+{
+    let context = Context { alloc, items, earlier: items, is_post: false };
+    let params = Scope::Parameters(op.params.as_slice());
+    let scope = Scope::With(b"s".as_slice(), state, &params);
+    has_type(&op.pre, &Ty::Bool, &context, &scope)
+}
+
+fn has_next(alloc: Global, items: &[Item], state: &Ty, op: &Op) -> Result<bool, AllocError>
+    ensures { IfOk result (λ has. has ≡ spec.has_type items.now false (rules.next_context state.now op.now) op.now.next state.now) }
+{
+    let context = Context { alloc, items, earlier: items, is_post: false };
+    let named = Ty::Ref(Boxed::new(alloc, copy_type(alloc, &op.result)?)?);
+    let params = Scope::Parameters(op.params.as_slice());
+    let outer = Scope::With(b"s".as_slice(), state, &params);
+    let scope = Scope::With(b"r".as_slice(), &named, &outer);
+    has_type(&op.next, state, &context, &scope)
+}
+
+fn has_post(alloc: Global, items: &[Item], state: &Ty, op: &Op) -> Result<bool, AllocError>
+    ensures { IfOk result (λ has. has ≡ spec.has_type items.now true (rules.post_context state.now op.now) op.now.post truth) }
+{
+    let context = Context { alloc, items, earlier: items, is_post: true };
+    let params = Scope::Parameters(op.params.as_slice());
+    let outer = Scope::With(b"s".as_slice(), state, &params);
+    let scope = Scope::With(b"r".as_slice(), &op.result, &outer);
+    has_type(&op.post, &Ty::Bool, &context, &scope)
+}
+
+fn well_operation(alloc: Global, items: &[Item], state: &Ty, op: &Op) -> Result<bool, AllocError>
+    ensures { IfOk result (λ well. well ≡ spec.well_operation items.now state.now op.now) }
+{
+    if parameters_hold_call(op.params.as_slice()) {
+        return Ok(false);
+    }
+    if holds_ref(&op.result) {
+        return Ok(false);
+    }
+    if !has_pre(alloc, items, state, op)? {
+        return Ok(false);
+    }
+    if !has_next(alloc, items, state, op)? {
+        return Ok(false);
+    }
+    has_post(alloc, items, state, op)
+}
+
+/// Whether an expression over all functions has a type in mode plain, among no names.
+fn has_opening(
+    alloc: Global,
+    items: &[Item],
+    state: &Ty,
+    expr: &Expr,
+) -> Result<bool, AllocError>
+    ensures { IfOk result (λ has. has ≡ spec.has_type items.now false [] expr.now state.now) }
+{
+    let context = Context { alloc, items, earlier: items, is_post: false };
+    has_type(expr, state, &context, &Scope::Parameters(&[]))
+}
+
+fn has_calls(alloc: Global, items: &[Item], state: &Ty, expr: &Expr) -> Result<bool, AllocError>
+    ensures { IfOk result (λ has. has ≡ spec.has_type items.now false ((rules.name_s, state.now) ∷ []) expr.now (list call)) }
+{
+    let context = Context { alloc, items, earlier: items, is_post: false };
+    let none = Scope::Parameters(&[]);
+    let scope = Scope::With(b"s".as_slice(), state, &none);
+    let calls = Ty::List(Boxed::new(alloc, Ty::Call)?);
+    has_type(expr, &calls, &context, &scope)
+}
+
+/// Whether an item is well typed, over the type of the state and the items before it.
+pub fn well_item(
+    alloc: Global,
+    items: &[Item],
+    state: &Ty,
+    earlier: &[Item],
+    item: &Item,
+) -> Result<bool, AllocError>
+    ensures { IfOk result (λ well. well ≡ spec.well_item items.now state.now (reverse earlier.now) item.now) }
+{
+    match item {
+        Item::State(ty) => Ok(!holds_call(ty)),
+        Item::Init(expr) => has_opening(alloc, items, state, expr),
+        Item::Command(expr) => has_calls(alloc, items, state, expr),
+        Item::Fun(fun) => {
+            let context = Context { alloc, items, earlier, is_post: fun.is_post };
+            let scope = Scope::Parameters(fun.params.as_slice());
+            has_type(&fun.body, &fun.result, &context, &scope)
+        }
+        Item::Op(op) => well_operation(alloc, items, state, op),
+    }
+}
+
+/// The number, from 1, of the first item that is not well typed.
+#[tactic(auto, using(crate::proofs::Ill::ill_step, crate::proofs::Ill::ill_here))]
+pub fn first_ill(
+    alloc: Global,
+    items: &[Item],
+    state: &Ty,
+) -> Result<Option<usize>, AllocError>
+    ensures { IfOk result (λ number. number ≡ spec.first_ill items.now state.now 1 [] items.now) }
+{
+    for at in 0..items.len() {
+        if !well_item(alloc, items, state, &items[..at], &items[at])? {
+            return Ok(Some(at + 1));
+        }
+    }
+    Ok(None)
+}
