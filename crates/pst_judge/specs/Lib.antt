@@ -2,4 +2,5 @@ pub mod Prefix
 pub mod Replay
 pub mod Telling
 pub mod Verdict
+pub mod VerdictText
 pub mod Words
