@@ -7,5 +7,3 @@ mod plain;
 pub use callbacks::Callbacks;
 pub use plain::Plain;
 
-#[cfg(test)]
-mod tests;

@@ -1,6 +1,6 @@
 -- What stands in a model that was read.
-use Rattle.std.proofs.Common.{◌≡◌, ℕ, zero, suc, ◌+◌, ◌≤◌, ◌<◌, Bool, true, false, List, [], ◌∷◌, ◌++◌, length, Option, Some, None, Result, Ok, Err, refl, sym, ap, ◌∙◌, arith, subst}
-use Rattle.std.specs.Prelude.{nat_lt, ◌&&◌, nat_le, cond}
+use Rattle.std.proofs.Common.{◌≡◌, ℕ, ◌+◌, ◌≤◌, ◌<◌, Bool, true, false, List, [], ◌∷◌, ◌++◌, length, Option, Some, None, Result, Ok, Err, refl, ap, arith, subst}
+use Rattle.std.specs.Prelude.{nat_lt, ◌&&◌, cond}
 use Rattle.std.specs.List.{count_by, list_any}
 use Rattle.std.proofs.lemmas.Bool.Decides.{nat_tests}
 use Rattle.std.proofs.lemmas.Grind.{common_steps}
@@ -13,16 +13,14 @@ use Rattle.pst_model.specs.declared.model.Item.TheVariants as item
 use Rattle.pst_model.specs.declared.model.Fun.{Fun}
 use Rattle.pst_model.specs.declared.model.Op.{Op}
 use Rattle.pst_model.specs.declared.model.Source.{Source}
-use Rattle.pst_syntax.specs.declared.fault.FaultKind.{FaultKind}
 use Rattle.pst_syntax.specs.declared.fault.SyntaxFault.{SyntaxFault}
-use Rattle.pst_syntax.specs.ItemShape.{ItemShape, StateItem, InitItem, CommandItem, FunItem, OpItem, item_shape, model_shape}
-use Rattle.pst_syntax.specs.Counting.{trees_in}
+use Rattle.pst_syntax.specs.ItemShape.{ItemShape, StateItem, InitItem, CommandItem, FunItem, OpItem, item_shape}
 use Rattle.pst_syntax.specs.Reading.{Read, ◌>>=◌, known, within, once}
-use Rattle.pst_syntax.specs.Items.{is_state, is_init, is_command, is_fun, is_op, has_room, max_declared, whole_ty, whole_expr, fun_of, op_parts, item_parts, item_of, at_item, go_on, items_from, is_complete, complete, max_trees, head_parts, head_of_model, model_of, IsModel, HasItems}
+use Rattle.pst_syntax.specs.Items.{is_state, is_init, is_command, is_fun, is_op, has_room, whole_ty, whole_expr, fun_of, op_parts, item_parts, item_of, at_item, go_on, items_from, is_complete, complete, head_of_model, model_of, IsModel, HasItems}
 
 -- ---- what stands behind an answer
 
-abbrev Same : {A : Type 0} → Read A → Read A → Type 0
+abbrev pub Same : {A : Type 0} → Read A → Read A → Type 0
 Same r q = r ≡ q
 
 pub bind_ok : {A B : Type 0} (r : Read A) (f : A → Read B) (b : B) → (r >>= f) ≡ Ok b → (a : A) × (r ≡ Ok a) × (f a ≡ Ok b)
@@ -49,7 +47,7 @@ pub at_ok : {A : Type 0} (number : ℕ) (r : Read A) (a : A) → at_item number 
 at_ok number (Ok b) a e = cc
 at_ok number (Err kind) a e = absurd (cc)
 
-okay : {A : Type 0} (a b : A) → Same (Ok a) (Ok b) → a ≡ b
+pub okay : {A : Type 0} (a b : A) → Same (Ok a) (Ok b) → a ≡ b
 okay a b e = cc
 
 -- ---- counting

@@ -3,3 +3,4 @@ pub mod Rooms
 pub mod Counted
 pub mod Complete
 pub mod First
+pub mod FirstOfModel

@@ -1,5 +1,5 @@
 -- How many trees stand in a tree.
-use Rattle.std.specs.Prelude.{ℕ, suc, ◌-◌, nat_le, if◌then◌else◌, List, Option, Some, None}
+use Rattle.std.specs.Prelude.{ℕ, suc, ◌-◌, nat_le, if◌then◌else◌, Option, Some, None}
 use Rattle.std.specs.List.{sum}
 use Rattle.pst_sexpr.specs.declared.form.Form.{Form, fold-Form}
 use Rattle.pst_sexpr.specs.declared.form.Form.TheOpen.{Form-F}

@@ -10,3 +10,4 @@ pub mod ItemShape
 pub mod ShownItems
 pub mod Items
 pub mod Faults
+pub mod ModelFaults

@@ -3,8 +3,6 @@ use Rattle.std.specs.Prelude.{ℕ, List, Option, Some, None}
 use Rattle.pst_sexpr.specs.declared.form.Form.{Form}
 use Rattle.pst_syntax.specs.declared.item_shape.ItemShape.{ItemShape as BorrowedItem}
 use Rattle.pst_syntax.specs.declared.item_shape.ItemShape.TheVariants as item
-use Rattle.pst_syntax.specs.declared.item_shape.FunShape.{FunShape}
-use Rattle.pst_syntax.specs.declared.item_shape.OpShape.{OpShape}
 use Rattle.pst_syntax.specs.declared.item_shape.CallbackShape.{CallbackShape as BorrowedCallback}
 use Rattle.pst_syntax.specs.declared.item_shape.CallbackShape.TheVariants as callback
 use Rattle.pst_syntax.specs.declared.item_shape.ParamShape.{ParamShape}

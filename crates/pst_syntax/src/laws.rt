@@ -2,10 +2,11 @@
 
 ghost use Rattle.pst_model.specs.declared.model.Source.{Source};
 ghost use Rattle.pst_sexpr.specs.declared.form.Form.{Form};
-ghost use Rattle.std.specs.Prelude.{◌≡◌, ℕ};
+ghost use Rattle.std.specs.Prelude.{◌≡◌, ℕ, List};
+ghost use Rattle.pst_syntax.specs.ModelFaults.{model_faults};
 ghost use Rattle.pst_syntax.specs.Reading.{expr_of, ty_of};
 ghost use Rattle.pst_syntax.specs.Faults.{expr_faults, ty_faults, first, refusal};
-ghost use Rattle.pst_syntax.specs.Items.{IsModel, HasItems};
+ghost use Rattle.pst_syntax.specs.Items.{IsModel, HasItems, model_of};
 
 /// A model has one state, one init and one command, and at most 64 functions and 64 operations.
 pub fn model_items()
@@ -20,4 +21,9 @@ pub fn first_refusal_of_expr()
 /// A type is refused by the first of its faults, and read where it has none.
 pub fn first_refusal_of_ty()
     ensures { (room : ℕ) (form : Form) → refusal (ty_of room form) ≡ first (ty_faults room form) }
+{}
+
+/// A model is refused by the first of its faults, and read where it has none.
+pub fn first_refusal()
+    ensures { (trees : List Form) → refusal (model_of trees) ≡ first (model_faults trees) }
 {}

@@ -1,4 +1,4 @@
-use Rattle.std.proofs.Common.{◌≡◌, ◌+◌, ◌*◌, ◌-◌, ◌≤◌, map, drop, ℕ}
+use Rattle.std.proofs.Common.{◌≡◌, ◌+◌, ◌*◌, ◌≤◌, map, drop}
 use Rattle.std.specs.List.{sum}
 use Rattle.pst_syntax.specs.Counting.{trees_in, spent}
 use Rattle.pst_syntax.proofs.count.+room.Given as goal

@@ -1,4 +1,4 @@
-use Rattle.std.proofs.Common.{◌≡◌, ◌+◌, ◌*◌, ◌++◌, drop, Result, Ok}
+use Rattle.std.proofs.Common.{◌≡◌, ◌+◌, ◌*◌, ◌++◌, drop, Ok}
 use Rattle.pst_syntax.specs.Reading.{◌>>=◌, each, ty_of}
 use Rattle.pst_syntax.proofs.read.+ty.Given as goal
 
