@@ -41,4 +41,13 @@ impl Model {
     {
         &self.source
     }
+
+    /// The model as it was written, out of its seal.
+    pub fn into_source(self) -> Source
+        ensures same { result ≡ self }
+        ensures lawful { IsModel result }
+    {
+        let Model { source } = self;
+        source
+    }
 }

@@ -176,8 +176,8 @@ module _ (items earlier : List Item) (post : Bool) where
   pub found_right : (e : Expr) → Right e
   found_right = ind-Expr RightPart Right
       (λ x y is_y G cs b T k h.
-          let P : Clause-F Clause Expr → Type 0 = λ z. PartRight z in
-          subst P is_y (part_layer y) G cs b T k (ap (λ c. built_type (c ∷ map (part_of items earlier post) cs) (Found b) G) (sym (fold-roll-Clause Part Finds part_at (type_at items earlier post) x)) ∙ h))
+      let P : Clause-F Clause Expr → Type 0 = λ z. PartRight z in
+      subst P is_y (part_layer y) G cs b T k (ap (λ c. built_type (c ∷ map (part_of items earlier post) cs) (Found b) G) (sym (fold-roll-Clause Part Finds part_at (type_at items earlier post) x)) ∙ h))
       (λ x y is_y G T h.
-          let P : Expr-F Clause Expr → Type 0 = λ z. LayerRight z in
-          subst P is_y (layer y) G T (ap (λ f. f G) (sym (fold-roll-Expr Part Finds part_at (type_at items earlier post) x)) ∙ h))
+      let P : Expr-F Clause Expr → Type 0 = λ z. LayerRight z in
+      subst P is_y (layer y) G T (ap (λ f. f G) (sym (fold-roll-Expr Part Finds part_at (type_at items earlier post) x)) ∙ h))

@@ -9,3 +9,4 @@ pub mod Operating
 pub mod Steps
 pub mod Weight
 pub mod WellItems
+pub mod Whole

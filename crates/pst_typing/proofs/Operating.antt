@@ -119,10 +119,10 @@ module _ (post : Bool) where
       let w = where_some _ _ T h in let b = both _ _ w.0 in let t : ty.Bool ≡ T = some_is _ T w.1 in
       let same : R ≡ S = exact R S b.0 in
       elim (cases_Bool (same_ty R ty.Int)) [
-        inl e ↦ let r : ty.Int ≡ R = sym (exact R ty.Int e) in two_at op R S T ty.Int ty.Int ty.Bool r (r ∙ same) t (operates_order_int op o)
-      | inr e ↦
-          let k = rw e at b.1 in
-          let r : ty.Text ≡ R = sym (exact R ty.Text k) in two_at op R S T ty.Text ty.Text ty.Bool r (r ∙ same) t (operates_order_text op o)
+        | inl e ↦ let r : ty.Int ≡ R = sym (exact R ty.Int e) in two_at op R S T ty.Int ty.Int ty.Bool r (r ∙ same) t (operates_order_int op o)
+        | inr e ↦
+            let k = rw e at b.1 in
+            let r : ty.Text ≡ R = sym (exact R ty.Text k) in two_at op R S T ty.Text ty.Text ty.Bool r (r ∙ same) t (operates_order_text op o)
       ]
 
   append_some : (R : Ty) (d : Ty-F Ty) → out-Ty R ≡ d → is_sequence_at d ≡ true → OperatesOnTwo post Append R R R

@@ -51,9 +51,9 @@ operation_is_well items S o h =
 well_operation_passes : (items : List Item) (S : Ty) (o : Op) → WellOperation items S o → well_operation items S o ≡ true
 well_operation_passes items S o w =
     and_from _ _ (true_not _ w.parameters)
-      (and_from _ _ (true_not _ w.result)
-        (and_from _ _ (passes items _ false _ o.pre ty.Bool w.pre)
-          (and_from _ _ (passes items _ false _ o.next S w.next) (passes items _ true _ o.post ty.Bool w.post))))
+    (and_from _ _ (true_not _ w.result)
+    (and_from _ _ (passes items _ false _ o.pre ty.Bool w.pre)
+    (and_from _ _ (passes items _ false _ o.next S w.next) (passes items _ true _ o.post ty.Bool w.post))))
 
 pub passed_is_well : (items : List Item) (S : Ty) (earlier : List Item) (i : Item) → well_item items S earlier i ≡ true → WellItem items S earlier i
 passed_is_well items S earlier (item.State T) h = not_true _ h
@@ -108,11 +108,11 @@ answer_step items S first earlier i later (Some number) w a = later_ill items S 
 answer : (items : List Item) (S : Ty) (first : ℕ) (earlier later : List Item) → Answer items S first earlier later (first_ill items S first earlier later)
 answer items S first earlier [] = tt
 answer items S first earlier (i ∷ later) = elim (cases_Bool (well_item items S earlier i)) [
-    inl e ↦ rw e (answer_step items S first earlier i later _ (passed_is_well items S earlier i e) (answer items S (first + 1) (i ∷ earlier) later))
+  | inl e ↦ rw e (answer_step items S first earlier i later _ (passed_is_well items S earlier i e) (answer items S (first + 1) (i ∷ earlier) later))
   | inr e ↦
       let no_way : WellItem items S earlier i → ⊥ = λ w. let t = well_is_passed items S earlier i w in absurd (cc) in
       rw e (record { before = []; here = i; after = later; parts = refl; place = omega arith; well = tt; ill = no_way })
-  ]
+]
 
 pub all_well : (items : List Item) (S : Ty) → first_ill items S 1 [] items ≡ None → WellItems items S [] items
 all_well items S h = let P : Option ℕ → Type 0 = λ o. Answer items S 1 [] items o in subst P h (answer items S 1 [] items)

@@ -7,6 +7,8 @@ use crate::items::first_ill;
 use crate::type_fault::TypeFault;
 use pst_model::{Source, state_of};
 use pst_rules::Typed;
+use pst_syntax::Model;
+use pst_syntax::laws::model_items;
 use std::alloc::{AllocError, Global};
 
 /// The number of the least item that is not well typed.
@@ -22,14 +24,15 @@ fn judge(alloc: Global, source: &Source) -> Result<Option<usize>, AllocError>
     }
 }
 
-/// Checks a model: well typed, or back with its fault.
-pub fn check(alloc: Global, source: Source) -> Result<Typed, (Source, TypeFault)>
-    requires { IsWhole source }
-    ensures { Checks source result }
+/// Checks a model: well typed, or back with its fault. The fault is the least item that is not well typed, unless memory is
+/// refused.
+pub fn check(alloc: Global, model: Model) -> Result<Typed, (Model, TypeFault)>
+    ensures { Checks model result }
 {
-    match judge(alloc, &source) {
-        Ok(None) => Ok(Typed::new(source)),
-        Ok(Some(number)) => Err((source, TypeFault::Item(number))),
-        Err(AllocError) => Err((source, TypeFault::NoMemory)),
+    model_items();
+    match judge(alloc, model.source()) {
+        Ok(None) => Ok(Typed::new(model.into_source())),
+        Ok(Some(number)) => Err((model, TypeFault::Item(number))),
+        Err(AllocError) => Err((model, TypeFault::NoMemory)),
     }
 }

@@ -101,7 +101,12 @@ fn find_type(expr: &Expr, context: &Context<'_>, scope: &Scope<'_>) -> Result<Ty
             let Some(operation) = operation_called(context.items, name.as_bytes()) else {
                 return Err(Refusal::Ill);
             };
-            expect_each(exprs.as_slice(), operation.params.as_slice(), context, scope)?;
+            expect_each(
+                exprs.as_slice(),
+                operation.params.as_slice(),
+                context,
+                scope,
+            )?;
             Ok(Ty::Call)
         }
         Expr::Apply(name, exprs) => {
@@ -128,16 +133,16 @@ fn expect_type(
     ensures { Passes (is_ty (type_in context.now expr.now (names_of scope.now)) ty.now) result }
 {
     let found = find_type(expr, context, scope)?;
-    if found == *ty { Ok(()) } else { Err(Refusal::Ill) }
+    if found == *ty {
+        Ok(())
+    } else {
+        Err(Refusal::Ill)
+    }
 }
 
 /// The types of expressions in turn.
 #[cycle(find)]
-fn find_all(
-    exprs: &[Expr],
-    context: &Context<'_>,
-    scope: &Scope<'_>,
-) -> Result<Items<Ty>, Refusal>
+fn find_all(exprs: &[Expr], context: &Context<'_>, scope: &Scope<'_>) -> Result<Items<Ty>, Refusal>
     ensures { Answers (spec.all_types (map (type_in context.now) exprs.now) (names_of scope.now)) result }
 {
     let mut all = Items::new(context.alloc);

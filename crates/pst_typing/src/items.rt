@@ -33,7 +33,12 @@ fn has_type(
 fn has_pre(alloc: Global, items: &[Item], state: &Ty, op: &Op) -> Result<bool, AllocError>
     ensures { IfOk result (λ has. has ≡ spec.has_type items.now false (rules.pre_context state.now op.now) op.now.pre truth) }
 {
-    let context = Context { alloc, items, earlier: items, is_post: false };
+    let context = Context {
+        alloc,
+        items,
+        earlier: items,
+        is_post: false,
+    };
     let params = Scope::Parameters(op.params.as_slice());
     let scope = Scope::With(b"s".as_slice(), state, &params);
     has_type(&op.pre, &Ty::Bool, &context, &scope)
@@ -42,7 +47,12 @@ fn has_pre(alloc: Global, items: &[Item], state: &Ty, op: &Op) -> Result<bool, A
 fn has_next(alloc: Global, items: &[Item], state: &Ty, op: &Op) -> Result<bool, AllocError>
     ensures { IfOk result (λ has. has ≡ spec.has_type items.now false (rules.next_context state.now op.now) op.now.next state.now) }
 {
-    let context = Context { alloc, items, earlier: items, is_post: false };
+    let context = Context {
+        alloc,
+        items,
+        earlier: items,
+        is_post: false,
+    };
     let named = Ty::Ref(Boxed::new(alloc, copy_type(alloc, &op.result)?)?);
     let params = Scope::Parameters(op.params.as_slice());
     let outer = Scope::With(b"s".as_slice(), state, &params);
@@ -53,7 +63,12 @@ fn has_next(alloc: Global, items: &[Item], state: &Ty, op: &Op) -> Result<bool, 
 fn has_post(alloc: Global, items: &[Item], state: &Ty, op: &Op) -> Result<bool, AllocError>
     ensures { IfOk result (λ has. has ≡ spec.has_type items.now true (rules.post_context state.now op.now) op.now.post truth) }
 {
-    let context = Context { alloc, items, earlier: items, is_post: true };
+    let context = Context {
+        alloc,
+        items,
+        earlier: items,
+        is_post: true,
+    };
     let params = Scope::Parameters(op.params.as_slice());
     let outer = Scope::With(b"s".as_slice(), state, &params);
     let scope = Scope::With(b"r".as_slice(), &op.result, &outer);
@@ -79,22 +94,27 @@ fn well_operation(alloc: Global, items: &[Item], state: &Ty, op: &Op) -> Result<
 }
 
 /// Whether an expression over all functions has a type in mode plain, among no names.
-fn has_opening(
-    alloc: Global,
-    items: &[Item],
-    state: &Ty,
-    expr: &Expr,
-) -> Result<bool, AllocError>
+fn has_opening(alloc: Global, items: &[Item], state: &Ty, expr: &Expr) -> Result<bool, AllocError>
     ensures { IfOk result (λ has. has ≡ spec.has_type items.now false [] expr.now state.now) }
 {
-    let context = Context { alloc, items, earlier: items, is_post: false };
+    let context = Context {
+        alloc,
+        items,
+        earlier: items,
+        is_post: false,
+    };
     has_type(expr, state, &context, &Scope::Parameters(&[]))
 }
 
 fn has_calls(alloc: Global, items: &[Item], state: &Ty, expr: &Expr) -> Result<bool, AllocError>
     ensures { IfOk result (λ has. has ≡ spec.has_type items.now false ((rules.name_s, state.now) ∷ []) expr.now (list call)) }
 {
-    let context = Context { alloc, items, earlier: items, is_post: false };
+    let context = Context {
+        alloc,
+        items,
+        earlier: items,
+        is_post: false,
+    };
     let none = Scope::Parameters(&[]);
     let scope = Scope::With(b"s".as_slice(), state, &none);
     let calls = Ty::List(Boxed::new(alloc, Ty::Call)?);
@@ -116,7 +136,12 @@ pub fn well_item(
         Item::Init(expr) => has_opening(alloc, items, state, expr),
         Item::Command(expr) => has_calls(alloc, items, state, expr),
         Item::Fun(fun) => {
-            let context = Context { alloc, items, earlier, is_post: fun.is_post };
+            let context = Context {
+                alloc,
+                items,
+                earlier,
+                is_post: fun.is_post,
+            };
             let scope = Scope::Parameters(fun.params.as_slice());
             has_type(&fun.body, &fun.result, &context, &scope)
         }
@@ -126,11 +151,7 @@ pub fn well_item(
 
 /// The number, from 1, of the first item that is not well typed.
 #[tactic(auto, using(crate::proofs::Ill::ill_step, crate::proofs::Ill::ill_here))]
-pub fn first_ill(
-    alloc: Global,
-    items: &[Item],
-    state: &Ty,
-) -> Result<Option<usize>, AllocError>
+pub fn first_ill(alloc: Global, items: &[Item], state: &Ty) -> Result<Option<usize>, AllocError>
     ensures { IfOk result (λ number. number ≡ spec.first_ill items.now state.now 1 [] items.now) }
 {
     for at in 0..items.len() {

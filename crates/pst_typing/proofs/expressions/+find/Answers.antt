@@ -64,10 +64,10 @@ find_type-returns-in_ok-copy_type-in-List t c =
     let d = c.args.context.now in
     let within : length c.in-List.exprs ≤ 65536 = omega arith in
     rw (c.in-List.is, list_found d.items.now (reverse d.earlier.now) d.is_post c.in-List.ty c.in-List.exprs (names_of c.args.scope.now) within (rw c.as_slice-in-List.ensures at c.in_ok-expect_all-in-List.ensures))
-        (rw c.in_ok-copy_type-in-List.ensures at c.list_of.ensures)
+    (rw c.in_ok-copy_type-in-List.ensures at c.list_of.ensures)
 
 pub find_type-returns-in_ok-ty-in-For : goal.find_type-returns-in_ok-ty-in-For
 find_type-returns-in_ok-ty-in-For t c =
     let d = c.args.context.now in
     rw (c.in-For.is, for_found d.items.now (reverse d.earlier.now) d.is_post c.in-For.clauses c.in-For.body (names_of c.args.scope.now) _ (rw (c.as_slice-in-For.ensures, c.get-in-For.ensures) at c.in_ok-ty-in-For.ensures))
-        c.list_of-in-For.ensures
+    c.list_of-in-For.ensures
