@@ -1,3 +1,5 @@
+pub mod Banned
 pub mod FaultName
 pub mod Matches
+pub mod Refusal
 pub mod Shape

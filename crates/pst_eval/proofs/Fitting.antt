@@ -130,7 +130,7 @@ module _ (free vars : List Ty) (ops : List (List Ty)) where
   name_fits [] (c ∷ G) x T a e = absurd a
   name_fits (b ∷ env) [] x T a e = absurd a
   name_fits (b ∷ env) (c ∷ G) x T a e = elim (cases_Bool (bytes_eq c.0 x)) [
-      inl s ↦
+    | inl s ↦
         let q = rw s at e in
         let r : c.1 ≡ T = cc in
         let P : Ty → Type 0 = λ U. Fit b.1 U in
@@ -138,7 +138,7 @@ module _ (free vars : List Ty) (ops : List (List Ty)) where
     | inr s ↦
         let rest = name_fits env G x T a.outer (rw s at e) in
         (rest.0, rw (a.name, s) rest.1, rest.2)
-    ]
+  ]
 
   pub frame_agrees : (ps : List Param) (vs : List Value) → FitAll vs (types_of ps) → (length ps ≡ length vs) × Agrees (frame ps vs) (context_of ps)
   frame_agrees [] [] f = (refl, tt)

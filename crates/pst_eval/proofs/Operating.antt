@@ -110,32 +110,34 @@ module _ (free vars : List Ty) (ops : List (List Ty)) where
 
   range_by : (m n : ℤ) (t : ℕ) → is_i64 m ≡ true → is_i64 n ≡ true → By (λ v. F1 v (ty.List ty.Int)) (Lifted (range m n) t)
   range_by m n t hm hn = elim (cases_Bool (int_lt m n)) [
-      inl e ↦
+    | inl e ↦
         elim (cases_Bool (nat_lt limit (unsigned_abs (n -ℤ m)))) [
-          inl l ↦ rw (e, l) tt
-        | inr l ↦ rw (e, l) (fit_list free vars ops _ ty.Int (record { within = ap (λ k. nat_le k limit) (length_count_up m _) ∙ small (unsigned_abs (n -ℤ m)) l; each = each_count_up free vars ops m n (unsigned_abs (n -ℤ m)) (fits_to m hm) (fits_to n hn) (less m n e) (le_refl (unsigned_abs (n -ℤ m))) }))
+          | inl l ↦ rw (e, l) tt
+          | inr l ↦ rw (e, l) (fit_list free vars ops _ ty.Int (record { within = ap (λ k. nat_le k limit) (length_count_up m _) ∙ small (unsigned_abs (n -ℤ m)) l; each = each_count_up free vars ops m n (unsigned_abs (n -ℤ m)) (fits_to m hm) (fits_to n hn) (less m n e) (le_refl (unsigned_abs (n -ℤ m))) }))
         ]
     | inr e ↦ rw e (fit_list free vars ops [] ty.Int (record { within = refl; each = tt }))
-    ]
+  ]
     where
       less : (m n : ℤ) → int_lt m n ≡ true → m <ℤ n
       less m n h = search (rules, nat_tests)
+
       le_refl : (n : ℕ) → n ≤ n
       le_refl n = omega arith
+
       small : (n : ℕ) → nat_lt 65536 n ≡ false → nat_le n 65536 ≡ true
       small n h = grind (arith, nat_tests)
 
   texts_by : (s r : List ℕ) (t : ℕ) → is_text s ≡ true → is_text r ≡ true → By (λ v. F1 v ty.Text) (Lifted (joined_texts s r) t)
   texts_by s r t hs hr = elim (cases_Bool (nat_le (length s + length r) limit)) [
-      inl e ↦ rw e (fit_text free vars ops (s ++ r) (and_from _ _ (ap (λ n. nat_le n limit) (length-append s r) ∙ e) (printable_joined s r (both _ _ hs).1 (both _ _ hr).1)))
+    | inl e ↦ rw e (fit_text free vars ops (s ++ r) (and_from _ _ (ap (λ n. nat_le n limit) (length-append s r) ∙ e) (printable_joined s r (both _ _ hs).1 (both _ _ hr).1)))
     | inr e ↦ rw e tt
-    ]
+  ]
 
   lists_by : (vs ws : List Value) (T : Ty) (t : ℕ) → EachFits free vars ops vs T → EachFits free vars ops ws T → By (λ v. F1 v (ty.List T)) (Lifted (joined_lists vs ws) t)
   lists_by vs ws T t hv hw = elim (cases_Bool (nat_le (length vs + length ws) limit)) [
-      inl e ↦ rw e (fit_list free vars ops (vs ++ ws) T (built_joined free vars ops vs ws T e hv hw))
+    | inl e ↦ rw e (fit_list free vars ops (vs ++ ws) T (built_joined free vars ops vs ws T e hv hw))
     | inr e ↦ rw e tt
-    ]
+  ]
 
   arithmetic_by : (op : Binary) (m n : ℤ) (t : ℕ) → is_arithmetic op ≡ true → is_i64 n ≡ true → By (λ v. F1 v ty.Int) (Lifted (binary_at op (Value-F.Int m) (Value-F.Int n)) t)
   arithmetic_by Add m n t h hn = integer_by (m +ℤ n) t

@@ -101,17 +101,17 @@ module _ (free vars : List Ty) (items : List Item) where
     sound _ (typed_if G c p q T hc hp hq) = λ env t a.
         here T _ _ env t (mean_is (Expr-F.If c p q) _ (expr.rolls-If c p q))
         (truth_then (λ v. F1 v T) c env t (λ z. if z then mean items F p env else mean items F q env) (sound _ hc env t a) (λ z u.
-            elim z as (λ z. By (λ v. F1 v T) ((if z then mean items F p env else mean items F q env) u)) [ true ↦ sound _ hp env u a | false ↦ sound _ hq env u a ]))
+        elim z as (λ z. By (λ v. F1 v T) ((if z then mean items F p env else mean items F q env) u)) [ true ↦ sound _ hp env u a | false ↦ sound _ hq env u a ]))
     sound _ (typed_and G p q hp hq) = λ env t a.
         let other = truth (mean items F q) env >>= (λ u. pure (bool u)) in
         here ty.Bool _ _ env t (mean_is (Expr-F.And p q) _ (expr.rolls-And p q))
         (truth_then IsBool p env t (λ z. if z then other else pure (bool false)) (sound _ hp env t a) (λ z u.
-            elim z as (λ z. By IsBool ((if z then other else pure (bool false)) u)) [ true ↦ last_truth q env u (sound _ hq env u a) | false ↦ fit_bool free vars ops false ]))
+        elim z as (λ z. By IsBool ((if z then other else pure (bool false)) u)) [ true ↦ last_truth q env u (sound _ hq env u a) | false ↦ fit_bool free vars ops false ]))
     sound _ (typed_or G p q hp hq) = λ env t a.
         let other = truth (mean items F q) env >>= (λ u. pure (bool u)) in
         here ty.Bool _ _ env t (mean_is (Expr-F.Or p q) _ (expr.rolls-Or p q))
         (truth_then IsBool p env t (λ z. if z then pure (bool true) else other) (sound _ hp env t a) (λ z u.
-            elim z as (λ z. By IsBool ((if z then pure (bool true) else other) u)) [ true ↦ fit_bool free vars ops true | false ↦ last_truth q env u (sound _ hq env u a) ]))
+        elim z as (λ z. By IsBool ((if z then pure (bool true) else other) u)) [ true ↦ fit_bool free vars ops true | false ↦ last_truth q env u (sound _ hq env u a) ]))
     sound _ (typed_unary G op e S T o h) = λ env t a.
         here T _ _ env t (mean_is (Expr-F.Unary op e) _ (expr.rolls-Unary op e))
         (by_then (λ v. F1 v S) (λ v. F1 v T) _ _ (sound _ h env t a) (λ v u f. unary_by free vars ops post op S T v u closed o f))
@@ -124,53 +124,53 @@ module _ (free vars : List Ty) (items : List Item) where
     sound _ (typed_at G e n Ts T o h) = λ env t a.
         here T _ _ env t (mean_is (Expr-F.At e n) _ (expr.rolls-At e n))
         (by_then (λ v. F1 v (ty.Tuple Ts)) (λ v. F1 v T) _ _ (sound _ h env t a) (λ v u f.
-            let m = tuple_form free vars ops v Ts f in
-            let w = item_get free vars ops m.0 Ts n T (all_from free vars ops m.0 Ts m.2) o in
-            rw (m.1, out-roll-Value (Value-F.Tuple m.0), w.1) w.2))
+        let m = tuple_form free vars ops v Ts f in
+        let w = item_get free vars ops m.0 Ts n T (all_from free vars ops m.0 Ts m.2) o in
+        rw (m.1, out-roll-Value (Value-F.Tuple m.0), w.1) w.2))
     sound _ (typed_list G T es l h) = λ env t a.
         here (ty.List T) _ _ env t (mean_is (Expr-F.List T es) _ (expr.rolls-List T es))
         (by_then (λ vs. (ws : List Value) × (vs ≡ [] ++ ws) × (length ws ≡ length es) × EachFits free vars ops ws T) (λ v. F1 v (ty.List T)) _ _ (sound _ h env [] t a)
-            (λ vs u p. rw p.1 (fit_list free vars ops p.0 T (record { within = ap (λ n. nat_le n limit) p.2 ∙ l; each = p.3 }))))
+        (λ vs u p. rw p.1 (fit_list free vars ops p.0 T (record { within = ap (λ n. nat_le n limit) p.2 ∙ l; each = p.3 }))))
     sound _ (typed_for G cs b T h) = λ env t a.
         here (ty.List T) _ _ env t (mean_for items F cs b)
         (by_then (λ vs. Built free vars ops vs T) (λ v. F1 v (ty.List T)) _ _ (sound _ h env [] t a (record { within = refl; each = tt })) (λ vs u f. fit_list free vars ops vs T f))
     sound _ (typed_fold G x e acc i b S T he hi hb) = λ env t a.
         here T _ _ env t (mean_is (Expr-F.Fold x e acc i b) _ (expr.rolls-Fold x e acc i b))
         (by_then (λ v. F1 v (ty.List S)) (λ v. F1 v T) _ _ (sound _ he env t a) (λ v u f.
-            let w = items_by free vars ops v S f in
-            rw w.1 (by_then (λ v. F1 v T) (λ v. F1 v T) _ _ (sound _ hi env u a) (λ z s g.
-                fold_by (mean items F b) x acc env S T w.0 z s w.2.each g (λ v y n p q. sound _ hb ((acc, y) ∷ (x, v) ∷ env) n (record { name = refl; here = q; outer = record { name = refl; here = p; outer = a } }))))))
+        let w = items_by free vars ops v S f in
+        rw w.1 (by_then (λ v. F1 v T) (λ v. F1 v T) _ _ (sound _ hi env u a) (λ z s g.
+        fold_by (mean items F b) x acc env S T w.0 z s w.2.each g (λ v y n p q. sound _ hb ((acc, y) ∷ (x, v) ∷ env) n (record { name = refl; here = q; outer = record { name = refl; here = p; outer = a } }))))))
     sound _ (typed_call G x es n o e l i h) = λ env t a.
         here ty.Call _ _ env t (mean_is (Expr-F.Call x es) _ (expr.rolls-Call x es))
         (by_then (λ vs. (ws : List Value) × (vs ≡ [] ++ ws) × FitAll free vars ops ws (types_of o.params)) (λ v. F1 v ty.Call) _ _ (sound _ h env [] t a) (λ vs u p.
-            rw (p.1, e, l) (fit_call free vars ops n p.0 (types_of o.params) (parameters-of (operations_of items) n o i) p.2)))
+        rw (p.1, e, l) (fit_call free vars ops n p.0 (types_of o.params) (parameters-of (operations_of items) n o i) p.2)))
     sound _ (typed_apply G f es g e l h) = λ env t a.
         let R = λ (v : Value). F1 v g.result in
         here g.result _ _ env t (mean_is (Expr-F.Apply f es) _ (expr.rolls-Apply f es))
         (by_then (λ vs. (ws : List Value) × (vs ≡ [] ++ ws) × FitAll free vars ops ws (types_of g.params)) R _ _ (sound _ h env [] t a) (λ vs u p.
-            let A : List Value → Type 0 = λ ws. FitAll free vars ops ws (types_of g.params) in
-            ok f g vs u e l (subst A (sym p.1) p.2)))
+        let A : List Value → Type 0 = λ ws. FitAll free vars ops ws (types_of g.params) in
+        ok f g vs u e l (subst A (sym p.1) p.2)))
     sound _ (typed_none G) = λ env done t a. ([], sym (append-nil done), tt)
     sound _ (typed_more G e es T Ts h hs) = λ env done t a.
         let Q = λ (vs : List Value). (ws : List Value) × (vs ≡ done ++ ws) × FitAll free vars ops ws (T ∷ Ts) in
         by_then (λ v. F1 v T) Q _ _ (sound _ h env t a) (λ v u f.
-            by_path Q _ _ (sym (right_unit _)) (by_then (λ vs. (ws : List Value) × (vs ≡ (done ++ v ∷ []) ++ ws) × FitAll free vars ops ws Ts) Q _ (λ r. Gives r) (sound _ hs env (done ++ v ∷ []) u a) (λ vs s p. (v ∷ p.0, p.1 ∙ append_assoc done (v ∷ []) p.0, (f, p.2)))))
+        by_path Q _ _ (sym (right_unit _)) (by_then (λ vs. (ws : List Value) × (vs ≡ (done ++ v ∷ []) ++ ws) × FitAll free vars ops ws Ts) Q _ (λ r. Gives r) (sound _ hs env (done ++ v ∷ []) u a) (λ vs s p. (v ∷ p.0, p.1 ∙ append_assoc done (v ∷ []) p.0, (f, p.2)))))
     sound _ (typed_empty G T) = λ env done t a. ([], sym (append-nil done), refl, tt)
     sound _ (typed_each G e es T h hs) = λ env done t a.
         let Q = λ (vs : List Value). (ws : List Value) × (vs ≡ done ++ ws) × (length ws ≡ suc (length es)) × EachFits free vars ops ws T in
         by_then (λ v. F1 v T) Q _ _ (sound _ h env t a) (λ v u f.
-            by_path Q _ _ (sym (right_unit _)) (by_then (λ vs. (ws : List Value) × (vs ≡ (done ++ v ∷ []) ++ ws) × (length ws ≡ length es) × EachFits free vars ops ws T) Q _ (λ r. Gives r) (sound _ hs env (done ++ v ∷ []) u a) (λ vs s p. (v ∷ p.0, p.1 ∙ append_assoc done (v ∷ []) p.0, ap suc p.2, (f, p.3)))))
+        by_path Q _ _ (sym (right_unit _)) (by_then (λ vs. (ws : List Value) × (vs ≡ (done ++ v ∷ []) ++ ws) × (length ws ≡ length es) × EachFits free vars ops ws T) Q _ (λ r. Gives r) (sound _ hs env (done ++ v ∷ []) u a) (λ vs s p. (v ∷ p.0, p.1 ∙ append_assoc done (v ∷ []) p.0, ap suc p.2, (f, p.3)))))
     sound _ (typed_body G b T h) = λ env built t a g.
         by_then (λ v. F1 v T) (λ vs. Built free vars ops vs T) _ _ (sound _ h env t a) (λ v u f. append_by free vars ops built v T u g f)
     sound _ (typed_in G x e cs b S T he hc) = λ env built t a g.
         let C = λ (vs : List Value). Built free vars ops vs T in
         by_path C _ _ (ap (λ p. visit (p ∷ map (part items F) cs) (mean items F b) env built t) (part_in items F x e))
         (by_then (λ v. F1 v (ty.List S)) C _ _ (sound _ he env t a) (λ v u f.
-            let w = items_by free vars ops v S f in
-            rw w.1 (each_by (visit (map (part items F) cs) (mean items F b)) x env S T w.0 built u w.2.each g (λ v ws n p q. sound _ hc ((x, v) ∷ env) ws n (record { name = refl; here = p; outer = a }) q))))
+        let w = items_by free vars ops v S f in
+        rw w.1 (each_by (visit (map (part items F) cs) (mean items F b)) x env S T w.0 built u w.2.each g (λ v ws n p q. sound _ hc ((x, v) ∷ env) ws n (record { name = refl; here = p; outer = a }) q))))
     sound _ (typed_when G e cs b T he hc) = λ env built t a g.
         let C = λ (vs : List Value). Built free vars ops vs T in
         by_path C _ _ (ap (λ p. visit (p ∷ map (part items F) cs) (mean items F b) env built t) (part_when items F e))
         (by_then (λ v. F1 v ty.Bool) C _ _ (sound _ he env t a) (λ v u f.
-            let w = truth_by free vars ops v f in
-            rw w.1 (elim w.0 as (λ z. By C ((if z then visit (map (part items F) cs) (mean items F b) env built else (λ s. Gives (built, s))) u)) [ true ↦ sound _ hc env built u a g | false ↦ g ])))
+        let w = truth_by free vars ops v f in
+        rw w.1 (elim w.0 as (λ z. By C ((if z then visit (map (part items F) cs) (mean items F b) env built else (λ s. Gives (built, s))) u)) [ true ↦ sound _ hc env built u a g | false ↦ g ])))

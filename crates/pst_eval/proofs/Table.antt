@@ -91,19 +91,19 @@ module _ (free vars : List Ty) where
   functions_fit items (item.Command x ∷ earlier) w post closed f g args t e l fit = functions_fit items earlier w post closed f g args t e l fit
   functions_fit items (item.Op x ∷ earlier) w post closed f g args t e l fit = functions_fit items earlier w post closed f g args t e l fit
   functions_fit items (item.Fun h ∷ earlier) w post closed f g args t e l fit = elim (cases_Bool (bytes_eq h.name f)) [
-      inl s ↦
+    | inl s ↦
         let q = rw s at e in
         let r : h ≡ g = cc in
         let P : Fun → Type 0 = λ k. (post || not k.is_post) ≡ true → FitAll free vars (parameters_of items) args (types_of k.params) → By (λ v. Fit free vars (parameters_of items) v k.result) (applied (called items (item.Fun h ∷ earlier)) f args t) in
         subst P r (λ lawful fits.
-            let inner : h.is_post ≡ true → free ≡ [] = λ p. closed (marked post h lawful p) in
-            let a = frame_agrees free vars (parameters_of items) h.params args fits in
-            let R = λ (v : Value). Fit free vars (parameters_of items) v h.result in
-            rw (s, eq-eqb (length h.params) (length args) a.0)
-            (by_then (λ u. Unit {0}) R (turn t) (λ r. mean items (called items earlier) h.body (frame h.params args) r.1) (turn_by t)
-                (λ u n z. sound free vars items earlier h.is_post inner (called items earlier) (functions_fit items earlier w.1 h.is_post inner) _ w.0 (frame h.params args) n a.1))) l fit
+        let inner : h.is_post ≡ true → free ≡ [] = λ p. closed (marked post h lawful p) in
+        let a = frame_agrees free vars (parameters_of items) h.params args fits in
+        let R = λ (v : Value). Fit free vars (parameters_of items) v h.result in
+        rw (s, eq-eqb (length h.params) (length args) a.0)
+        (by_then (λ u. Unit {0}) R (turn t) (λ r. mean items (called items earlier) h.body (frame h.params args) r.1) (turn_by t)
+        (λ u n z. sound free vars items earlier h.is_post inner (called items earlier) (functions_fit items earlier w.1 h.is_post inner) _ w.0 (frame h.params args) n a.1))) l fit
     | inr s ↦ rw s (functions_fit items earlier w.1 post closed f g args t (rw s at e) l fit)
-    ]
+  ]
 
   abbrev FitIn : Source → Value → Ty → Type 0
   FitIn m v T = Fit free vars (parameters_of m.items) v T
@@ -157,7 +157,7 @@ module _ (free vars : List Ty) where
       let o = the_operation m op args h.arguments in
       by_path (λ v. FitIn m v ty.Bool) _ _ (ap (λ q. pre_in m q s args) o.1)
       (names_by m false o.0.pre (pre_context w.state o.0) ty.Bool ((name_s, s) ∷ frame o.0.params args) plainly w (well_operation m.items w.state [] m.items op o.0 w.well o.1).pre
-          (record { name = refl; here = state_from m w s h.state; outer = frame_of m o.0 op args o.1 h.arguments }))
+      (record { name = refl; here = state_from m w s h.state; outer = frame_of m o.0 op args o.1 h.arguments }))
 
   ref_of : (m : Source) (o : Op) (op : ℕ) (r : Value) → operation_of m.items op ≡ Some o → ref_fits m free vars op r ≡ true → FitIn m r (ty.Ref o.result)
   unfolding ref_fits
@@ -169,7 +169,7 @@ module _ (free vars : List Ty) where
       let o = the_operation m op args h.arguments in
       by_path (λ v. FitIn m v w.state) _ _ (ap (λ q. next_in m q s args r) o.1)
       (names_by m false o.0.next (next_context w.state o.0) w.state ((name_r, r) ∷ (name_s, s) ∷ frame o.0.params args) plainly w (well_operation m.items w.state [] m.items op o.0 w.well o.1).next
-          (record { name = refl; here = ref_of m o.0 op r o.1 h.result; outer = record { name = refl; here = state_from m w s h.state; outer = frame_of m o.0 op args o.1 h.arguments } }))
+      (record { name = refl; here = ref_of m o.0 op r o.1 h.result; outer = record { name = refl; here = state_from m w s h.state; outer = frame_of m o.0 op args o.1 h.arguments } }))
 
 result_of : (vars : List Ty) (m : Source) (o : Op) (op : ℕ) (r : Value) → operation_of m.items op ≡ Some o → result_fits m [] vars op r ≡ true → Fit [] vars (parameters_of m.items) r o.result
 unfolding result_fits
@@ -181,7 +181,7 @@ post_by vars m op s args r w h =
     let o = the_operation [] vars m op args h.arguments in
     by_path (λ v. Fit [] vars (parameters_of m.items) v ty.Bool) _ _ (ap (λ q. post_in m q s args r) o.1)
     (names_by [] vars m true o.0.post (post_context w.state o.0) ty.Bool ((name_r, r) ∷ (name_s, s) ∷ frame o.0.params args) (λ e. refl) w (well_operation m.items w.state [] m.items op o.0 w.well o.1).post
-        (record { name = refl; here = result_of vars m o.0 op r o.1 h.result; outer = record { name = refl; here = state_from [] vars m w s h.state; outer = frame_of [] vars m o.0 op args o.1 h.arguments } }))
+    (record { name = refl; here = result_of vars m o.0 op r o.1 h.result; outer = record { name = refl; here = state_from [] vars m w s h.state; outer = frame_of [] vars m o.0 op args o.1 h.arguments } }))
 
 pub by_not_stuck : {A : Type 0} (P : A → Type 0) (o : Outcome (A × ℕ)) → By P o → o ≢ Stuck
 by_not_stuck P (Gives r) h e = absurd (cc)

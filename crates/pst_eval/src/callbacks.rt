@@ -37,27 +37,13 @@ pub trait Callbacks {
         ensures fits { IfOk result (λ a. Given (model self.now) [] [] ty.Bool a) };
 
     /// The state after a call, where `r` is the variable of the call or the reference to its result.
-    fn next(
-        &self,
-        alloc: Global,
-        op: u32,
-        state: &Value,
-        arguments: &[Value],
-        r: &Value,
-    ) -> Answer
+    fn next(&self, alloc: Global, op: u32, state: &Value, arguments: &[Value], r: &Value) -> Answer
         requires { (free : List Ty) × (vars : List Ty) × NextFits (model self.now) op state.now arguments.now r.now free vars }
         ensures says { IfOk result (λ a. Says (next_of (model self.now) op state.now arguments.now r.now) a) }
         ensures fits { IfOk result (λ a. (free vars : List Ty) → NextFits (model self.now) op state.now arguments.now r.now free vars → GivenState (model self.now) free vars a) };
 
     /// The postcondition of a call, on the state before it and its plain result, as a truth value. No variable stands open in the values.
-    fn post(
-        &self,
-        alloc: Global,
-        op: u32,
-        state: &Value,
-        arguments: &[Value],
-        r: &Value,
-    ) -> Answer
+    fn post(&self, alloc: Global, op: u32, state: &Value, arguments: &[Value], r: &Value) -> Answer
         requires { (vars : List Ty) × PostFits (model self.now) op state.now arguments.now r.now vars }
         ensures says { IfOk result (λ a. Says (post_of (model self.now) op state.now arguments.now r.now) a) }
         ensures fits { IfOk result (λ a. Given (model self.now) [] [] ty.Bool a) };

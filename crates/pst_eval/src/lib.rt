@@ -6,4 +6,3 @@ mod plain;
 
 pub use callbacks::Callbacks;
 pub use plain::Plain;
-

@@ -77,7 +77,7 @@ module _ (m : Source) (vars : List Ty) where
   command_ok prefix before number c h =
       first_of_or (args_fit m vars vars c.op c.args) (list_any holds_reference c.args)
       (last_of_four (not (is_known (operation_of m.items c.op))) (list_any (holds_var (is_forward number)) c.args) (list_any (holds_var (is_cross prefix before)) c.args)
-          (not (args_fit m vars vars c.op c.args) || list_any holds_reference c.args) UnknownOp ForwardVar CrossVar BadArgument h)
+      (not (args_fit m vars vars c.op c.args) || list_any holds_reference c.args) UnknownOp ForwardVar CrossVar BadArgument h)
 
   pub part_ok : (prefix before number : ℕ) (cs : List Command) → part_fault m vars prefix before number cs ≡ None → ArgumentsFit cs
   part_ok prefix before number [] h = tt
@@ -261,7 +261,7 @@ module _ (m : Source) (c : Case) (h : History) (shaped : IsShaped m c) (match : 
   prefix_all =
       let p = or_else_none _ _ no_fault.1 in
       (part_fits m types (recorded h) all_known [] (map (result_type m) (joined c.branches)) 1 c.prefix h.prefix (map-append (result_type m) c.prefix (joined c.branches)) refl
-          (part_ok m types (length c.prefix) 0 1 c.prefix p.0) both_match.0 every_answered.0)
+      (part_ok m types (length c.prefix) 0 1 c.prefix p.0) both_match.0 every_answered.0)
 
   pub prefix_fits : EventsFit m types (prefix_events c h)
   prefix_fits = prefix_all.0
@@ -275,8 +275,8 @@ module _ (m : Source) (c : Case) (h : History) (shaped : IsShaped m c) (match : 
       let p = or_else_none _ _ no_fault.1 in
       let n : 1 + length c.prefix ≡ length (map (result_type m) c.prefix) + 1 = (let q = length-map c.prefix (result_type m) in omega (arith, q)) in
       in_branch m types (recorded h) all_known (branch_events c h) c.branches b i
-          (branches_fit m types (recorded h) all_known (map (result_type m) c.prefix) (1 + length c.prefix) c.branches h.branches (map-append (result_type m) c.prefix (joined c.branches)) n
-              (branches_ok m types (length c.prefix) (length c.prefix) c.branches p.1) both_match.1 every_answered.1) lt
+      (branches_fit m types (recorded h) all_known (map (result_type m) c.prefix) (1 + length c.prefix) c.branches h.branches (map-append (result_type m) c.prefix (joined c.branches)) n
+      (branches_ok m types (length c.prefix) (length c.prefix) c.branches p.1) both_match.1 every_answered.1) lt
 
 -- ---- the limits of a shaped case
 

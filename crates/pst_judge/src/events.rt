@@ -151,9 +151,23 @@ pub fn branches_events(
         return Ok(events);
     };
     let empty = Items::new(alloc);
-    let here = part_events(alloc, results, number, branch.as_slice(), answers.as_slice(), empty)?;
+    let here = part_events(
+        alloc,
+        results,
+        number,
+        branch.as_slice(),
+        answers.as_slice(),
+        empty,
+    )?;
     events.push(here)?;
-    branches_events(alloc, results, number + branch.len() as u32, branches, replies, events)
+    branches_events(
+        alloc,
+        results,
+        number + branch.len() as u32,
+        branches,
+        replies,
+        events,
+    )
 }
 
 fn split_parts(branches: &[Items<Command>]) -> Option<(&Items<Command>, &[Items<Command>])>

@@ -10,7 +10,6 @@ mod search;
 mod verdicts;
 
 pub use events::Event;
-
 pub use judging::verdict;
 pub use place::{Callback, Place, Side};
 pub use verdicts::Verdict;

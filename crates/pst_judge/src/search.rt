@@ -40,6 +40,7 @@ impl<'a, C: Callbacks> Steps for Branches<'a, C> {
     ghost use Rattle.pst_value.proofs.Exact.{same_value-Decides};
 
     type State = Value;
+
     type Fault = Place;
 
     ghost is_state = { λ b s. is_state (C.model b.callbacks.now) [] (result_types (C.model b.callbacks.now) b.shaped.now) s ≡ true };
@@ -72,10 +73,7 @@ impl<'a, C: Callbacks> Steps for Branches<'a, C> {
 }
 
 /// How many commands each branch has.
-fn lengths_of(
-    alloc: Global,
-    branches: &[Items<Command>],
-) -> Result<Vec<usize>, AllocError>
+fn lengths_of(alloc: Global, branches: &[Items<Command>]) -> Result<Vec<usize>, AllocError>
     ensures { IfOk result (λ lengths. lengths.items ≡ map length branches.now) }
 {
     let mut lengths = Vec::new(alloc);
@@ -97,11 +95,7 @@ fn sides_of(alloc: Global, word: &[usize]) -> Result<Vec<Side>, AllocError>
 }
 
 /// The verdict that an answer stands for, where so many events stand before the branches.
-fn told(
-    alloc: Global,
-    prefix: usize,
-    answer: SomeAnswer<Place>,
-) -> Result<Verdict, AllocError>
+fn told(alloc: Global, prefix: usize, answer: SomeAnswer<Place>) -> Result<Verdict, AllocError>
     requires { OnNothing answer (λ far. prefix + far < 2 ^ 64) }
     ensures { IfOk result (Tells prefix answer) }
 {

@@ -135,7 +135,14 @@ fn comprehension(
 ) -> Result<Value, Stop>
     ensures { Meets (spec.comprehension (parts_in context.now clauses.now) (mean_in context.now body.now) (env_of env.now) turns.old) result turns.new }
 {
-    let built = visit(clauses, body, context, env, turns, Items::new(context.alloc))?;
+    let built = visit(
+        clauses,
+        body,
+        context,
+        env,
+        turns,
+        Items::new(context.alloc),
+    )?;
     Ok(Value::List(built))
 }
 
@@ -160,7 +167,16 @@ fn visit(
             Clause::In(name, list) => {
                 let value = eval(list, context, env, turns)?;
                 let items = items_of(value)?;
-                visit_each(rest, body, context, name.as_bytes(), env, turns, items.as_slice(), built)
+                visit_each(
+                    rest,
+                    body,
+                    context,
+                    name.as_bytes(),
+                    env,
+                    turns,
+                    items.as_slice(),
+                    built,
+                )
             }
             Clause::When(test) => {
                 let value = eval(test, context, env, turns)?;

@@ -3,15 +3,15 @@
 //! Each function answers what its definition gives: a value, or a fault, or that the operands are of another kind.
 #![tactic(auto)]
 
-mod two_operands;
 mod lists;
-mod stop;
 mod one_operand;
+mod stop;
+mod two_operands;
 
-pub use two_operands::{binary, binary_of_owned};
 pub use lists::{append, items_of};
-pub use stop::Stop;
 pub use one_operand::{item, take_turn, truth_of, unary};
+pub use stop::Stop;
+pub use two_operands::{binary, binary_of_owned};
 
 #[cfg(test)]
 mod tests;

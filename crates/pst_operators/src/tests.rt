@@ -41,7 +41,12 @@ fn integers(rt: HostRuntime) -> Result<(), Fail> {
 #[test]
 fn lists(rt: HostRuntime) -> Result<(), Fail> {
     let alloc = rt.alloc();
-    let range = |m: i64, n: i64| shown(binary(alloc, Binary::Range, &Value::Int(m), &Value::Int(n)));
+    let range = |m: i64, n: i64| shown(binary(
+        alloc,
+        Binary::Range,
+        &Value::Int(m),
+        &Value::Int(n),
+    ));
     let Ok(three) = range(4, 7) else {
         panic!(rt; "no range");
     };
@@ -63,7 +68,12 @@ fn lists(rt: HostRuntime) -> Result<(), Fail> {
     let Ok(items) = items_of(longest) else {
         panic!(rt; "no items");
     };
-    assert!(rt; matches!(append(items, Value::Int(0)), Err(Stop::Fault(Fault::TooLong))));
+    assert!(rt;
+        matches!(
+            append(items, Value::Int(0)),
+            Err(Stop::Fault(Fault::TooLong))
+        )
+    );
     Ok(())
 }
 

@@ -146,14 +146,22 @@ pub fn binary(alloc: Global, operator: Binary, left: &Value, right: &Value) -> R
         (_, Value::Text(s), Value::Text(t)) => of_texts(alloc, operator, s, t),
         (Binary::Nth, Value::List(items), Value::Int(n)) => nth(alloc, items.as_slice(), *n),
         (Binary::Append, Value::List(items), Value::List(more)) => {
-            joined_lists(copied(alloc, items.as_slice())?, copied(alloc, more.as_slice())?)
+            joined_lists(
+                copied(alloc, items.as_slice())?,
+                copied(alloc, more.as_slice())?,
+            )
         }
         _ => Err(Stop::Stuck),
     }
 }
 
 /// The same of operands that are not used again: `++` of lists moves their items.
-pub fn binary_of_owned(alloc: Global, operator: Binary, left: Value, right: Value) -> Result<Value, Stop>
+pub fn binary_of_owned(
+    alloc: Global,
+    operator: Binary,
+    left: Value,
+    right: Value,
+) -> Result<Value, Stop>
     ensures { Answers (spec.binary operator left right) result }
 {
     match (operator, left, right) {

@@ -1,5 +1,5 @@
 -- Equal types, and steps of the decision read backwards.
-use Rattle.std.proofs.Common.{◌≡◌, Bool, true, false, ◌&&◌, ◌||◌, Option, Some, None, refl, sym, ap, ◌∙◌}
+use Rattle.std.proofs.Common.{◌≡◌, Bool, true, false, ◌&&◌, Option, Some, None, refl, ap, ◌∙◌}
 use Rattle.pst_typing.specs.Decision.{◌>>=◌, where_true}
 use Rattle.pst_value.proofs.ExactTypes.{same_ty-Decides}
 use Rattle.pst_value.specs.Equality.{same_ty}

@@ -1,5 +1,5 @@
 -- The decision at forms that hold lists.
-use Rattle.std.proofs.Common.{◌≡◌, ℕ, ◌≤◌, List, length, map, Some, sym, ap, ◌∙◌, ◌&&◌, nat_le, Bool, true}
+use Rattle.std.proofs.Common.{◌≡◌, ◌≤◌, List, length, map, Some, sym, ap, ◌∙◌, ◌&&◌, nat_le, Bool, true}
 use Rattle.std.proofs.lemmas.Bool.{le-leb}
 use Rattle.std.proofs.lemmas.List.{length-map}
 use Rattle.pst_model.specs.Parts.{Name}

@@ -1,12 +1,12 @@
 -- What the search for the first ill item says of a whole model.
-use Rattle.std.proofs.Common.{◌≡◌, ℕ, ◌+◌, List, [], ◌∷◌, ◌++◌, reverse, Option, Some, None, refl, sym, ap, ◌∙◌, subst, append_assoc}
+use Rattle.std.proofs.Common.{◌≡◌, ℕ, List, [], ◌∷◌, ◌++◌, reverse, Option, Some, None, sym, ap, ◌∙◌, subst, append_assoc}
 use Rattle.std.proofs.lemmas.List.{append-nil, reverse-append}
 use Rattle.pst_model.specs.Parts.{state_of}
 use Rattle.pst_model.specs.declared.model.Item.{Item}
 use Rattle.pst_model.specs.declared.model.Source.{Source}
 use Rattle.pst_rules.specs.WellTyped.{WellItem, WellItems, WellModel}
 use Rattle.pst_typing.specs.Items.{first_ill}
-use Rattle.pst_typing.specs.Least.{IsWhole, IsLeastIll, IsIll, Judged}
+use Rattle.pst_typing.specs.Least.{IsWhole, IsIll, Judged}
 use Rattle.pst_typing.proofs.WellItems.{all_well, least_ill}
 use Rattle.pst_value.specs.declared.ty.Ty.{Ty}
 

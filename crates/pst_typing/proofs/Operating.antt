@@ -1,13 +1,12 @@
 -- The types of operators by the decision and by the rules.
-use Rattle.std.proofs.Common.{◌≡◌, Bool, true, false, not, ◌&&◌, ◌||◌, Option, Some, None, List, refl, sym, ap, ◌∙◌, subst, inl, inr}
+use Rattle.std.proofs.Common.{◌≡◌, Bool, true, false, ◌||◌, Some, List, refl, sym, ap, ◌∙◌, subst, inl, inr}
 use Rattle.std.proofs.lemmas.Bool.{cases_Bool, and_from}
 use Rattle.pst_model.specs.declared.expr.Binary.{Binary}
 use Rattle.pst_model.specs.declared.expr.Binary.TheVariants.{Add, Sub, Mul, Div, Rem, Less, LessEqual, Equal, Same, Append, Nth, Range}
 use Rattle.pst_model.specs.declared.expr.Unary.{Unary}
 use Rattle.pst_model.specs.declared.expr.Unary.TheVariants.{Not, Len, Deref}
-use Rattle.pst_rules.specs.Kinds.{holds_ref}
 use Rattle.pst_rules.specs.Rules.{is_arithmetic, is_order, OperatesOnOne, operates_not, operates_len_text, operates_len_list, operates_deref, OperatesOnTwo, operates_arithmetic, operates_order_int, operates_order_text, operates_equal, operates_same, operates_append_text, operates_append_list, operates_nth, operates_range}
-use Rattle.pst_typing.specs.Decision.{where_true, item_at, item_type, parts_at, part_types, referred_at, referred_type, is_ref_at, is_ref, is_sequence_at, is_sequence, both_int, are_ordered, are_compared, unary_type, binary_type}
+use Rattle.pst_typing.specs.Decision.{where_true, item_at, item_type, parts_at, part_types, referred_at, referred_type, is_ref_at, is_ref, is_sequence_at, both_int, are_ordered, unary_type, binary_type}
 use Rattle.pst_typing.proofs.Exactly.{exact, same_refl, where_some, some_is, both}
 use Rattle.pst_value.specs.Equality.{same_ty}
 use Rattle.pst_value.specs.declared.ty.Ty.{Ty, out-Ty, roll-Ty, roll-out-Ty}

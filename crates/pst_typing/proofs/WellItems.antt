@@ -1,18 +1,15 @@
 -- The tests of items agree with the rules, and the first that fails is the least item that is not well typed.
-use Rattle.std.proofs.Common.{◌≡◌, ℕ, suc, ◌+◌, Bool, true, false, not, ◌&&◌, List, [], ◌∷◌, ◌++◌, length, reverse, Option, Some, None, MatchOption, refl, sym, ap, ◌∙◌, subst, inl, inr, append_assoc, arith}
-use Rattle.std.specs.List.{list_any}
+use Rattle.std.proofs.Common.{◌≡◌, ℕ, ◌+◌, Bool, true, false, not, List, [], ◌∷◌, ◌++◌, length, reverse, Option, Some, None, refl, sym, ap, ◌∙◌, subst, inl, inr, append_assoc, arith}
 use Rattle.std.proofs.lemmas.Bool.{cases_Bool, and_from}
 use Rattle.std.proofs.lemmas.List.{append-nil, reverse-append}
-use Rattle.pst_model.specs.Parts.{types_of}
 use Rattle.pst_model.specs.declared.expr.Expr.{Expr}
 use Rattle.pst_model.specs.declared.model.Item.{Item}
 use Rattle.pst_model.specs.declared.model.Item.TheVariants as item
 use Rattle.pst_model.specs.declared.model.Op.{Op}
-use Rattle.pst_rules.specs.Kinds.{holds_ref, holds_call}
 use Rattle.pst_rules.specs.Rules.{Context, Has, Typed}
-use Rattle.pst_rules.specs.WellTyped.{pre_context, next_context, post_context, WellOperation, WellItem, WellItems}
+use Rattle.pst_rules.specs.WellTyped.{WellOperation, WellItem, WellItems}
 use Rattle.pst_typing.specs.Decision.{type_of}
-use Rattle.pst_typing.specs.Items.{has_type, well_operation, well_item, first_ill}
+use Rattle.pst_typing.specs.Items.{well_operation, well_item, first_ill}
 use Rattle.pst_typing.specs.Least.{IsLeastIll}
 use Rattle.pst_typing.proofs.Complete.{complete}
 use Rattle.pst_typing.proofs.Exactly.{is_found, found_is, both}

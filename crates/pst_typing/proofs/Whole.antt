@@ -1,5 +1,5 @@
 -- A model that was read has a state, an opening state and calls.
-use Rattle.std.proofs.Common.{◌≡◌, ℕ, List, [], ◌∷◌, Option, Some, None, refl}
+use Rattle.std.proofs.Common.{◌≡◌, List, [], ◌∷◌, Some, refl}
 use Rattle.std.specs.List.{count_by}
 use Rattle.pst_model.specs.Parts.{state_of, opening_of, calls_of}
 use Rattle.pst_model.specs.declared.expr.Expr.{Expr}

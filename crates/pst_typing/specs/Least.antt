@@ -1,5 +1,5 @@
 -- The least item that is not well typed, and what the check of a model answers.
-use Rattle.std.specs.Prelude.{◌≡◌, ℕ, ◌+◌, List, [], ◌∷◌, ◌++◌, length, reverse, Option, Some, None, ⊤}
+use Rattle.std.specs.Prelude.{◌≡◌, ℕ, ◌+◌, List, [], ◌∷◌, ◌++◌, length, reverse, Option, Some, None}
 use Rattle.pst_model.specs.Parts.{state_of, opening_of, calls_of}
 use Rattle.pst_model.specs.declared.expr.Expr.{Expr}
 use Rattle.pst_model.specs.declared.model.Item.{Item}

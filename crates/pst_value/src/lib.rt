@@ -8,9 +8,7 @@ mod typed;
 mod value;
 
 pub use fault::Fault;
-pub use laws::{
-    equality_is_exact, plain_stays, substitution_keeps_types, substitution_leaves,
-};
+pub use laws::{equality_is_exact, plain_stays, substitution_keeps_types, substitution_leaves};
 pub use ty::Ty;
 pub use typed::LIMIT;
 pub use value::Value;

@@ -21,16 +21,32 @@ fn values_fit_their_types(rt: HostRuntime) -> Result<(), Fail> {
         (Value::Var(1), ref_int, true),
         (Value::Var(2), Ty::Ref(Boxed::new(alloc, Ty::Int)?), false),
         (Value::Var(0), Ty::Ref(Boxed::new(alloc, Ty::Int)?), false),
-        (Value::Ref(1, Boxed::new(alloc, Value::Int(7))?), Ty::Ref(Boxed::new(alloc, Ty::Int)?), true),
-        (Value::Ref(1, Boxed::new(alloc, Value::Bool(true))?), Ty::Ref(Boxed::new(alloc, Ty::Int)?), false),
-        (Value::Call(0, Items::from_vec(vec![in alloc; Value::Int(3)]?)), Ty::Call, true),
+        (
+            Value::Ref(1, Boxed::new(alloc, Value::Int(7))?),
+            Ty::Ref(Boxed::new(alloc, Ty::Int)?),
+            true
+        ),
+        (
+            Value::Ref(1, Boxed::new(alloc, Value::Bool(true))?),
+            Ty::Ref(Boxed::new(alloc, Ty::Int)?),
+            false
+        ),
+        (
+            Value::Call(0, Items::from_vec(vec![in alloc; Value::Int(3)]?)),
+            Ty::Call,
+            true
+        ),
         (Value::Call(1, Items::new(alloc)), Ty::Call, false),
         (text_of(alloc, "a b")?, Ty::Text, true),
         (text_of(alloc, "a\n")?, Ty::Text, false),
         (numbers, list_int, true),
     ]?;
     for (value, ty, fits) in rows.iter() {
-        assert_eq!(rt; value.has_type(ty, vars.as_slice(), ops.as_slice()), *fits, "{value:?} {ty:?}");
+        assert_eq!(rt;
+            value.has_type(ty, vars.as_slice(), ops.as_slice()),
+            *fits,
+            "{value:?} {ty:?}"
+        );
     }
     Ok(())
 }

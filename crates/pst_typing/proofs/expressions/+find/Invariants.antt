@@ -1,4 +1,4 @@
-use Rattle.std.proofs.Common.{◌≡◌, ◌+◌, ◌*◌, ◌++◌, map, drop}
+use Rattle.std.proofs.Common.{◌≡◌, ◌+◌, ◌*◌, map, drop}
 use Rattle.pst_model.specs.Parts.{types_of}
 use Rattle.pst_typing.specs.Decision.{all_types, all_have, each_has}
 use Rattle.pst_typing.specs.Scope.{names_of, type_in}

@@ -1,0 +1,22 @@
+//! The input of the program.
+
+use pst_sexpr::MAX_BYTES;
+use std::io::{self, Read};
+use std::rt::Files;
+
+/// The bytes of the file, or of standard input, one more than a file may have at most.
+pub fn of<R: Files + Input + AllocGlobal>(rt: &R, file: Option<&str>) -> io::Result<Vec<u8>> {
+    let mut bytes = Vec::new(rt.alloc());
+    let limit = MAX_BYTES as u64 + 1;
+    match file {
+        Some(path) => {
+            let mut reader = std::fs::open(rt, path)?.take(limit);
+            reader.read_to_end(&mut bytes)?;
+        }
+        None => {
+            let mut reader = rt.reader().take(limit);
+            reader.read_to_end(&mut bytes)?;
+        }
+    }
+    Ok(bytes)
+}

@@ -1,0 +1,201 @@
+//! Testing the shape of a case.
+ghost use Rattle.std.specs.Prelude.{◌≡◌, ◌<◌, ◌+◌, ◌^◌, ◌⊎◌, IfOk, IfErr, length, nat_le, Some, not, ◌||◌, ◌&&◌};
+ghost use Rattle.std.specs.List.{list_any, list_all};
+ghost use Rattle.pst_eval.specs.Callbacks.{args_fit};
+ghost use Rattle.pst_model.specs.Parts.{operation_of};
+ghost use Rattle.pst_case.specs.Shape as spec;
+ghost use Rattle.pst_case.specs.Refusal.{no_memory};
+ghost use Rattle.pst_rules.specs.WellTyped.{WellModel};
+
+use crate::banned::{Banned, any_banned, any_refers};
+use crate::case::{Case, Command, Shaped};
+use crate::fault::{CaseFault, CaseFaultKind};
+use crate::types::{each_has_type, result_types};
+use pst_items::Items;
+use pst_model::{Op, Source, operation_of};
+use pst_rules::Typed;
+use pst_value::Ty;
+use std::alloc::{AllocError, Global};
+
+/// The most commands of the prefix.
+const MAX_PREFIX: usize = 64;
+
+/// The most commands of a branch.
+const MAX_BRANCH: usize = 8;
+
+/// The most commands of all branches together.
+const MAX_TOGETHER: usize = 16;
+
+/// What the commands of a case are tested by.
+#[derive(Drop)]
+struct Rules<'a> {
+    model: &'a Source,
+    /// The types of the results of all commands.
+    vars: &'a [Ty],
+    /// How many commands stand in the prefix.
+    prefix: u32,
+}
+
+/// Whether the commands of all branches are at most so many.
+fn are_within(branches: &[Items<Command>], room: usize) -> bool
+    ensures { result ≡ nat_le (length (spec.joined branches.now)) room }
+{
+    let Some((branch, branches)) = branches.split_first() else {
+        return true;
+    };
+    if branch.len() > room {
+        return false;
+    }
+    are_within(branches, room - branch.len())
+}
+
+fn are_short(branches: &[Items<Command>]) -> bool
+    ensures { result ≡ list_all (λ b. nat_le (length b) 8) branches.now }
+{
+    branches.iter().all(|branch| branch.len() <= MAX_BRANCH)
+}
+
+fn are_two_to_four(branches: &[Items<Command>]) -> bool
+    ensures { result ≡ (nat_le 2 (length branches.now) && nat_le (length branches.now) 4) }
+{
+    2 <= branches.len() && branches.len() <= 4
+}
+
+fn is_over_limit(case: &Case) -> bool
+    ensures { result ≡ spec.over_limit case.now }
+{
+    let branches = case.branches.as_slice();
+    if case.prefix.len() > MAX_PREFIX {
+        return true;
+    }
+    if !are_short(branches) {
+        return true;
+    }
+    if !are_two_to_four(branches) {
+        return true;
+    }
+    !are_within(branches, MAX_TOGETHER)
+}
+
+/// Whether the arguments are not those of the operation, or hold a reference.
+#[tactic(auto, using(crate::proofs::Operations::args_fit_known))]
+fn is_bad(rules: &Rules<'_>, operation: &Op, command: &Command) -> bool
+    requires well { WellModel rules.now.model.now }
+    requires known { operation_of rules.now.model.now.items command.now.op ≡ Some operation.now }
+    ensures { result ≡ (not (args_fit rules.now.model.now rules.now.vars.now rules.now.vars.now command.now.op command.now.args) || list_any spec.holds_reference command.now.args) }
+{
+    let args = command.args.as_slice();
+    !each_has_type(args, operation.params.as_slice(), rules.vars) || any_refers(args)
+}
+
+/// What is wrong with the command of a number, where so many stand before its part.
+fn command_fault(
+    rules: &Rules<'_>,
+    before: u32,
+    number: u32,
+    command: &Command,
+) -> Option<CaseFaultKind>
+    requires { WellModel rules.now.model.now }
+    ensures { result ≡ spec.command_fault rules.now.model.now rules.now.vars.now rules.now.prefix before number command.now }
+{
+    let items = rules.model.items.as_slice();
+    let args = command.args.as_slice();
+    let Some(operation) = operation_of(items, command.op as usize) else {
+        return Some(CaseFaultKind::UnknownOp);
+    };
+    if any_banned(args, &Banned::Forward(number)) {
+        return Some(CaseFaultKind::ForwardVar);
+    }
+    if any_banned(args, &Banned::Cross(rules.prefix, before)) {
+        return Some(CaseFaultKind::CrossVar);
+    }
+    if is_bad(rules, operation, command) {
+        return Some(CaseFaultKind::BadArgument);
+    }
+    None
+}
+
+/// The first fault of a part whose first command has the number.
+fn part_fault(
+    rules: &Rules<'_>,
+    before: u32,
+    number: u32,
+    commands: &[Command],
+) -> Option<CaseFault>
+    requires well { WellModel rules.now.model.now }
+    requires few { number + length commands.now < 2 ^ 32 }
+    ensures { result ≡ spec.part_fault rules.now.model.now rules.now.vars.now rules.now.prefix before number commands.now }
+{
+    let (command, commands) = commands.split_first()?;
+    match command_fault(rules, before, number, command) {
+        Some(kind) => Some(CaseFault {
+            kind,
+            command: number,
+        }),
+        None => part_fault(rules, before, number + 1, commands),
+    }
+}
+
+/// The first fault of branches before which so many commands stand.
+fn branches_fault(rules: &Rules<'_>, before: u32, branches: &[Items<Command>]) -> Option<CaseFault>
+    requires well { WellModel rules.now.model.now }
+    requires few { before + length (spec.joined branches.now) + 1 < 2 ^ 32 }
+    ensures { result ≡ spec.branches_fault rules.now.model.now rules.now.vars.now rules.now.prefix before branches.now }
+{
+    let (branch, branches) = branches.split_first()?;
+    match part_fault(rules, before, before + 1, branch.as_slice()) {
+        Some(fault) => Some(fault),
+        None => branches_fault(rules, before + branch.len() as u32, branches),
+    }
+}
+
+fn commands_fault(rules: &Rules<'_>, case: &Case) -> Option<CaseFault>
+    requires well { WellModel rules.now.model.now }
+    requires prefix { rules.now.prefix ≡ length case.now.prefix }
+    requires few { length case.now.prefix + length (spec.joined case.now.branches) + 1 < 2 ^ 32 }
+    requires typed { rules.now.vars.now ≡ spec.result_types rules.now.model.now case.now }
+    ensures { result ≡ spec.commands_fault rules.now.model.now case.now }
+{
+    match part_fault(rules, 0, 1, case.prefix.as_slice()) {
+        Some(fault) => Some(fault),
+        None => branches_fault(rules, rules.prefix, case.branches.as_slice()),
+    }
+}
+
+#[tactic(auto, using(crate::proofs::Limits::limits), unfolding(crate::specs::Shape::shape_fault))]
+fn first_fault(alloc: Global, model: &Source, case: &Case) -> Result<Option<CaseFault>, AllocError>
+    requires { WellModel model.now }
+    ensures { IfOk result (λ fault. fault ≡ spec.shape_fault model.now case.now) }
+{
+    if is_over_limit(case) {
+        return Ok(Some(CaseFault {
+            kind: CaseFaultKind::OverLimit,
+            command: 0,
+        }));
+    }
+    let vars = result_types(alloc, model, case)?;
+    let rules = Rules {
+        model,
+        vars: vars.as_slice(),
+        prefix: case.prefix.len() as u32,
+    };
+    Ok(commands_fault(&rules, case))
+}
+
+/// A case that keeps the shape of the model. Where it does not, or memory is refused, the case comes back with its first fault.
+pub fn shape(alloc: Global, typed: &Typed, case: Case) -> Result<Shaped, (Case, CaseFault)>
+    ensures shaped { IfOk result (λ shaped. (shaped ≡ case) × spec.IsShaped typed.now case) }
+    ensures refused { IfErr result (λ r. (r.0 ≡ case) × ((spec.shape_fault typed.now case ≡ Some r.1) ⊎ (r.1 ≡ no_memory))) }
+{
+    match first_fault(alloc, typed.source(), &case) {
+        Ok(None) => Ok(Shaped::new(case)),
+        Ok(Some(fault)) => Err((case, fault)),
+        Err(AllocError) => {
+            let refused = CaseFault {
+                kind: CaseFaultKind::NoMemory,
+                command: 0,
+            };
+            Err((case, refused))
+        }
+    }
+}

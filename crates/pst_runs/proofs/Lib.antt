@@ -1,0 +1,4 @@
+pub mod Growing
+pub mod Limits
+pub mod Rooms
+pub mod Small

@@ -1,0 +1,15 @@
+-- The words that are printed for the faults of runs.
+use Rattle.std.specs.Prelude.{ℕ, List, codes}
+use Rattle.pst_runs.specs.declared.fault.RunFaultKind.{RunFaultKind}
+use Rattle.pst_runs.specs.declared.fault.RunFaultKind.TheVariants.{UnknownOp, BadArgument, ForwardVar, CrossVar, OverLimit, NoMemory, BadReply, NotAFit, BadForm}
+
+abbrev pub fault_name : RunFaultKind → List ℕ
+fault_name UnknownOp = codes "UnknownOp"
+fault_name BadArgument = codes "BadArgument"
+fault_name ForwardVar = codes "ForwardVar"
+fault_name CrossVar = codes "CrossVar"
+fault_name OverLimit = codes "OverLimit"
+fault_name NoMemory = codes "NoMemory"
+fault_name BadReply = codes "BadReply"
+fault_name NotAFit = codes "NotAFit"
+fault_name BadForm = codes "BadForm"

@@ -1,0 +1,5 @@
+pub mod FaultName
+pub mod Integers
+pub mod Items
+pub mod Shown
+pub mod Values

@@ -1,0 +1,82 @@
+-- The values that trees spell.
+use Rattle.std.specs.Prelude.{◌==◌, ◌&&◌, ℕ, zero, suc, ℤ, nat_le, Bool, true, false, if◌then◌else◌, List, [], ◌∷◌, length, Option, Some, None, codes}
+use Rattle.std.specs.Str.{bytes_eq}
+use Rattle.pst_runs.specs.Integers.{are_digits, magnitude, integer_of}
+use Rattle.pst_sexpr.specs.Reading.{max_levels}
+use Rattle.pst_sexpr.specs.declared.form.Form.{Form, out-Form}
+use Rattle.pst_sexpr.specs.declared.form.Form.TheOpen.{Form-F}
+use Rattle.pst_value.specs.declared.value.Value.{Value}
+use Rattle.pst_value.specs.declared.value.Value as value
+
+-- where something stands there, what is made of it
+abbrev pub made : {A B : Type 0} → Option A → (A → Option B) → Option B
+made None f = None
+made (Some a) f = f a
+
+-- all from left to right, where each is made
+abbrev pub each : {A B : Type 0} → (A → Option B) → List A → Option (List B)
+each f [] = Some []
+each f (a ∷ more) = made (f a) (λ b. made (each f more) (λ bs. Some (b ∷ bs)))
+
+abbrev pub word_at : Form-F Form → Option (List ℕ)
+word_at (Form-F.Word word) = Some word
+word_at (Form-F.Text text) = None
+word_at (Form-F.Node parts) = None
+
+-- the bytes of a word
+abbrev pub word_of : Form → Option (List ℕ)
+word_of form = word_at (out-Form form)
+
+abbrev pub node_at : Form-F Form → Option (List Form)
+node_at (Form-F.Word word) = None
+node_at (Form-F.Text text) = None
+node_at (Form-F.Node parts) = Some parts
+
+-- the trees of a node
+abbrev pub node_of : Form → Option (List Form)
+node_of form = node_at (out-Form form)
+
+-- the number that one to four digits spell
+abbrev pub number_in : List ℕ → Option ℕ
+number_in digits = if nat_le (length digits) 4 && are_digits digits then Some (magnitude 0 digits) else None
+
+-- the variable that `$` and its number spell, where variables may stand
+abbrev pub variable_of : Bool → List ℕ → Option Value
+variable_of symbolic [] = None
+variable_of symbolic (byte ∷ digits) = if symbolic && (byte == 36) then made (number_in digits) (λ number. Some (value.Var number)) else None
+
+abbrev pub integer_or : Option ℤ → Option Value → Option Value
+integer_or (Some number) other = Some (value.Int number)
+integer_or None other = other
+
+-- an integer of 64 bits, a truth value, or a variable
+unfoldable pub word_value : Bool → List ℕ → Option Value
+word_value symbolic word =
+    if bytes_eq word (codes "true") then Some (value.Bool true)
+    else if bytes_eq word (codes "false") then Some (value.Bool false)
+    else integer_or (integer_of word) (variable_of symbolic word)
+
+abbrev pub headed : (Form → Option Value) → List ℕ → List Form → Option Value
+headed v head parts =
+    if bytes_eq head (codes "tuple") then made (each v parts) (λ vs. Some (value.Tuple vs))
+    else if bytes_eq head (codes "list") then made (each v parts) (λ vs. Some (value.List vs))
+    else None
+
+-- a tuple or a list
+abbrev pub node_value : (Form → Option Value) → List Form → Option Value
+node_value v [] = None
+node_value v (first ∷ parts) = made (word_of first) (λ head. headed v head parts)
+
+abbrev pub value_at : Bool → (Form → Option Value) → Form-F Form → Option Value
+value_at symbolic v (Form-F.Word word) = word_value symbolic word
+value_at symbolic v (Form-F.Text text) = Some (value.Text text)
+value_at symbolic v (Form-F.Node parts) = node_value v parts
+
+-- the value that a tree of so many levels spells, where variables may stand in it or not
+unfoldable pub value_in : Bool → ℕ → Form → Option Value
+value_in symbolic zero form = None
+value_in symbolic (suc room) form = value_at symbolic (value_in symbolic room) (out-Form form)
+
+-- the value that a tree spells
+abbrev pub value_of : Bool → Form → Option Value
+value_of symbolic form = value_in symbolic max_levels form

@@ -1,0 +1,13 @@
+//! Runs as text: their reader, which finds the first fault of the first refused one.
+#![tactic(auto)]
+
+mod commands;
+mod fault;
+mod integers;
+mod parts;
+mod reader;
+mod replies;
+mod values;
+
+pub use fault::{RunFault, RunFaultKind};
+pub use reader::read_runs;

@@ -1,0 +1,91 @@
+//! Reading runs.
+ghost use Rattle.std.specs.Prelude.{◌≡◌, ◌⊎◌, IfOk, IfErr, Ok, Err, option_copied};
+ghost use Rattle.pst_case.specs.Shape.{IsShaped};
+ghost use Rattle.pst_runs.specs.Items as spec;
+
+use crate::fault::{ItemFault, RunFault, RunFaultKind, kind_of};
+use crate::parts::{ItemParts, parts_of};
+use crate::replies::{are_counted, history_of};
+use pst_case::{CaseFaultKind, Run, Shaped, shape};
+use pst_rules::Typed;
+use pst_sexpr::{Form, Tree};
+use std::alloc::{AllocError, Global};
+
+/// The run of a shaped case and its reply lists.
+#[tactic(auto, using(crate::proofs::Limits::limits))]
+fn run_of(
+    alloc: Global,
+    typed: &Typed,
+    shaped: Shaped,
+    replies: Option<&[Form]>,
+) -> Result<Result<Run, ItemFault>, AllocError>
+    requires { IsShaped typed.now shaped }
+    ensures { IfOk result (λ run. run ≡ spec.run_of typed.now shaped (option_copied replies.entry)) }
+{
+    let Some(lists) = replies else {
+        let history = None;
+        return Ok(Ok(Run { shaped, history }));
+    };
+    if !are_counted(shaped.case(), lists) {
+        return Ok(Err(ItemFault {
+            kind: RunFaultKind::NotAFit,
+            command: 0,
+        }));
+    }
+    match history_of(alloc, typed, shaped.case(), lists)? {
+        Ok(history) => {
+            let history = Some(history);
+            Ok(Ok(Run { shaped, history }))
+        }
+        Err(command) => Ok(Err(ItemFault {
+            kind: RunFaultKind::BadReply,
+            command,
+        })),
+    }
+}
+
+/// The run that a tree spells, or its first fault.
+#[tactic(auto, unfolding(crate::specs::Items::item_of))]
+fn item_of(alloc: Global, typed: &Typed, form: &Form) -> Result<Result<Run, ItemFault>, AllocError>
+    ensures { IfOk result (λ run. run ≡ spec.item_of typed.now form.now) }
+{
+    let Some(parts) = parts_of(alloc, typed.source(), form)? else {
+        return Ok(Err(ItemFault {
+            kind: RunFaultKind::BadForm,
+            command: 0,
+        }));
+    };
+    let ItemParts { read, replies } = parts;
+    match shape(alloc, typed, read) {
+        Ok(shaped) => run_of(alloc, typed, shaped, replies),
+        Err((_, fault)) => {
+            if fault.kind == CaseFaultKind::NoMemory {
+                return Err(AllocError);
+            }
+            Ok(Err(ItemFault {
+                kind: kind_of(fault.kind),
+                command: fault.command,
+            }))
+        }
+    }
+}
+
+/// Reads the runs that trees spell: `case` items without a history, and `run` items with one.
+///
+/// The fault is that of the first refused item, numbered from 1. Each item is judged in order: its form; the faults of `shape`;
+/// the counts of its replies; each reply. `NoMemory`: memory was refused.
+pub fn read_runs(alloc: Global, typed: &Typed, trees: &[Tree]) -> Result<Vec<Run>, RunFault>
+    ensures read { IfOk result (λ runs. spec.runs_of typed.now trees.now ≡ Ok runs.items) }
+    ensures refused { IfErr result (λ fault. (spec.runs_of typed.now trees.now ≡ Err fault) ⊎ (fault ≡ spec.no_memory)) }
+{
+    let mut runs = Vec::new(alloc);
+    for tree in trees {
+        let run = runs.len() + 1;
+        match item_of(alloc, typed, tree.form()) {
+            Ok(Ok(read)) => runs.push(read)?,
+            Ok(Err(ItemFault { kind, command })) => return Err(RunFault { run, command, kind }),
+            Err(AllocError) => return Err(RunFault::from(AllocError)),
+        }
+    }
+    Ok(runs)
+}
