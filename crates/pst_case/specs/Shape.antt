@@ -59,7 +59,7 @@ abbrev pub type_in : Option Op → Ty
 type_in None = ty.Call
 type_in (Some o) = o.result
 
--- the type of a command's result (of an unknown operation no value is one: a result is never a call)
+-- the type of a command's result (no shaped case has an unknown operation)
 abbrev pub result_type : Source → Command → Ty
 result_type m c = type_in (operation_of m.items c.op)
 
