@@ -143,18 +143,21 @@ fn all_callbacks(callbacks: Callbacks) -> Result<AllCallbacks, FaultKind>
     }
 }
 
+/// Whether some item gives the type of the state: `(state ..)`.
 pub fn has_state(items: &[Item]) -> bool
     ensures { result ≡ list_any spec.is_state items.now }
 {
     items.iter().any(|item| matches!(item, Item::State(_)))
 }
 
+/// Whether some item gives the opening state: `(init ..)`.
 pub fn has_init(items: &[Item]) -> bool
     ensures { result ≡ list_any spec.is_init items.now }
 {
     items.iter().any(|item| matches!(item, Item::Init(_)))
 }
 
+/// Whether some item gives the calls to pick from: `(command ..)`.
 pub fn has_command(items: &[Item]) -> bool
     ensures { result ≡ list_any spec.is_command items.now }
 {
