@@ -1,5 +1,6 @@
 -- The words that are printed for the faults of runs.
-use Rattle.std.specs.Prelude.{ℕ, List, codes}
+use Rattle.std.specs.Prelude.{ℕ, List, ◌++◌, codes, decimal}
+use Rattle.pst_runs.specs.declared.fault.RunFault.{RunFault}
 use Rattle.pst_runs.specs.declared.fault.RunFaultKind.{RunFaultKind}
 use Rattle.pst_runs.specs.declared.fault.RunFaultKind.TheVariants.{UnknownOp, BadArgument, ForwardVar, CrossVar, OverLimit, NoMemory, BadReply, NotAFit, BadForm}
 
@@ -13,3 +14,7 @@ fault_name NoMemory = codes "NoMemory"
 fault_name BadReply = codes "BadReply"
 fault_name NotAFit = codes "NotAFit"
 fault_name BadForm = codes "BadForm"
+
+-- how a fault is printed, as `1 command 3 CrossVar`
+abbrev pub text_of : RunFault → List ℕ
+text_of fault = decimal fault.run ++ codes " command " ++ decimal fault.command ++ codes " " ++ fault_name fault.kind

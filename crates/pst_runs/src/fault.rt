@@ -5,6 +5,8 @@ ghost use Rattle.pst_runs.specs.Items.{kind_of};
 
 use pst_case::CaseFaultKind;
 use std::alloc::{AllocError, AllocFailed};
+use std::error::Error;
+use std::fmt;
 
 /// The kinds of a run's faults.
 #[derive(Clone, Copy, Debug, PartialEq, Eq, Drop)]
@@ -62,6 +64,22 @@ pub struct RunFault {
     pub command: u32,
     pub kind: RunFaultKind,
 }
+
+impl fmt::Display for RunFault {
+    ghost use Rattle.std.specs.Prelude.{Some};
+    ghost use Rattle.pst_runs.specs.FaultName.{text_of};
+
+    ghost output = { λ fault. Some (text_of fault) };
+
+    fn fmt<W: fmt::Write>(&self, f: &mut fmt::Formatter<W>) -> fmt::Result {
+        let run = self.run;
+        let command = self.command;
+        let name = self.kind.name();
+        write!(f, "{run} command {command} {name}")
+    }
+}
+
+impl Error for RunFault {}
 
 /// The kind of a case's fault, as that of a run.
 pub fn kind_of(kind: CaseFaultKind) -> RunFaultKind

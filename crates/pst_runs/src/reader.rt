@@ -2,6 +2,7 @@
 ghost use Rattle.std.specs.Prelude.{◌≡◌, ◌⊎◌, IfOk, IfErr, Ok, Err, option_copied};
 ghost use Rattle.pst_case.specs.Shape.{IsShaped};
 ghost use Rattle.pst_runs.specs.Items as spec;
+ghost use Rattle.pst_runs.specs.Lawful.{AreLawful};
 
 use crate::fault::{ItemFault, RunFault, RunFaultKind, kind_of};
 use crate::parts::{ItemParts, parts_of};
@@ -76,6 +77,7 @@ fn item_of(alloc: Global, typed: &Typed, form: &Form) -> Result<Result<Run, Item
 /// the counts of its replies; each reply. `NoMemory`: memory was refused.
 pub fn read_runs(alloc: Global, typed: &Typed, trees: &[Tree]) -> Result<Vec<Run>, RunFault>
     ensures read { IfOk result (λ runs. spec.runs_of typed.now trees.now ≡ Ok runs.items) }
+    ensures lawful { IfOk result (λ runs. AreLawful typed.now runs.items) }
     ensures refused { IfErr result (λ fault. (spec.runs_of typed.now trees.now ≡ Err fault) ⊎ (fault ≡ spec.no_memory)) }
 {
     let mut runs = Vec::new(alloc);
