@@ -1,7 +1,7 @@
 -- The callbacks may be asked of each event of a history that matches a shaped case.
-use Rattle.std.proofs.Common.{◌≡◌, ◌&&◌, ◌||◌, not, ℕ, zero, suc, ◌+◌, ◌≤◌, ◌<◌, ◌^◌, Bool, true, false, List, [], ◌∷◌, ◌++◌, length, map, Option, Some, None, refl, sym, ap, ◌∙◌, subst, slice_get, slice_index, get_or, sum, arith, add-one, append_assoc, length-append}
+use Rattle.std.proofs.Common.{◌≡◌, ◌&&◌, ◌||◌, not, ℕ, zero, suc, ◌+◌, ◌≤◌, ◌<◌, Bool, true, false, List, [], ◌∷◌, ◌++◌, length, map, Option, Some, None, refl, sym, ap, ◌∙◌, slice_get, slice_index, get_or, sum, arith, add-one, append_assoc, length-append}
 use Rattle.std.specs.Prelude.{if◌then◌else◌, nat_le}
-use Rattle.std.specs.List.{list_any, list_all}
+use Rattle.std.specs.List.{list_any}
 use Rattle.std.proofs.lemmas.Bool.Decides.{nat_tests}
 use Rattle.std.proofs.lemmas.List.{length-map, map-append}
 use Rattle.std.proofs.lemmas.List.Sums.{sum_by-cons}
@@ -9,7 +9,6 @@ use Rattle.pst_case.specs.Matches.{replies_of, reply_fits, part_matches, branche
 use Rattle.pst_case.specs.Shape.{joined, commands_of, type_in, result_type, result_types, or_else, at_command, command_fault, part_fault, branches_fault, commands_fault, shape_fault, over_limit, IsShaped, holds_var, holds_reference, is_known, is_forward, is_cross}
 use Rattle.pst_case.specs.declared.case.Case.{Case}
 use Rattle.pst_case.specs.declared.case.Command.{Command}
-use Rattle.pst_case.specs.declared.fault.CaseFault.{CaseFault}
 use Rattle.pst_case.specs.declared.fault.CaseFaultKind.{CaseFaultKind}
 use Rattle.pst_case.specs.declared.fault.CaseFaultKind.TheVariants.{UnknownOp, BadArgument, ForwardVar, CrossVar}
 use Rattle.pst_case.specs.declared.history.History.{History}
@@ -17,10 +16,10 @@ use Rattle.pst_case.specs.declared.history.Reply.{Reply}
 use Rattle.pst_case.specs.declared.history.Reply.TheVariants.{Value as Answered, Misfit, Failed, NotRun}
 use Rattle.pst_eval.specs.Callbacks.{fits_in, args_fit, args_fit_in, result_fits, result_fits_in, ref_fits, ref_fits_in}
 use Rattle.pst_items.proofs.Exact.{both_first, both_second}
-use Rattle.pst_judge.proofs.Known.{Closed, AllKnown, arguments_fit}
+use Rattle.pst_judge.proofs.Known.{AllKnown, arguments_fit}
 use Rattle.pst_judge.proofs.Wider.{fits-wider}
 use Rattle.pst_judge.specs.Prefix.{EventsFit}
-use Rattle.pst_judge.specs.Replay.{EventFits, result_of, recorded, event_of, part_events, branches_events, prefix_events, branch_events, event_at, event_in, branch_lengths}
+use Rattle.pst_judge.specs.Replay.{EventFits, result_of, recorded, event_of, part_events, branches_events, prefix_events, branch_events, event_at, branch_lengths}
 use Rattle.pst_judge.specs.Verdict.{first_broken}
 use Rattle.pst_judge.specs.declared.events.Event.{Event}
 use Rattle.pst_model.specs.Parts.{operation_of, parameters_of, types_of}
@@ -31,12 +30,11 @@ use Rattle.pst_value.proofs.Typing.{fits-Ref-Ref}
 use Rattle.pst_value.specs.Fits.{fits, is_ty}
 use Rattle.pst_value.specs.Subst.{substituted, numbered}
 use Rattle.pst_value.specs.declared.ty.Ty.{Ty}
-use Rattle.pst_value.specs.declared.ty.Ty.TheVariants as ty
 use Rattle.pst_value.specs.declared.value.Value.{Value, Ref}
 
 -- ---- no fault
 
-if_none : {A : Type 0} (b : Bool) (k : A) (o : Option A) → (if b then Some k else o) ≡ None → (b ≡ false) × (o ≡ None)
+pub if_none : {A : Type 0} (b : Bool) (k : A) (o : Option A) → (if b then Some k else o) ≡ None → (b ≡ false) × (o ≡ None)
 if_none true k o h = absurd (cc)
 if_none false k o h = (refl, h)
 
@@ -47,7 +45,7 @@ last_of_four false false true d p q r s h = absurd (cc)
 last_of_four false false false true p q r s h = absurd (cc)
 last_of_four false false false false p q r s h = refl
 
-or_else_none : {A : Type 0} (a b : Option A) → or_else a b ≡ None → (a ≡ None) × (b ≡ None)
+pub or_else_none : {A : Type 0} (a b : Option A) → or_else a b ≡ None → (a ≡ None) × (b ≡ None)
 or_else_none None b h = (refl, h)
 or_else_none (Some x) b h = absurd (cc)
 
@@ -150,7 +148,7 @@ get_at : (before rest : List Ty) (t : Ty) → slice_get (before ++ t ∷ rest) (
 get_at [] rest t = refl
 get_at (b ∷ before) rest t = get_at before rest t
 
-numbered_at : (before rest : List Ty) (t : Ty) → numbered (before ++ t ∷ rest) (length before + 1) ≡ Some t
+pub numbered_at : (before rest : List Ty) (t : Ty) → numbered (before ++ t ∷ rest) (length before + 1) ≡ Some t
 numbered_at before rest t = ap (numbered (before ++ t ∷ rest)) (add-one (length before)) ∙ get_at before rest t
 
 module _ (m : Source) (vars : List Ty) (results : List (Option Value)) (all : AllKnown vars (parameters_of m.items) results vars) where
@@ -292,6 +290,13 @@ unfolding shape_fault
 branches_within m c h = let p = if_none (over_limit c) _ (commands_fault m c) h in small (length (joined c.branches)) (not_false _ (or_second _ _ (or_second _ _ p.0).0).1)
   where
     small : (n : ℕ) → nat_le n 16 ≡ true → n ≤ 16
+    small n h = grind (arith, nat_tests)
+
+pub branches_few : (m : Source) (c : Case) → IsShaped m c → length c.branches ≤ 4
+unfolding shape_fault
+branches_few m c h = let p = if_none (over_limit c) _ (commands_fault m c) h in small (length c.branches) (both_second (nat_le 2 (length c.branches)) _ (not_false _ (or_second _ _ p.0).1))
+  where
+    small : (n : ℕ) → nat_le n 4 ≡ true → n ≤ 4
     small n h = grind (arith, nat_tests)
 
 sum-joined : {A : Type 0} (xss : List (List A)) → sum (map length xss) ≡ length (joined xss)

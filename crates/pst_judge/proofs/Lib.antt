@@ -4,4 +4,7 @@ pub mod Wider
 pub mod Known
 pub mod Fitted
 pub mod Furthest
-pub mod Judged
+pub mod FromReplay
+pub mod AskedFits
+pub mod Through
+pub mod Failed

@@ -4,3 +4,9 @@ pub mod Telling
 pub mod Verdict
 pub mod VerdictText
 pub mod Words
+pub mod Symbolic
+pub mod Validity
+pub mod Judgement
+pub mod JudgedText
+pub mod WhyName
+pub mod Asking

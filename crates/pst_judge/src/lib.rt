@@ -1,15 +1,26 @@
-//! Judging what was recorded of a case against its model.
+//! Judging what was recorded of a case against its model, and whether a case is valid by its model.
 #![tactic(auto)]
 
+mod asking;
 mod events;
+mod judgement;
 mod judging;
+mod numbered;
 mod place;
 mod prefix;
 mod replay;
 mod search;
+mod symbolic;
+mod validated;
+mod validity;
 mod verdicts;
+mod why;
 
 pub use events::Event;
+pub use judgement::{Judged, judge_one};
 pub use judging::verdict;
 pub use place::{Callback, Place, Side};
+pub use validated::Valid;
+pub use validity::valid;
 pub use verdicts::Verdict;
+pub use why::Why;

@@ -73,7 +73,10 @@ impl<'a, C: Callbacks> Steps for Branches<'a, C> {
 }
 
 /// How many commands each branch has.
-fn lengths_of(alloc: Global, branches: &[Items<Command>]) -> Result<Vec<usize>, AllocError>
+pub(crate) fn lengths_of(
+    alloc: Global,
+    branches: &[Items<Command>],
+) -> Result<Vec<usize>, AllocError>
     ensures { IfOk result (λ lengths. lengths.items ≡ map length branches.now) }
 {
     let mut lengths = Vec::new(alloc);
@@ -84,7 +87,7 @@ fn lengths_of(alloc: Global, branches: &[Items<Command>]) -> Result<Vec<usize>, 
 }
 
 /// A word, as the letters of its branches.
-fn sides_of(alloc: Global, word: &[usize]) -> Result<Vec<Side>, AllocError>
+pub(crate) fn sides_of(alloc: Global, word: &[usize]) -> Result<Vec<Side>, AllocError>
     ensures { IfOk result (λ sides. sides.items ≡ map side_of word.now) }
 {
     let mut sides = Vec::new(alloc);

@@ -1,7 +1,6 @@
-use Rattle.std.proofs.Common.{◌≡◌, ◌+◌, ◌≤◌, ◌<◌, ◌^◌, Fits, w32, length, ap, sym, ◌∙◌, arith}
+use Rattle.std.proofs.Common.{◌≡◌, length, ap, ◌∙◌, arith}
 use Rattle.pst_case.specs.Shape.{joined}
 use Rattle.pst_judge.proofs.Fitted.{branches_are, prefix_within, branches_within, lengths_within}
-use Rattle.pst_judge.specs.Replay.{event_at, branch_events}
 use Rattle.pst_judge.proofs.judging.after_prefix.Goals as goal
 
 pub overflow_cast-prefix : goal.overflow_cast-prefix

@@ -1,8 +1,8 @@
-use Rattle.std.proofs.Common.{◌≡◌, ◌+◌, ◌≤◌, ◌<◌, ◌^◌, [], length, ap, sym, ◌∙◌, arith}
+use Rattle.std.proofs.Common.{◌≡◌, [], length, ap, sym, ◌∙◌, arith}
 use Rattle.pst_case.specs.Shape.{result_types}
 use Rattle.pst_judge.proofs.Fitted.{prefix_fits, prefix_length, prefix_within}
 use Rattle.pst_judge.proofs.Furthest.{if_ok_map}
-use Rattle.pst_judge.proofs.Judged.{init_faults, prefix_false, prefix_faults, prefix_through}
+use Rattle.pst_judge.proofs.FromReplay.{init_faults, prefix_false, prefix_faults, prefix_through}
 use Rattle.pst_judge.specs.declared.prefix.PrefixEnd.TheVariants.{Stopped}
 use Rattle.pst_judge.proofs.judging.judged.Goals as goal
 

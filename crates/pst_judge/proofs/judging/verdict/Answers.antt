@@ -1,4 +1,4 @@
-use Rattle.std.proofs.Common.{◌≡◌, ◌+◌, ◌≤◌, ◌<◌, ◌^◌, length, ap, ◌∙◌, arith}
+use Rattle.std.proofs.Common.{◌≡◌, length, ap, ◌∙◌, arith}
 use Rattle.pst_judge.proofs.Fitted.{recorded_within}
 use Rattle.pst_judge.specs.Replay.{recorded}
 use Rattle.pst_judge.proofs.judging.verdict.Goals as goal

@@ -1,10 +1,6 @@
-use Rattle.std.proofs.Common.{◌≡◌, ◌≤◌, sum, sym}
-use Rattle.pst_grid.specs.Answers.{IsAnswer}
-use Rattle.pst_grid.specs.declared.answer.SomeAnswer.{SomeAnswer}
 use Rattle.pst_judge.proofs.Furthest.{far_counts, if_ok_map}
 use Rattle.pst_judge.specs.Replay.{branch_turn, branch_lengths}
 use Rattle.pst_judge.specs.Telling.{Tells}
-use Rattle.pst_judge.specs.declared.place.Place.{Place}
 use Rattle.pst_judge.proofs.search.search.Goals as goal
 
 pub some-requires-clause-commands : goal.some-requires-clause-commands

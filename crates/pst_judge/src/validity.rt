@@ -1,0 +1,90 @@
+//! Whether a case is valid.
+ghost use Rattle.std.specs.Prelude.{◌≡◌, ◌⊎◌, true, IfOk, IfErr};
+ghost use Rattle.pst_case.specs.Shape.{IsShaped, result_types};
+ghost use Rattle.pst_eval.specs.Callbacks.{is_state};
+ghost use Rattle.pst_grid.specs.Answers.{IsEveryAnswer};
+ghost use Rattle.pst_grid.specs.declared.answer.EveryAnswer.{EveryAnswer};
+ghost use Rattle.pst_judge.specs.Asking.{TellsWhy};
+ghost use Rattle.pst_judge.specs.Replay.{branch_lengths};
+ghost use Rattle.pst_judge.specs.Symbolic.{symbolic_turn, branch_commands};
+ghost use Rattle.pst_judge.specs.Validity.{IsValid, IsWhy, IsReason};
+ghost use Rattle.pst_judge.specs.declared.symbolic.Failing.{Failing};
+
+use crate::asking::{SymbolicBranches, in_first_merge, search_failing};
+use crate::numbered::{branches_with_numbers, with_numbers};
+use crate::place::Callback;
+use crate::symbolic::{fault_in, run_symbolic};
+use crate::validated::Valid;
+use crate::why::Why;
+use pst_case::Shaped;
+use pst_eval::Callbacks;
+use pst_items::Items;
+use pst_value::Value;
+use std::alloc::{AllocError, Global};
+
+/// Why the case is not valid, if it is not, from the symbolic state after the prefix.
+fn why_not_after_prefix<C: Callbacks>(
+    callbacks: &C,
+    alloc: Global,
+    shaped: &Shaped,
+    state: &Value,
+) -> Result<Option<Why>, AllocError>
+    requires shape { IsShaped (C.model callbacks.now) shaped.now }
+    requires state { is_state (C.model callbacks.now) (result_types (C.model callbacks.now) shaped.now) (result_types (C.model callbacks.now) shaped.now) state.now ≡ true }
+    ensures { IfOk result (λ v. (answer : EveryAnswer Failing) × IsEveryAnswer (symbolic_turn (C.model callbacks.now) (branch_commands shaped.now)) (branch_lengths shaped.now) state.now answer × TellsWhy answer v) }
+{
+    let case = shaped.case();
+    let number = 1 + case.prefix.len() as u32;
+    let branches = case.branches.as_slice();
+    let commands = branches_with_numbers(alloc, number, branches, Items::new(alloc))?;
+    let symbolic = SymbolicBranches {
+        callbacks,
+        shaped,
+        commands,
+    };
+    search_failing(alloc, &symbolic, state)
+}
+
+/// Why the case is not valid by the model of the callbacks, if it is not. `AllocError` where memory is refused.
+pub fn why_not<C: Callbacks>(
+    callbacks: &C,
+    alloc: Global,
+    shaped: &Shaped,
+) -> Result<Option<Why>, AllocError>
+    requires { IsShaped (C.model callbacks.now) shaped.now }
+    ensures { IfOk result (IsReason (C.model callbacks.now) shaped.now) }
+{
+    let (state, _) = match callbacks.init(alloc)? {
+        Ok(opening) => opening,
+        Err(fault) => {
+            return in_first_merge(alloc, shaped, fault_in(0, Callback::Init, fault));
+        }
+    };
+    let commands = shaped.case().prefix.as_slice();
+    let prefix = with_numbers(alloc, 1, commands, Items::new(alloc))?;
+    match run_symbolic(callbacks, alloc, state, prefix.as_slice())? {
+        Ok(last) => why_not_after_prefix(callbacks, alloc, shaped, &last),
+        Err(failing) => in_first_merge(alloc, shaped, failing),
+    }
+}
+
+/// The case as a valid one, where it is valid by the model of the callbacks. Else the case comes back with the reason.
+///
+/// The case is run on symbolic states, from the opening state, in every merge of the branches after the prefix: each command's precondition
+/// must be true, and the next state, where the variable of the command's number stands for its result, must come without a fault. The reason is that
+/// of the least merge that fails, at its first command that fails; it is `NoMemory` where memory is refused.
+pub fn valid<C: Callbacks>(
+    callbacks: &C,
+    alloc: Global,
+    shaped: Shaped,
+) -> Result<Valid, (Shaped, Why)>
+    requires shape { IsShaped (C.model callbacks.now) shaped }
+    ensures valid { IfOk result (λ v. (v ≡ shaped) × IsValid (C.model callbacks.now) shaped) }
+    ensures refused { IfErr result (λ r. (r.0 ≡ shaped) × ((r.1 ≡ Why.NoMemory) ⊎ IsWhy (C.model callbacks.now) shaped r.1)) }
+{
+    match why_not(callbacks, alloc, &shaped) {
+        Ok(None) => Ok(Valid::new(shaped)),
+        Ok(Some(why)) => Err((shaped, why)),
+        Err(AllocError) => Err((shaped, Why::NoMemory)),
+    }
+}
