@@ -1,0 +1,5 @@
+pub mod Absent
+pub mod Head
+pub mod Output
+pub mod Sending
+pub mod Status

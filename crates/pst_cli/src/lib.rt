@@ -1,11 +1,18 @@
 //! What the program writes for its input.
 #![tactic(auto)]
 
-mod check_line;
-mod line;
+mod absent;
+mod check;
+mod head;
+mod judge;
+mod output;
+mod refusal;
+mod status;
 
-pub use check_line::check_text;
-pub use line::Status;
+pub use absent::{Absence, refuse_text};
+pub use check::check_text;
+pub use judge::judge_text;
+pub use status::Status;
 
 #[cfg(test)]
 mod tests;

@@ -1,0 +1,74 @@
+-- The outputs of the program: a text and a status, for an input.
+use Rattle.std.specs.Prelude.{◌≡◌, ℕ, ◌+◌, Bool, true, false, if◌then◌else◌, List, [], ◌∷◌, ◌++◌, Ok, Err, codes, decimal}
+use Rattle.std.specs.List.{list_all}
+use Rattle.pst_case.specs.declared.history.Run.{Run}
+use Rattle.pst_cli.specs.Head.{Holds, items_of, IsRefusal, refusal_line, line_end}
+use Rattle.pst_cli.specs.declared.refusal.Refusal.{Refusal}
+use Rattle.pst_cli.specs.declared.status.Status.{Status}
+use Rattle.pst_cli.specs.declared.status.Status.TheVariants.{Accepted, Failed, Refused}
+use Rattle.pst_judge.specs.JudgedText.{judged_text}
+use Rattle.pst_judge.specs.Judgement.{IsJudgement}
+use Rattle.pst_judge.specs.declared.judgement.Judged.{Judged}
+use Rattle.pst_judge.specs.declared.judgement.Judged.TheVariants as told
+use Rattle.pst_judge.specs.declared.verdicts.Verdict.{Verdict}
+use Rattle.pst_judge.specs.declared.verdicts.Verdict.TheVariants.{Explained, Faulted, Unexplained, Broken}
+use Rattle.pst_model.specs.declared.model.Source.{Source}
+use Rattle.pst_runs.specs.Items.{runs_of}
+use Rattle.pst_runs.specs.FaultName as runs
+use Rattle.pst_runs.specs.declared.fault.RunFault.{RunFault}
+use Rattle.pst_sexpr.specs.declared.form.Form.{Form}
+
+-- ---- `pst check`
+
+abbrev pub ok_line : Source → List ℕ
+ok_line m = codes "ok " ++ m.name ++ line_end
+
+-- `ok NAME` for a well-typed model, or its first refusal
+pub data IsCheckOutput (input text : List ℕ) (status : Status) : Type 0 where
+  accepted : (m : Source) (trees : List Form) → Holds input m trees → text ≡ ok_line m → status ≡ Accepted → IsCheckOutput input text status
+  refused : (refusal : Refusal) → IsRefusal input refusal → text ≡ refusal_line refusal → status ≡ Refused → IsCheckOutput input text status
+
+-- ---- `pst judge`
+
+abbrev pub run_line : RunFault → List ℕ
+run_line fault = codes "refused run " ++ runs.text_of fault ++ line_end
+
+-- each run is judged so, in order
+abbrev pub AreJudged : Source → List Run → List Judged → Type 0
+AreJudged m [] [] = Unit {0}
+AreJudged m [] (j ∷ js) = ⊥
+AreJudged m (run ∷ runs) [] = ⊥
+AreJudged m (run ∷ runs) (j ∷ js) = IsJudgement m run j × AreJudged m runs js
+
+-- `NUMBER VERDICT`
+abbrev pub item_line : ℕ → Judged → List ℕ
+item_line number j = decimal number ++ codes " " ++ judged_text j ++ line_end
+
+-- the lines of items, the first of which has the number
+abbrev pub item_lines : ℕ → List Judged → List ℕ
+item_lines number [] = []
+item_lines number (j ∷ js) = item_line number j ++ item_lines (number + 1) js
+
+abbrev pub is_explained : Verdict → Bool
+is_explained (Explained word) = true
+is_explained (Faulted place) = false
+is_explained (Unexplained far) = false
+is_explained (Broken command) = false
+
+-- explained or valid
+abbrev pub is_good : Judged → Bool
+is_good (told.Verdict verdict) = is_explained verdict
+is_good told.Valid = true
+is_good (told.Invalid why) = false
+
+-- Accepted where all items are explained or valid
+abbrev pub status_of : List Judged → Status
+status_of js = if list_all is_good js then Accepted else Failed
+
+-- a line for each item, from 1; or the first refusal, that of the runs being the last
+pub data IsJudgeOutput (input text : List ℕ) (status : Status) : Type 0 where
+  judged : (m : Source) (trees : List Form) (runs : List Run) (js : List Judged) → Holds input m trees → runs_of m (items_of trees) ≡ Ok runs → AreJudged m runs js →
+      text ≡ item_lines 1 js → status ≡ status_of js → IsJudgeOutput input text status
+  run_refused : (m : Source) (trees : List Form) (fault : RunFault) → Holds input m trees → runs_of m (items_of trees) ≡ Err fault →
+      text ≡ run_line fault → status ≡ Refused → IsJudgeOutput input text status
+  refused : (refusal : Refusal) → IsRefusal input refusal → text ≡ refusal_line refusal → status ≡ Refused → IsJudgeOutput input text status

@@ -1,0 +1,49 @@
+//! `pst check`.
+ghost use Rattle.std.specs.Prelude.{◌≡◌, false, IfOk, string_bytes};
+ghost use Rattle.pst_cli.specs.Output.{IsCheckOutput, ok_line};
+ghost use Rattle.pst_cli.specs.Sending.{Prints};
+
+use crate::head::head_of;
+use crate::output::{Output, send};
+use crate::refusal::refusal_line;
+use crate::status::Status;
+use pst_rules::Typed;
+use pst_sexpr::Sink;
+use pst_typing::model_name;
+use std::alloc::{AllocError, Global};
+
+/// `ok NAME`.
+fn ok_line(alloc: Global, typed: &Typed) -> Result<String, AllocError>
+    ensures { IfOk result (λ line. string_bytes line ≡ ok_line typed.now) }
+{
+    let name = model_name(typed).as_str();
+    format!(in alloc; "ok {name}\n")
+}
+
+/// `ok NAME`, or the first refusal.
+fn check_output(alloc: Global, input: &[u8]) -> Result<Output, AllocError>
+    ensures { IfOk result (λ output. IsCheckOutput input.now (string_bytes output.text) output.status) }
+{
+    match head_of(alloc, input)? {
+        Ok(head) => Ok(Output {
+            text: ok_line(alloc, &head.typed)?,
+            status: Status::Accepted,
+        }),
+        Err(refusal) => Ok(Output {
+            text: refusal_line(alloc, &refusal)?,
+            status: Status::Refused,
+        }),
+    }
+}
+
+/// Writes `ok NAME` where the first tree of the input is a well-typed model, and else its first refusal, and answers the status.
+/// Where memory is refused, `refused memory` alone is written.
+pub fn check_text<W: Sink>(alloc: Global, input: &[u8], sink: &mut W) -> Status
+    requires { W.broken sink.old ≡ false }
+    ensures { Prints (IsCheckOutput input.now) (W.taken sink.old) (W.taken sink.new) (W.broken sink.new) result }
+{
+    match check_output(alloc, input) {
+        Ok(output) => send(output.text.as_bytes(), output.status, sink),
+        Err(AllocError) => send(b"refused memory\n", Status::Lost, sink),
+    }
+}

@@ -1,0 +1,31 @@
+//! How the program ends.
+
+/// How the program ends.
+#[derive(Clone, Copy, Debug, PartialEq, Eq, Drop)]
+pub enum Status {
+    /// All is accepted, explained or valid.
+    Accepted = 0,
+    /// Something is not.
+    Failed = 1,
+    /// The input or the words are refused.
+    Refused = 2,
+    /// Something was lost: memory was refused, or the writer failed.
+    Lost = 3,
+}
+
+impl Status {
+    ghost use Rattle.std.specs.Prelude.{◌≡◌};
+    ghost use Rattle.pst_cli.specs.Status.{code_of};
+
+    /// The exit status of the process.
+    pub fn code(self) -> u8
+        ensures { result ≡ code_of self }
+    {
+        match self {
+            Status::Accepted => 0,
+            Status::Failed => 1,
+            Status::Refused => 2,
+            Status::Lost => 3,
+        }
+    }
+}
