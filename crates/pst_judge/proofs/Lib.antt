@@ -5,6 +5,6 @@ pub mod Known
 pub mod Fitted
 pub mod Furthest
 pub mod FromReplay
-pub mod AskedFits
-pub mod Through
-pub mod Failed
+pub mod FittedCommands
+pub mod SymbolicRuns
+pub mod Reasons

@@ -1,7 +1,6 @@
 //! Judging what was recorded of a case against its model, and whether a case is valid by its model.
 #![tactic(auto)]
 
-mod asking;
 mod events;
 mod judgement;
 mod judging;
@@ -11,6 +10,7 @@ mod prefix;
 mod replay;
 mod search;
 mod symbolic;
+mod symbolic_search;
 mod validated;
 mod validity;
 mod verdicts;

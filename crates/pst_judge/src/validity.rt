@@ -4,16 +4,16 @@ ghost use Rattle.pst_case.specs.Shape.{IsShaped, result_types};
 ghost use Rattle.pst_eval.specs.Callbacks.{is_state};
 ghost use Rattle.pst_grid.specs.Answers.{IsEveryAnswer};
 ghost use Rattle.pst_grid.specs.declared.answer.EveryAnswer.{EveryAnswer};
-ghost use Rattle.pst_judge.specs.Asking.{TellsWhy};
+ghost use Rattle.pst_judge.specs.SymbolicSearch.{TellsWhy};
 ghost use Rattle.pst_judge.specs.Replay.{branch_lengths};
 ghost use Rattle.pst_judge.specs.Symbolic.{symbolic_turn, branch_commands};
 ghost use Rattle.pst_judge.specs.Validity.{IsValid, IsWhy, IsReason};
 ghost use Rattle.pst_judge.specs.declared.symbolic.Failing.{Failing};
 
-use crate::asking::{SymbolicBranches, in_first_merge, search_failing};
 use crate::numbered::{branches_with_numbers, with_numbers};
 use crate::place::Callback;
 use crate::symbolic::{fault_in, run_symbolic};
+use crate::symbolic_search::{SymbolicBranches, in_first_merge, search_failing};
 use crate::validated::Valid;
 use crate::why::Why;
 use pst_case::Shaped;

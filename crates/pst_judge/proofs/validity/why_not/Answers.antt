@@ -1,7 +1,7 @@
 use Rattle.std.proofs.Common.{◌≡◌, length, ap, sym, ◌∙◌, arith}
 use Rattle.pst_case.specs.Shape.{result_types}
-use Rattle.pst_judge.proofs.AskedFits.{prefix_asked}
-use Rattle.pst_judge.proofs.Failed.{init_fails, prefix_fails, prefix_passes}
+use Rattle.pst_judge.proofs.FittedCommands.{prefix_asked}
+use Rattle.pst_judge.proofs.Reasons.{init_fails, prefix_fails, prefix_passes}
 use Rattle.pst_judge.proofs.Fitted.{prefix_within, branches_few}
 use Rattle.pst_judge.proofs.Furthest.{if_ok_map}
 use Rattle.pst_judge.proofs.validity.why_not.Goals as goal

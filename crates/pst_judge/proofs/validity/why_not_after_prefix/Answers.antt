@@ -1,6 +1,6 @@
 use Rattle.std.proofs.Common.{◌≡◌, length, ap, ◌∙◌, arith}
 use Rattle.pst_case.specs.Shape.{joined}
-use Rattle.pst_judge.proofs.AskedFits.{branches_asked}
+use Rattle.pst_judge.proofs.FittedCommands.{branches_asked}
 use Rattle.pst_judge.proofs.Fitted.{prefix_within, branches_within}
 use Rattle.pst_judge.proofs.validity.why_not_after_prefix.Goals as goal
 

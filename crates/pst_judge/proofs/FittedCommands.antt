@@ -6,7 +6,7 @@ use Rattle.pst_case.specs.declared.case.Case.{Case}
 use Rattle.pst_case.specs.declared.case.Command.{Command}
 use Rattle.pst_eval.specs.Callbacks.{args_fit, args_fit_in, ref_fits, ref_fits_in}
 use Rattle.pst_judge.proofs.Fitted.{if_none, or_else_none, numbered_at, ArgumentsFit, AllArgumentsFit, part_ok, branches_ok}
-use Rattle.pst_judge.specs.Asking.{CommandsFit}
+use Rattle.pst_judge.specs.SymbolicSearch.{CommandsFit}
 use Rattle.pst_judge.specs.Replay.{branch_lengths}
 use Rattle.pst_judge.specs.Symbolic.{CommandFits, with_numbers, branches_with_numbers, prefix_commands, branch_commands, command_at}
 use Rattle.pst_judge.specs.declared.numbered.NumberedCommand.{NumberedCommand}

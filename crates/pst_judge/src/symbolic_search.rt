@@ -4,10 +4,9 @@ ghost use Rattle.pst_case.specs.Shape.{result_types};
 ghost use Rattle.pst_eval.specs.Callbacks.{is_state};
 ghost use Rattle.pst_grid.specs.Answers.{IsEveryAnswer};
 ghost use Rattle.pst_grid.specs.declared.answer.EveryAnswer.{EveryAnswer};
-ghost use Rattle.pst_judge.specs.Asking.{BranchesFit, FailsByReason, TellsWhy, IsReasonOf, reason_of, in_turn};
+ghost use Rattle.pst_judge.specs.SymbolicSearch.{BranchesFit, FailsByReason, IsFailing, TellsStop, TellsWhy, IsReasonOf, reason_of, in_turn};
 ghost use Rattle.pst_judge.specs.Replay.{branch_lengths};
 ghost use Rattle.pst_judge.specs.Symbolic.{symbolic_turn};
-ghost use Rattle.pst_judge.specs.Words.{side_of};
 ghost use Rattle.pst_judge.specs.declared.symbolic.Failing.{Failing};
 
 use crate::events::{split_commands, split_parts};
@@ -85,6 +84,29 @@ fn reason_of(failing: Failing, merge: Vec<Side>) -> Why
     }
 }
 
+/// The reason of a failing, in the merge of the word.
+fn reason_in(alloc: Global, failing: Failing, word: &[usize]) -> Result<Option<Why>, AllocError>
+    ensures { IfOk result (IsReasonOf failing word.now) }
+{
+    let merge = sides_of(alloc, word)?;
+    Ok(Some(reason_of(failing, merge)))
+}
+
+/// The reason why the merge of the word stops.
+fn told_stop(
+    alloc: Global,
+    word: &[usize],
+    why: pst_grid::Why<Failing>,
+) -> Result<Option<Why>, AllocError>
+    requires { IsFailing why }
+    ensures { IfOk result (TellsStop why word.now) }
+{
+    match why {
+        pst_grid::Why::False => unreachable!(),
+        pst_grid::Why::Fault(failing) => reason_in(alloc, failing, word),
+    }
+}
+
 /// The reason that an answer stands for, if it is one.
 fn told_why(alloc: Global, answer: EveryAnswer<Failing>) -> Result<Option<Why>, AllocError>
     requires { FailsByReason answer }
@@ -92,14 +114,7 @@ fn told_why(alloc: Global, answer: EveryAnswer<Failing>) -> Result<Option<Why>, 
 {
     match answer {
         EveryAnswer::All => Ok(None),
-        EveryAnswer::Not { word, why, .. } => match why {
-            pst_grid::Why::False => unreachable!(),
-            pst_grid::Why::Fault(failing) => {
-                let merge = sides_of(alloc, word.as_slice())?;
-                let reason = reason_of(failing, merge);
-                Ok(Some(reason))
-            }
-        },
+        EveryAnswer::Not { word, why, .. } => told_stop(alloc, word.as_slice(), why),
     }
 }
 
@@ -122,31 +137,31 @@ pub fn search_failing<C: Callbacks>(
 fn letters(
     branch: usize,
     commands: &[Command],
-    mut sides: Vec<Side>,
-) -> Result<Vec<Side>, AllocError>
-    ensures { IfOk result (λ all. all.items ≡ sides.items ++ map side_of (replicate (length commands.now) branch)) }
+    mut word: Vec<usize>,
+) -> Result<Vec<usize>, AllocError>
+    ensures { IfOk result (λ all. all.items ≡ word.items ++ replicate (length commands.now) branch) }
 {
     let Some((_, commands)) = split_commands(commands) else {
-        return Ok(sides);
+        return Ok(word);
     };
-    sides.push(Side::of(branch))?;
-    letters(branch, commands, sides)
+    word.push(branch)?;
+    letters(branch, commands, word)
 }
 
 /// The letters of branches in turn, from the letter of the first, after others.
 fn in_turn(
     branch: usize,
     branches: &[Items<Command>],
-    sides: Vec<Side>,
-) -> Result<Vec<Side>, AllocError>
+    word: Vec<usize>,
+) -> Result<Vec<usize>, AllocError>
     requires { branch + length branches.now < 2 ^ 64 }
-    ensures { IfOk result (λ all. all.items ≡ sides.items ++ map side_of (in_turn branch (map length branches.now))) }
+    ensures { IfOk result (λ all. all.items ≡ word.items ++ in_turn branch (map length branches.now)) }
 {
     let Some((first, rest)) = split_parts(branches) else {
-        return Ok(sides);
+        return Ok(word);
     };
-    let sides = letters(branch, first.as_slice(), sides)?;
-    in_turn(branch + 1, rest, sides)
+    let word = letters(branch, first.as_slice(), word)?;
+    in_turn(branch + 1, rest, word)
 }
 
 /// The reason where all merges fail alike: the least merge fails so.
@@ -159,6 +174,6 @@ pub fn in_first_merge(
     ensures { IfOk result (IsReasonOf failing (in_turn 0 (branch_lengths shaped.now))) }
 {
     let branches = shaped.case().branches.as_slice();
-    let merge = in_turn(0, branches, Vec::new(alloc))?;
-    Ok(Some(reason_of(failing, merge)))
+    let word = in_turn(0, branches, Vec::new(alloc))?;
+    reason_in(alloc, failing, word.as_slice())
 }

@@ -1,8 +1,8 @@
 use Rattle.pst_judge.proofs.Furthest.{if_ok_map}
-use Rattle.pst_judge.proofs.Through.{fails_by_reason}
-use Rattle.pst_judge.specs.Asking.{TellsWhy}
+use Rattle.pst_judge.proofs.SymbolicRuns.{fails_by_reason}
+use Rattle.pst_judge.specs.SymbolicSearch.{TellsWhy}
 use Rattle.pst_judge.specs.Replay.{branch_lengths}
-use Rattle.pst_judge.proofs.asking.search_failing.Goals as goal
+use Rattle.pst_judge.proofs.symbolic_search.search_failing.Goals as goal
 
 pub every-requires-clause-commands : goal.every-requires-clause-commands
 every-requires-clause-commands g c = rw (c.as_slice-2.ensures.value, c.in_ok-lengths.ensures, c.as_slice.ensures, c.case.ensures.same) c.requires.commands
