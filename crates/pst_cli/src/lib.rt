@@ -13,6 +13,3 @@ pub use absent::{Absence, refuse_text};
 pub use check::check_text;
 pub use judge::judge_text;
 pub use status::Status;
-
-#[cfg(test)]
-mod tests;

@@ -18,8 +18,6 @@ mod position;
 mod search;
 mod some_search;
 mod steps;
-#[cfg(test)]
-mod tests;
 
 pub use answer::{EveryAnswer, SomeAnswer, Turn, Why};
 pub use every_search::every;

@@ -12,6 +12,3 @@ pub use lists::{append, items_of};
 pub use one_operand::{item, take_turn, truth_of, unary};
 pub use stop::Stop;
 pub use two_operands::{binary, binary_of_owned};
-
-#[cfg(test)]
-mod tests;

@@ -16,8 +16,6 @@ mod put;
 mod reader;
 mod scan;
 mod sink;
-#[cfg(test)]
-mod tests;
 mod tree;
 mod writer;
 

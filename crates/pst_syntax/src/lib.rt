@@ -13,8 +13,6 @@ mod names;
 mod read;
 mod reader;
 mod shape;
-#[cfg(test)]
-mod tests;
 mod ty_shape;
 
 pub use fault::{FaultKind, SyntaxFault};

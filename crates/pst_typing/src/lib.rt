@@ -22,6 +22,3 @@ pub use parts::{model_name, operation_name, operation_parameters, operation_resu
 pub use scope::Scope;
 pub use type_fault::TypeFault;
 pub use types::{holds_call, holds_ref};
-
-#[cfg(test)]
-mod tests;

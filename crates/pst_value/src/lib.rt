@@ -12,6 +12,3 @@ pub use laws::{equality_is_exact, plain_stays, substitution_keeps_types, substit
 pub use ty::Ty;
 pub use typed::LIMIT;
 pub use value::Value;
-
-#[cfg(test)]
-mod tests;

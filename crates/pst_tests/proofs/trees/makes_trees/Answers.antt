@@ -4,7 +4,7 @@ use Rattle.pst_sexpr.specs.Grammar.{IsWordBytes}
 use Rattle.pst_sexpr.specs.Lawful.{IsTextBytes, greatest, levels}
 use Rattle.pst_sexpr.specs.Reading.{max_levels}
 use Rattle.pst_sexpr.proofs.Made.{levels_word, levels_text}
-use Rattle.pst_sexpr.proofs.tests.makes_trees.Goals as goal
+use Rattle.pst_tests.proofs.trees.makes_trees.Goals as goal
 
 pub word-requires-clause-each : goal.word-requires-clause-each
 unfolding is_word_byte

@@ -1,4 +1,6 @@
-use crate::{EveryAnswer, SomeAnswer, Steps, Turn, Why, every, some, some_plainly};
+//! The search over merges, on a lamp.
+
+use pst_grid::{EveryAnswer, SomeAnswer, Steps, Turn, Why, every, some, some_plainly};
 use std::alloc::{AllocError, Global};
 use std::cell::Cell;
 use std::test::Fail;

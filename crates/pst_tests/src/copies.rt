@@ -1,0 +1,78 @@
+//! Copies are equal to what they are copies of.
+
+use crate::answers::typed_of;
+use crate::models::{COUNTER, REGISTRY};
+use pst_case::{Case, History, Run};
+use pst_runs::read_runs;
+use pst_sexpr::read;
+use std::alloc::{AllocError, Global};
+use std::test::Fail;
+
+/// The first run behind a model.
+fn run_of(alloc: Global, model: &str, item: &str) -> Option<Run> {
+    let typed = typed_of(alloc, model)?;
+    let trees = read(alloc, item.as_bytes()).ok()?;
+    let mut runs = read_runs(alloc, &typed, trees.as_slice()).ok()?;
+    runs.pop()
+}
+
+/// Whether copies of a case, of its commands and of their arguments are equal.
+fn case_is_copied(alloc: Global, case: &Case) -> Result<bool, AllocError> {
+    for command in case.prefix.as_slice() {
+        if command.copy(alloc)? != *command {
+            return Ok(false);
+        }
+        for value in command.args.as_slice() {
+            if value.copy(alloc)? != *value {
+                return Ok(false);
+            }
+        }
+    }
+    Ok(case.copy(alloc)? == *case)
+}
+
+/// Whether copies of a history and of its replies are equal.
+fn history_is_copied(alloc: Global, history: &History) -> Result<bool, AllocError> {
+    for branch in history.branches.as_slice() {
+        for reply in branch.as_slice() {
+            if reply.copy(alloc)? != *reply {
+                return Ok(false);
+            }
+        }
+    }
+    Ok(history.copy(alloc)? == *history)
+}
+
+/// Whether a copy of a run is equal, and so are those of its parts.
+fn run_is_copied(alloc: Global, run: &Run) -> Result<bool, AllocError> {
+    let copy = run.copy(alloc)?;
+    let shaped = run.shaped.copy(alloc)?;
+    let history_stands = match &run.history {
+        Some(history) => history_is_copied(alloc, history)?,
+        None => true,
+    };
+    Ok(
+        history_stands
+            && case_is_copied(alloc, run.shaped.case())?
+            && shaped.case() == run.shaped.case()
+            && copy.shaped.case() == run.shaped.case()
+            && copy.history == run.history,
+    )
+}
+
+#[test]
+fn copies_are_equal(rt: HostRuntime) -> Result<(), Fail> {
+    let alloc = rt.alloc();
+    let rows: [(&str, &str); 2] = [
+        (
+            COUNTER,
+            "(run (prefix) (left (inc)) (right (inc)) (replies () (1) (2)))",
+        ),
+        (REGISTRY, "(case (prefix (new) (close $01)) (left) (right))"),
+    ];
+    for (model, item) in rows {
+        let run = run_of(alloc, model, item).ok_or("no run")?;
+        assert!(rt; run_is_copied(alloc, &run)?, "{item}");
+    }
+    Ok(())
+}

@@ -1,0 +1,114 @@
+//! Files that are cut, too deep or too large.
+
+use crate::answers::{check_told, trees_told};
+use crate::models::COUNTER;
+use std::alloc::{AllocError, Global};
+use std::test::Fail;
+
+/// The place of the innermost bracket that is open at the end, counted from 0, in bytes without texts and comments.
+fn innermost_open(bytes: &[u8]) -> Option<usize> {
+    let mut closed: usize = 0;
+    for (place, byte) in bytes.iter().enumerate().rev() {
+        match byte {
+            b')' => closed = closed.saturating_add(1),
+            b'(' => {
+                if closed == 0 {
+                    return Some(place);
+                }
+                closed -= 1;
+            }
+            _ => {}
+        }
+    }
+    None
+}
+
+/// What is to be told of the trees of a beginning of a file, which ends in brackets or behind so many whole trees.
+fn wanted(alloc: Global, bytes: &[u8], whole: usize) -> Result<String, AllocError> {
+    match innermost_open(bytes) {
+        Some(place) => format!(in alloc; "UnclosedNode at {place}"),
+        None => format!(in alloc; "{whole} trees"),
+    }
+}
+
+/// The beginnings of a file of which something else is told: their lengths.
+fn misses_of_cuts(alloc: Global, bytes: &[u8], model: usize) -> Result<String, AllocError> {
+    let mut misses = String::new(alloc);
+    for length in 0..bytes.len() {
+        let cut = &bytes[..length];
+        let whole = if length < model { 0 } else { 1 };
+        let want = wanted(alloc, cut, whole)?;
+        if trees_told(alloc, cut)?.as_str() != want.as_str() {
+            let miss = format!(in alloc; "{length} ")?;
+            misses.push_str(miss.as_str())?;
+        }
+    }
+    Ok(misses)
+}
+
+#[test]
+fn cut_at_each_byte(rt: HostRuntime) -> Result<(), Fail> {
+    let alloc = rt.alloc();
+    let run = "(run (prefix) (left (inc)) (right (inc)) (replies () (1) (2)))";
+    let file = format!(in alloc; "{COUNTER} {run}")?;
+    let misses = misses_of_cuts(alloc, file.as_bytes(), COUNTER.len())?;
+    assert_eq!(rt; misses.as_str(), "");
+    assert_eq!(rt; trees_told(alloc, file.as_bytes())?.as_str(), "2 trees");
+    Ok(())
+}
+
+/// So many opening brackets.
+fn opened(alloc: Global, count: usize) -> Result<String, AllocError> {
+    let bytes = vec![in alloc; b'('; count]?;
+    trees_told(alloc, bytes.as_slice())
+}
+
+#[test]
+fn too_deep(rt: HostRuntime) -> Result<(), Fail> {
+    let alloc = rt.alloc();
+    assert_eq!(rt; opened(alloc, 100)?.as_str(), "UnclosedNode at 99");
+    assert_eq!(rt; opened(alloc, 101)?.as_str(), "TooDeep at 100");
+    Ok(())
+}
+
+/// What is answered for the counter, filled up with spaces to so many bytes.
+fn filled(alloc: Global, length: usize) -> Result<String, AllocError> {
+    let mut bytes = Vec::from_slice(alloc, COUNTER.as_bytes())?;
+    bytes.resize(length, b' ')?;
+    check_told(alloc, bytes.as_slice())
+}
+
+#[test]
+fn too_large(rt: HostRuntime) -> Result<(), Fail> {
+    let alloc = rt.alloc();
+    let refused = "2 refused read TooLarge at 1048576";
+    assert_eq!(rt; filled(alloc, 1_048_576)?.as_str(), "0 ok counter");
+    assert_eq!(rt; filled(alloc, 1_048_577)?.as_str(), refused);
+    Ok(())
+}
+
+/// The first fault of a file, and no fault of comments and spaces.
+#[test]
+fn first_faults(rt: HostRuntime) -> Result<(), Fail> {
+    let alloc = rt.alloc();
+    let rows: [(&str, &str); 13] = [
+        ("", "0 trees"),
+        (" ;(\n", "0 trees"),
+        ("a(b)\"c\"\"d\"e", "5 trees"),
+        ("(a (b) (c", "UnclosedNode at 7"),
+        ("a ;)\n b)", "StrayClose at 7"),
+        ("\"\\a", "BadByte at 2"),
+        ("\"\\)", "BadByte at 2"),
+        ("a\x00", "BadByte at 1"),
+        ("\"a\n\"", "BadByte at 2"),
+        ("(;)", "UnclosedNode at 0"),
+        ("\"a\\", "UnclosedText at 0"),
+        ("\x7f", "BadByte at 0"),
+        ("(\"a\"\")\"", "UnclosedNode at 0"),
+    ];
+    for (text, want) in rows {
+        let answer = trees_told(alloc, text.as_bytes())?;
+        assert_eq!(rt; answer.as_str(), want);
+    }
+    Ok(())
+}

@@ -1,0 +1,39 @@
+//! Tests of the crates below over texts: a row is a short text and what is to be told of it.
+#![tactic(auto)]
+
+#[cfg(test)]
+mod answers;
+#[cfg(test)]
+mod checks;
+#[cfg(test)]
+mod copies;
+#[cfg(test)]
+mod cuts;
+#[cfg(test)]
+mod expressions;
+#[cfg(test)]
+mod forms;
+#[cfg(test)]
+mod limits;
+#[cfg(test)]
+mod lines;
+#[cfg(test)]
+mod merges;
+#[cfg(test)]
+mod models;
+#[cfg(test)]
+mod openings;
+#[cfg(test)]
+mod parts;
+#[cfg(test)]
+mod refusals;
+#[cfg(test)]
+mod rows;
+#[cfg(test)]
+mod trees;
+#[cfg(test)]
+mod types;
+#[cfg(test)]
+mod values;
+#[cfg(test)]
+mod verdicts;

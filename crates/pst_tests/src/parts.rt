@@ -1,0 +1,69 @@
+//! The parts of a well-typed model, and its calls.
+
+use crate::answers::typed_of;
+use crate::models::{COUNTER, REGISTRY};
+use pst_eval::{Callbacks, Plain};
+use pst_rules::Typed;
+use pst_typing::{model_name, operation_name, operation_parameters, operation_result};
+use pst_value::Value;
+use std::alloc::{AllocError, Global};
+use std::test::Fail;
+
+/// The operation of a number: its name, its parameters' names and types, its result type.
+fn operation_told(alloc: Global, typed: &Typed, number: u32) -> Result<String, AllocError> {
+    let Some(name) = operation_name(typed, number) else {
+        return String::from_str(alloc, "none");
+    };
+    let Some(parameters) = operation_parameters(typed, number) else {
+        return String::from_str(alloc, "no parameters");
+    };
+    let Some(ty) = operation_result(typed, number) else {
+        return String::from_str(alloc, "no result");
+    };
+    let name = name.as_str();
+    let count = parameters.len();
+    format!(in alloc; "{name} {count} {ty:?}")
+}
+
+#[test]
+fn operations_of_the_registry(rt: HostRuntime) -> Result<(), Fail> {
+    let alloc = rt.alloc();
+    let typed = typed_of(alloc, REGISTRY).ok_or("no model")?;
+    assert_eq!(rt; model_name(&typed).as_str(), "registry");
+    let rows: [(u32, &str); 4] = [
+        (0, "new 0 Int"),
+        (1, "close 1 Bool"),
+        (2, "read 1 Int"),
+        (3, "none"),
+    ];
+    for (number, want) in rows {
+        assert_eq!(rt; operation_told(alloc, &typed, number)?.as_str(), want);
+    }
+    Ok(())
+}
+
+/// How many calls are listed in the opening state, and the turns left.
+fn calls_told(alloc: Global, typed: &Typed) -> Result<String, AllocError> {
+    let plain = Plain::new(typed);
+    let (state, _) = match plain.init(alloc)? {
+        Ok(opening) => opening,
+        Err(fault) => return String::from_str(alloc, fault.name()),
+    };
+    let (calls, turns) = match plain.command(alloc, &state)? {
+        Ok(listed) => listed,
+        Err(fault) => return String::from_str(alloc, fault.name()),
+    };
+    let Value::List(calls) = calls else {
+        return String::from_str(alloc, "no list");
+    };
+    let count = calls.len();
+    format!(in alloc; "{count} {turns}")
+}
+
+#[test]
+fn calls_of_the_counter(rt: HostRuntime) -> Result<(), Fail> {
+    let alloc = rt.alloc();
+    let typed = typed_of(alloc, COUNTER).ok_or("no model")?;
+    assert_eq!(rt; calls_told(alloc, &typed)?.as_str(), "2 1000000");
+    Ok(())
+}

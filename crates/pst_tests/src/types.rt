@@ -1,0 +1,177 @@
+//! The typing rules, by models that keep them and models that do not.
+
+use crate::answers::Question;
+use crate::rows::{Frame, others};
+use std::test::Fail;
+
+/// Models by their state and their opening state, items 2 and 3.
+const OPENINGS: Frame = Frame {
+    question: Question::Check,
+    before: "(model m (command (list call)) ",
+    after: ")",
+};
+
+/// Models over integers by their items from 4 on.
+const ITEMS: Frame = Frame {
+    question: Question::Check,
+    before: "(model m (state int) (init 0) (command (list call)) ",
+    after: ")",
+};
+
+/// Models by all their items.
+const MODELS: Frame = Frame {
+    question: Question::Check,
+    before: "(model m ",
+    after: ")",
+};
+
+const OPENINGS_WELL: &str = "(state int) (init -7);
+  (state bool) (init true);
+  (state text) (init \"ab\");
+  (state int) (init (let x 1 (let y x y)));
+  (state int) (init (if true 1 2));
+  (state bool) (init (and true (or false true)));
+  (state bool) (init (not true));
+  (state int) (init (len \"ab\"));
+  (state int) (init (len (list bool true)));
+  (state int) (init (+ (- 3 1) (* 2 (div 7 (rem 5 3)))));
+  (state bool) (init (< 1 2));
+  (state bool) (init (<= \"a\" \"b\"));
+  (state bool) (init (= (list text) (list text)));
+  (state text) (init (++ \"a\" \"b\"));
+  (state (list int)) (init (++ (list int 1) (list int)));
+  (state int) (init (nth (list int 1) 0));
+  (state (list int)) (init (range 0 2));
+  (state (tuple int bool)) (init (tuple 1 true));
+  (state int) (init (at (tuple 1 true) 1));
+  (state bool) (init (at (tuple 1 true) 2));
+  (state (list int)) (init (list int 1 2));
+  (state (list (ref int))) (init (list (ref int)));
+  (state (list int)) (init (for ((in x (range 0 3)) (when (< x 2))) x));
+  (state (list bool)) (init (for ((in x (range 0 3)) (in y (list bool))) y));
+  (state int) (init (fold x (range 0 3) a 0 (+ a x)));
+  (state text) (init (let x 1 (let x \"a\" x)))";
+
+const OPENINGS_ILL: &str = "(state bool) (init 7);
+  (state int) (init true);
+  (state int) (init \"ab\");
+  (state int) (init x);
+  (state int) (init s);
+  (state int) (init (let x y 1));
+  (state int) (init (let x true x));
+  (state int) (init (if 1 1 2));
+  (state int) (init (if true 1 false));
+  (state bool) (init (and true 1));
+  (state bool) (init (and 1 true));
+  (state bool) (init (or true 1));
+  (state bool) (init (or 1 true));
+  (state bool) (init (not 1));
+  (state int) (init (len 1));
+  (state int) (init (+ 1 true));
+  (state int) (init (div true 1));
+  (state bool) (init (< true false));
+  (state bool) (init (< 1 \"a\"));
+  (state bool) (init (= 1 true));
+  (state bool) (init (= (list (ref int)) (list (ref int))));
+  (state bool) (init (same 1 1));
+  (state int) (init (++ 1 2));
+  (state (list int)) (init (++ (list int) (list bool)));
+  (state int) (init (nth 1 0));
+  (state int) (init (nth (list int) true));
+  (state (list int)) (init (range 0 true));
+  (state (tuple int bool)) (init (tuple true 1));
+  (state (tuple int bool)) (init (tuple 1));
+  (state int) (init (at (tuple 1 true) 3));
+  (state int) (init (at 1 1));
+  (state (list int)) (init (list int true));
+  (state (list int)) (init (for ((in x 1)) x));
+  (state (list int)) (init (for ((when 1)) 1));
+  (state (list int)) (init (for ((in x (list int))) true));
+  (state int) (init (fold x 1 a 0 a));
+  (state int) (init (fold x (range 0 3) a 0 true));
+  (state int) (init (f 1));
+  (state int) (init (call f));
+  (state int) (init (let x 1 (let x \"a\" x)))";
+
+const ITEMS_WELL: &str = "(fun g () int 1) (fun f () int (g));
+  (fun f ((x int)) int x) (fun g () int (f 1));
+  (postfun p () bool true) (postfun q () bool (p));
+  (postfun p () bool true) (op o () int (pre true) (next s) (post (p)));
+  (op o () int (pre (f)) (next s) (post true)) (fun f () bool true);
+  (op o ((h (ref int))) int (pre true) (next s) (post (= r (deref h))));
+  (op o ((h (ref int))) int (pre true) (next s) (post (= h h)))";
+
+const ILL_AT_4: &str = "(fun f () int (g)) (fun g () int 1);
+  (fun f () int (f));
+  (fun f ((x int)) bool x);
+  (fun f () int true) (fun g () int (f));
+  (op o () int (pre 1) (next s) (post true));
+  (op o () int (pre true) (next true) (post true));
+  (op o () int (pre true) (next s) (post r));
+  (op o () int (pre true) (next r) (post true));
+  (op o () int (pre r) (next s) (post true));
+  (op o ((h (ref int))) int (pre (= 1 (deref h))) (next s) (post true));
+  (op o ((h (ref int))) int (pre true) (next (deref h)) (post true));
+  (op o ((h (ref int))) int (pre (= h h)) (next s) (post true));
+  (op o ((c (list call))) int (pre true) (next s) (post true));
+  (op o () (list (ref int)) (pre true) (next s) (post true));
+  (op o () call (pre true) (next s) (post true))";
+
+const ILL_AT_5: &str = "(fun f ((x int)) int x) (fun g () int (f true));
+  (fun f ((x int)) int x) (fun g () int (f));
+  (fun f ((x int)) int x) (fun g () int (f 1 2));
+  (fun f () int 1) (fun g () bool (f)) (fun h () text (g));
+  (postfun p () bool true) (fun f () bool (p));
+  (postfun p () bool true) (op o () int (pre (p)) (next s) (post true))";
+
+/// What the state and the command may be, and that the least item counts: an ill-typed function is used by its signature.
+const ILL_AT_3: &str = "(state int) (init 0) (command 1);
+  (state int) (init 0) (command (list call (call o true))) (op o ((n int)) int (pre true) (next s) (post true));
+  (state int) (init 0) (command (list call (call o)));
+  (command (list call)) (state int) (init true) (fun f () int true);
+  (command (list call)) (init (f)) (fun f () int true) (state int)";
+
+#[test]
+fn rules_of_expressions(rt: HostRuntime) -> Result<(), Fail> {
+    let alloc = rt.alloc();
+    assert_eq!(rt;
+        others(alloc, &OPENINGS, OPENINGS_WELL, "0 ok m")?.as_str(),
+        ""
+    );
+    let refused = "2 refused type item 3";
+    assert_eq!(rt;
+        others(alloc, &OPENINGS, OPENINGS_ILL, refused)?.as_str(),
+        ""
+    );
+    Ok(())
+}
+
+#[test]
+fn rules_of_items(rt: HostRuntime) -> Result<(), Fail> {
+    let alloc = rt.alloc();
+    assert_eq!(rt; others(alloc, &ITEMS, ITEMS_WELL, "0 ok m")?.as_str(), "");
+    assert_eq!(rt;
+        others(alloc, &ITEMS, ILL_AT_4, "2 refused type item 4")?.as_str(),
+        ""
+    );
+    assert_eq!(rt;
+        others(alloc, &ITEMS, ILL_AT_5, "2 refused type item 5")?.as_str(),
+        ""
+    );
+    Ok(())
+}
+
+#[test]
+fn rules_of_models(rt: HostRuntime) -> Result<(), Fail> {
+    let alloc = rt.alloc();
+    assert_eq!(rt;
+        others(alloc, &MODELS, ILL_AT_3, "2 refused type item 3")?.as_str(),
+        ""
+    );
+    let calls = "(state (list call)) (init (list call)) (command (list call))";
+    assert_eq!(rt;
+        others(alloc, &MODELS, calls, "2 refused type item 1")?.as_str(),
+        ""
+    );
+    Ok(())
+}
