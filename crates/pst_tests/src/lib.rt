@@ -26,6 +26,8 @@ mod openings;
 #[cfg(test)]
 mod parts;
 #[cfg(test)]
+mod printed;
+#[cfg(test)]
 mod refusals;
 #[cfg(test)]
 mod rows;

@@ -1,0 +1,9 @@
+pub mod Alike
+pub mod ExprAgain
+pub mod Forms
+pub mod ItemAgain
+pub mod ItemShapes
+pub mod ModelAgain
+pub mod Numbers
+pub mod Shapes
+pub mod TyAgain

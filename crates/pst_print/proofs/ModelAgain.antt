@@ -1,0 +1,115 @@
+-- What is written for a model is read as the model.
+use Rattle.std.proofs.Common.{◌≡◌, ℕ, ◌+◌, Bool, true, false, List, [], ◌∷◌, ◌++◌, length, map, Result, Ok, refl, sym, ap, ◌∙◌, subst, append_assoc}
+use Rattle.std.specs.Prelude.{nat_le, codes}
+use Rattle.std.proofs.lemmas.List.{append-nil}
+use Rattle.pst_sexpr.specs.declared.form.Form.{Form}
+use Rattle.pst_sexpr.specs.declared.form.Form.TheVariants.{Word}
+use Rattle.pst_sexpr.specs.Lawful.{IsTree}
+use Rattle.pst_model.specs.declared.model.Item.{Item}
+use Rattle.pst_model.specs.declared.model.Source.{Source}
+use Rattle.pst_syntax.specs.declared.fault.SyntaxFault.{SyntaxFault}
+use Rattle.pst_syntax.specs.Counting.{trees_in}
+use Rattle.pst_syntax.specs.Names.{is_name}
+use Rattle.pst_syntax.specs.ItemShape.{model_shape}
+use Rattle.pst_syntax.specs.Reading.{known, within, declared}
+use Rattle.pst_syntax.specs.Items.{item_of, at_item, go_on, items_from, is_complete, complete, max_trees, head_parts, head_of_model, model_of, IsModel}
+use Rattle.pst_syntax.proofs.Complete.{go_ok, at_ok}
+use Rattle.pst_print.specs.Printed.{item_form, source_form}
+use Rattle.pst_print.specs.Words.{headed}
+use Rattle.pst_print.proofs.Alike.{Alike, AllAlike, none, more, itself, alike_node}
+use Rattle.pst_print.proofs.ItemShapes.{model_is, model_shaped}
+use Rattle.pst_print.proofs.TyAgain.{behind, onward, knows, inside, okay, same, declared_is}
+use Rattle.pst_print.proofs.ItemAgain.{item_again}
+
+go : {A B : Type 0} (r : Result A SyntaxFault) (f : A → Result B SyntaxFault) (a : A) (b : B) → r ≡ Ok a → f a ≡ Ok b → go_on r f ≡ Ok b
+go r f a b e g = ap (λ q. go_on q f) e ∙ g
+
+-- ---- the items
+
+record ItemsAgain (seen : List Item) (fs : List Form) (all : List Item) : Type 0 where
+  rest : List Item
+  whole : seen ++ rest ≡ all
+  reads : items_from seen (map item_form rest) ≡ Ok all
+  alike : AllAlike fs (map item_form rest)
+
+items_again : (seen : List Item) (fs : List Form) (all : List Item) → items_from seen fs ≡ Ok all → ItemsAgain seen fs all
+items_again seen [] all k = record { rest = []; whole = append-nil seen ∙ same_items seen all k; reads = k; alike = none }
+  where
+    same_items : (a b : List Item) → items_from a [] ≡ Ok b → a ≡ b
+    same_items a b e = cc
+items_again seen (f ∷ fs) all k =
+    let p = go_ok (at_item (length seen + 1) (item_of seen f)) (λ i. items_from (seen ++ i ∷ []) fs) all k in
+    let a = item_again seen f p.0 (at_ok (length seen + 1) (item_of seen f) p.0 p.1) in
+    let r = items_again (seen ++ p.0 ∷ []) fs all p.2 in
+    record {
+      rest = p.0 ∷ r.rest;
+      whole = sym (append_assoc seen (p.0 ∷ []) r.rest) ∙ r.whole;
+      reads = go (at_item (length seen + 1) (item_of seen (item_form p.0))) (λ i. items_from (seen ++ i ∷ []) (map item_form r.rest)) p.0 all (ap (at_item (length seen + 1)) a.reads) r.reads;
+      alike = more a.alike r.alike;
+    }
+
+-- ---- the model
+
+-- the items of a model, where its name is known
+abbrev rest_of : List ℕ → List Form → Result Source SyntaxFault
+rest_of x forms = go_on (items_from [] forms) (λ items. at_item 0 (complete (is_complete items) x items))
+
+abbrev source : List ℕ → List Item → Source
+source x items = record { name = x; items = items }
+
+completes : (b : Bool) (x : List ℕ) (items : List Item) (s : Source) → complete b x items ≡ Ok s → (b ≡ true) × (source x items ≡ s)
+completes true x items s e = (refl, same (source x items) s e)
+completes false x items s e = absurd (cc)
+
+record RestAgain (x : List ℕ) (fs : List Form) (s : Source) : Type 0 where
+  name : x ≡ s.name
+  reads : rest_of s.name (map item_form s.items) ≡ Ok s
+  alike : AllAlike fs (map item_form s.items)
+
+rest_again : (x : List ℕ) (fs : List Form) (s : Source) → rest_of x fs ≡ Ok s → RestAgain x fs s
+rest_again x fs s k =
+    let g = go_ok (items_from [] fs) (λ items. at_item 0 (complete (is_complete items) x items)) s k in
+    let c = completes (is_complete g.0) x g.0 s (at_ok 0 (complete (is_complete g.0) x g.0) s g.2) in
+    let a = items_again [] fs g.0 g.1 in
+    let w : a.rest ≡ g.0 = a.whole in
+    subst (RestAgain x fs) c.1 (record {
+      name = refl;
+      reads = go (items_from [] (map item_form g.0)) (λ items. at_item 0 (complete (is_complete items) x items)) g.0 (source x g.0) (ap (λ r. items_from [] (map item_form r)) (sym w) ∙ a.reads) (ap (λ b. at_item 0 (complete b x g.0)) c.0);
+      alike = subst (λ r. AllAlike fs (map item_form r)) w a.alike;
+    })
+
+record ModelAgain (tree : Form) (s : Source) : Type 0 where
+  reads : model_of (source_form s ∷ []) ≡ Ok s
+  alike : Alike tree (source_form s)
+
+model_again : (tree : Form) (s : Source) → model_of (tree ∷ []) ≡ Ok s → ModelAgain tree s
+model_again tree s k =
+    let p = go_ok (at_item 0 (head_of_model (tree ∷ []))) (λ parts. rest_of parts.0 parts.1) s k in
+    let w = inside (nat_le (trees_in tree) max_trees) (known (model_shape tree) head_parts) p.0 (at_ok 0 (head_of_model (tree ∷ [])) p.0 p.1) in
+    let m = knows (model_shape tree) head_parts p.0 w.1 in
+    let d = behind (declared (is_name m.0.0) false m.0.0) (λ x. okay (x, m.0.1)) p.0 m.2 in
+    let e : (d.0, m.0.1) ≡ p.0 = same (d.0, m.0.1) p.0 d.2 in
+    let r = rest_again d.0 m.0.1 s (ap (λ parts. rest_of parts.0 parts.1) e ∙ p.2) in
+    let n : m.0.0 ≡ s.name = declared_is (is_name m.0.0) false m.0.0 d.0 d.1 ∙ r.name in
+    let is : tree ≡ headed (codes "model") (Word s.name ∷ m.0.1) = model_is tree m.0 m.1 ∙ ap (λ x. headed (codes "model") (Word x ∷ m.0.1)) n in
+    let a : Alike tree (source_form s) = subst (λ f. Alike f (source_form s)) (sym is) (alike_node (more (itself _) (more (itself _) r.alike))) in
+    let named : declared (is_name s.name) false s.name ≡ Ok s.name = ap (λ x. declared (is_name x) false x) (sym n) ∙ d.1 ∙ ap (λ x. okay x) r.name in
+    let forms = map item_form s.items in
+    let head : head_of_model (source_form s ∷ []) ≡ Ok (s.name, forms) =
+    ap (λ c. within (nat_le c max_trees) (known (model_shape (source_form s)) head_parts)) a.count
+    ∙ ap (λ b. within b (known (model_shape (source_form s)) head_parts)) w.0
+    ∙ ap (λ o. known o head_parts) (model_shaped s.name forms)
+    ∙ onward (declared (is_name s.name) false s.name) (λ x. okay (x, forms)) s.name _ named refl in
+    record {
+      reads = go (at_item 0 (head_of_model (source_form s ∷ []))) (λ parts. rest_of parts.0 parts.1) (s.name, forms) s (ap (at_item 0) head) r.reads;
+      alike = a;
+    }
+
+-- what is printed of a model is lawful, and is read as the model
+pub printed_lawful : (s : Source) → IsModel s → IsTree (source_form s)
+printed_lawful s h = (model_again h.tree s h.reads).alike.lawful h.lawful
+
+pub printed_reads : (s : Source) → IsModel s → model_of (source_form s ∷ []) ≡ Ok s
+printed_reads s h = (model_again h.tree s h.reads).reads
+
+pub ruleset printed = (printed_lawful, printed_reads)

@@ -1,0 +1,11 @@
+//! Models as trees again.
+#![tactic(auto)]
+
+mod expressions;
+mod items;
+mod nodes;
+mod printer;
+mod types;
+mod words;
+
+pub use printer::print_model;

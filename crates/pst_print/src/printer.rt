@@ -1,0 +1,20 @@
+//! Models as trees.
+ghost use Rattle.std.specs.Prelude.{◌≡◌, IfOk, [], ◌∷◌, Ok};
+ghost use Rattle.pst_syntax.specs.Items.{model_of};
+
+use crate::items::source_form;
+use pst_sexpr::Tree;
+use pst_syntax::Model;
+use std::alloc::{AllocError, Global};
+
+/// The tree of a model: integers in their shortest form, the callbacks of an operation in the order pre, next, post.
+/// `read_model` reads it as the model.
+///
+/// `AllocError`: memory was refused.
+#[tactic(auto, using(crate::proofs::ModelAgain::printed))]
+pub fn print_model(alloc: Global, model: &Model) -> Result<Tree, AllocError>
+    ensures { IfOk result (λ tree. model_of (tree ∷ []) ≡ Ok model.now) }
+{
+    let form = source_form(alloc, model.source())?;
+    Ok(Tree::new(form))
+}

@@ -1,0 +1,37 @@
+//! Types as trees.
+ghost use Rattle.std.specs.Prelude.{◌≡◌, IfOk, map};
+ghost use Rattle.pst_print.specs.Printed.{ty_form};
+
+use crate::nodes::{headed, one, word};
+use pst_items::Items;
+use pst_sexpr::Form;
+use pst_value::Ty;
+use std::alloc::{AllocError, Global};
+
+/// The tree of a type.
+#[cycle(ty_form)]
+#[tactic(auto, using(crate::proofs::Forms::ty_forms))]
+pub fn ty_form(alloc: Global, ty: &Ty) -> Result<Form, AllocError>
+    ensures { IfOk result (λ form. form ≡ ty_form ty.now) }
+{
+    match ty {
+        Ty::Int => word(alloc, "int"),
+        Ty::Bool => word(alloc, "bool"),
+        Ty::Text => word(alloc, "text"),
+        Ty::Tuple(types) => headed(alloc, "tuple", each_ty(alloc, types.as_slice())?),
+        Ty::List(item) => headed(alloc, "list", one(alloc, ty_form(alloc, item.get())?)?),
+        Ty::Ref(item) => headed(alloc, "ref", one(alloc, ty_form(alloc, item.get())?)?),
+        Ty::Call => word(alloc, "call"),
+    }
+}
+
+#[cycle(ty_form)]
+fn each_ty(alloc: Global, types: &[Ty]) -> Result<Items<Form>, AllocError>
+    ensures { IfOk result (λ forms. forms ≡ map ty_form types.now) }
+{
+    let mut forms = Items::new(alloc);
+    for ty in types {
+        forms.push(ty_form(alloc, ty)?)?;
+    }
+    Ok(forms)
+}
