@@ -36,6 +36,8 @@ mod trees;
 #[cfg(test)]
 mod types;
 #[cfg(test)]
+mod validity;
+#[cfg(test)]
 mod values;
 #[cfg(test)]
 mod verdicts;

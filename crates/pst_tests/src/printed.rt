@@ -53,7 +53,8 @@ fn models_are_printed_tidily(rt: HostRuntime) -> Result<(), Fail> {
     let text = "(model  m ; a comment
         (command (list call)) (init (at (tuple -007 \"a\\\"\") 01)) (state int)
         (op f ((x int)) int (post (= r x)) (pre true) (next (let y -0 (+ s y)))))";
-    let wanted = "(model m (command (list call)) (init (at (tuple -7 \"a\\\"\") 1)) (state int) (op f ((x int)) int (pre true) (next (let y 0 (+ s y))) (post (= r x))))";
+    let wanted =
+        "(model m (command (list call)) (init (at (tuple -7 \"a\\\"\") 1)) (state int) (op f ((x int)) int (pre true) (next (let y 0 (+ s y))) (post (= r x))))";
     let told = printed(alloc, text).ok_or("no model")?;
     assert_eq!(rt; told.as_str(), wanted);
     Ok(())

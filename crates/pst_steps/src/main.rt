@@ -1,0 +1,66 @@
+//! Prints how many steps the search makes where every merge fails at its last event: a measurement for `bench/`.
+#![tactic(auto)]
+
+use pst_grid::{Steps, Turn, Why, some};
+use std::alloc::{AllocError, Global};
+
+/// Reads, of which one fails and the others are true. The state never changes.
+#[derive(Drop)]
+struct Reads {
+    branch: usize,
+    index: usize,
+}
+
+impl Steps for Reads {
+    ghost use Rattle.std.specs.Prelude.{◌==◌, ◌&&◌, if◌then◌else◌};
+    ghost use Rattle.std.proofs.Common.{rules};
+    ghost use Rattle.pst_grid.specs.declared.answer.Turn.TheVariants.{Next, Stop};
+    ghost use Rattle.pst_grid.specs.declared.answer.Why.TheVariants.{False};
+
+    type State = bool;
+
+    type Fault = usize;
+
+    ghost is_state = { λ _ _. Unit {0} };
+
+    ghost is_command = { λ _ _ _. Unit {0} };
+
+    ghost turn = { λ reads state b i. if (b == reads.branch) && (i == reads.index) then Stop False else Next state };
+
+    ghost exact = { Prim.search rules };
+
+    fn step(
+        &self,
+        _alloc: Global,
+        state: &bool,
+        branch: usize,
+        index: usize,
+    ) -> Result<Turn<bool, usize>, AllocError> {
+        if branch == self.branch && index == self.index {
+            return Ok(Turn::Stop(Why::False));
+        }
+        Ok(Turn::Next(*state))
+    }
+
+    fn copy(&self, _alloc: Global, state: &bool) -> Result<bool, AllocError> {
+        Ok(*state)
+    }
+}
+
+/// The steps of a search over branches of these lengths, where the last read of the last branch fails.
+fn steps_made(alloc: Global, lengths: &[usize]) -> Result<usize, AllocError> {
+    let last = Reads {
+        branch: lengths.len().saturating_sub(1),
+        index: lengths.last().copied().unwrap_or(0).saturating_sub(1),
+    };
+    let (_, made) = some(alloc, &last, lengths, &false)?;
+    Ok(made)
+}
+
+fn main(rt: HostRuntime) -> std::io::Result<()> {
+    let alloc = rt.alloc();
+    let two = steps_made(alloc, &[8, 8])?;
+    let four = steps_made(alloc, &[4, 4, 4, 4])?;
+    println!(rt; "eight reads beside eight: {two} steps")?;
+    println!(rt; "four branches of four reads: {four} steps")
+}
