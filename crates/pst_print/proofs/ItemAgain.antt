@@ -15,7 +15,8 @@ use Rattle.pst_model.specs.declared.model.Fun.{Fun}
 use Rattle.pst_model.specs.declared.model.Op.{Op}
 use Rattle.pst_syntax.specs.declared.items.Callbacks.{Callbacks}
 use Rattle.pst_syntax.specs.Counting.{trees_in}
-use Rattle.pst_syntax.specs.Names.{is_name, is_free}
+use Rattle.pst_model.specs.Names.{is_name}
+use Rattle.pst_syntax.specs.Names.{is_free}
 use Rattle.pst_syntax.specs.ItemShape.{ItemShape, CallbackShape, StateItem, InitItem, CommandItem, FunItem, OpItem, Pre, Next, Post, item_shape, callback_shape, param_shape}
 use Rattle.pst_syntax.specs.Reading.{◌>>=◌, known, within, once, declared, are_few, expr_room, ty_room}
 use Rattle.pst_syntax.specs.Items.{whole_ty, whole_expr, is_param, param_of, params_from, params_of, is_some, no_callbacks, callback_of, callbacks_from, all_callbacks, is_state, is_init, is_command, is_fun, is_op, is_fun_named, is_op_named, has_room, fun_of, op_parts, item_parts, item_of}

@@ -9,7 +9,7 @@ use Rattle.pst_model.specs.declared.model.Item.{Item}
 use Rattle.pst_model.specs.declared.model.Source.{Source}
 use Rattle.pst_syntax.specs.declared.fault.SyntaxFault.{SyntaxFault}
 use Rattle.pst_syntax.specs.Counting.{trees_in}
-use Rattle.pst_syntax.specs.Names.{is_name}
+use Rattle.pst_model.specs.Names.{is_name}
 use Rattle.pst_syntax.specs.ItemShape.{model_shape}
 use Rattle.pst_syntax.specs.Reading.{known, within, declared}
 use Rattle.pst_syntax.specs.Items.{item_of, at_item, go_on, items_from, is_complete, complete, max_trees, head_parts, head_of_model, model_of, IsModel}

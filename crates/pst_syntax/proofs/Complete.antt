@@ -165,7 +165,7 @@ has items b e =
       operations = b.operations;
     }
 
-completed : (b : Bool) (x : List ℕ) (items : List Item) (source : Source) → complete b x items ≡ Ok source → (b ≡ true) × (items ≡ source.items)
+pub completed : (b : Bool) (x : List ℕ) (items : List Item) (source : Source) → complete b x items ≡ Ok source → (b ≡ true) × (items ≡ source.items)
 completed true x items source e = (refl, let r : record { name = x; items = items } ≡ source = cc in ap (λ (s : Source). s.items) r)
 completed false x items source e = absurd (cc)
 

@@ -18,7 +18,8 @@ use Rattle.pst_syntax.specs.declared.fault.FaultKind.TheVariants.{DoubleName, Ov
 use Rattle.pst_syntax.specs.declared.fault.SyntaxFault.{SyntaxFault}
 use Rattle.pst_syntax.specs.declared.items.Callbacks.{Callbacks}
 use Rattle.pst_syntax.specs.declared.items.AllCallbacks.{AllCallbacks}
-use Rattle.pst_syntax.specs.Names.{is_name, is_free, is_short}
+use Rattle.pst_model.specs.Names.{is_name}
+use Rattle.pst_syntax.specs.Names.{is_free, is_short}
 use Rattle.pst_syntax.specs.Counting.{trees_in}
 use Rattle.pst_syntax.specs.ItemShape.{ItemShape, CallbackShape, StateItem, InitItem, CommandItem, FunItem, OpItem, Pre, Next, Post, item_shape, callback_shape, param_shape, model_shape}
 use Rattle.pst_syntax.specs.Reading.{Read, ◌>>=◌, known, within, once, declared, are_few, ty_room, expr_room}

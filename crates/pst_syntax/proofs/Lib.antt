@@ -2,5 +2,7 @@ pub mod Growing
 pub mod Rooms
 pub mod Counted
 pub mod Complete
+pub mod Deep
 pub mod First
 pub mod FirstOfModel
+pub mod Operations

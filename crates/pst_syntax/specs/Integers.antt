@@ -1,7 +1,7 @@
 -- Words that are integers.
 use Rattle.std.specs.Prelude.{◌==◌, ◌&&◌, ℕ, zero, suc, ◌+◌, ◌-◌, ◌*◌, ◌^◌, ℤ, pos, negsuc, nat_lt, Bool, true, false, if◌then◌else◌, List, [], ◌∷◌, Option, Some, None}
 use Rattle.std.specs.List.{list_all}
-use Rattle.pst_syntax.specs.Names.{is_between}
+use Rattle.pst_model.specs.Names.{is_between}
 
 abbrev pub is_digit : ℕ → Bool
 is_digit byte = is_between 48 57 byte

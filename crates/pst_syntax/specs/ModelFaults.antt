@@ -6,7 +6,8 @@ use Rattle.pst_sexpr.specs.declared.form.Form.{Form}
 use Rattle.pst_syntax.specs.declared.fault.FaultKind.{FaultKind}
 use Rattle.pst_syntax.specs.declared.fault.FaultKind.TheVariants.{UnknownForm, DoubleName, OverLimit, Missing}
 use Rattle.pst_syntax.specs.declared.fault.SyntaxFault.{SyntaxFault}
-use Rattle.pst_syntax.specs.Names.{is_name, is_free}
+use Rattle.pst_model.specs.Names.{is_name}
+use Rattle.pst_syntax.specs.Names.{is_free}
 use Rattle.pst_syntax.specs.Counting.{trees_in}
 use Rattle.pst_syntax.specs.ItemShape.{ItemShape, CallbackShape, StateItem, InitItem, CommandItem, FunItem, OpItem, Pre, Next, Post, item_shape, callback_shape, param_shape, model_shape}
 use Rattle.pst_syntax.specs.Reading.{are_few, ty_room, expr_room}

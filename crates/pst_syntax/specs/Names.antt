@@ -1,21 +1,9 @@
 -- Lawful names.
-use Rattle.std.specs.Prelude.{◌&&◌, ◌||◌, ◌==◌, not, ℕ, nat_le, Bool, true, false, List, [], ◌∷◌, length, Option, Some, None, codes}
-use Rattle.std.specs.List.{list_all}
+use Rattle.std.specs.Prelude.{◌&&◌, ◌||◌, not, ℕ, nat_le, Bool, true, false, List, length, Option, Some, None, codes}
 use Rattle.std.specs.Str.{bytes_eq}
+use Rattle.pst_model.specs.Names.{is_name}
 use Rattle.pst_syntax.specs.declared.heads.Head.{Head}
 use Rattle.pst_syntax.specs.Heads.{head_of}
-
-abbrev pub is_between : ℕ → ℕ → ℕ → Bool
-is_between low high byte = nat_le low byte && nat_le byte high
-
--- a letter, a digit, `_` or `-`
-abbrev pub is_name_byte : ℕ → Bool
-is_name_byte byte = is_between 97 122 byte || is_between 65 90 byte || is_between 48 57 byte || (byte == 95) || (byte == 45)
-
--- a lower-case letter, and then letters, digits, `_` and `-`
-abbrev pub is_name : List ℕ → Bool
-is_name [] = false
-is_name (byte ∷ bytes) = is_between 97 122 byte && list_all is_name_byte bytes
 
 abbrev pub is_head : Option Head → Bool
 is_head None = false

@@ -1,5 +1,6 @@
 //! Laws of models and of their reading.
 
+ghost use Rattle.pst_model.specs.Operations.{HasOperations};
 ghost use Rattle.pst_model.specs.declared.model.Source.{Source};
 ghost use Rattle.pst_sexpr.specs.declared.form.Form.{Form};
 ghost use Rattle.std.specs.Prelude.{◌≡◌, ℕ, List};
@@ -11,6 +12,11 @@ ghost use Rattle.pst_syntax.specs.Items.{IsModel, HasItems, model_of};
 /// A model has one state, one init and one command, and at most 64 functions and 64 operations.
 pub fn model_items()
     ensures { (source : Source) → IsModel source → HasItems source.items }
+{}
+
+/// Each operation of a model is the first of its name, which is a name, and its types have at most 16 levels.
+pub fn model_operations()
+    ensures { (source : Source) → IsModel source → HasOperations source.items }
 {}
 
 /// An expression is refused by the first of its faults, and read where it has none.

@@ -2,6 +2,7 @@
 
 ghost use Rattle.std.specs.Prelude.{◌≡◌};
 ghost use Rattle.std.specs.List.{list_all};
+ghost use Rattle.pst_model.specs.Names as names;
 ghost use Rattle.pst_syntax.specs.Names as spec;
 ghost use Rattle.pst_syntax.specs.Reading.{Gives, declared};
 
@@ -14,7 +15,7 @@ use std::alloc::Global;
 const MAX_NAME: usize = 32;
 
 fn is_name_byte(byte: u8) -> bool
-    ensures { result ≡ spec.is_name_byte byte }
+    ensures { result ≡ names.is_name_byte byte }
 {
     (97 <= byte && byte <= 122)
         || (65 <= byte && byte <= 90)
@@ -24,13 +25,13 @@ fn is_name_byte(byte: u8) -> bool
 }
 
 fn all_name_bytes(bytes: &[u8]) -> bool
-    ensures { result ≡ list_all spec.is_name_byte bytes.now }
+    ensures { result ≡ list_all names.is_name_byte bytes.now }
 {
     bytes.iter().all(|byte| is_name_byte(*byte))
 }
 
 fn begins_name(bytes: &[u8]) -> bool
-    ensures { result ≡ spec.is_name bytes.now }
+    ensures { result ≡ names.is_name bytes.now }
 {
     match bytes {
         [] => false,
@@ -40,7 +41,7 @@ fn begins_name(bytes: &[u8]) -> bool
 
 /// Whether a word is a lower-case letter and then letters, digits, `_` and `-`.
 pub fn is_name(word: &Text) -> bool
-    ensures { result ≡ spec.is_name word.now }
+    ensures { result ≡ names.is_name word.now }
 {
     begins_name(word.as_bytes())
 }

@@ -3,3 +3,6 @@ use Rattle.pst_typing.proofs.checking.check.Goals as goal
 
 pub judge-requires : goal.judge-requires
 judge-requires c = whole c.source.result.now (c.model_items.ensures c.source.result.now c.source.ensures.lawful)
+
+pub new-requires-clause-operations : goal.new-requires-clause-operations
+new-requires-clause-operations c = c.model_operations.ensures c.into_source.result c.into_source.ensures.lawful
