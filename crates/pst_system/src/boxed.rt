@@ -1,0 +1,25 @@
+//! Systems in boxes.
+ghost use Rattle.std.specs.Prelude.{MatchResult, IfErr};
+ghost use Rattle.pst_system.specs.Kept.{AreKept};
+
+use crate::call::{CallFault, RealCall};
+use crate::contract::System;
+use pst_value::Value;
+
+/// A boxed system, made by the program or by a test.
+pub type BoxedSystem = Box<dyn System + Send + Sync>;
+
+/// Makes a call of the system in a box: its answer, or why there is none.
+pub fn call_box(system: &BoxedSystem, call: &RealCall) -> Result<Value, CallFault>
+    ensures { MatchResult result (λ v. answers system.now call.now v) (λ f. fails system.now call.now f) }
+{
+    system.call(call)
+}
+
+/// Takes the system in a box back to its opening state. The three relations stay.
+pub fn reset_box(system: &mut BoxedSystem) -> Result<(), CallFault>
+    ensures fault { IfErr result (λ f. reset_fails system.old f) }
+    ensures kept { AreKept (answers system.new) (answers system.old) (fails system.new) (fails system.old) (reset_fails system.new) (reset_fails system.old) }
+{
+    system.reset()
+}

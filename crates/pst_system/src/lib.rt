@@ -1,0 +1,10 @@
+//! Systems under test: the calls that they take, and what they promise of their answers.
+#![tactic(auto)]
+
+mod boxed;
+mod call;
+mod contract;
+
+pub use boxed::{BoxedSystem, call_box, reset_box};
+pub use call::{CallFault, RealCall};
+pub use contract::System;
