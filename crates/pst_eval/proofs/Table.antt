@@ -40,19 +40,19 @@ one_well items S earlier (item.Init e) w h = h
 one_well items S earlier (item.Command e) w h = h
 one_well items S earlier (item.Op o) w h = h
 
-functions_well : (items : List Item) (S : Ty) (earlier later : List Item) → WellItems items S earlier later → FunctionsWell items earlier → FunctionsWell items (reverse later ++ earlier)
+pub functions_well : (items : List Item) (S : Ty) (earlier later : List Item) → WellItems items S earlier later → FunctionsWell items earlier → FunctionsWell items (reverse later ++ earlier)
 functions_well items S earlier [] w h = h
 functions_well items S earlier (i ∷ later) w h =
     let P : List Item → Type 0 = λ is. FunctionsWell items is in
     subst P (sym (ap (λ is. is ++ earlier) (reverse-append (i ∷ []) later) ∙ append_assoc (reverse later) (i ∷ []) earlier)) (functions_well items S (i ∷ earlier) later w.1 (one_well items S earlier i w.0 h))
 
-all_well : (m : Source) → WellModel m → FunctionsWell m.items (reverse m.items)
+pub all_well : (m : Source) → WellModel m → FunctionsWell m.items (reverse m.items)
 all_well m w =
     let P : List Item → Type 0 = λ is. FunctionsWell m.items is in
     subst P (append-nil (reverse m.items)) (functions_well m.items w.state [] m.items w.well tt)
 
 -- an operation among well-typed items
-well_operation : (items : List Item) (S : Ty) (earlier later : List Item) (n : ℕ) (o : Op) → WellItems items S earlier later → slice_get (operations_of later) n ≡ Some o → WellOperation items S o
+pub well_operation : (items : List Item) (S : Ty) (earlier later : List Item) (n : ℕ) (o : Op) → WellItems items S earlier later → slice_get (operations_of later) n ≡ Some o → WellOperation items S o
 well_operation items S earlier [] n o w e = absurd (cc)
 well_operation items S earlier (item.Op p ∷ later) zero o w e = let q : p ≡ o = cc in let P : Op → Type 0 = λ k. WellOperation items S k in subst P q w.0
 well_operation items S earlier (item.Op p ∷ later) (suc n) o w e = well_operation items S (item.Op p ∷ earlier) later n o w.1 e
@@ -62,7 +62,7 @@ well_operation items S earlier (item.Init t ∷ later) n o w e = well_operation 
 well_operation items S earlier (item.Command t ∷ later) n o w e = well_operation items S (item.Command t ∷ earlier) later n o w.1 e
 
 -- the opening state and the calls among well-typed items
-well_opening : (items : List Item) (S : Ty) (earlier later : List Item) (e : Expr) → WellItems items S earlier later → opening_of later ≡ Some e → Typed items (reverse items) false (Has [] e S)
+pub well_opening : (items : List Item) (S : Ty) (earlier later : List Item) (e : Expr) → WellItems items S earlier later → opening_of later ≡ Some e → Typed items (reverse items) false (Has [] e S)
 well_opening items S earlier [] x w e = absurd (cc)
 well_opening items S earlier (item.Init y ∷ later) x w e = let q : y ≡ x = cc in let P : Expr → Type 0 = λ k. Typed items (reverse items) false (Has [] k S) in subst P q w.0
 well_opening items S earlier (item.Op p ∷ later) x w e = well_opening items S (item.Op p ∷ earlier) later x w.1 e
@@ -70,7 +70,7 @@ well_opening items S earlier (item.Fun f ∷ later) x w e = well_opening items S
 well_opening items S earlier (item.State t ∷ later) x w e = well_opening items S (item.State t ∷ earlier) later x w.1 e
 well_opening items S earlier (item.Command t ∷ later) x w e = well_opening items S (item.Command t ∷ earlier) later x w.1 e
 
-well_calls : (items : List Item) (S : Ty) (earlier later : List Item) (e : Expr) → WellItems items S earlier later → calls_of later ≡ Some e → Typed items (reverse items) false (Has ((name_s, S) ∷ []) e (ty.List ty.Call))
+pub well_calls : (items : List Item) (S : Ty) (earlier later : List Item) (e : Expr) → WellItems items S earlier later → calls_of later ≡ Some e → Typed items (reverse items) false (Has ((name_s, S) ∷ []) e (ty.List ty.Call))
 well_calls items S earlier [] x w e = absurd (cc)
 well_calls items S earlier (item.Command y ∷ later) x w e = let q : y ≡ x = cc in let P : Expr → Type 0 = λ k. Typed items (reverse items) false (Has ((name_s, S) ∷ []) k (ty.List ty.Call)) in subst P q w.0
 well_calls items S earlier (item.Op p ∷ later) x w e = well_calls items S (item.Op p ∷ earlier) later x w.1 e
@@ -79,7 +79,7 @@ well_calls items S earlier (item.State t ∷ later) x w e = well_calls items S (
 well_calls items S earlier (item.Init t ∷ later) x w e = well_calls items S (item.Init t ∷ earlier) later x w.1 e
 
 -- a function that is marked post is applied in mode post alone
-marked : (post : Bool) (g : Fun) → (post || not g.is_post) ≡ true → g.is_post ≡ true → post ≡ true
+pub marked : (post : Bool) (g : Fun) → (post || not g.is_post) ≡ true → g.is_post ≡ true → post ≡ true
 marked true g l p = refl
 marked false g l p = absurd (let n : not g.is_post ≡ false = ap not p in cc)
 
@@ -122,7 +122,7 @@ module _ (free vars : List Ty) where
       by_path (λ v. FitIn m v w.state) _ _ (ap (λ o. of_expr m o []) w.opening_is)
       (names_by m false w.opening [] w.state [] plainly w (well_opening m.items w.state [] m.items w.opening w.well w.opening_is) tt)
 
-  state_from : (m : Source) (w : WellModel m) (s : Value) → is_state m free vars s ≡ true → FitIn m s w.state
+  pub state_from : (m : Source) (w : WellModel m) (s : Value) → is_state m free vars s ≡ true → FitIn m s w.state
   unfolding is_state
   state_from m w s h = ap (λ o. is_state_in m free vars s o) (sym w.state_is) ∙ h
 
@@ -136,7 +136,7 @@ module _ (free vars : List Ty) where
       by_path (λ v. FitIn m v (ty.List ty.Call)) _ _ (ap (λ o. of_expr m o ((name_s, s) ∷ [])) w.calls_is)
       (names_by m false w.calls ((name_s, w.state) ∷ []) (ty.List ty.Call) ((name_s, s) ∷ []) plainly w (well_calls m.items w.state [] m.items w.calls w.well w.calls_is) (record { name = refl; here = state_from m w s h; outer = tt }))
 
-  frame_of : (m : Source) (o : Op) (op : ℕ) (args : List Value) → operation_of m.items op ≡ Some o → args_fit m free vars op args ≡ true → Agrees free vars (parameters_of m.items) (frame o.params args) (context_of o.params)
+  pub frame_of : (m : Source) (o : Op) (op : ℕ) (args : List Value) → operation_of m.items op ≡ Some o → args_fit m free vars op args ≡ true → Agrees free vars (parameters_of m.items) (frame o.params args) (context_of o.params)
   unfolding args_fit
   frame_of m o op args e h = (frame_agrees free vars (parameters_of m.items) o.params args (all_from free vars (parameters_of m.items) args (types_of o.params) (ap (λ q. args_fit_in m free vars q args) (sym e) ∙ h))).1
 
@@ -159,7 +159,7 @@ module _ (free vars : List Ty) where
       (names_by m false o.0.pre (pre_context w.state o.0) ty.Bool ((name_s, s) ∷ frame o.0.params args) plainly w (well_operation m.items w.state [] m.items op o.0 w.well o.1).pre
       (record { name = refl; here = state_from m w s h.state; outer = frame_of m o.0 op args o.1 h.arguments }))
 
-  ref_of : (m : Source) (o : Op) (op : ℕ) (r : Value) → operation_of m.items op ≡ Some o → ref_fits m free vars op r ≡ true → FitIn m r (ty.Ref o.result)
+  pub ref_of : (m : Source) (o : Op) (op : ℕ) (r : Value) → operation_of m.items op ≡ Some o → ref_fits m free vars op r ≡ true → FitIn m r (ty.Ref o.result)
   unfolding ref_fits
   ref_of m o op r e h = ap (λ q. ref_fits_in m free vars q r) (sym e) ∙ h
 

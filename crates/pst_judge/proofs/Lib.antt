@@ -8,3 +8,7 @@ pub mod FromReplay
 pub mod FittedCommands
 pub mod SymbolicRuns
 pub mod Reasons
+pub mod EventsOf
+pub mod RealRuns
+pub mod PostOnly
+pub mod InPost

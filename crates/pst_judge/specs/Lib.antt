@@ -1,6 +1,8 @@
 pub mod JudgedText
 pub mod Judgement
+pub mod Laws
 pub mod Prefix
+pub mod Real
 pub mod Replay
 pub mod Symbolic
 pub mod SymbolicSearch

@@ -5,10 +5,13 @@ ghost use Rattle.pst_case.specs.Shape.{IsShaped, result_types};
 ghost use Rattle.pst_eval.specs.Callbacks.{is_state};
 ghost use Rattle.pst_grid.specs.Answers.{IsAnswer};
 ghost use Rattle.pst_grid.specs.declared.answer.SomeAnswer.{SomeAnswer};
+ghost use Rattle.pst_judge.specs.Real.{FaultsOnlyInPost};
 ghost use Rattle.pst_judge.specs.Replay.{recorded, prefix_events, branch_events, branch_turn, branch_lengths};
 ghost use Rattle.pst_judge.specs.Telling.{Tells};
 ghost use Rattle.pst_judge.specs.declared.place.Place.{Place};
+ghost use Rattle.pst_judge.specs.Validity.{IsValid};
 ghost use Rattle.pst_judge.specs.Verdict.{first_broken, IsVerdict, IsJudged};
+ghost use Rattle.pst_rules.specs.WellTyped.{WellModel};
 
 use crate::events::{branches_events, part_events, recorded_after, recorded_in_branches};
 use crate::place::{Callback, Place};
@@ -114,7 +117,7 @@ fn judged<C: Callbacks>(
 ///
 /// `Broken` at the least command whose reply is no value. Else every merge of the branches after the prefix is replayed, with recorded results for
 /// variables: `Explained` with the least merge that is all true; else `Faulted`, where the least merge that faults does so; else `Unexplained`.
-/// `AllocError` where memory is refused.
+/// Of a case that is valid by a well-typed model no callback but `post` faults. `AllocError` where memory is refused.
 pub fn verdict<C: Callbacks>(
     callbacks: &C,
     alloc: Global,
@@ -123,7 +126,8 @@ pub fn verdict<C: Callbacks>(
 ) -> Result<Verdict, AllocError>
     requires shape { IsShaped (C.model callbacks.now) shaped.now }
     requires matches { matches (C.model callbacks.now) shaped.now history.now ≡ true }
-    ensures { IfOk result (IsVerdict (C.model callbacks.now) shaped.now history.now) }
+    ensures verdict { IfOk result (IsVerdict (C.model callbacks.now) shaped.now history.now) }
+    ensures faults { IfOk result (λ v. WellModel (C.model callbacks.now) → IsValid (C.model callbacks.now) shaped.now → FaultsOnlyInPost v) }
 {
     let results = recorded(alloc, history)?;
     match first_broken(1, results.as_slice()) {

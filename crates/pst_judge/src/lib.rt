@@ -4,6 +4,7 @@
 mod events;
 mod judgement;
 mod judging;
+mod laws;
 mod numbered;
 mod place;
 mod prefix;
@@ -19,6 +20,7 @@ mod why;
 pub use events::Event;
 pub use judgement::{Judged, judge_one};
 pub use judging::verdict;
+pub use laws::{real_runs_are_symbolic, valid_cases_are_real, valid_cases_fault_only_in_post};
 pub use place::{Callback, Place, Side};
 pub use validated::Valid;
 pub use validity::valid;

@@ -5,10 +5,12 @@ ghost use Rattle.pst_eval.specs.Callbacks.{is_state};
 ghost use Rattle.pst_grid.specs.Answers.{IsEveryAnswer};
 ghost use Rattle.pst_grid.specs.declared.answer.EveryAnswer.{EveryAnswer};
 ghost use Rattle.pst_judge.specs.SymbolicSearch.{TellsWhy};
+ghost use Rattle.pst_judge.specs.Real.{IsAlwaysValid};
 ghost use Rattle.pst_judge.specs.Replay.{branch_lengths};
 ghost use Rattle.pst_judge.specs.Symbolic.{symbolic_turn, branch_commands};
 ghost use Rattle.pst_judge.specs.Validity.{IsValid, IsWhy, IsReason};
 ghost use Rattle.pst_judge.specs.declared.symbolic.Failing.{Failing};
+ghost use Rattle.pst_rules.specs.WellTyped.{WellModel};
 
 use crate::numbered::{branches_with_numbers, with_numbers};
 use crate::place::Callback;
@@ -73,6 +75,9 @@ pub fn why_not<C: Callbacks>(
 /// The case is run on symbolic states, from the opening state, in every merge of the branches after the prefix: each command's precondition
 /// must be true, and the next state, where the variable of the command's number stands for its result, must come without a fault. The reason is that
 /// of the least merge that fails, at its first command that fails; it is `NoMemory` where memory is refused.
+///
+/// Over a well-typed model a valid case stays so with recorded results for variables: whatever history of values is recorded, in every merge each
+/// precondition is true on the real state, and neither `init` nor a `pre` or `next` faults.
 pub fn valid<C: Callbacks>(
     callbacks: &C,
     alloc: Global,
@@ -80,6 +85,7 @@ pub fn valid<C: Callbacks>(
 ) -> Result<Valid, (Shaped, Why)>
     requires shape { IsShaped (C.model callbacks.now) shaped }
     ensures valid { IfOk result (λ v. (v ≡ shaped) × IsValid (C.model callbacks.now) shaped) }
+    ensures real { IfOk result (λ v. WellModel (C.model callbacks.now) → IsAlwaysValid (C.model callbacks.now) shaped) }
     ensures refused { IfErr result (λ r. (r.0 ≡ shaped) × ((r.1 ≡ Why.NoMemory) ⊎ IsWhy (C.model callbacks.now) shaped r.1)) }
 {
     match why_not(callbacks, alloc, &shaped) {

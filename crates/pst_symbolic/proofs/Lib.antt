@@ -1,0 +1,5 @@
+pub mod Commutes
+pub mod Mapping
+pub mod Operands
+pub mod Table
+pub mod Values
