@@ -1,5 +1,6 @@
 //! Models as trees.
 ghost use Rattle.std.specs.Prelude.{◌≡◌, IfOk, [], ◌∷◌, Ok};
+ghost use Rattle.pst_print.specs.Printed.{source_form};
 ghost use Rattle.pst_syntax.specs.Items.{model_of};
 
 use crate::items::source_form;
@@ -13,7 +14,8 @@ use std::alloc::{AllocError, Global};
 /// `AllocError`: memory was refused.
 #[tactic(auto, using(crate::proofs::ModelAgain::printed))]
 pub fn print_model(alloc: Global, model: &Model) -> Result<Tree, AllocError>
-    ensures { IfOk result (λ tree. model_of (tree ∷ []) ≡ Ok model.now) }
+    ensures form { IfOk result (λ tree. tree ≡ source_form model.now) }
+    ensures again { IfOk result (λ tree. model_of (tree ∷ []) ≡ Ok model.now) }
 {
     let form = source_form(alloc, model.source())?;
     Ok(Tree::new(form))
