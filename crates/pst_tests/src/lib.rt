@@ -41,3 +41,5 @@ mod validity;
 mod values;
 #[cfg(test)]
 mod verdicts;
+#[cfg(test)]
+mod written;

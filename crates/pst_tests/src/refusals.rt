@@ -49,6 +49,65 @@ fn items_without_variables(rt: HostRuntime) -> Result<(), Fail> {
     Ok(())
 }
 
+/// Each kind of fault that needs no variable, in the prefix and in each branch of both forms.
+const PLACE_ROWS: &str = "(case (prefix (zap)) (left) (right)) => 1 1 UnknownOp;
+  (case (prefix (inc)) (left (zap)) (right)) => 1 2 UnknownOp;
+  (case (prefix (inc)) (left (inc)) (right (get) (zap))) => 1 4 UnknownOp;
+  (case (prefix) (branches ((inc)) ((get)) ((zap)))) => 1 3 UnknownOp;
+  (case (prefix) (left) (right)) (case (prefix) (left) (right (zap))) => 2 1 UnknownOp;
+  (case (prefix) (left (inc 1)) (right)) => 1 1 BadArgument;
+  (case (prefix (inc)) (left) (right (inc true))) => 1 2 BadArgument;
+  (case (prefix) (branches () () ((get) (inc x)))) => 1 2 BadArgument;
+  (case (prefix) (left) (right (get) (get) (get) (get) (get) (get) (get) (get) (get))) => 1 0 OverLimit;
+  (case (prefix) (branches () () ((get) (get) (get) (get) (get) (get) (get) (get) (get)))) => 1 0 OverLimit;
+  (case (prefix (get) (get) (get) (get) (get) (get) (get) (get) (get) (get) (get) (get) (get) (get) (get) (get) (get) (get) (get) (get) (get) (get) (get) (get) (get) (get) (get) (get) (get) (get) (get) (get) (get) (get) (get) (get) (get) (get) (get) (get) (get) (get) (get) (get) (get) (get) (get) (get) (get) (get) (get) (get) (get) (get) (get) (get) (get) (get) (get) (get) (get) (get) (get) (get) (get)) (left) (right)) => 1 0 OverLimit;
+  (case (prefix (get) (get) (get) (get) (get) (get) (get) (get) (get) (get) (get) (get) (get) (get) (get) (get) (get) (get) (get) (get) (get) (get) (get) (get) (get) (get) (get) (get) (get) (get) (get) (get) (get) (get) (get) (get) (get) (get) (get) (get) (get) (get) (get) (get) (get) (get) (get) (get) (get) (get) (get) (get) (get) (get) (get) (get) (get) (get) (get) (get) (get) (get) (get) (get)) (left) (right)) => case;
+  (case (prefix (zap)) (left (get) (get) (get) (get) (get) (get) (get) (get) (get)) (right)) => 1 0 OverLimit";
+
+/// A reply that is none, and another number of replies than of commands, in each part of both forms.
+const REPLY_PLACE_ROWS: &str =
+    "(run (prefix) (left (inc)) (right) (replies () (x) ())) => 1 1 BadReply;
+  (run (prefix (inc)) (left (inc)) (right (get)) (replies (1) (2) (x))) => 1 3 BadReply;
+  (run (prefix) (branches ((inc)) () ((get) (get))) (replies () (1) () (1 $1))) => 1 3 BadReply;
+  (run (prefix (inc)) (left) (right) (replies ((list misfit)) () ())) => 1 1 BadReply;
+  (run (prefix) (left) (right)) (run (prefix) (left) (right) (replies () () ())) => 1 0 BadForm;
+  (run (prefix) (left (inc)) (right) (replies () () ())) => 1 0 NotAFit;
+  (run (prefix) (left) (right (inc)) (replies () () (1 2))) => 1 0 NotAFit;
+  (run (prefix) (branches () () ((inc))) (replies () () () ())) => 1 0 NotAFit;
+  (run (prefix) (left) (right) (replies (1) () ())) => 1 0 NotAFit;
+  (run (prefix (zap)) (left) (right) (replies () () ())) => 1 1 UnknownOp;
+  (run (prefix (inc) (inc)) (left) (right) (replies (x) () ())) => 1 0 NotAFit";
+
+/// An item, a part, a command or a reply list that has no form, at each place.
+const FORM_ROWS: &str = "x => 1 0 BadForm;
+  \"a\" => 1 0 BadForm;
+  () => 1 0 BadForm;
+  (case x (left) (right)) => 1 0 BadForm;
+  (case (prefix) x (right)) => 1 0 BadForm;
+  (case (prefix) (left) \"right\") => 1 0 BadForm;
+  (case (left) (prefix) (right)) => 1 0 BadForm;
+  (case (prefix) (left) (middle)) => 1 0 BadForm;
+  (case (prefix) (left ()) (right)) => 1 0 BadForm;
+  (case (prefix) (left) (right x)) => 1 0 BadForm;
+  (case (prefix) (branches (x) ())) => 1 0 BadForm;
+  (case (prefix) (branches x ())) => 1 0 BadForm;
+  (case (prefix) (left) (right) (replies () () ())) => 1 0 BadForm;
+  (run (prefix) (left) (right) (answers () () ())) => 1 0 BadForm;
+  (run (prefix) (left) (right) (replies () () x)) => 1 0 BadForm;
+  (run (prefix) (branches () () ()) (replies () () ())) => 1 0 BadForm";
+
+#[test]
+fn faults_at_each_place(rt: HostRuntime) -> Result<(), Fail> {
+    let alloc = rt.alloc();
+    assert_eq!(rt; misses(alloc, &COUNTER_ITEMS, PLACE_ROWS)?.as_str(), "");
+    assert_eq!(rt;
+        misses(alloc, &COUNTER_ITEMS, REPLY_PLACE_ROWS)?.as_str(),
+        ""
+    );
+    assert_eq!(rt; misses(alloc, &COUNTER_ITEMS, FORM_ROWS)?.as_str(), "");
+    Ok(())
+}
+
 /// Items of the registry.
 const REGISTRY_ITEMS: Frame = Frame {
     question: Question::Runs,
@@ -69,6 +128,33 @@ const VARIABLE_ROWS: &str = "(case (prefix (new)) (left (new)) (right (close $2)
 fn items_with_variables(rt: HostRuntime) -> Result<(), Fail> {
     assert_eq!(rt;
         misses(rt.alloc(), &REGISTRY_ITEMS, VARIABLE_ROWS)?.as_str(),
+        ""
+    );
+    Ok(())
+}
+
+/// Each kind of fault of variables and arguments, in the prefix and in each branch of both forms.
+const VARIABLE_PLACE_ROWS: &str =
+    "(case (prefix (new)) (left (close $2)) (right)) => 1 2 ForwardVar;
+  (case (prefix (new)) (left) (right (close $3))) => 1 2 ForwardVar;
+  (case (prefix (new)) (branches () () ((close $0)))) => 1 2 ForwardVar;
+  (case (prefix (new)) (left (close $3)) (right (new))) => 1 2 ForwardVar;
+  (case (prefix (close (tuple $9))) (left) (right)) => 1 1 ForwardVar;
+  (case (prefix (close $9 x)) (left) (right)) => 1 1 ForwardVar;
+  (case (prefix (close (tuple $9 x))) (left) (right)) => 1 1 BadArgument;
+  (case (prefix) (branches () ((new)) ((close $1)))) => 1 2 CrossVar;
+  (case (prefix) (left (new)) (right (close (tuple $1)))) => 1 2 CrossVar;
+  (case (prefix) (branches ((new)) () () ((new) (close $1)))) => 1 3 CrossVar;
+  (case (prefix) (left (new) (close $1)) (right)) => case;
+  (case (prefix (new)) (left (close 1)) (right)) => 1 2 BadArgument;
+  (case (prefix (new)) (left) (right (close true))) => 1 2 BadArgument;
+  (case (prefix (new)) (branches () () ((close $1) (close)))) => 1 3 BadArgument;
+  (case (prefix (new) (close $1)) (left (close $2)) (right)) => 1 3 BadArgument";
+
+#[test]
+fn variable_faults_at_each_place(rt: HostRuntime) -> Result<(), Fail> {
+    assert_eq!(rt;
+        misses(rt.alloc(), &REGISTRY_ITEMS, VARIABLE_PLACE_ROWS)?.as_str(),
         ""
     );
     Ok(())

@@ -1,0 +1,262 @@
+-- The commands of a shaped case are read again from what is written for them.
+use Rattle.std.proofs.Common.{◌≡◌, ℕ, zero, suc, min, ◌+◌, ◌-◌, ◌^◌, ◌<◌, ◌≤◌, ◌||◌, not, nat_le, nat_lt, Bool, true, false, length, slice_get, List, [], ◌∷◌, map, Option, Some, None, refl, sym, ap, ◌∙◌, subst, arith}
+use Rattle.std.specs.Prelude.{if◌then◌else◌}
+use Rattle.std.specs.List.{list_any, list_all}
+use Rattle.std.proofs.lemmas.Bool.Decides.{nat_tests}
+use Rattle.pst_case.specs.Shape.{holds_var, holds_reference, is_known, is_forward, is_cross, or_else, command_fault, at_command, part_fault, branches_fault}
+use Rattle.pst_case.specs.declared.case.Command.{Command}
+use Rattle.pst_case.specs.declared.fault.CaseFault.{CaseFault}
+use Rattle.pst_case.specs.declared.fault.CaseFaultKind.TheVariants.{UnknownOp, BadArgument, ForwardVar, CrossVar}
+use Rattle.pst_case.specs.declared.fault.CaseFaultKind.{CaseFaultKind}
+use Rattle.pst_eval.specs.Callbacks.{args_fit, args_fit_in}
+use Rattle.pst_model.specs.Levels as ty_levels
+use Rattle.pst_model.specs.Names.{is_between, is_name_byte, is_name}
+use Rattle.pst_model.specs.Operations.{HasOperations, max_operations, max_levels as max_ty_levels}
+use Rattle.pst_model.specs.Parts.{operation_of, operations_of, parameters_of, types_of}
+use Rattle.pst_model.specs.declared.model.Item.TheVariants as item
+use Rattle.pst_model.specs.declared.model.Item.{Item}
+use Rattle.pst_model.specs.declared.model.Op.{Op}
+use Rattle.pst_model.specs.declared.model.Param.{Param}
+use Rattle.pst_model.specs.declared.model.Source.{Source}
+use Rattle.pst_rules.specs.Kinds.{holds_call}
+use Rattle.pst_rules.specs.WellTyped.{WellOperation, WellItems, WellModel}
+use Rattle.pst_runs.specs.Items.{op_in, op_of, or_reference, argument_of, command_in, command_of, commands_of, branch_of}
+use Rattle.pst_runs.specs.Values.{made, each, word_of, word_at, node_of, node_at, value_in}
+use Rattle.pst_sexpr.proofs.Made.{word_is_tree}
+use Rattle.pst_sexpr.specs.Bytes.{is_word_byte}
+use Rattle.pst_sexpr.specs.Grammar.{IsWordBytes}
+use Rattle.pst_sexpr.specs.Lawful.{IsTree}
+use Rattle.pst_sexpr.specs.Reading.{max_levels}
+use Rattle.pst_sexpr.specs.declared.form.Form.TheVariants.{Word, Node, outs-Word, outs-Node}
+use Rattle.pst_sexpr.specs.declared.form.Form.{Form}
+use Rattle.pst_value.proofs.Holding.{list_any-map}
+use Rattle.pst_value.specs.Fits.{is_ty, fits, fit_each}
+use Rattle.pst_value.specs.Subst.{numbered}
+use Rattle.pst_value.specs.declared.ty.Ty.{Ty}
+use Rattle.pst_value.specs.declared.value.Value.{Value}
+use Rattle.pst_write.proofs.Numbers.{both_hold}
+use Rattle.pst_write.proofs.Sized.{Sized, AllSized, all_wider, none_sized, more_sized, word_sized, node_sized}
+use Rattle.pst_write.proofs.ValueAgain.{EachAgain, each_again}
+use Rattle.pst_write.specs.Written.{value_form, name_in, name_of, command_form, branch_form}
+
+-- ---- the parts of a tree
+
+pub node_is : (forms : List Form) → node_of (Node forms) ≡ Some forms
+node_is forms = ap node_at (outs-Node forms)
+
+pub word_is : (word : List ℕ) → word_of (Word word) ≡ Some word
+word_is word = ap word_at (outs-Word word)
+
+some_is : {A : Type 0} (a b : A) → Some a ≡ Some b → a ≡ b
+some_is a b e = cc
+
+made_some : {A B : Type 0} (o : Option A) (f : A → Option B) (b : B) → made o f ≡ Some b → (a : A) × (o ≡ Some a) × (f a ≡ Some b)
+made_some None f b e = absurd (cc)
+made_some (Some a) f b e = (a, refl, e)
+
+-- ---- names
+
+name_byte : (b : ℕ) → is_name_byte b ≡ true → is_word_byte b ≡ true
+unfolding is_word_byte
+name_byte b e = grind (arith, nat_tests)
+
+name_bytes : (bytes : List ℕ) → list_all is_name_byte bytes ≡ true → IsWordBytes bytes
+name_bytes [] e = tt
+name_bytes (b ∷ bytes) e = let p = both_hold (is_name_byte b) (list_all is_name_byte bytes) e in (name_byte b p.0, name_bytes bytes p.1)
+
+first_byte : (b : ℕ) → is_between 97 122 b ≡ true → is_word_byte b ≡ true
+unfolding is_word_byte
+first_byte b e = grind (arith, nat_tests)
+
+name_is_tree : (name : List ℕ) → is_name name ≡ true → IsTree (Word name)
+name_is_tree [] e = absurd (cc)
+name_is_tree (b ∷ bytes) e =
+    let p = both_hold (is_between 97 122 b) (list_all is_name_byte bytes) e in
+    word_is_tree (b ∷ bytes) (omega arith) (first_byte b p.0, name_bytes bytes p.1)
+
+-- ---- operations
+
+well_operation : (items : List Item) (S : Ty) (earlier later : List Item) (n : ℕ) (o : Op) → WellItems items S earlier later → slice_get (operations_of later) n ≡ Some o → WellOperation items S o
+well_operation items S earlier [] n o w e = absurd (cc)
+well_operation items S earlier (item.Op p ∷ later) zero o w e = let q : p ≡ o = cc in let P : Op → Type 0 = λ k. WellOperation items S k in subst P q w.0
+well_operation items S earlier (item.Op p ∷ later) (suc n) o w e = well_operation items S (item.Op p ∷ earlier) later n o w.1 e
+well_operation items S earlier (item.Fun f ∷ later) n o w e = well_operation items S (item.Fun f ∷ earlier) later n o w.1 e
+well_operation items S earlier (item.State t ∷ later) n o w e = well_operation items S (item.State t ∷ earlier) later n o w.1 e
+well_operation items S earlier (item.Init t ∷ later) n o w e = well_operation items S (item.Init t ∷ earlier) later n o w.1 e
+well_operation items S earlier (item.Command t ∷ later) n o w e = well_operation items S (item.Command t ∷ earlier) later n o w.1 e
+
+pub well : (m : Source) (n : ℕ) (o : Op) → (w : WellModel m) → operation_of m.items n ≡ Some o → WellOperation m.items w.state o
+well m n o w e = well_operation m.items w.state [] m.items n o w.well e
+
+shallow : (n : ℕ) → nat_le n max_ty_levels ≡ true → n ≤ 16
+shallow n e = grind (arith, nat_tests)
+
+pub room_is : (t : Ty) → nat_le (ty_levels.levels t) max_ty_levels ≡ true → ty_levels.levels t ≤ 16
+room_is t e = shallow (ty_levels.levels t) e
+
+parameters_shallow : (params : List Param) → list_all (λ param. nat_le (ty_levels.levels param.ty) max_ty_levels) params ≡ true → ty_levels.greatest (map ty_levels.levels (types_of params)) ≤ 16
+parameters_shallow [] e = omega arith
+parameters_shallow (param ∷ params) e =
+    let p = both_hold (nat_le (ty_levels.levels param.ty) max_ty_levels) (list_all (λ param. nat_le (ty_levels.levels param.ty) max_ty_levels) params) e in
+    let first = room_is param.ty p.0 in
+    let rest = parameters_shallow params p.1 in
+    omega arith
+
+-- ---- variables
+
+get_within : (types : List Ty) (n : ℕ) (t : Ty) → is_ty (slice_get types n) t ≡ true → n < length types
+get_within [] n t e = absurd (cc)
+get_within (first ∷ types) zero t e = omega arith
+get_within (first ∷ types) (suc n) t e = let h = get_within types n t e in omega arith
+
+variable_within : (types : List Ty) (n : ℕ) (t : Ty) → length types ≤ 80 → is_ty (numbered types n) t ≡ true → (true ≡ true) × (n < 10000)
+variable_within types zero t h e = absurd (cc)
+variable_within types (suc n) t h e = let k = get_within types n t e in (refl, omega arith)
+
+-- ---- faults
+
+no_fault : (a b d e f : Bool) → (if not a then Some UnknownOp else if b then Some ForwardVar else if d then Some CrossVar else if not e || f then Some BadArgument else None) ≡ None
+    → (a ≡ true) × (e ≡ true) × (f ≡ false)
+no_fault false b d e f h = absurd (cc)
+no_fault true true d e f h = absurd (cc)
+no_fault true false true e f h = absurd (cc)
+no_fault true false false false f h = absurd (cc)
+no_fault true false false true true h = absurd (cc)
+no_fault true false false true false h = (refl, refl, refl)
+
+pub none_either : (a b : Option CaseFault) → or_else a b ≡ None → (a ≡ None) × (b ≡ None)
+none_either None b h = (refl, h)
+none_either (Some a) b h = absurd (cc)
+
+none_there : (number : ℕ) (k : Option CaseFaultKind) → at_command number k ≡ None → k ≡ None
+none_there number None h = refl
+none_there number (Some k) h = absurd (cc)
+
+known_is : (o : Option Op) → is_known o ≡ true → (p : Op) × (o ≡ Some p)
+known_is None h = absurd (cc)
+known_is (Some p) h = (p, refl)
+
+-- ---- commands
+
+arguments_read : (f : Form → Option Value) (forms : List Form) (vs : List Value) → each f forms ≡ Some vs → map (λ form. or_reference (f form)) forms ≡ vs
+arguments_read f [] vs e = some_is [] vs e
+arguments_read f (form ∷ forms) vs e =
+    let p = made_some (f form) (λ b. made (each f forms) (λ bs. Some (b ∷ bs))) vs e in
+    let q = made_some (each f forms) (λ bs. Some (p.0 ∷ bs)) vs p.2 in
+    ap (λ o. or_reference o ∷ map (λ form. or_reference (f form)) forms) p.1
+    ∙ ap (λ bs. p.0 ∷ bs) (arguments_read f forms q.0 q.1) ∙ some_is (p.0 ∷ q.0) vs q.2
+
+abbrev command : ℕ → List Value → Command
+command op args = record { op = op; args = args }
+
+-- the tree of a command has a spelling and is read as the command, whose operation is known
+pub record CommandAgain (m : Source) (c : Command) : Type 0 where
+  pub operation : Op
+  pub known : operation_of m.items c.op ≡ Some operation
+  pub sized : Sized 17 (command_form m c)
+  pub reads : command_of m (command_form m c) ≡ Some c
+
+-- so has each command of a part
+pub record PartAgain (m : Source) (cs : List Command) : Type 0 where
+  pub sized : AllSized 17 (map (command_form m) cs)
+  pub reads : commands_of m (map (command_form m) cs) ≡ Some cs
+
+abbrev pub EachCommand : Source → List Command → Type 0
+EachCommand m [] = Unit {0}
+EachCommand m (c ∷ cs) = CommandAgain m c × EachCommand m cs
+
+abbrev pub EachBranch : Source → List (List Command) → Type 0
+EachBranch m [] = Unit {0}
+EachBranch m (b ∷ bs) = EachCommand m b × EachBranch m bs
+
+module _ (m : Source) (model : WellModel m) (has : HasOperations m.items) where
+  arguments_again : (vars : List Ty) (c : Command) (o : Op) → length vars ≤ 80 → operation_of m.items c.op ≡ Some o → args_fit m vars vars c.op c.args ≡ true
+      → list_any holds_reference c.args ≡ false → (depth : ℕ) × (depth ≤ 16) × EachAgain true depth c.args
+  unfolding args_fit
+  arguments_again vars c o few is fit closed =
+      let ts = types_of o.params in
+      let low = parameters_shallow o.params (has c.op o is).parameters in
+      let calls : list_any (λ held. held) (map holds_call ts) ≡ false = list_any-map holds_call ts ∙ (well m c.op o model is).parameters in
+      let fit_in : fit_each (map (fits vars vars (parameters_of m.items)) c.args) ts ≡ true = ap (λ q. args_fit_in m vars vars q c.args) (sym is) ∙ fit in (
+        ty_levels.greatest (map ty_levels.levels ts),
+        low,
+        each_again true vars vars (parameters_of m.items) (λ n t e. variable_within vars n t few e) c.args ts (omega arith) calls closed fit_in,
+      )
+
+  op_is : (c : Command) (o : Op) → operation_of m.items c.op ≡ Some o → op_of m (name_of m c.op) ≡ c.op
+  op_is c o is =
+      let i = has c.op o is in
+      let few : c.op < 64 = below i.few in
+      let low : min c.op (2 ^ 32 - 1) ≡ c.op = omega arith in
+      ap (λ q. op_of m (name_in q)) is ∙ ap op_in i.number ∙ low
+    where
+      below : {n : ℕ} → nat_lt n max_operations ≡ true → n < 64
+      below e = grind (arith, nat_tests)
+
+  named_again : (vars : List Ty) (c : Command) (o : Op) → length vars ≤ 80 → operation_of m.items c.op ≡ Some o → args_fit m vars vars c.op c.args ≡ true
+      → list_any holds_reference c.args ≡ false → CommandAgain m c
+  named_again vars c o few is fit closed =
+      let a = arguments_again vars c o few is fit closed in
+      let again = a.2 in
+      let low = a.1 in
+      let name = name_of m c.op in
+      let forms = map value_form c.args in
+      let lawful : IsTree (Word name) = subst (λ q. IsTree (Word (name_in q))) (sym is) (name_is_tree o.name (has c.op o is).name) in
+      let args : map argument_of forms ≡ c.args = arguments_read (value_in true max_levels) forms c.args (again.reads max_levels (omega arith)) in
+      record {
+        operation = o;
+        known = is;
+        sized = node_sized (more_sized (word_sized 16 name lawful) (all_wider 16 again.sized low)) (omega arith);
+        reads =
+            ap (λ q. made q (command_in m)) (node_is (Word name ∷ forms))
+            ∙ ap (λ q. made q (λ name. Some (command (op_of m name) (map argument_of forms)))) (word_is name)
+            ∙ ap (λ op. Some (command op (map argument_of forms))) (op_is c o is)
+            ∙ ap (λ vs. Some (command c.op vs)) args;
+      }
+
+  -- a command without a fault is read again
+  command_again : (vars : List Ty) (prefix before number : ℕ) (c : Command) → length vars ≤ 80 → command_fault m vars prefix before number c ≡ None → CommandAgain m c
+  command_again vars prefix before number c few e =
+      let p = no_fault (is_known (operation_of m.items c.op)) (list_any (holds_var (is_forward number)) c.args) (list_any (holds_var (is_cross prefix before)) c.args)
+      (args_fit m vars vars c.op c.args) (list_any holds_reference c.args) e in
+      let k = known_is (operation_of m.items c.op) p.0 in
+      named_again vars c k.0 few k.1 p.1 p.2
+
+  pub part_again : (vars : List Ty) (prefix before number : ℕ) (cs : List Command) → length vars ≤ 80 → part_fault m vars prefix before number cs ≡ None → EachCommand m cs
+  part_again vars prefix before number [] few e = tt
+  part_again vars prefix before number (c ∷ cs) few e =
+      let p = none_either (at_command number (command_fault m vars prefix before number c)) (part_fault m vars prefix before (number + 1) cs) e in (
+        command_again vars prefix before number c few (none_there number (command_fault m vars prefix before number c) p.0),
+        part_again vars prefix before (number + 1) cs few p.1,
+      )
+
+  pub branches_again : (vars : List Ty) (prefix before : ℕ) (bs : List (List Command)) → length vars ≤ 80 → branches_fault m vars prefix before bs ≡ None → EachBranch m bs
+  branches_again vars prefix before [] few e = tt
+  branches_again vars prefix before (b ∷ bs) few e =
+      let p = none_either (part_fault m vars prefix before (before + 1) b) (branches_fault m vars prefix (before + length b) bs) e in
+      (part_again vars prefix before (before + 1) b few p.0, branches_again vars prefix (before + length b) bs few p.1)
+
+-- ---- parts
+
+module _ (m : Source) where
+  pub part_read : (cs : List Command) → EachCommand m cs → PartAgain m cs
+  part_read [] h = record { sized = none_sized 17; reads = refl }
+  part_read (c ∷ cs) h =
+      let rest = part_read cs h.1 in
+      record {
+        sized = more_sized h.0.sized rest.sized;
+        reads = ap (λ o. made o (λ b. made (each (command_of m) (map (command_form m) cs)) (λ bs. Some (b ∷ bs)))) h.0.reads ∙ ap (λ o. made o (λ bs. Some (c ∷ bs))) rest.reads;
+      }
+
+  branch_read : (cs : List Command) → EachCommand m cs → branch_of m (branch_form m cs) ≡ Some cs
+  branch_read cs h = ap (λ o. made o (commands_of m)) (node_is (map (command_form m) cs)) ∙ (part_read cs h).reads
+
+  pub branches_read : (bs : List (List Command)) → EachBranch m bs → each (branch_of m) (map (branch_form m) bs) ≡ Some bs
+  branches_read [] h = refl
+  branches_read (b ∷ bs) h =
+      ap (λ o. made o (λ b. made (each (branch_of m) (map (branch_form m) bs)) (λ bs. Some (b ∷ bs)))) (branch_read b h.0)
+      ∙ ap (λ o. made o (λ bs. Some (b ∷ bs))) (branches_read bs h.1)
+
+  pub branches_sized : (bs : List (List Command)) → EachBranch m bs → AllSized 18 (map (branch_form m) bs)
+  branches_sized [] h = none_sized 18
+  branches_sized (b ∷ bs) h = more_sized (node_sized (part_read b h.0).sized (omega arith)) (branches_sized bs h.1)

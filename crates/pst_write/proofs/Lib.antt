@@ -1,0 +1,9 @@
+pub mod CaseAgain
+pub mod CommandAgain
+pub mod Forms
+pub mod ItemAgain
+pub mod Lines
+pub mod Numbers
+pub mod ReplyAgain
+pub mod Sized
+pub mod ValueAgain

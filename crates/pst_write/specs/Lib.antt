@@ -1,0 +1,3 @@
+pub mod FaultName
+pub mod Lines
+pub mod Written

@@ -1,0 +1,47 @@
+//! Runs as trees.
+ghost use Rattle.std.specs.Prelude.{◌≡◌, IfOk, Ok};
+ghost use Rattle.pst_runs.specs.Items.{item_of};
+ghost use Rattle.pst_runs.specs.Lawful.{IsLawful};
+ghost use Rattle.pst_write.specs.Written as spec;
+
+use crate::cases::case_forms;
+use crate::nodes::headed;
+use crate::replies::replies_form;
+use pst_case::{Case, History, Run};
+use pst_model::Source;
+use pst_rules::Typed;
+use pst_sexpr::{Form, Tree};
+use std::alloc::{AllocError, Global};
+
+fn item_form(
+    alloc: Global,
+    model: &Source,
+    case: &Case,
+    history: &Option<History>,
+) -> Result<Form, AllocError>
+    ensures { IfOk result (λ form. form ≡ spec.item_form model.now case.now history.now) }
+{
+    let mut forms = case_forms(alloc, model, case)?;
+    match history {
+        Some(history) => {
+            forms.push(replies_form(alloc, history)?)?;
+            headed(alloc, "run", forms)
+        }
+        None => headed(alloc, "case", forms),
+    }
+}
+
+/// The tree of a run: a `case` where it has no history, and else a `run`. It is read as an equal run.
+///
+/// Two branches are written as `left` and `right`, three or four as `branches`. The run must be lawful over the model.
+/// `AllocError`: memory was refused.
+pub fn run_tree(alloc: Global, typed: &Typed, run: &Run) -> Result<Tree, AllocError>
+    requires { IsLawful typed.now run.now }
+    // What is written of the run.
+    ensures written { IfOk result (λ tree. tree ≡ spec.run_form typed.now run.now) }
+    // It is read as the run.
+    ensures read { IfOk result (λ tree. item_of typed.now tree ≡ Ok run.now) }
+{
+    let form = item_form(alloc, typed.source(), run.shaped.case(), &run.history)?;
+    Ok(Tree::new(form))
+}
