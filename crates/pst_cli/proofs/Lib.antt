@@ -1,2 +1,3 @@
 pub mod Judging
+pub mod OneOutput
 pub mod Printing

@@ -10,3 +10,4 @@ pub mod Steps
 pub mod Weight
 pub mod WellItems
 pub mod Whole
+pub mod OneIll

@@ -39,3 +39,7 @@ SomeIsLeast = (items : List Item) (S : Ty) (number : ℕ) → first_ill items S 
 -- no model with an item that is not well typed is well typed
 abbrev pub IllIsNotWell : Type 0
 IllIsNotWell = (source : Source) (number : ℕ) → IsIll source number → WellModel source → ⊥
+
+-- a model has one least item that is not well typed, at most
+abbrev pub OneIsIll : Type 0
+OneIsIll = (source : Source) (number other : ℕ) → IsIll source number → IsIll source other → number ≡ other

@@ -1,5 +1,5 @@
 //! Laws of the decision.
-ghost use Rattle.pst_typing.specs.Laws.{FoundIsTyped, TypedIsFound, PassedIsWell, WellIsPassed, NoneIsWell, SomeIsLeast, IllIsNotWell};
+ghost use Rattle.pst_typing.specs.Laws.{FoundIsTyped, TypedIsFound, PassedIsWell, WellIsPassed, NoneIsWell, SomeIsLeast, IllIsNotWell, OneIsIll};
 
 /// The type that is found is the one type that the rules give.
 pub fn types_are_exact()
@@ -22,4 +22,9 @@ pub fn first_ill_is_least()
 /// A model of which an item is not well typed is not well typed.
 pub fn ill_is_not_well()
     ensures { IllIsNotWell }
+{}
+
+/// A model has at most one least item that is not well typed.
+pub fn one_is_ill()
+    ensures { OneIsIll }
 {}

@@ -17,7 +17,7 @@ pub use checking::check;
 pub use context::Context;
 pub use expressions::type_of;
 pub use items::{first_ill, well_item};
-pub use laws::{first_ill_is_least, ill_is_not_well, items_are_exact, types_are_exact};
+pub use laws::{first_ill_is_least, ill_is_not_well, items_are_exact, one_is_ill, types_are_exact};
 pub use parts::{model_name, operation_name, operation_parameters, operation_result};
 pub use scope::Scope;
 pub use type_fault::TypeFault;

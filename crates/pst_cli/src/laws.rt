@@ -1,0 +1,19 @@
+//! An input has one output.
+ghost use Rattle.pst_cli.specs.OneOutput.{OneCheckOutput, OneJudgeOutput};
+
+use pst_judge::one_judgement;
+use pst_sexpr::laws::{one_fault, one_reading, trees_have_no_fault};
+use pst_typing::{ill_is_not_well, one_is_ill};
+
+/// The definitions of what `check_text` and `judge_text` write have one text and one status for an input, at most.
+pub fn one_output()
+    ensures check { OneCheckOutput }
+    ensures judge { OneJudgeOutput }
+{
+    one_reading();
+    one_fault();
+    trees_have_no_fault();
+    one_is_ill();
+    ill_is_not_well();
+    one_judgement();
+}
