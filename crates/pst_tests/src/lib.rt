@@ -14,6 +14,8 @@ mod expressions;
 #[cfg(test)]
 mod forms;
 #[cfg(test)]
+mod generated;
+#[cfg(test)]
 mod limits;
 #[cfg(test)]
 mod lines;
@@ -41,5 +43,7 @@ mod validity;
 mod values;
 #[cfg(test)]
 mod verdicts;
+#[cfg(test)]
+mod words;
 #[cfg(test)]
 mod written;

@@ -141,7 +141,8 @@ impl Sink for Short {
 #[test]
 fn writer_fails_after_each_byte(rt: HostRuntime) -> Result<(), Fail> {
     let alloc = rt.alloc();
-    let text = "(case (prefix (inc)) (left) (right))\n(run (prefix) (left (inc)) (right) (replies () (1) ()))\n";
+    let text =
+        "(case (prefix (inc)) (left) (right))\n(run (prefix) (left (inc)) (right) (replies () (1) ()))\n";
     let typed = typed_of(alloc, COUNTER).ok_or("no model")?;
     let Ok(trees) = read(alloc, text.as_bytes()) else {
         panic!(rt; "no trees");
