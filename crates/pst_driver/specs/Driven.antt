@@ -1,0 +1,92 @@
+-- What a history says of the system on which its case was driven.
+use Rattle.std.specs.Prelude.{◌≡◌, ◌<◌, ⊤, ℕ, Bool, true, false, ◌&&◌, List, [], ◌∷◌, map, length, Option, Some, None, MatchBool}
+use Rattle.pst_case.specs.Shape.{joined, result_type}
+use Rattle.pst_case.specs.declared.case.Case.{Case}
+use Rattle.pst_case.specs.declared.case.Command.{Command}
+use Rattle.pst_case.specs.declared.history.History.{History}
+use Rattle.pst_case.specs.declared.history.Reply.{Reply}
+use Rattle.pst_case.specs.declared.history.Reply.TheVariants.{Value as Answered, Misfit, Failed, NotRun}
+use Rattle.pst_driver.specs.declared.fault.DriveFault.{DriveFault}
+use Rattle.pst_driver.specs.declared.fault.DriveFault.TheVariants.{ResetFailed, NoThread, NoMemory}
+use Rattle.pst_eval.specs.Callbacks.{fits_in}
+use Rattle.pst_judge.specs.Replay.{recorded}
+use Rattle.pst_model.specs.Parts.{operation_of}
+use Rattle.pst_model.specs.declared.model.Op.{Op}
+use Rattle.pst_model.specs.declared.model.Source.{Source}
+use Rattle.pst_system.specs.Kept.{Answers, Fails, ResetFails}
+use Rattle.pst_system.specs.declared.call.CallFault.{CallFault}
+use Rattle.pst_system.specs.declared.call.RealCall.{RealCall}
+use Rattle.pst_value.specs.Subst.{substituted, plain_of}
+use Rattle.pst_value.specs.declared.value.Value.{Value}
+
+-- ---- calls
+
+-- the name of an operation (no shaped case has an unknown one)
+abbrev pub name_in : Option Op → List ℕ
+name_in None = []
+name_in (Some o) = o.name
+
+-- an argument with these results for its variables, made plain
+abbrev pub real_argument : List (Option Value) → Value → Value
+real_argument results v = plain_of (substituted results v)
+
+-- the call that a command makes with these results for its variables
+abbrev pub real_call : Source → List (Option Value) → Command → RealCall
+real_call m results c =
+    record { op = c.op; name = name_in (operation_of m.items c.op); args = map (real_argument results) c.args }
+
+-- ---- replies
+
+-- whether a reply is a value
+abbrev pub is_answer : Reply → Bool
+is_answer (Answered v) = true
+is_answer Misfit = false
+is_answer Failed = false
+is_answer NotRun = false
+
+-- whether each reply is a value
+abbrev pub all_answers : List Reply → Bool
+all_answers [] = true
+all_answers (r ∷ rs) = is_answer r && all_answers rs
+
+-- the replies of commands that are not run
+abbrev pub none_run : List Command → List Reply
+none_run cs = map (λ c. NotRun) cs
+
+-- whether a value is of the type of the command's result
+abbrev pub fits_result : Source → Command → Value → Bool
+fits_result m c v = fits_in m [] [] v (result_type m c)
+
+-- ---- histories, by what the system may answer and with what its calls may fail
+
+module _ (m : Source) (answers : Answers) (fails : Fails) where
+  -- a reply that the call of a command may have: an answer of its result type, a misfit where another may be answered, a failure where it may fail
+  abbrev pub IsReply : Command → RealCall → Reply → Type 0
+  IsReply c call (Answered v) = (fits_result m c v ≡ true) × answers call v
+  IsReply c call Misfit = (v : Value) × (fits_result m c v ≡ false) × answers call v
+  IsReply c call Failed = (f : CallFault) × fails call f
+  IsReply c call NotRun = ⊥
+
+  -- the replies of one part: each to its command's call with these results, up to the first that is no value, and after it none is run
+  abbrev pub PartIsDriven : List (Option Value) → List Command → List Reply → Type 0
+  PartIsDriven results [] rs = rs ≡ []
+  PartIsDriven results (c ∷ cs) [] = ⊥
+  PartIsDriven results (c ∷ cs) (r ∷ rs) =
+      IsReply c (real_call m results c) r × MatchBool (is_answer r) (PartIsDriven results cs rs) (rs ≡ none_run cs)
+
+  -- the same of each branch
+  abbrev pub BranchesAreDriven : List (Option Value) → List (List Command) → List (List Reply) → Type 0
+  BranchesAreDriven results [] hs = hs ≡ []
+  BranchesAreDriven results (b ∷ bs) [] = ⊥
+  BranchesAreDriven results (b ∷ bs) (h ∷ hs) = PartIsDriven results b h × BranchesAreDriven results bs hs
+
+  -- a history of a case, each call made with the recorded results: the branches are run where the whole prefix has values, and else not at all
+  pub record IsDriven (c : Case) (h : History) : Type 0 where
+    pub prefix : PartIsDriven (recorded h) c.prefix h.prefix
+    pub branches : MatchBool (all_answers h.prefix) (BranchesAreDriven (recorded h) c.branches h.branches) (h.branches ≡ map none_run c.branches)
+
+-- why a case may not be driven: a reset may fail, or no thread could be had where a branch is not empty, or memory was refused
+abbrev pub IsDriveFault : ResetFails → Case → DriveFault → Type 0
+IsDriveFault reset_fails c ResetFailed = (f : CallFault) × reset_fails f
+IsDriveFault reset_fails c NoThread = 0 < length (joined c.branches)
+IsDriveFault reset_fails c NoMemory = ⊤

@@ -1,0 +1,43 @@
+-- Replies by the results that are known when each call is made, which the driver goes by.
+use Rattle.std.specs.Prelude.{◌≡◌, ◌<◌, ◌++◌, ⊤, List, [], ◌∷◌, map, length, Option, Some, None}
+use Rattle.pst_case.specs.Shape.{joined}
+use Rattle.pst_case.specs.declared.case.Command.{Command}
+use Rattle.pst_case.specs.declared.history.Reply.{Reply}
+use Rattle.pst_case.specs.declared.history.Reply.TheVariants.{Value as Answered, Misfit, Failed, NotRun}
+use Rattle.pst_driver.specs.Driven.{IsReply, real_call, none_run}
+use Rattle.pst_driver.specs.declared.fault.DriveFault.{DriveFault}
+use Rattle.pst_driver.specs.declared.fault.DriveFault.TheVariants.{ResetFailed, NoThread, NoMemory}
+use Rattle.pst_model.specs.declared.model.Source.{Source}
+use Rattle.pst_system.specs.Kept.{Answers, Fails}
+use Rattle.pst_value.specs.declared.value.Value.{Value}
+
+-- the results of commands of another branch, which are not known
+abbrev pub none_known : List Command → List (Option Value)
+none_known cs = map (λ c. None) cs
+
+module _ (m : Source) (answers : Answers) (fails : Fails) where
+  -- a reply to the call of a command with these results
+  pub record IsRealReply (results : List (Option Value)) (c : Command) (r : Reply) : Type 0 where
+    pub reply : IsReply m answers fails c (real_call m results c) r
+
+  -- the replies of one part, where these results are known before it
+  abbrev pub PartRuns : List (Option Value) → List Command → List Reply → Type 0
+  PartRuns known [] rs = rs ≡ []
+  PartRuns known (c ∷ cs) [] = ⊥
+  PartRuns known (c ∷ cs) (Answered v ∷ rs) =
+      IsReply m answers fails c (real_call m known c) (Answered v) × PartRuns (known ++ Some v ∷ []) cs rs
+  PartRuns known (c ∷ cs) (Misfit ∷ rs) = IsReply m answers fails c (real_call m known c) Misfit × (rs ≡ none_run cs)
+  PartRuns known (c ∷ cs) (Failed ∷ rs) = IsReply m answers fails c (real_call m known c) Failed × (rs ≡ none_run cs)
+  PartRuns known (c ∷ cs) (NotRun ∷ rs) = ⊥
+
+  -- the replies of branches: each goes by what is known before all, and by no result of another branch
+  abbrev pub BranchesRun : List (Option Value) → List (List Command) → List (List Reply) → Type 0
+  BranchesRun known [] hs = hs ≡ []
+  BranchesRun known (b ∷ bs) [] = ⊥
+  BranchesRun known (b ∷ bs) (h ∷ hs) = PartRuns known b h × BranchesRun (known ++ none_known b) bs hs
+
+-- why branches may not be run
+abbrev pub IsBranchFault : List (List Command) → DriveFault → Type 0
+IsBranchFault bs ResetFailed = ⊥
+IsBranchFault bs NoThread = 0 < length (joined bs)
+IsBranchFault bs NoMemory = ⊤

@@ -1,0 +1,55 @@
+//! Two flags by which two callers see each other.
+use std::sync::atomic::{AtomicBool, Ordering};
+use std::thread;
+
+/// How often a call looks for the other flag.
+const LOOKS: u32 = 10_000_000;
+
+/// One of two callers that meet.
+#[derive(Clone, Copy, Debug, PartialEq, Eq, Drop)]
+pub enum Side {
+    First,
+    Second,
+}
+
+/// A flag for each side.
+#[derive(Drop)]
+pub struct Flags {
+    first: AtomicBool,
+    second: AtomicBool,
+}
+
+impl Flags {
+    /// Two flags that are not raised.
+    pub fn new() -> Flags {
+        Flags {
+            first: AtomicBool::new(false),
+            second: AtomicBool::new(false),
+        }
+    }
+
+    /// Lowers both flags.
+    pub fn lower(&self) {
+        self.first.store(false, Ordering::SeqCst);
+        self.second.store(false, Ordering::SeqCst);
+    }
+
+    /// Raises the flag of a side, and looks up to 10,000,000 turns for the other, yielding after each: whether it saw it.
+    pub fn meet(&self, side: Side) -> bool {
+        match side {
+            Side::First => meets(&self.first, &self.second),
+            Side::Second => meets(&self.second, &self.first),
+        }
+    }
+}
+
+fn meets(mine: &AtomicBool, other: &AtomicBool) -> bool {
+    mine.store(true, Ordering::SeqCst);
+    for _ in 0..LOOKS {
+        if other.load(Ordering::SeqCst) {
+            return true;
+        }
+        thread::yield_now();
+    }
+    false
+}
