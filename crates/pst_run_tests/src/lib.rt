@@ -1,0 +1,9 @@
+//! Tests that start threads: cases driven on systems.
+#![tactic(auto)]
+
+#[cfg(test)]
+mod driving;
+#[cfg(test)]
+mod hostile;
+#[cfg(test)]
+mod models;

@@ -1,0 +1,25 @@
+//! Models that the rows start from.
+
+/// A counter: `inc` adds one and answers the new number, `get` answers it.
+pub const COUNTER: &str = "(model counter (state int) (init 0)
+  (command (list call (call inc) (call get)))
+  (op inc () int (pre true) (next (+ s 1)) (post (= r (+ s 1))))
+  (op get () int (pre true) (next s) (post (= r s))))";
+
+/// Handles that are opened, read and closed.
+pub const REGISTRY: &str = "(model registry (state (list (ref int))) (init (list (ref int)))
+  (fun open ((xs (list (ref int))) (h (ref int))) bool
+    (< 0 (len (for ((in x xs) (when (same x h))) x))))
+  (command (++ (list call (call new))
+               (for ((in x s)) (call close x))))
+  (op new () int (pre true)
+    (next (++ s (list (ref int) r))) (post true))
+  (op close ((h (ref int))) bool (pre (open s h))
+    (next (for ((in x s) (when (not (same x h)))) x)) (post r))
+  (op read ((h (ref int))) int (pre (open s h))
+    (next s) (post (= r (deref h)))))";
+
+/// Calls that are true where they meet.
+pub const MEETING: &str = "(model meet (state int) (init 0)
+  (command (list call (call meet 1)))
+  (op meet ((n int)) bool (pre true) (next s) (post r)))";
