@@ -24,7 +24,10 @@ fn bytes_of<R: Files + Input + AllocGlobal>(rt: &R, file: Option<&str>) -> io::R
 
 /// The bytes of the file, or of standard input, at most one more than a file may have. `NoFile`: it cannot be opened or read. `NoMemory`: there is none for
 /// them.
-pub fn of<R: Files + Input + AllocGlobal>(rt: &R, file: Option<&str>) -> Result<Vec<u8>, Absence> {
+pub fn of<R: Files + Input + AllocGlobal>(
+    rt: &R,
+    file: Option<&str>,
+) -> Result<Vec<u8>, Absence<'static>> {
     match bytes_of(rt, file) {
         Ok(bytes) => Ok(bytes),
         Err(error) => {

@@ -1,3 +1,4 @@
 pub mod Judging
 pub mod OneOutput
 pub mod Printing
+pub mod Telling

@@ -1,28 +1,50 @@
-//! Inputs that cannot be read.
+//! Inputs that cannot be read, and systems that there are none of.
 ghost use Rattle.std.specs.Prelude.{◌≡◌, false};
 ghost use Rattle.pst_cli.specs.Absent.{absence_line, absence_status};
 ghost use Rattle.pst_cli.specs.Sending.{Sends};
+ghost use Rattle.pst_sexpr.specs.Writing.{joined};
 
 use crate::output::send;
 use crate::status::Status;
-use pst_sexpr::Sink;
+use pst_sexpr::{Sink, put_each};
 
-/// Why there is no input.
+/// Why there is nothing to begin with.
 #[derive(Clone, Copy, Debug, PartialEq, Eq, Drop)]
-pub enum Absence {
+pub enum Absence<'a> {
     /// The file cannot be opened or read.
     NoFile,
-    /// There is no memory for its bytes.
+    /// There is no system of that name.
+    NoSystem(&'a str),
+    /// There is no memory for the bytes of the file, or for the system.
     NoMemory,
 }
 
-/// Writes `refused file` or `refused memory`, and answers the status.
-pub fn refuse_text<W: Sink>(why: Absence, sink: &mut W) -> Status
+/// Writes the parts of a refusal, and answers its status. `Lost` where the writer failed.
+fn send_parts<W: Sink>(parts: &[&[u8]], sink: &mut W) -> Status
     requires { W.broken sink.old ≡ false }
-    ensures { Sends (W.taken sink.old) (W.taken sink.new) (W.broken sink.new) result (absence_line why) (absence_status why) }
+    ensures { Sends (W.taken sink.old) (W.taken sink.new) (W.broken sink.new) result (joined parts.now) Status.Refused }
+{
+    match put_each(parts, sink) {
+        Ok(()) => Status::Refused,
+        Err(_) => Status::Lost,
+    }
+}
+
+/// Writes `refused file`, `refused system NAME` or `refused memory`, and answers the status.
+pub fn refuse_text<W: Sink>(why: Absence<'_>, sink: &mut W) -> Status
+    requires { W.broken sink.old ≡ false }
+    ensures { Sends (W.taken sink.old) (W.taken sink.new) (W.broken sink.new) result (absence_line why.entry) (absence_status why.entry) }
 {
     match why {
         Absence::NoFile => send(b"refused file\n", Status::Refused, sink),
+        Absence::NoSystem(name) => {
+            let parts = [
+                b"refused system ".as_slice(),
+                name.as_bytes(),
+                b"\n".as_slice(),
+            ];
+            send_parts(&parts, sink)
+        }
         Absence::NoMemory => send(b"refused memory\n", Status::Lost, sink),
     }
 }

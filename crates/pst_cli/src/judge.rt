@@ -19,7 +19,7 @@ use pst_sexpr::{Sink, Tree};
 use std::alloc::{AllocError, Global};
 
 /// The runs that trees spell, or why the first refused one is refused.
-fn runs_in(
+pub fn runs_in(
     alloc: Global,
     typed: &Typed,
     trees: &[Tree],
@@ -55,7 +55,7 @@ fn judge_all<C: Callbacks>(
 }
 
 /// Whether the item is explained or valid.
-fn is_good(judged: &Judged) -> bool
+pub fn is_good(judged: &Judged) -> bool
     ensures { result ≡ is_good judged.now }
 {
     match judged {
@@ -82,7 +82,7 @@ fn status_of(all: &[Judged]) -> Status
 }
 
 /// `NUMBER VERDICT`.
-fn item_line(alloc: Global, number: usize, judged: &Judged) -> Result<String, AllocError>
+pub fn item_line(alloc: Global, number: usize, judged: &Judged) -> Result<String, AllocError>
     ensures { IfOk result (λ line. string_bytes line ≡ item_line number judged.now) }
 {
     let verdict = judged.text(alloc)?;
@@ -105,7 +105,7 @@ fn item_lines(alloc: Global, all: &[Judged]) -> Result<String, AllocError>
 }
 
 /// `refused run R command C KIND`.
-fn run_line(alloc: Global, fault: &RunFault) -> Result<String, AllocError>
+pub fn run_line(alloc: Global, fault: &RunFault) -> Result<String, AllocError>
     ensures { IfOk result (λ line. string_bytes line ≡ run_line fault.now) }
 {
     format!(in alloc; "refused run {fault}\n")

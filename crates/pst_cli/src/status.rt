@@ -15,7 +15,7 @@ pub enum Status {
 
 impl Status {
     ghost use Rattle.std.specs.Prelude.{◌≡◌};
-    ghost use Rattle.pst_cli.specs.Status.{code_of};
+    ghost use Rattle.pst_cli.specs.Status.{code_of, or_worse};
 
     /// The exit status of the process.
     pub fn code(self) -> u8
@@ -26,6 +26,17 @@ impl Status {
             Status::Failed => 1,
             Status::Refused => 2,
             Status::Lost => 3,
+        }
+    }
+
+    /// Of two endings the one with the greater code.
+    pub fn or_worse(self, other: Status) -> Status
+        ensures { result ≡ or_worse self other }
+    {
+        if self.code() < other.code() {
+            other
+        } else {
+            self
         }
     }
 }

@@ -94,7 +94,10 @@ fn a_refused_call_ends_its_branch(rt: HostRuntime) -> Result<(), Fail> {
     let mut no_get: BoxedSystem = Box::new(alloc, NoGet::new())?;
     let item =
         "(run (prefix (inc)) (left (get) (inc)) (right (inc)) (replies (1) (failed not-run) (2)))";
-    assert!(rt; is_driven_so(&rt, alloc, COUNTER, item, &mut no_get) == Some(true));
+    // driven twice, since each drive resets the system
+    for _ in 0..2u8 {
+        assert!(rt; is_driven_so(&rt, alloc, COUNTER, item, &mut no_get) == Some(true));
+    }
     Ok(())
 }
 

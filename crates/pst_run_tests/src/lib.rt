@@ -7,3 +7,5 @@ mod driving;
 mod hostile;
 #[cfg(test)]
 mod models;
+#[cfg(test)]
+mod samples;

@@ -32,6 +32,8 @@ mod printed;
 #[cfg(test)]
 mod refusals;
 #[cfg(test)]
+mod renumbered;
+#[cfg(test)]
 mod rows;
 #[cfg(test)]
 mod trees;

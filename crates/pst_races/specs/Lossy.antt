@@ -1,0 +1,14 @@
+-- What the counter answers, and with which fault its calls may end.
+use Rattle.std.specs.Prelude.{◌≡◌, ℤ}
+use Rattle.pst_system.specs.declared.call.CallFault.{CallFault}
+use Rattle.pst_system.specs.declared.call.CallFault.TheVariants.{Refused}
+use Rattle.pst_value.specs.declared.value.Value.{Value}
+use Rattle.pst_value.specs.declared.value.Value.TheVariants as form
+
+-- the value is an integer
+abbrev pub IsInt : Value → Type 0
+IsInt v = (n : ℤ) × (v ≡ form.Int n)
+
+-- the call is refused
+abbrev pub IsRefused : CallFault → Type 0
+IsRefused f = f ≡ Refused

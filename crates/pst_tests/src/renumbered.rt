@@ -1,0 +1,30 @@
+//! Values with new numbers.
+
+use pst_items::{Boxed, Items};
+use pst_renumber::renumber_value;
+use pst_value::Value;
+use std::alloc::{AllocError, Global};
+use std::test::Fail;
+
+/// A variable, a reference to a variable, a call with a variable, and a variable of no command.
+fn named(alloc: Global, numbers: [u32; 4]) -> Result<Value, AllocError> {
+    let [first, second, third, fourth] = numbers;
+    let mut args = Items::new(alloc);
+    args.push(Value::Var(third))?;
+    let mut parts = Items::new(alloc);
+    parts.push(Value::Var(first))?;
+    parts.push(Value::Ref(second, Boxed::new(alloc, Value::Var(first))?))?;
+    parts.push(Value::Call(0, args))?;
+    parts.push(Value::Var(fourth))?;
+    Ok(Value::List(parts))
+}
+
+#[test]
+fn values_are_renumbered_at_every_depth(rt: HostRuntime) -> Result<(), Fail> {
+    let alloc = rt.alloc();
+    let value = named(alloc, [1, 2, 3, 9])?;
+    let new = renumber_value(alloc, &value, &[3, 1, 2])?;
+    assert!(rt; new == named(alloc, [3, 1, 2, 9])?);
+    assert!(rt; renumber_value(alloc, &new, &[])? == new);
+    Ok(())
+}
