@@ -1,0 +1,64 @@
+#!/usr/bin/env bash
+# Refuses each growth of memory of the program in turn. The answer has to be the one with ample memory, or want of memory: `refused memory`, or an item
+# that is lost for it (a thread too needs memory to be started). Prints how often each came, and any other answer, with which it ends with status 1. The gate does not run it; it needs a C compiler.
+set -euo pipefail
+top="$(cd "$(dirname "$0")/.." && pwd)"
+(cd "$top/crates/pst" && rt run -- check "$top/examples/counter.model" > /dev/null)
+program="$top/crates/pst/out/pst"
+room="$(mktemp -d)"
+trap 'rm -rf "$room"' EXIT
+
+# `malloc` and `realloc` that fail the time that REFUSE gives.
+cat > "$room/refuse.c" <<'C'
+#include <stdatomic.h>
+#include <stddef.h>
+#include <stdlib.h>
+void *__libc_malloc(size_t);
+void *__libc_realloc(void *, size_t);
+static atomic_long count;
+static long refused;
+__attribute__((constructor)) static void begin(void) {
+  const char *word = getenv("REFUSE");
+  refused = word ? atol(word) : 0;
+  atomic_store(&count, 0);
+}
+static int is_refused(void) { return refused && atomic_fetch_add(&count, 1) + 1 == refused; }
+void *malloc(size_t size) { return is_refused() ? NULL : __libc_malloc(size); }
+void *realloc(void *old, size_t size) { return is_refused() ? NULL : __libc_realloc(old, size); }
+C
+cc -O1 -shared -fPIC -o "$room/refuse.so" "$room/refuse.c"
+
+{ cat "$top/examples/counter.model"; echo '(run (prefix (inc)) (left (inc) (get)) (right (inc)) (replies (1) (2 3) (3)))'; echo '(case (prefix) (left (get)) (right (get)))'; } > "$room/judged"
+{ cat "$top/examples/counter.model"; echo '(case (prefix (inc)) (left (get) (get)) (right (get)))'; } > "$room/driven"
+
+# Refuses each growth of one call of the program in turn.
+refuse_each() {
+  local wanted answer same=0 refused=0 turn
+  wanted="$("$program" "$@" || true)"
+  for turn in $(seq 1 100000); do
+    answer="$(REFUSE=$turn LD_PRELOAD="$room/refuse.so" "$program" "$@" 2> "$room/errors" || true)"
+    if [ "$answer" = "$wanted" ]; then
+      same=$((same + 1))
+      # Behind its last growth nothing is refused: 25 such answers in turn are the end.
+      last=$((last + 1))
+      if [ "$last" -ge 25 ]; then break; fi
+    else
+      last=0
+      case "$answer" in
+        'refused memory' | '1 lost NoMemory' | '1 lost NoThread') refused=$((refused + 1)) ;;
+        '') if grep -qi memory "$room/errors"; then refused=$((refused + 1)); else echo "growth $turn of $*: nothing"; failed=1; fi ;;
+        *) echo "growth $turn of $*: $answer"; failed=1 ;;
+      esac
+    fi
+  done
+  echo "$1: want of memory $refused times"
+}
+
+failed=0
+last=0
+refuse_each check "$top/examples/counter.model"
+last=0
+refuse_each judge "$room/judged"
+last=0
+refuse_each run counter "$room/driven"
+exit "$failed"
