@@ -1,11 +1,6 @@
 #!/usr/bin/env bash
 # Times of `pst`, in milliseconds a run, each the mean of several runs of the built program. No test asserts any of them.
-set -euo pipefail
-top="$(cd "$(dirname "$0")/.." && pwd)"
-(cd "$top/crates/pst" && rt run -- check "$top/examples/counter.model" > /dev/null)
-program="$top/crates/pst/out/pst"
-room="$(mktemp -d)"
-trap 'rm -rf "$room"' EXIT
+source "$(dirname "$0")/program.sh"
 
 counter='(model counter (state int) (init 0)
   (command (list call (call inc) (call get)))

@@ -1,12 +1,7 @@
 #!/usr/bin/env bash
 # Refuses each growth of memory of the program in turn. The answer has to be the one with ample memory, or want of memory: `refused memory`, or an item
 # that is lost for it (a thread too needs memory to be started). Prints how often each came, and any other answer, with which it ends with status 1. The gate does not run it; it needs a C compiler.
-set -euo pipefail
-top="$(cd "$(dirname "$0")/.." && pwd)"
-(cd "$top/crates/pst" && rt run -- check "$top/examples/counter.model" > /dev/null)
-program="$top/crates/pst/out/pst"
-room="$(mktemp -d)"
-trap 'rm -rf "$room"' EXIT
+source "$(dirname "$0")/program.sh"
 
 # `malloc` and `realloc` that fail the time that REFUSE gives.
 cat > "$room/refuse.c" <<'C'
@@ -35,6 +30,7 @@ cc -O1 -shared -fPIC -o "$room/refuse.so" "$room/refuse.c"
 refuse_each() {
   local wanted answer same=0 refused=0 turn
   wanted="$("$program" "$@" || true)"
+  if [ "$wanted" = 'refused memory' ]; then echo "$*: want of memory where there is some"; failed=1; fi
   for turn in $(seq 1 100000); do
     answer="$(REFUSE=$turn LD_PRELOAD="$room/refuse.so" "$program" "$@" 2> "$room/errors" || true)"
     if [ "$answer" = "$wanted" ]; then
