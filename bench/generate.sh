@@ -2,8 +2,8 @@
 # Times of generating 1,000 cases of 16 commands and two branches, in milliseconds, with the steps that their validity took. No test asserts any of them.
 set -euo pipefail
 top="$(cd "$(dirname "$0")/.." && pwd)"
-(cd "$top/crates/pst_cases" && rt run > /dev/null)
-program="$top/crates/pst_cases/out/pst_cases"
+(cd "$top/crates/pst_bench_generate" && rt run > /dev/null)
+program="$top/crates/pst_bench_generate/out/pst_bench_generate"
 
 for model in counter registry; do
   begin="$(date +%s%N)"

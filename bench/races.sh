@@ -3,7 +3,7 @@
 # and where two threads call at once. Three turns, since the counts differ. No test asserts any of them.
 set -euo pipefail
 top="$(cd "$(dirname "$0")/.." && pwd)"
-(cd "$top/crates/pst_races" && rt run > /dev/null)
-program="$top/crates/pst_races/out/pst_races"
+(cd "$top/crates/pst_bench_races" && rt run > /dev/null)
+program="$top/crates/pst_bench_races/out/pst_bench_races"
 
 for _ in 1 2 3; do "$program" run; done

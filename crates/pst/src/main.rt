@@ -4,11 +4,13 @@
 ghost use Rattle.std.specs.Prelude.{◌≡◌, false};
 
 mod input;
+mod words;
 
-use clap::{Arg, ArgMatches, Command};
-use pst_cli::{Absence, Status, check_text, judge_text, refuse_text, run_text};
+use clap::ArgMatches;
+use clap::error::ErrorKind;
+use pst_cli::{Absence, KnownSystem, Status, check_text, judge_text, refuse_text, run_text};
 use pst_samples::{Counter, Meet, Queue, Racy, Registry, Stuck};
-use pst_sexpr::{Out, Sink};
+use pst_sink::{Out, Sink};
 use pst_system::BoxedSystem;
 use std::alloc::{AllocError, Global};
 use std::process::ExitCode;
@@ -17,72 +19,21 @@ use std::sync::Wait;
 use std::thread::Threads;
 use std::{env, io};
 
-/// A word of the program whose input is a file.
-fn with_file<'a>(
-    alloc: Global,
-    name: &'a str,
-    about: &'a str,
-    file: &'a str,
-) -> Result<Command<'a>, AllocError> {
-    let file = Arg::new(alloc, "FILE").help(file);
-    Command::new(alloc, name).about(about).arg(file)
-}
+/// The system of `pst run`: none where the words name none that is known.
+type System = Result<Option<BoxedSystem>, AllocError>;
 
-/// `run`, with the name of a system.
-fn run_command<'a>(alloc: Global) -> Result<Command<'a>, AllocError> {
-    let system = Arg::new(alloc, "SYSTEM")
-        .required(true)
-        .help("counter, racy, stuck, registry, queue or meet");
-    let file = Arg::new(alloc, "FILE").help(
-        "the model and the items; standard input where it is absent",
-    );
-    Command::new(alloc, "run")
-        .about(
-            "drives the cases behind a model on a system, once each: the runs and their verdicts",
-        )
-        .arg(system)?
-        .arg(file)
-}
-
-/// The words that the program takes.
-fn command<'a>(alloc: Global) -> Result<Command<'a>, AllocError> {
-    let check = with_file(
-        alloc,
-        "check",
-        "checks a model: `ok NAME`, or the refusal",
-        "the model; standard input where it is absent",
-    )?;
-    let judge = with_file(
-        alloc,
-        "judge",
-        "judges the cases and recorded runs behind a model: a line for each",
-        "the model and the items; standard input where it is absent",
-    )?;
-    let run = run_command(alloc)?;
-    Command::new(alloc, "pst")
-        .about("a tester of systems against models")
-        .subcommand_required(true)
-        .arg_required_else_help(true)
-        .subcommand(check)?
-        .subcommand(judge)?
-        .subcommand(run)
-}
-
-/// The system that was made for `run`: none where there is none of the name.
-type Made = Result<Option<BoxedSystem>, AllocError>;
-
-/// Drives the items of the input on the system, where it was made.
+/// Drives the items of the input on the system, if there is one.
 fn drive<W: Sink, R: Threads + Wait>(
     rt: &R,
     alloc: Global,
     name: &str,
-    made: Made,
+    system: System,
     input: &[u8],
     out: &mut W,
 ) -> Status
     requires { W.broken out.old ≡ false }
 {
-    match made {
+    match system {
         Ok(Some(mut system)) => run_text(rt, alloc, input, &mut system, out),
         Ok(None) => refuse_text(Absence::NoSystem(name), out),
         Err(AllocError) => refuse_text(Absence::NoMemory, out),
@@ -93,7 +44,7 @@ fn drive<W: Sink, R: Threads + Wait>(
 fn run<R: Runtime + AllocGlobal + Threads + Wait>(
     rt: &R,
     matches: &ArgMatches<'_>,
-    made: Made,
+    system: System,
 ) -> Status {
     let Some((word, words)) = matches.subcommand() else {
         return Status::Refused;
@@ -106,59 +57,96 @@ fn run<R: Runtime + AllocGlobal + Threads + Wait>(
     };
     let input = bytes.as_slice();
     match (word, words.get_str("SYSTEM")) {
-        ("run", Some(name)) => drive(rt, alloc, name, made, input, &mut out),
+        ("run", Some(name)) => drive(rt, alloc, name, system, input, &mut out),
         ("judge", _) => judge_text(alloc, input, &mut out),
         _ => check_text(alloc, input, &mut out),
     }
 }
 
-/// The name of the system that the words ask for.
-fn system_name<'a>(matches: &'a ArgMatches<'_>) -> Option<&'a str> {
+/// The known system that the words of `run` name.
+fn known_system(matches: &ArgMatches<'_>) -> Option<KnownSystem> {
     let (word, words) = matches.subcommand()?;
-    if word == "run" {
-        words.get_str("SYSTEM")
-    } else {
-        None
+    if word != "run" {
+        return None;
+    }
+    KnownSystem::named(words.get_str("SYSTEM")?)
+}
+
+/// Writes `refused memory`, and answers the status.
+fn refuse_memory<R: Runtime>(rt: &R) -> Status {
+    refuse_text(Absence::NoMemory, &mut Out::new(io::writer(rt)))
+}
+
+/// The words that the program was started with. Where they cannot be had, the status that the program ends with.
+fn started_with<R: Runtime + AllocGlobal>(rt: &R) -> Result<Vec<String>, Status> {
+    let words = match env::args(rt) {
+        Ok(words) => words,
+        Err(error) if error.kind() == io::ErrorKind::OutOfMemory => return Err(refuse_memory(rt)),
+        Err(_) => {
+            return match eprintln!(rt; "error: a word is not UTF-8") {
+                Ok(()) => Err(Status::Refused),
+                Err(_) => Err(Status::Lost),
+            };
+        }
+    };
+    match words.collect(rt.alloc()) {
+        Ok(words) => Ok(words),
+        Err(_) => Err(refuse_memory(rt)),
     }
 }
 
-fn main(rt: HostRuntime) -> anyhow::Result<ExitCode> {
+/// Prints help, or what is wrong with the words, and answers the status.
+fn explain<R: Runtime>(rt: &R, error: &clap::Error) -> Status {
+    if error.kind() == ErrorKind::OutOfMemory {
+        return refuse_memory(rt);
+    }
+    match error.print(rt) {
+        Err(_) => Status::Lost,
+        Ok(()) if error.use_stderr() => Status::Refused,
+        Ok(()) => Status::Accepted,
+    }
+}
+
+fn main(rt: HostRuntime) -> ExitCode {
     let alloc = rt.alloc();
-    let words: Vec<String> = env::args(&rt)?.collect(alloc)?;
-    let matches = match command(alloc)?.try_get_matches_from(words.as_slice()) {
+    let started = match started_with(&rt) {
+        Ok(started) => started,
+        Err(status) => return ExitCode::from(status.code()),
+    };
+    let Ok(command) = words::command(alloc) else {
+        return ExitCode::from(refuse_memory(&rt).code());
+    };
+    let matches = match command.try_get_matches_from(started.as_slice()) {
         Ok(matches) => matches,
-        Err(error) => {
-            error.print(&rt)?;
-            return Ok(ExitCode::from(error.exit_code() as u8));
-        }
+        Err(error) => return ExitCode::from(explain(&rt, &error).code()),
     };
     // A boxed system is made here, since a function cannot hand one out.
-    let made: Made = match system_name(&matches) {
-        Some("counter") => match Box::new(alloc, Counter::new(rt)) {
+    let system: System = match known_system(&matches) {
+        Some(KnownSystem::Counter) => match Box::new(alloc, Counter::new(rt)) {
             Ok(system) => Ok(Some(system)),
             Err(_) => Err(AllocError),
         },
-        Some("racy") => match Box::new(alloc, Racy::new()) {
+        Some(KnownSystem::Racy) => match Box::new(alloc, Racy::new()) {
             Ok(system) => Ok(Some(system)),
             Err(_) => Err(AllocError),
         },
-        Some("stuck") => match Box::new(alloc, Stuck) {
+        Some(KnownSystem::Stuck) => match Box::new(alloc, Stuck) {
             Ok(system) => Ok(Some(system)),
             Err(_) => Err(AllocError),
         },
-        Some("registry") => match Box::new(alloc, Registry::new(rt, alloc)) {
+        Some(KnownSystem::Registry) => match Box::new(alloc, Registry::new(rt, alloc)) {
             Ok(system) => Ok(Some(system)),
             Err(_) => Err(AllocError),
         },
-        Some("queue") => match Box::new(alloc, Queue::new(rt, alloc)) {
+        Some(KnownSystem::Queue) => match Box::new(alloc, Queue::new(rt, alloc)) {
             Ok(system) => Ok(Some(system)),
             Err(_) => Err(AllocError),
         },
-        Some("meet") => match Box::new(alloc, Meet::new()) {
+        Some(KnownSystem::Meet) => match Box::new(alloc, Meet::new()) {
             Ok(system) => Ok(Some(system)),
             Err(_) => Err(AllocError),
         },
-        _ => Ok(None),
+        None => Ok(None),
     };
-    Ok(ExitCode::from(run(&rt, &matches, made).code()))
+    ExitCode::from(run(&rt, &matches, system).code())
 }

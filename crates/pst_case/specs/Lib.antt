@@ -1,5 +1,11 @@
-pub mod Banned
-pub mod FaultName
-pub mod Matches
-pub mod Refusal
+-- what the public contracts cite
 pub mod Shape
+pub mod OfModel
+pub mod Matches
+pub mod Recorded
+pub mod Renumber
+pub mod Laws
+pub mod Refusal
+pub mod FaultName
+-- what the contracts within the crate cite
+pub mod Banned

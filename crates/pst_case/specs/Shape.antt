@@ -6,7 +6,7 @@ use Rattle.pst_case.specs.declared.case.Command.{Command}
 use Rattle.pst_case.specs.declared.fault.CaseFault.{CaseFault}
 use Rattle.pst_case.specs.declared.fault.CaseFaultKind.{CaseFaultKind}
 use Rattle.pst_case.specs.declared.fault.CaseFaultKind.TheVariants.{UnknownOp, BadArgument, ForwardVar, CrossVar, OverLimit}
-use Rattle.pst_eval.specs.Callbacks.{args_fit}
+use Rattle.pst_rules.specs.Fitting.{args_fit}
 use Rattle.pst_model.specs.Parts.{operation_of}
 use Rattle.pst_model.specs.declared.model.Op.{Op}
 use Rattle.pst_model.specs.declared.model.Source.{Source}
@@ -51,9 +51,13 @@ abbrev pub joined : {A : Type 0} → List (List A) → List A
 joined [] = []
 joined (xs ∷ xss) = xs ++ joined xss
 
--- all commands, in the order of their numbers from 1
+-- how many commands stand before the suffix: those of the prefix and of all branches
+abbrev pub before_suffix : Case → ℕ
+before_suffix c = length c.prefix + length (joined c.branches)
+
+-- all commands, in the order of their numbers from 1: the prefix, the branches in turn, the suffix
 abbrev pub commands_of : Case → List Command
-commands_of c = c.prefix ++ joined c.branches
+commands_of c = c.prefix ++ joined c.branches ++ c.suffix
 
 abbrev pub type_in : Option Op → Ty
 type_in None = ty.Call
@@ -77,13 +81,15 @@ abbrev pub is_known : Option Op → Bool
 is_known None = false
 is_known (Some o) = true
 
--- over 64 commands in the prefix, 8 in a branch, 16 in all branches, or another number of branches than two to four
+-- over 64 commands in the prefix, 8 in a branch, 16 in all branches, 8 in the suffix, or another number of branches than
+-- two to four
 abbrev pub over_limit : Case → Bool
 over_limit c =
     not (nat_le (length c.prefix) 64)
     || not (list_all (λ b. nat_le (length b) 8) c.branches)
     || not (nat_le (length (joined c.branches)) 16)
     || not (nat_le 2 (length c.branches) && nat_le (length c.branches) 4)
+    || not (nat_le (length c.suffix) 8)
 
 -- variable 0, or that of a command that is not earlier
 abbrev pub is_forward : ℕ → ℕ → Bool
@@ -93,7 +99,8 @@ is_forward number n = (n == 0) || nat_le number n
 abbrev pub is_cross : (prefix before : ℕ) → ℕ → Bool
 is_cross prefix before n = nat_lt prefix n && nat_le n before
 
--- what is wrong with the command of a number, where so many commands stand in the prefix and so many before its part
+-- What is wrong with the command of a number, where so many commands stand in the prefix, and so many before the command's
+-- branch. For a command of the prefix or of the suffix the second number is 0, so that no variable crosses.
 abbrev pub command_fault : Source → List Ty → (prefix before number : ℕ) → Command → Option CaseFaultKind
 command_fault m vars prefix before number c =
     if not (is_known (operation_of m.items c.op)) then Some UnknownOp
@@ -110,7 +117,8 @@ at_command number (Some k) = Some (record { kind = k; command = number })
 abbrev pub part_fault : Source → List Ty → (prefix before number : ℕ) → List Command → Option CaseFault
 part_fault m vars prefix before number [] = None
 part_fault m vars prefix before number (c ∷ cs) =
-    or_else (at_command number (command_fault m vars prefix before number c)) (part_fault m vars prefix before (number + 1) cs)
+    or_else (at_command number (command_fault m vars prefix before number c))
+    (part_fault m vars prefix before (number + 1) cs)
 
 -- the first fault of branches before which so many commands stand
 abbrev pub branches_fault : Source → List Ty → (prefix before : ℕ) → List (List Command) → Option CaseFault
@@ -118,9 +126,14 @@ branches_fault m vars prefix before [] = None
 branches_fault m vars prefix before (b ∷ bs) =
     or_else (part_fault m vars prefix before (before + 1) b) (branches_fault m vars prefix (before + length b) bs)
 
+-- the first fault of the commands, by their numbers: the prefix, the branches in turn, the suffix
 abbrev pub commands_fault : Source → Case → Option CaseFault
 commands_fault m c =
-    or_else (part_fault m (result_types m c) (length c.prefix) 0 1 c.prefix) (branches_fault m (result_types m c) (length c.prefix) (length c.prefix) c.branches)
+    let vars = result_types m c in
+    let prefix = length c.prefix in
+    or_else (part_fault m vars prefix 0 1 c.prefix)
+    (or_else (branches_fault m vars prefix prefix c.branches)
+    (part_fault m vars prefix 0 (before_suffix c + 1) c.suffix))
 
 -- the first fault of a case over a model: its limits, and then each command by its number
 unfoldable pub shape_fault : Source → Case → Option CaseFault
@@ -129,7 +142,3 @@ shape_fault m c = if over_limit c then Some (record { kind = OverLimit; command 
 -- the case has the shape of the model
 abbrev pub IsShaped : Source → Case → Type 0
 IsShaped m c = shape_fault m c ≡ None
-
--- the case has the shape of some model
-abbrev pub HasShape : Case → Type 0
-HasShape c = (m : Source) × IsShaped m c

@@ -2,9 +2,12 @@
 ghost use Rattle.std.specs.Prelude.{◌≡◌, IfOk, None};
 
 use pst_items::Items;
+use pst_model::Source;
 use pst_value::Value;
 use std::alloc::{AllocError, Global};
+use std::fmt::{Debug, Error, Formatter, Write};
 use std::marker::Model;
+use std::snapshot::Snapshot;
 
 /// A call of an operation, by its number from 0, with arguments that may name the results of earlier commands.
 #[derive(Debug, PartialEq, Eq, Drop)]
@@ -13,17 +16,20 @@ pub struct Command {
     pub args: Items<Value>,
 }
 
-/// A symbolic test case: a prefix, and branches that run at once after it. Commands are numbered from 1: the prefix, then each branch in turn.
+/// A symbolic test case: a prefix that runs first, branches that run at once after it, and a suffix that runs when all
+/// branches have ended. Commands are numbered from 1: the prefix, then each branch in turn, then the suffix.
 #[derive(Debug, PartialEq, Eq, Drop)]
 pub struct Case {
     pub prefix: Items<Command>,
     pub branches: Items<Items<Command>>,
+    pub suffix: Items<Command>,
 }
 
-/// A case that keeps the shape of some model: its limits, its variables, and the types of its arguments. Contracts see it as its case.
-#[derive(Debug, Drop)]
+/// A case that keeps the shape of a model: its limits, its variables, and the types of its arguments. Contracts see it as the model and the case.
+#[derive(Drop)]
 pub struct Shaped {
     case: Case,
+    model: Snapshot<Source>,
 }
 
 fn copy_values(alloc: Global, values: &[Value]) -> Result<Items<Value>, AllocError>
@@ -70,58 +76,68 @@ impl Case {
         Ok(Case {
             prefix: copy_commands(alloc, self.prefix.as_slice())?,
             branches,
+            suffix: copy_commands(alloc, self.suffix.as_slice())?,
         })
     }
 }
 
 impl Model for Shaped {
-    ghost use Rattle.std.specs.Coded.{codes};
-    ghost use Rattle.pst_case.specs.declared.case.Case.{Case};
-    ghost use Rattle.pst_case.specs.contracts.case.Case as coding;
-    ghost use Rattle.pst_case.specs.Shape.{HasShape};
+    ghost use Rattle.pst_case.specs.OfModel.{OfModel, of_model_code};
+    ghost use Rattle.pst_case.specs.Shape.{IsShaped};
 
-    ghost Value = { Case };
+    ghost Value = { OfModel };
 
-    ghost coded = { coding.the_row.coded };
+    ghost coded = { of_model_code };
 
-    ghost view = { λ s. s.case };
+    ghost view = { λ s. record { model = s.model.value; case = s.case } };
 
-    ghost invariant = { λ s. HasShape s.case };
+    ghost invariant = { λ s. IsShaped s.model.value s.case };
+}
+
+impl Debug for Shaped {
+    fn fmt<W: Write>(&self, f: &mut Formatter<W>) -> Result<(), Error> {
+        Debug::fmt(&self.case, f)
+    }
 }
 
 impl Shaped {
-    ghost use Rattle.pst_case.specs.Shape.{HasShape};
+    ghost use Rattle.pst_case.specs.Shape.{IsShaped};
 
-    /// Keeps a case that has the shape of some model.
-    pub fn new(case: Case) -> Shaped
-        requires { HasShape case }
-        ensures { result ≡ case }
+    /// Keeps a case that has the shape of the model.
+    pub fn new(model: &Source, case: Case) -> Shaped
+        requires { IsShaped model.now case }
+        ensures { result ≡ record { model = model.now; case = case } }
     {
-        Shaped { case }
+        Shaped {
+            case,
+            model: Snapshot::of(model),
+        }
     }
 
     /// The case.
     pub fn case(&self) -> &Case
-        ensures same { result.now ≡ self.now }
-        ensures shape { HasShape self.now }
+        ensures same { result.now ≡ self.now.case }
+        ensures shape { IsShaped self.now.model self.now.case }
     {
         &self.case
     }
 
     /// The case, out of its `Shaped`.
     pub fn into_case(self) -> Case
-        ensures { result ≡ self }
+        ensures { result ≡ self.case }
     {
-        let Shaped { case } = self;
+        let Shaped { case, model: _ } = self;
         case
     }
 
-    /// An equal shaped case.
-    pub fn copy(&self, alloc: Global) -> Result<Shaped, AllocError>
+    /// An equal shaped case. It takes the model, of which nothing is read: contracts alone keep it.
+    pub fn copy(&self, alloc: Global, model: &Source) -> Result<Shaped, AllocError>
+        requires { self.now.model ≡ model.now }
         ensures { IfOk result (λ copy. copy ≡ self.now) }
     {
         Ok(Shaped {
             case: self.case.copy(alloc)?,
+            model: Snapshot::of(model),
         })
     }
 }

@@ -3,6 +3,7 @@ ghost use Rattle.std.specs.Prelude.{◌≡◌, IfOk};
 
 use crate::case::Shaped;
 use pst_items::Items;
+use pst_model::Source;
 use pst_value::Value;
 use std::alloc::{AllocError, Global};
 
@@ -24,6 +25,7 @@ pub enum Reply {
 pub struct History {
     pub prefix: Items<Reply>,
     pub branches: Items<Items<Reply>>,
+    pub suffix: Items<Reply>,
 }
 
 /// A case, with what was recorded of it where it was run.
@@ -69,13 +71,15 @@ impl History {
         Ok(History {
             prefix: copy_replies(alloc, self.prefix.as_slice())?,
             branches,
+            suffix: copy_replies(alloc, self.suffix.as_slice())?,
         })
     }
 }
 
 impl Run {
-    /// An equal run.
-    pub fn copy(&self, alloc: Global) -> Result<Run, AllocError>
+    /// An equal run. It takes the model, of which nothing is read.
+    pub fn copy(&self, alloc: Global, model: &Source) -> Result<Run, AllocError>
+        requires { self.now.shaped.model ≡ model.now }
         ensures shaped { IfOk result (λ copy. copy.shaped ≡ self.now.shaped) }
         ensures history { IfOk result (λ copy. copy.history ≡ self.now.history) }
     {
@@ -84,7 +88,7 @@ impl Run {
             None => None,
         };
         Ok(Run {
-            shaped: self.shaped.copy(alloc)?,
+            shaped: self.shaped.copy(alloc, model)?,
             history,
         })
     }

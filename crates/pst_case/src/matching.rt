@@ -2,7 +2,7 @@
 ghost use Rattle.std.specs.Prelude.{◌≡◌, []};
 ghost use Rattle.pst_case.specs.Matches as spec;
 ghost use Rattle.pst_case.specs.Shape.{result_type};
-ghost use Rattle.pst_eval.specs.Callbacks.{fits_in};
+ghost use Rattle.pst_rules.specs.Fitting.{fits_in};
 ghost use Rattle.pst_rules.specs.WellTyped.{WellModel};
 ghost use Rattle.pst_value.specs.declared.ty.Ty.TheVariants as ty;
 
@@ -95,11 +95,12 @@ impl History {
     /// Whether it has as many replies as the case has commands in each part, and each value is of its operation's result type. Takes no memory.
     #[tactic(auto, unfolding(crate::specs::Matches::matches))]
     pub fn matches(&self, typed: &Typed, shaped: &Shaped) -> bool
-        ensures { result ≡ spec.matches typed.now shaped.now self.now }
+        ensures { result ≡ spec.matches typed.now shaped.now.case self.now }
     {
         let model = typed.source();
         let case = shaped.case();
         part_matches(model, case.prefix.as_slice(), self.prefix.as_slice())
             && branches_match(model, case.branches.as_slice(), self.branches.as_slice())
+            && part_matches(model, case.suffix.as_slice(), self.suffix.as_slice())
     }
 }

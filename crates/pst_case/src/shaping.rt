@@ -1,7 +1,7 @@
 //! Testing the shape of a case.
 ghost use Rattle.std.specs.Prelude.{◌≡◌, ◌<◌, ◌+◌, ◌^◌, ◌⊎◌, IfOk, IfErr, length, nat_le, Some, not, ◌||◌, ◌&&◌};
 ghost use Rattle.std.specs.List.{list_any, list_all};
-ghost use Rattle.pst_eval.specs.Callbacks.{args_fit};
+ghost use Rattle.pst_rules.specs.Fitting.{args_fit};
 ghost use Rattle.pst_model.specs.Parts.{operation_of};
 ghost use Rattle.pst_case.specs.Shape as spec;
 ghost use Rattle.pst_case.specs.Refusal.{no_memory};
@@ -18,13 +18,16 @@ use pst_value::Ty;
 use std::alloc::{AllocError, Global};
 
 /// The most commands of the prefix.
-const MAX_PREFIX: usize = 64;
+pub const MAX_PREFIX: usize = 64;
 
 /// The most commands of a branch.
-const MAX_BRANCH: usize = 8;
+pub const MAX_BRANCH: usize = 8;
 
 /// The most commands of all branches together.
-const MAX_TOGETHER: usize = 16;
+pub const MAX_TOGETHER: usize = 16;
+
+/// The most commands of the suffix.
+pub const MAX_SUFFIX: usize = 8;
 
 /// What the commands of a case are tested by.
 #[derive(Drop)]
@@ -74,7 +77,10 @@ fn is_over_limit(case: &Case) -> bool
     if !are_two_to_four(branches) {
         return true;
     }
-    !are_within(branches, MAX_TOGETHER)
+    if !are_within(branches, MAX_TOGETHER) {
+        return true;
+    }
+    case.suffix.len() > MAX_SUFFIX
 }
 
 /// Whether the arguments are not those of the operation, or hold a reference.
@@ -149,17 +155,33 @@ fn branches_fault(rules: &Rules<'_>, before: u32, branches: &[Items<Command>]) -
     }
 }
 
+/// How many commands the branches have together.
+fn joined_len(branches: &[Items<Command>]) -> u32
+    requires { length (spec.joined branches.now) < 2 ^ 32 }
+    ensures { result ≡ length (spec.joined branches.now) }
+{
+    let Some((branch, branches)) = branches.split_first() else {
+        return 0;
+    };
+    branch.len() as u32 + joined_len(branches)
+}
+
+/// The first fault of the commands of a case, by their numbers.
 fn commands_fault(rules: &Rules<'_>, case: &Case) -> Option<CaseFault>
     requires well { WellModel rules.now.model.now }
     requires prefix { rules.now.prefix ≡ length case.now.prefix }
-    requires few { length case.now.prefix + length (spec.joined case.now.branches) + 1 < 2 ^ 32 }
+    requires few { spec.before_suffix case.now + length case.now.suffix + 1 < 2 ^ 32 }
     requires typed { rules.now.vars.now ≡ spec.result_types rules.now.model.now case.now }
     ensures { result ≡ spec.commands_fault rules.now.model.now case.now }
 {
-    match part_fault(rules, 0, 1, case.prefix.as_slice()) {
-        Some(fault) => Some(fault),
-        None => branches_fault(rules, rules.prefix, case.branches.as_slice()),
+    if let Some(fault) = part_fault(rules, 0, 1, case.prefix.as_slice()) {
+        return Some(fault);
     }
+    if let Some(fault) = branches_fault(rules, rules.prefix, case.branches.as_slice()) {
+        return Some(fault);
+    }
+    let before = rules.prefix + joined_len(case.branches.as_slice());
+    part_fault(rules, 0, before + 1, case.suffix.as_slice())
 }
 
 #[tactic(auto, using(crate::proofs::Limits::limits), unfolding(crate::specs::Shape::shape_fault))]
@@ -184,11 +206,11 @@ fn first_fault(alloc: Global, model: &Source, case: &Case) -> Result<Option<Case
 
 /// A case that keeps the shape of the model. Where it does not, or memory is refused, the case comes back with its first fault.
 pub fn shape(alloc: Global, typed: &Typed, case: Case) -> Result<Shaped, (Case, CaseFault)>
-    ensures shaped { IfOk result (λ shaped. (shaped ≡ case) × spec.IsShaped typed.now case) }
+    ensures shaped { IfOk result (λ shaped. shaped ≡ record { model = typed.now; case = case }) }
     ensures refused { IfErr result (λ r. (r.0 ≡ case) × ((spec.shape_fault typed.now case ≡ Some r.1) ⊎ (r.1 ≡ no_memory))) }
 {
     match first_fault(alloc, typed.source(), &case) {
-        Ok(None) => Ok(Shaped::new(case)),
+        Ok(None) => Ok(Shaped::new(typed.source(), case)),
         Ok(Some(fault)) => Err((case, fault)),
         Err(AllocError) => {
             let refused = CaseFault {

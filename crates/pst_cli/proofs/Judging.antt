@@ -27,7 +27,7 @@ module _ (m : Source) where
   matches_if_any c (Some history) h = h
 
   pub history_matches : (run : Run) → IsLawful m run → HistoryMatches m run
-  history_matches run l = matches_if_any run.shaped run.history l.matching
+  history_matches run l = matches_if_any run.shaped.case run.history l.matching
 
   -- what is told of the runs so far completes itself where no run is left
   pub all_judged : (runs : List Run) (i : ℕ) (told : List Judged) → length runs ≤ i → ((later : List Judged) → AreJudged m (drop i runs) later → AreJudged m runs (told ++ later)) → AreJudged m runs told

@@ -1,4 +1,5 @@
 pub mod Judging
+pub mod Keeping
 pub mod OneOutput
 pub mod Printing
-pub mod Telling
+pub mod Reporting

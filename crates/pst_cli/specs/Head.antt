@@ -1,37 +1,7 @@
--- What an input begins with: a well-typed model, or its first refusal.
-use Rattle.std.specs.Prelude.{◌≡◌, ◌≤◌, ℕ, List, [], ◌∷◌, ◌++◌, length, Ok, Err, codes, decimal}
-use Rattle.pst_cli.specs.declared.refusal.Refusal.{Refusal}
-use Rattle.pst_cli.specs.declared.refusal.Refusal.TheVariants.{Unread, NoModel, IllTyped}
-use Rattle.pst_model.specs.declared.model.Source.{Source}
-use Rattle.pst_rules.specs.WellTyped.{WellModel}
-use Rattle.pst_sexpr.specs.Fault as sexpr
-use Rattle.pst_sexpr.specs.Reading.{max_bytes, Spells, IsFault}
-use Rattle.pst_sexpr.specs.declared.form.Form.{Form}
-use Rattle.pst_syntax.specs.FaultName as syntax
-use Rattle.pst_syntax.specs.Items.{model_of}
-use Rattle.pst_typing.specs.Least.{IsIll}
-
--- the input is a file of the trees
-pub record IsFile (input : List ℕ) (trees : List Form) : Type 0 where
-  pub small : length input ≤ max_bytes
-  pub spelled : Spells input trees
-
--- the input is a file of the trees, and the first of them spells the model, which is well typed
-pub record Holds (input : List ℕ) (m : Source) (trees : List Form) : Type 0 where
-  pub file : IsFile input trees
-  pub model : model_of trees ≡ Ok m
-  pub typed : WellModel m
-
--- the trees behind the model
-abbrev pub items_of : List Form → List Form
-items_of [] = []
-items_of (model ∷ items) = items
-
--- the first refusal of an input: that of its bytes, then that of the model, then that of the model's types
-abbrev pub IsRefusal : List ℕ → Refusal → Type 0
-IsRefusal input (Unread fault) = IsFault input fault
-IsRefusal input (NoModel fault) = (trees : List Form) × IsFile input trees × (model_of trees ≡ Err fault)
-IsRefusal input (IllTyped number) = (trees : List Form) × (m : Source) × IsFile input trees × (model_of trees ≡ Ok m) × IsIll m number
+-- The lines of refusals.
+use Rattle.std.specs.Prelude.{ℕ, List, [], ◌∷◌, ◌++◌, codes}
+use Rattle.pst_load.specs.Loading.{text_of}
+use Rattle.pst_load.specs.declared.refusal.Refusal.{Refusal}
 
 -- the end of a line
 abbrev pub line_end : List ℕ
@@ -39,6 +9,4 @@ line_end = 10 ∷ []
 
 -- the line of a refusal
 abbrev pub refusal_line : Refusal → List ℕ
-refusal_line (Unread fault) = codes "refused read " ++ sexpr.text_of fault ++ line_end
-refusal_line (NoModel fault) = codes "refused model " ++ syntax.text_of fault ++ line_end
-refusal_line (IllTyped number) = codes "refused type item " ++ decimal number ++ line_end
+refusal_line refusal = codes "refused " ++ text_of refusal ++ line_end

@@ -2,8 +2,9 @@
 use Rattle.std.specs.Prelude.{◌≡◌, ℕ, ◌+◌, Bool, true, false, if◌then◌else◌, List, [], ◌∷◌, ◌++◌, Ok, Err, codes, decimal}
 use Rattle.std.specs.List.{list_all}
 use Rattle.pst_case.specs.declared.history.Run.{Run}
-use Rattle.pst_cli.specs.Head.{Holds, items_of, IsRefusal, refusal_line, line_end}
-use Rattle.pst_cli.specs.declared.refusal.Refusal.{Refusal}
+use Rattle.pst_cli.specs.Head.{refusal_line, line_end}
+use Rattle.pst_load.specs.Loading.{Holds, items_of, IsRefusal}
+use Rattle.pst_load.specs.declared.refusal.Refusal.{Refusal}
 use Rattle.pst_cli.specs.declared.status.Status.{Status}
 use Rattle.pst_cli.specs.declared.status.Status.TheVariants.{Accepted, Failed, Refused}
 use Rattle.pst_judge.specs.JudgedText.{judged_text}

@@ -2,11 +2,11 @@
 ghost use Rattle.std.specs.Prelude.{◌≡◌, false};
 ghost use Rattle.pst_cli.specs.Absent.{absence_line, absence_status};
 ghost use Rattle.pst_cli.specs.Sending.{Sends};
-ghost use Rattle.pst_sexpr.specs.Writing.{joined};
+ghost use Rattle.pst_sink.specs.Writing.{joined};
 
 use crate::output::send;
 use crate::status::Status;
-use pst_sexpr::{Sink, put_each};
+use pst_sink::{Sink, put_each};
 
 /// Why there is nothing to begin with.
 #[derive(Clone, Copy, Debug, PartialEq, Eq, Drop)]

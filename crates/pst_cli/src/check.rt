@@ -3,12 +3,12 @@ ghost use Rattle.std.specs.Prelude.{◌≡◌, false, IfOk, string_bytes};
 ghost use Rattle.pst_cli.specs.Output.{IsCheckOutput, ok_line};
 ghost use Rattle.pst_cli.specs.Sending.{Prints};
 
-use crate::head::head_of;
 use crate::output::{Output, send};
-use crate::refusal::refusal_line;
+use crate::refusal::refusal_output;
 use crate::status::Status;
+use pst_load::load;
 use pst_rules::Typed;
-use pst_sexpr::Sink;
+use pst_sink::Sink;
 use pst_typing::model_name;
 use std::alloc::{AllocError, Global};
 
@@ -22,17 +22,11 @@ fn ok_line(alloc: Global, typed: &Typed) -> Result<String, AllocError>
 
 /// `ok NAME`, or the first refusal.
 fn check_output(alloc: Global, input: &[u8]) -> Result<Output, AllocError>
-    ensures { IfOk result (λ output. IsCheckOutput input.now (string_bytes output.text) output.status) }
+    ensures { IfOk result (λ output. IsCheckOutput input.now (output.text.items) output.status) }
 {
-    match head_of(alloc, input)? {
-        Ok(head) => Ok(Output {
-            text: ok_line(alloc, &head.typed)?,
-            status: Status::Accepted,
-        }),
-        Err(refusal) => Ok(Output {
-            text: refusal_line(alloc, &refusal)?,
-            status: Status::Refused,
-        }),
+    match load(alloc, input)? {
+        Ok(file) => Ok(Output::new(ok_line(alloc, &file.typed)?, Status::Accepted)),
+        Err(refusal) => refusal_output(alloc, &refusal),
     }
 }
 
@@ -43,7 +37,7 @@ pub fn check_text<W: Sink>(alloc: Global, input: &[u8], sink: &mut W) -> Status
     ensures { Prints (IsCheckOutput input.now) (W.taken sink.old) (W.taken sink.new) (W.broken sink.new) result }
 {
     match check_output(alloc, input) {
-        Ok(output) => send(output.text.as_bytes(), output.status, sink),
+        Ok(output) => send(output.text.as_slice(), output.status, sink),
         Err(AllocError) => send(b"refused memory\n", Status::Lost, sink),
     }
 }

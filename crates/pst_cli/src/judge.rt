@@ -3,19 +3,21 @@ ghost use Rattle.std.specs.Prelude.{◌≡◌, false, IfOk, MatchResult, string_
 ghost use Rattle.std.specs.List.{list_all};
 ghost use Rattle.pst_cli.specs.Output.{AreJudged, IsJudgeOutput, is_good, item_line, item_lines, run_line, status_of};
 ghost use Rattle.pst_cli.specs.Sending.{Prints};
+ghost use Rattle.pst_cli.specs.declared.status.Status.TheVariants.{Refused};
 ghost use Rattle.pst_runs.specs.Items.{runs_of};
 ghost use Rattle.pst_runs.specs.Lawful.{AreLawful};
 
-use crate::head::{head_of, items_of};
 use crate::output::{Output, send};
-use crate::refusal::refusal_line;
+use crate::refusal::refusal_output;
 use crate::status::Status;
-use pst_case::Run;
+use pst_case::{CaseFaultKind, Run};
 use pst_eval::{Callbacks, Plain};
 use pst_judge::{Judged, Verdict, judge_one};
+use pst_load::{items_of, load};
 use pst_rules::Typed;
 use pst_runs::{RunFault, RunFaultKind, read_runs};
-use pst_sexpr::{Sink, Tree};
+use pst_sexpr::Tree;
+use pst_sink::Sink;
 use std::alloc::{AllocError, Global};
 
 /// The runs that trees spell, or why the first refused one is refused.
@@ -24,13 +26,15 @@ pub fn runs_in(
     typed: &Typed,
     trees: &[Tree],
 ) -> Result<Result<Vec<Run>, RunFault>, AllocError>
-    ensures runs { IfOk result (λ read. MatchResult read (λ runs. runs_of typed.now trees.now ≡ Ok runs.items) (λ fault. runs_of typed.now trees.now ≡ Err fault)) }
+    ensures runs { IfOk result (λ read. MatchResult read
+        (λ runs. runs_of typed.now trees.now ≡ Ok runs.items)
+        (λ fault. runs_of typed.now trees.now ≡ Err fault)) }
     ensures lawful { IfOk result (λ read. IfOk read (λ runs. AreLawful typed.now runs.items)) }
 {
     match read_runs(alloc, typed, trees) {
         Ok(runs) => Ok(Ok(runs)),
         Err(fault) => {
-            if fault.kind == RunFaultKind::NoMemory {
+            if fault.kind == RunFaultKind::Case(CaseFaultKind::NoMemory) {
                 return Err(AllocError);
             }
             Ok(Err(fault))
@@ -38,7 +42,7 @@ pub fn runs_in(
     }
 }
 
-/// What is told of each run, in order.
+/// The judgement of each run, in order.
 fn judge_all<C: Callbacks>(
     callbacks: &C,
     alloc: Global,
@@ -111,42 +115,41 @@ pub fn run_line(alloc: Global, fault: &RunFault) -> Result<String, AllocError>
     format!(in alloc; "refused run {fault}\n")
 }
 
+/// The line of a refused item, and how the program ends then.
+pub fn refused_run(alloc: Global, fault: &RunFault) -> Result<Output, AllocError>
+    ensures text { IfOk result (λ output. output.text.items ≡ run_line fault.now) }
+    ensures status { IfOk result (λ output. output.status ≡ Refused) }
+{
+    Ok(Output::new(run_line(alloc, fault)?, Status::Refused))
+}
+
 /// The lines of the items behind the model, or the first refusal.
 fn judge_output(alloc: Global, input: &[u8]) -> Result<Output, AllocError>
-    ensures { IfOk result (λ output. IsJudgeOutput input.now (string_bytes output.text) output.status) }
+    ensures { IfOk result (λ output. IsJudgeOutput input.now output.text.items output.status) }
 {
-    let head = match head_of(alloc, input)? {
-        Ok(head) => head,
-        Err(refusal) => {
-            return Ok(Output {
-                text: refusal_line(alloc, &refusal)?,
-                status: Status::Refused,
-            });
-        }
+    let file = match load(alloc, input)? {
+        Ok(file) => file,
+        Err(refusal) => return refusal_output(alloc, &refusal),
     };
-    match runs_in(alloc, &head.typed, items_of(head.trees.as_slice()))? {
+    match runs_in(alloc, &file.typed, items_of(file.trees.as_slice()))? {
         Ok(runs) => {
-            let all = judge_all(&Plain::new(&head.typed), alloc, runs.as_slice())?;
-            Ok(Output {
-                text: item_lines(alloc, all.as_slice())?,
-                status: status_of(all.as_slice()),
-            })
+            let all = judge_all(&Plain::new(&file.typed), alloc, runs.as_slice())?;
+            let text = item_lines(alloc, all.as_slice())?;
+            Ok(Output::new(text, status_of(all.as_slice())))
         }
-        Err(fault) => Ok(Output {
-            text: run_line(alloc, &fault)?,
-            status: Status::Refused,
-        }),
+        Err(fault) => refused_run(alloc, &fault),
     }
 }
 
-/// Judges the items behind the model that the input begins with: writes a line `NUMBER VERDICT` for each, from 1, or the first refusal alone,
-/// and answers the status. Where memory is refused, `refused memory` alone is written.
+/// Judges the items behind the model that the input begins with: writes a line `NUMBER VERDICT` for each, from 1, or the first
+/// refusal alone, and answers the status. Where memory is refused, `refused memory` alone is written.
 pub fn judge_text<W: Sink>(alloc: Global, input: &[u8], sink: &mut W) -> Status
     requires { W.broken sink.old ≡ false }
-    ensures { Prints (IsJudgeOutput input.now) (W.taken sink.old) (W.taken sink.new) (W.broken sink.new) result }
+    ensures { Prints (IsJudgeOutput input.now)
+        (W.taken sink.old) (W.taken sink.new) (W.broken sink.new) result }
 {
     match judge_output(alloc, input) {
-        Ok(output) => send(output.text.as_bytes(), output.status, sink),
+        Ok(output) => send(output.text.as_slice(), output.status, sink),
         Err(AllocError) => send(b"refused memory\n", Status::Lost, sink),
     }
 }

@@ -3,7 +3,6 @@
 
 mod absent;
 mod check;
-mod head;
 mod judge;
 mod known;
 mod laws;
@@ -15,7 +14,7 @@ mod status;
 pub use absent::{Absence, refuse_text};
 pub use check::check_text;
 pub use judge::judge_text;
-pub use known::known_system;
+pub use known::{KnownSystem, known_system};
 pub use laws::one_output;
 pub use run::run_text;
 pub use status::Status;

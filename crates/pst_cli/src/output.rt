@@ -1,15 +1,26 @@
 //! What is written, and how the program ends then.
-ghost use Rattle.std.specs.Prelude.{◌≡◌, false};
+ghost use Rattle.std.specs.Prelude.{◌≡◌, false, string_bytes};
 ghost use Rattle.pst_cli.specs.Sending.{Sends};
 
 use crate::status::Status;
-use pst_sexpr::{Sink, put_all};
+use pst_sink::{Sink, put_all};
 
 /// A text to be written, and how the program ends.
 #[derive(Debug, Drop)]
 pub struct Output {
-    pub text: String,
+    pub text: Vec<u8>,
     pub status: Status,
+}
+
+impl Output {
+    /// The text, and how the program ends. Takes no memory.
+    pub fn new(text: String, status: Status) -> Output
+        ensures text { result.text.items ≡ string_bytes text }
+        ensures status { result.status ≡ status }
+    {
+        let text = text.into_bytes();
+        Output { text, status }
+    }
 }
 
 /// Writes the text and answers its status. `Lost` where the writer failed.

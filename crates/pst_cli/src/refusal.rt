@@ -1,29 +1,18 @@
-//! The first refusal of an input.
-ghost use Rattle.std.specs.Prelude.{◌≡◌, IfOk, string_bytes};
+//! The line of a refusal.
+ghost use Rattle.std.specs.Prelude.{◌≡◌, IfOk};
 ghost use Rattle.pst_cli.specs.Head.{refusal_line};
+ghost use Rattle.pst_cli.specs.declared.status.Status.TheVariants.{Refused};
 
-use pst_sexpr::SexprFault;
-use pst_syntax::SyntaxFault;
+use crate::output::Output;
+use crate::status::Status;
+use pst_load::Refusal;
 use std::alloc::{AllocError, Global};
 
-/// Why an input does not begin with a well-typed model.
-#[derive(Clone, Copy, Debug, PartialEq, Eq, Drop)]
-pub enum Refusal {
-    /// The bytes are no file of trees.
-    Unread(SexprFault),
-    /// The first tree is no model.
-    NoModel(SyntaxFault),
-    /// The number, from 1, of the least item of the model that is not well typed.
-    IllTyped(usize),
-}
-
-/// `refused read KIND at PLACE`, `refused model KIND item I` or `refused type item I`.
-pub fn refusal_line(alloc: Global, refusal: &Refusal) -> Result<String, AllocError>
-    ensures { IfOk result (λ line. string_bytes line ≡ refusal_line refusal.now) }
+/// `refused read KIND at PLACE`, `refused model KIND item I` or `refused type item I`, and how the program ends then.
+pub fn refusal_output(alloc: Global, refusal: &Refusal) -> Result<Output, AllocError>
+    ensures text { IfOk result (λ output. output.text.items ≡ refusal_line refusal.now) }
+    ensures status { IfOk result (λ output. output.status ≡ Refused) }
 {
-    match refusal {
-        Refusal::Unread(fault) => format!(in alloc; "refused read {fault}\n"),
-        Refusal::NoModel(fault) => format!(in alloc; "refused model {fault}\n"),
-        Refusal::IllTyped(number) => format!(in alloc; "refused type item {number}\n"),
-    }
+    let line = format!(in alloc; "refused {refusal}\n")?;
+    Ok(Output::new(line, Status::Refused))
 }

@@ -1,5 +1,5 @@
 -- What a history says of the system on which its case was driven.
-use Rattle.std.specs.Prelude.{◌≡◌, ◌<◌, ⊤, ℕ, Bool, true, false, ◌&&◌, List, [], ◌∷◌, map, length, Option, Some, None, MatchBool}
+use Rattle.std.specs.Prelude.{◌≡◌, ◌<◌, ⊤, ℕ, Bool, true, false, ◌&&◌, List, [], ◌∷◌, ◌++◌, map, length, Option, Some, None, MatchBool}
 use Rattle.pst_case.specs.Shape.{joined, result_type}
 use Rattle.pst_case.specs.declared.case.Case.{Case}
 use Rattle.pst_case.specs.declared.case.Command.{Command}
@@ -8,8 +8,8 @@ use Rattle.pst_case.specs.declared.history.Reply.{Reply}
 use Rattle.pst_case.specs.declared.history.Reply.TheVariants.{Value as Answered, Misfit, Failed, NotRun}
 use Rattle.pst_driver.specs.declared.fault.DriveFault.{DriveFault}
 use Rattle.pst_driver.specs.declared.fault.DriveFault.TheVariants.{ResetFailed, NoThread, NoMemory}
-use Rattle.pst_eval.specs.Callbacks.{fits_in}
-use Rattle.pst_judge.specs.Replay.{recorded}
+use Rattle.pst_rules.specs.Fitting.{fits_in}
+use Rattle.pst_case.specs.Recorded.{recorded}
 use Rattle.pst_model.specs.Parts.{operation_of}
 use Rattle.pst_model.specs.declared.model.Op.{Op}
 use Rattle.pst_model.specs.declared.model.Source.{Source}
@@ -80,10 +80,16 @@ module _ (m : Source) (answers : Answers) (fails : Fails) where
   BranchesAreDriven results (b ∷ bs) [] = ⊥
   BranchesAreDriven results (b ∷ bs) (h ∷ hs) = PartIsDriven results b h × BranchesAreDriven results bs hs
 
-  -- a history of a case, each call made with the recorded results: the branches are run where the whole prefix has values, and else not at all
+  -- A history of a case, each call made with the recorded results: the branches are run where the whole prefix has values,
+  -- the suffix where every reply before it is a value, and else they are not run at all.
   pub record IsDriven (c : Case) (h : History) : Type 0 where
     pub prefix : PartIsDriven (recorded h) c.prefix h.prefix
-    pub branches : MatchBool (all_answers h.prefix) (BranchesAreDriven (recorded h) c.branches h.branches) (h.branches ≡ map none_run c.branches)
+    pub branches : MatchBool (all_answers h.prefix)
+        (BranchesAreDriven (recorded h) c.branches h.branches)
+        (h.branches ≡ map none_run c.branches)
+    pub suffix : MatchBool (all_answers (h.prefix ++ joined h.branches))
+        (PartIsDriven (recorded h) c.suffix h.suffix)
+        (h.suffix ≡ none_run c.suffix)
 
 -- why a case may not be driven: a reset may fail, or no thread could be had where a branch is not empty, or memory was refused
 abbrev pub IsDriveFault : ResetFails → Case → DriveFault → Type 0

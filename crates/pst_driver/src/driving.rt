@@ -1,21 +1,21 @@
 //! Driving a whole case.
-ghost use Rattle.std.specs.Prelude.{◌≡◌, true, IfOk, IfErr, map};
-ghost use Rattle.pst_case.specs.Matches.{matches};
-ghost use Rattle.pst_case.specs.Shape.{IsShaped};
+ghost use Rattle.std.specs.Prelude.{◌≡◌, ◌∷◌, [], true, IfOk, IfErr, MatchBool, MatchOption, map};
+ghost use Rattle.pst_case.specs.Matches.{matches, replies_of};
+ghost use Rattle.pst_case.specs.Recorded.{recorded, result_of};
+ghost use Rattle.pst_case.specs.Shape.{IsShaped, joined};
 ghost use Rattle.pst_driver.specs.Driven.{IsDriven, IsDriveFault, all_answers, none_run};
-ghost use Rattle.pst_judge.specs.Replay.{result_of};
+ghost use Rattle.pst_driver.specs.Progress.{PartRuns, BranchesRun, IsBranchFault};
 ghost use Rattle.pst_system.specs.Kept.{AreKept};
 
 use crate::branches::run_at_once;
 use crate::fault::DriveFault;
 use crate::part::{run_part, skip};
 use crate::subject::Subject;
-use pst_case::{Case, Command, History, Reply};
+use pst_case::{Case, Command, History, Reply, results_of};
 use pst_items::Items;
 use pst_judge::Valid;
 use pst_rules::Typed;
 use pst_system::{BoxedSystem, System};
-use pst_value::Value;
 use std::alloc::{AllocError, Global};
 use std::sync::Wait;
 use std::thread::Threads;
@@ -32,18 +32,31 @@ fn all_answers(replies: &[Reply]) -> bool
     true
 }
 
-/// The results that the replies record.
-fn results_of(alloc: Global, replies: &[Reply]) -> Result<Vec<Option<Value>>, AllocError>
-    ensures { IfOk result (λ results. results.items ≡ map result_of replies.now) }
+fn split_first(branches: &[Items<Reply>]) -> Option<(&Items<Reply>, &[Items<Reply>])>
+    ensures { MatchOption result (branches.now ≡ []) (λ p. branches.now ≡ p.0.now ∷ p.1.now) }
 {
-    let mut results = Vec::new(alloc);
-    for reply in replies {
-        match reply {
-            Reply::Value(value) => results.push(Some(value.copy(alloc)?))?,
-            _ => results.push(None)?,
-        }
-    }
-    Ok(results)
+    branches.split_first()
+}
+
+/// Whether each reply of the branches is a value.
+#[tactic(auto, using(crate::proofs::Answering::answering))]
+fn branches_answer(branches: &[Items<Reply>]) -> bool
+    ensures { result ≡ all_answers (joined branches.now) }
+{
+    let Some((branch, branches)) = split_first(branches) else {
+        return true;
+    };
+    all_answers(branch.as_slice()) && branches_answer(branches)
+}
+
+/// Whether each reply of the history is a value.
+#[tactic(auto, using(crate::proofs::Answering::answering))]
+fn is_answered(history: &History) -> bool
+    ensures { result ≡ all_answers (replies_of history.now) }
+{
+    all_answers(history.prefix.as_slice())
+        && branches_answer(history.branches.as_slice())
+        && all_answers(history.suffix.as_slice())
 }
 
 /// The replies of branches that are not run.
@@ -57,6 +70,50 @@ fn skip_all(alloc: Global, branches: &[Items<Command>]) -> Result<Items<Items<Re
         all.push(replies)?;
     }
     Ok(all)
+}
+
+/// The replies of the branches, which are run at once where the whole prefix has values, and else not at all.
+fn run_branches<S: Subject, R: Threads + Wait>(
+    rt: &R,
+    alloc: Global,
+    typed: &Typed,
+    system: &S,
+    branches: &[Items<Command>],
+    prefix: &[Reply],
+) -> Result<Items<Items<Reply>>, DriveFault>
+    ensures replies { IfOk result (λ hs. MatchBool (all_answers prefix.now)
+        (BranchesRun typed.now (S.may_answer system.now) (S.may_fail system.now)
+        (map result_of prefix.now) branches.now hs)
+        (hs ≡ map none_run branches.now)) }
+    ensures fault { IfErr result (λ e. IsBranchFault branches.now e) }
+{
+    if !all_answers(prefix) {
+        return Ok(skip_all(alloc, branches)?);
+    }
+    let known = results_of(alloc, prefix)?;
+    run_at_once(rt, alloc, typed, system, branches, known)
+}
+
+/// The replies of the suffix, which is run where each reply before it is a value, and else not at all.
+fn run_suffix<S: Subject>(
+    alloc: Global,
+    typed: &Typed,
+    system: &S,
+    suffix: &[Command],
+    so_far: &History,
+) -> Result<Items<Reply>, AllocError>
+    ensures { IfOk result (λ rs. MatchBool (all_answers (replies_of so_far.now))
+        (PartRuns typed.now (S.may_answer system.now) (S.may_fail system.now)
+        (recorded so_far.now) suffix.now rs)
+        (rs ≡ none_run suffix.now)) }
+{
+    if !is_answered(so_far) {
+        let mut replies = Items::new(alloc);
+        skip(&mut replies, suffix)?;
+        return Ok(replies);
+    }
+    let known = so_far.recorded(alloc)?;
+    run_part(alloc, typed, system, suffix, known)
 }
 
 /// Drives a case that has the shape of the model.
@@ -83,18 +140,31 @@ fn drive<S: Subject, R: Threads + Wait>(
         case.prefix.as_slice(),
         Vec::new(alloc),
     )?;
-    if !all_answers(prefix.as_slice()) {
-        let branches = skip_all(alloc, case.branches.as_slice())?;
-        return Ok(History { prefix, branches });
-    }
-    let known = results_of(alloc, prefix.as_slice())?;
-    let branches = run_at_once(rt, alloc, typed, system, case.branches.as_slice(), known)?;
-    Ok(History { prefix, branches })
+    let branches = case.branches.as_slice();
+    let branches = run_branches(rt, alloc, typed, system, branches, prefix.as_slice())?;
+    let so_far = History {
+        prefix,
+        branches,
+        suffix: Items::new(alloc),
+    };
+    let suffix = run_suffix(alloc, typed, system, case.suffix.as_slice(), &so_far)?;
+    let History {
+        prefix,
+        branches,
+        ..
+    } = so_far;
+    Ok(History {
+        prefix,
+        branches,
+        suffix,
+    })
 }
 
-/// Drives a valid case on a system: resets it, calls the commands of the prefix, and then runs the branches at once, each that is not empty on
-/// a thread of its own. The history is what was answered. The arguments of each call are plain, with recorded results for variables. After an
-/// answer that is no value of the result type, or a call that failed, the rest of its part is not run, and after one in the prefix no branch is.
+/// Drives a valid case on a system: resets it, calls the commands of the prefix, runs the branches at once, each that is not
+/// empty on a thread of its own, and calls the commands of the suffix when all branches have ended. The history is what was
+/// answered. The arguments of each call are plain, with recorded results for variables. After an answer that is no value of
+/// the result type, or a call that failed, the rest of its part is not run; after one in the prefix no branch is, and after
+/// one anywhere the suffix is not.
 ///
 /// `ResetFailed` where the reset fails; `NoThread` where the thread of a branch cannot be started (those that were started are joined first);
 /// `NoMemory` where memory is refused. The call waits for as long as the calls of the system do.
@@ -108,10 +178,10 @@ pub fn run<R: Threads + Wait>(
     system: &mut BoxedSystem,
     valid: &Valid,
 ) -> Result<History, DriveFault>
-    requires shaped { IsShaped typed.now valid.now }
-    ensures matches { IfOk result (λ h. matches typed.now valid.now h ≡ true) }
-    ensures driven { IfOk result (λ h. IsDriven typed.now (answers system.old) (fails system.old) valid.now h) }
-    ensures fault { IfErr result (λ e. IsDriveFault (reset_fails system.old) valid.now e) }
+    requires model { valid.now.model ≡ typed.now }
+    ensures matches { IfOk result (λ h. matches typed.now valid.now.case h ≡ true) }
+    ensures driven { IfOk result (λ h. IsDriven typed.now (answers system.old) (fails system.old) valid.now.case h) }
+    ensures fault { IfErr result (λ e. IsDriveFault (reset_fails system.old) valid.now.case e) }
     ensures kept { AreKept (answers system.new) (answers system.old) (fails system.new) (fails system.old) (reset_fails system.new) (reset_fails system.old) }
 {
     drive(rt, alloc, typed, system, valid.shaped().case())

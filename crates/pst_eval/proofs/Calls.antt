@@ -14,7 +14,8 @@ use Rattle.pst_value.specs.declared.fault.Fault.{Fault}
 use Rattle.pst_value.specs.declared.ty.Ty.{Ty}
 use Rattle.pst_value.specs.declared.ty.Ty.TheVariants as ty
 use Rattle.pst_value.specs.declared.value.Value.{Value}
-use Rattle.pst_eval.specs.Callbacks.{at_names, of_expr, is_state, init_of, command_of, pre_in, pre_of, next_in, next_of, post_in, post_of, PreFits, NextFits, PostFits, Says, Given, GivenState}
+use Rattle.pst_eval.specs.Callbacks.{at_names, of_expr, init_of, command_of, pre_in, pre_of, next_in, next_of, post_in, post_of, PreFits, NextFits, PostFits, Says, Given, GivenState}
+use Rattle.pst_rules.specs.Fitting.{is_state}
 use Rattle.pst_eval.proofs.Fitting.{Fit, fit_bool}
 use Rattle.pst_eval.proofs.Forms.{bool_form}
 use Rattle.pst_eval.proofs.Operating.{By}

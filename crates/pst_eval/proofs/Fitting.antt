@@ -20,7 +20,7 @@ use Rattle.pst_value.specs.declared.ty.Ty.TheOpen.{Ty-F}
 use Rattle.pst_value.specs.declared.ty.Ty.TheVariants as ty
 use Rattle.pst_value.specs.declared.value.Value.{Value, roll-Value}
 use Rattle.pst_value.specs.declared.value.Value.TheOpen.{Value-F}
-use Rattle.pst_eval.proofs.Forms.{fits-roll}
+use Rattle.pst_rules.proofs.Rolled.{fits-roll}
 
 pub both : (x y : Bool) → (x && y) ≡ true → (x ≡ true) × (y ≡ true)
 both true y h = (refl, h)

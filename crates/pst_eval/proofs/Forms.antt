@@ -11,22 +11,18 @@ use Rattle.pst_value.specs.declared.ty.Ty.TheOpen.{Ty-F}
 use Rattle.pst_value.specs.declared.ty.Ty.TheVariants as ty
 use Rattle.pst_value.specs.Fits.{fit_each, fits_level, fits_step, fits}
 use Rattle.pst_value.specs.Text.{is_i64, is_text, limit}
+use Rattle.pst_rules.proofs.Rolled.{fits-roll}
 use Rattle.pst_operators.specs.Operators.{int, bool, text, list, tuple, number_at, number_of}
 
 module _ (free vars : List Ty) (ops : List (List Ty)) where
   abbrev test : Value → Ty → Bool
   test = fits free vars ops
 
-  -- one level
-  pub fits-roll : (d : Value-F Value) (t : Ty) → fits free vars ops (roll-Value d) t ≡ fits_level free vars ops (map-Value Value (Ty → Bool) (fits free vars ops) d) (out-Ty t)
-  unfolding fits
-  fits-roll d t = ap (λ f. f t) (fold-roll-Value (Ty → Bool) (fits_step free vars ops) d)
-
   abbrev Level : Value-F Value → Value-F (Ty → Bool)
   Level d = map-Value Value (Ty → Bool) test d
 
   opened : (v : Value) (t : Ty) (L : Ty-F Ty) → out-Ty t ≡ L → test v t ≡ true → fits_level free vars ops (Level (out-Value v)) L ≡ true
-  opened v t L e h = ap (fits_level free vars ops (Level (out-Value v))) (sym e) ∙ sym (fits-roll (out-Value v) t) ∙ ap (λ w. test w t) (roll-out-Value v) ∙ h
+  opened v t L e h = ap (fits_level free vars ops (Level (out-Value v))) (sym e) ∙ sym (fits-roll free vars ops (out-Value v) t) ∙ ap (λ w. test w t) (roll-out-Value v) ∙ h
 
   bool_at : (d : Value-F Value) → fits_level free vars ops (Level d) Ty-F.Bool ≡ true → (b : Bool) × (d ≡ Value-F.Bool b)
   bool_at (Value-F.Int n) h = absurd (cc)

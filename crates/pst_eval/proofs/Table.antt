@@ -19,7 +19,8 @@ use Rattle.pst_value.specs.declared.fault.Fault.{Fault}
 use Rattle.pst_value.specs.declared.ty.Ty.{Ty}
 use Rattle.pst_value.specs.declared.ty.Ty.TheVariants as ty
 use Rattle.pst_value.specs.declared.value.Value.{Value}
-use Rattle.pst_eval.specs.Callbacks.{max_turns, at_names, of_expr, init_of, command_of, pre_in, pre_of, next_in, next_of, post_in, post_of, is_state, is_state_in, args_fit, args_fit_in, ref_fits, ref_fits_in, result_fits, result_fits_in, PreFits, NextFits, PostFits, Says, Given, GivenState}
+use Rattle.pst_eval.specs.Callbacks.{max_turns, at_names, of_expr, init_of, command_of, pre_in, pre_of, next_in, next_of, post_in, post_of, PreFits, NextFits, PostFits, Says, Given, GivenState}
+use Rattle.pst_rules.specs.Fitting.{is_state, is_state_in, args_fit, args_fit_in, ref_fits, ref_fits_in, result_fits, result_fits_in}
 use Rattle.pst_eval.proofs.Fitting.{Fit, FitAll, all_from, Agrees, frame_agrees}
 use Rattle.pst_eval.proofs.Operating.{By, by_path, by_then, turn_by}
 use Rattle.pst_eval.proofs.Sound.{FunctionsFit, sound}

@@ -1,17 +1,16 @@
 -- What each callback of a model means, and which calls of it are lawful.
-use Rattle.std.specs.Prelude.{◌≡◌, ℕ, ⊤, Bool, true, false, List, [], ◌∷◌, map, reverse, Option, Some, None, Result, Ok, Err}
+use Rattle.std.specs.Prelude.{◌≡◌, ℕ, ⊤, true, List, [], ◌∷◌, reverse, Option, Some, None, Result, Ok, Err}
 use Rattle.pst_meaning.specs.Meaning.{Env, called, mean, frame}
-use Rattle.pst_model.specs.Parts.{state_of, opening_of, calls_of, operation_of, parameters_of, types_of}
+use Rattle.pst_model.specs.Parts.{opening_of, calls_of, operation_of}
 use Rattle.pst_model.specs.declared.expr.Expr.{Expr}
 use Rattle.pst_model.specs.declared.model.Item.{Item}
 use Rattle.pst_model.specs.declared.model.Op.{Op}
 use Rattle.pst_model.specs.declared.model.Source.{Source}
 use Rattle.pst_operators.specs.Outcome.{Outcome, Gives, Faults, Stuck}
+use Rattle.pst_rules.specs.Fitting.{fits_in, is_state, args_fit, result_fits, ref_fits}
 use Rattle.pst_rules.specs.WellTyped.{name_s, name_r}
-use Rattle.pst_value.specs.Fits.{fits, fit_each}
 use Rattle.pst_value.specs.declared.fault.Fault.{Fault}
 use Rattle.pst_value.specs.declared.ty.Ty.{Ty}
-use Rattle.pst_value.specs.declared.ty.Ty.TheVariants as ty
 use Rattle.pst_value.specs.declared.value.Value.{Value}
 
 -- the turns that a callback starts with
@@ -65,42 +64,6 @@ Says o (Ok p) = o ≡ Gives p
 Says o (Err why) = o ≡ Faults why
 
 -- ---- lawful calls
-
--- whether a value fits a type over the operations of the model
-abbrev pub fits_in : Source → (free vars : List Ty) → Value → Ty → Bool
-fits_in m free vars v t = fits free vars (parameters_of m.items) v t
-
-abbrev pub is_state_in : (m : Source) (free vars : List Ty) → Value → Option Ty → Bool
-is_state_in m free vars v None = false
-is_state_in m free vars v (Some t) = fits_in m free vars v t
-
--- whether a value fits the state's type
-unfoldable pub is_state : Source → (free vars : List Ty) → Value → Bool
-is_state m free vars v = is_state_in m free vars v (state_of m.items)
-
-abbrev pub args_fit_in : (m : Source) (free vars : List Ty) → Option Op → List Value → Bool
-args_fit_in m free vars None args = false
-args_fit_in m free vars (Some o) args = fit_each (map (fits free vars (parameters_of m.items)) args) (types_of o.params)
-
--- whether there is the operation, and the arguments fit its parameters' types
-unfoldable pub args_fit : Source → (free vars : List Ty) → ℕ → List Value → Bool
-args_fit m free vars op args = args_fit_in m free vars (operation_of m.items op) args
-
-abbrev pub result_fits_in : (m : Source) (free vars : List Ty) → Option Op → Value → Bool
-result_fits_in m free vars None r = false
-result_fits_in m free vars (Some o) r = fits_in m free vars r o.result
-
--- whether a value fits the operation's result type
-unfoldable pub result_fits : Source → (free vars : List Ty) → ℕ → Value → Bool
-result_fits m free vars op r = result_fits_in m free vars (operation_of m.items op) r
-
-abbrev pub ref_fits_in : (m : Source) (free vars : List Ty) → Option Op → Value → Bool
-ref_fits_in m free vars None r = false
-ref_fits_in m free vars (Some o) r = fits_in m free vars r (ty.Ref o.result)
-
--- whether a value refers to a result of the operation
-unfoldable pub ref_fits : Source → (free vars : List Ty) → ℕ → Value → Bool
-ref_fits m free vars op r = ref_fits_in m free vars (operation_of m.items op) r
 
 -- what `pre` may be asked
 pub record PreFits (m : Source) (op : ℕ) (s : Value) (args : List Value) (free vars : List Ty) : Type 0 where

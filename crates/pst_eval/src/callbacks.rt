@@ -1,6 +1,7 @@
 //! The callbacks of a model, whoever evaluates them.
 ghost use Rattle.std.specs.Prelude.{◌≡◌, true, [], List, IfOk};
-ghost use Rattle.pst_eval.specs.Callbacks.{Says, Given, GivenState, is_state, PreFits, NextFits, PostFits, init_of, command_of, pre_of, next_of, post_of};
+ghost use Rattle.pst_eval.specs.Callbacks.{Says, Given, GivenState, PreFits, NextFits, PostFits, init_of, command_of, pre_of, next_of, post_of};
+ghost use Rattle.pst_rules.specs.Fitting.{is_state};
 ghost use Rattle.pst_model.specs.declared.model.Source.{Source};
 ghost use Rattle.pst_value.specs.declared.ty.Ty.{Ty};
 ghost use Rattle.pst_value.specs.declared.ty.Ty.TheVariants as ty;

@@ -2,7 +2,9 @@
 #![tactic(auto)]
 
 mod callbacks;
+mod place;
 mod plain;
 
 pub use callbacks::Callbacks;
+pub use place::{Callback, Place};
 pub use plain::Plain;

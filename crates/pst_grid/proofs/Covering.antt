@@ -7,7 +7,9 @@ use Rattle.pst_grid.specs.declared.answer.Turn.{Turn}
 use Rattle.pst_grid.specs.declared.answer.Turn.TheVariants.{Next, Stop}
 use Rattle.pst_grid.specs.Completions.{Completes, Begins}
 use Rattle.pst_grid.specs.Covered.{FaultsOn, IsLeastFault, IsFalseAfter, Covered}
-use Rattle.pst_grid.specs.Merges.{run, Ending, AllTrue, StopsAt, IsUpTo, after, later, one_more}
+use Rattle.pst_grid.specs.Merges.{run, IsUpTo, after, later, one_more}
+use Rattle.pst_grid.specs.declared.answer.Ending.{Ending}
+use Rattle.pst_grid.specs.declared.answer.Ending.TheVariants.{AllTrue, StopsAt}
 use Rattle.pst_grid.specs.declared.search.Best.{Best}
 use Rattle.pst_grid.specs.declared.search.FaultedMerge.{FaultedMerge}
 use Rattle.pst_grid.proofs.Completing.{BeginsBelow, Completes-head, Completes-tail, Completes-cons, Completes-letter}
@@ -25,12 +27,12 @@ pub later-StopsAt : {F : Type 0} (e : Ending F) (n : ℕ) (why : Why F) → late
 later-StopsAt AllTrue n why h = cc
 later-StopsAt (StopsAt k w) n why h = record { steps = k; more = cc; ends = cc }
 
-module _ {S F : Type 0} (turn : S → ℕ → ℕ → Turn S F) (done : List ℕ) (state : S) where
+module _ {S F : Type 0} (turn : S → ℕ → ℕ → Turn S F) (rest : S → Ending F) (done : List ℕ) (state : S) where
   -- the words of A, and then those of B, which all come later
   pub Covered-join : (before : List ℕ) (A B W : List ℕ → Type 0) (x y z : Best F)
       → ((w : List ℕ) → W w → A w ⊎ B w) → ((w : List ℕ) → A w → W w) → ((w : List ℕ) → B w → W w)
       → ((v w : List ℕ) → A v → B w → IsUpTo v w)
-      → Covered turn done state before A x y → Covered turn done state before B y z → Covered turn done state before W x z
+      → Covered turn rest done state before A x y → Covered turn rest done state before B y z → Covered turn rest done state before W x z
   Covered-join before A B W x y z split left right sorted a b = record {
     none_true = λ w k. elim (split w k) [ inl p ↦ a.none_true w p | inr p ↦ b.none_true w p ];
     kept = λ f e. b.kept f (a.kept f e);
@@ -48,14 +50,14 @@ module _ {S F : Type 0} (turn : S → ℕ → ℕ → Turn S F) (done : List ℕ
           by None k = k
           by (Some f) k = let j = b.kept f k in cc
 
-      first_of_both : x.fault ≡ None → (f : FaultedMerge F) → z.fault ≡ Some f → IsLeastFault turn done state before W f
+      first_of_both : x.fault ≡ None → (f : FaultedMerge F) → z.fault ≡ Some f → IsLeastFault turn rest done state before W f
       first_of_both none f e = by y.fault refl
         where
-          by : (o : Option (FaultedMerge F)) → y.fault ≡ o → IsLeastFault turn done state before W f
+          by : (o : Option (FaultedMerge F)) → y.fault ≡ o → IsLeastFault turn rest done state before W f
           by None k = let l = b.first k f e in record {
-            rest = l.rest;
+            letters = l.letters;
             steps = l.steps;
-            member = right l.rest l.member;
+            member = right l.letters l.member;
             word = l.word;
             faults = l.faults;
             place = l.place;
@@ -64,34 +66,34 @@ module _ {S F : Type 0} (turn : S → ℕ → ℕ → Turn S F) (done : List ℕ
           by (Some g) k =
               let j : g ≡ f = (let u = b.kept g k in cc) in
               let l = a.first none f (k ∙ ap (λ t. Some t) j) in record {
-                rest = l.rest;
+                letters = l.letters;
                 steps = l.steps;
-                member = left l.rest l.member;
+                member = left l.letters l.member;
                 word = l.word;
                 faults = l.faults;
                 place = l.place;
-                least = λ v p q. elim (split v p) [ inl s ↦ l.least v s q | inr s ↦ sorted l.rest v l.member s ];
+                least = λ v p q. elim (split v p) [ inl s ↦ l.least v s q | inr s ↦ sorted l.letters v l.member s ];
               }
 
-      reached_by_both : (z.far ≡ x.far) ⊎ IsFalseAfter turn done state before W z.far
+      reached_by_both : (z.far ≡ x.far) ⊎ IsFalseAfter turn rest done state before W z.far
       reached_by_both = elim b.reached [
-        | inr p ↦ inr (record { rest = p.rest; steps = p.steps; member = right p.rest p.member; stops = p.stops; place = p.place })
+        | inr p ↦ inr (record { letters = p.letters; steps = p.steps; member = right p.letters p.member; stops = p.stops; place = p.place })
         | inl e ↦ elim a.reached [
           | inl d ↦ inl (e ∙ d)
-          | inr p ↦ inr (record { rest = p.rest; steps = p.steps; member = left p.rest p.member; stops = p.stops; place = e ∙ p.place })
+          | inr p ↦ inr (record { letters = p.letters; steps = p.steps; member = left p.letters p.member; stops = p.stops; place = e ∙ p.place })
         ]
       ]
 
   -- the same words by another name
-  pub Covered-same : (before : List ℕ) (A B : List ℕ → Type 0) (x y : Best F) → ((w : List ℕ) → A w → B w) → ((w : List ℕ) → B w → A w) → Covered turn done state before A x y → Covered turn done state before B x y
+  pub Covered-same : (before : List ℕ) (A B : List ℕ → Type 0) (x y : Best F) → ((w : List ℕ) → A w → B w) → ((w : List ℕ) → B w → A w) → Covered turn rest done state before A x y → Covered turn rest done state before B x y
   Covered-same before A B x y to from a = record {
     none_true = λ w k. a.none_true w (from w k);
     kept = a.kept;
     none_faults = λ e w k. a.none_faults e w (from w k);
     first = λ e f g. let l = a.first e f g in record {
-      rest = l.rest;
+      letters = l.letters;
       steps = l.steps;
-      member = to l.rest l.member;
+      member = to l.letters l.member;
       word = l.word;
       faults = l.faults;
       place = l.place;
@@ -99,11 +101,11 @@ module _ {S F : Type 0} (turn : S → ℕ → ℕ → Turn S F) (done : List ℕ
     };
     grows = a.grows;
     bounds = λ w n k e. a.bounds w n (from w k) e;
-    reached = elim a.reached [ inl e ↦ inl e | inr p ↦ inr (record { rest = p.rest; steps = p.steps; member = to p.rest p.member; stops = p.stops; place = p.place }) ];
+    reached = elim a.reached [ inl e ↦ inl e | inr p ↦ inr (record { letters = p.letters; steps = p.steps; member = to p.letters p.member; stops = p.stops; place = p.place }) ];
   }
 
   -- no words at all
-  pub Covered-none : (before : List ℕ) (W : List ℕ → Type 0) (x : Best F) → ((w : List ℕ) → W w → ⊥) → Covered turn done state before W x x
+  pub Covered-none : (before : List ℕ) (W : List ℕ → Type 0) (x : Best F) → ((w : List ℕ) → W w → ⊥) → Covered turn rest done state before W x x
   Covered-none before W x empty = record {
     none_true = λ w k e. empty w k;
     kept = λ f e. e;
@@ -114,39 +116,39 @@ module _ {S F : Type 0} (turn : S → ℕ → ℕ → Turn S F) (done : List ℕ
     reached = inl refl;
   }
 
-module _ {S F : Type 0} (turn : S → ℕ → ℕ → Turn S F) (lengths done : List ℕ) (state : S) (b : ℕ) (fits : b < length done) where
-  pub run-Next : (next : S) → turn state b (get_or done b 0) ≡ Next next → (w : List ℕ) → run turn done state (b ∷ w) ≡ later (run turn (one_more done b) next w)
-  run-Next next e w = ap (λ t. after t (λ s. run turn (one_more done b) s w)) e
+module _ {S F : Type 0} (turn : S → ℕ → ℕ → Turn S F) (rest : S → Ending F) (lengths done : List ℕ) (state : S) (b : ℕ) (fits : b < length done) where
+  pub run-Next : (next : S) → turn state b (get_or done b 0) ≡ Next next → (w : List ℕ) → run turn rest done state (b ∷ w) ≡ later (run turn rest (one_more done b) next w)
+  run-Next next e w = ap (λ t. after t (λ s. run turn rest (one_more done b) s w)) e
 
-  pub run-Stop : (why : Why F) → turn state b (get_or done b 0) ≡ Stop why → (w : List ℕ) → run turn done state (b ∷ w) ≡ StopsAt 0 why
-  run-Stop why e w = ap (λ t. after t (λ s. run turn (one_more done b) s w)) e
+  pub run-Stop : (why : Why F) → turn state b (get_or done b 0) ≡ Stop why → (w : List ℕ) → run turn rest done state (b ∷ w) ≡ StopsAt 0 why
+  run-Stop why e w = ap (λ t. after t (λ s. run turn rest (one_more done b) s w)) e
 
   -- the words behind a true event
   pub Covered-Next : (before : List ℕ) (next : S) (x y : Best F) → turn state b (get_or done b 0) ≡ Next next
-      → Covered turn (one_more done b) next (before ++ b ∷ []) (Completes lengths (one_more done b)) x y
-      → Covered turn done state before (Begins lengths done b) x y
+      → Covered turn rest (one_more done b) next (before ++ b ∷ []) (Completes lengths (one_more done b)) x y
+      → Covered turn rest done state before (Begins lengths done b) x y
   Covered-Next before next x y e a = record {
     none_true = none_true;
     kept = a.kept;
     none_faults = none_faults;
     first = λ d f g. let l = a.first d f g in record {
-      rest = b ∷ l.rest;
+      letters = b ∷ l.letters;
       steps = suc l.steps;
-      member = (refl, Completes-cons lengths done b fits l.rest l.member);
-      word = l.word ∙ append_assoc before (b ∷ []) l.rest;
-      faults = run-Next next e l.rest ∙ ap later l.faults;
+      member = (refl, Completes-cons lengths done b fits l.letters l.member);
+      word = l.word ∙ append_assoc before (b ∷ []) l.letters;
+      faults = run-Next next e l.letters ∙ ap later l.faults;
       place = omega (arith, l.place, length-append before (b ∷ []));
-      least = least l.rest l.least;
+      least = least l.letters l.least;
     };
     grows = a.grows;
     bounds = bounds;
     reached = elim a.reached [
       | inl e ↦ inl e
       | inr p ↦ inr (record {
-        rest = b ∷ p.rest;
+        letters = b ∷ p.letters;
         steps = suc p.steps;
-        member = (refl, Completes-cons lengths done b fits p.rest p.member);
-        stops = run-Next next e p.rest ∙ ap later p.stops;
+        member = (refl, Completes-cons lengths done b fits p.letters p.member);
+        stops = run-Next next e p.letters ∙ ap later p.stops;
         place = omega (arith, p.place, length-append before (b ∷ []));
       })
     ];
@@ -155,40 +157,40 @@ module _ {S F : Type 0} (turn : S → ℕ → ℕ → Turn S F) (lengths done : 
       at_letter : (c : ℕ) (w : List ℕ) → c ≡ b → Completes lengths done (c ∷ w) → Completes lengths (one_more done b) w
       at_letter c w d k = Completes-tail lengths done b fits w (subst (λ a. Completes lengths done (a ∷ w)) d k)
 
-      run-letter : (c : ℕ) (w : List ℕ) → c ≡ b → run turn done state (c ∷ w) ≡ later (run turn (one_more done b) next w)
-      run-letter c w d = ap (λ a. run turn done state (a ∷ w)) d ∙ run-Next next e w
+      run-letter : (c : ℕ) (w : List ℕ) → c ≡ b → run turn rest done state (c ∷ w) ≡ later (run turn rest (one_more done b) next w)
+      run-letter c w d = ap (λ a. run turn rest done state (a ∷ w)) d ∙ run-Next next e w
 
-      none_true : (w : List ℕ) → Begins lengths done b w → run turn done state w ≡ AllTrue → ⊥
+      none_true : (w : List ℕ) → Begins lengths done b w → run turn rest done state w ≡ AllTrue → ⊥
       none_true [] k f = k.0
       none_true (c ∷ w) k f = a.none_true w (at_letter c w k.0 k.1) (later-AllTrue _ (sym (run-letter c w k.0) ∙ f))
 
-      faults_on : (c : ℕ) (w : List ℕ) → c ≡ b → FaultsOn turn done state (c ∷ w) → FaultsOn turn (one_more done b) next w
+      faults_on : (c : ℕ) (w : List ℕ) → c ≡ b → FaultsOn turn rest done state (c ∷ w) → FaultsOn turn rest (one_more done b) next w
       faults_on c w d f = let k = later-StopsAt _ f.0 (Fault f.1) (sym (run-letter c w d) ∙ f.2) in (k.steps, f.1, k.ends)
 
-      none_faults : y.fault ≡ None → (w : List ℕ) → Begins lengths done b w → FaultsOn turn done state w → ⊥
+      none_faults : y.fault ≡ None → (w : List ℕ) → Begins lengths done b w → FaultsOn turn rest done state w → ⊥
       none_faults n [] k f = k.0
       none_faults n (c ∷ w) k f = a.none_faults n w (at_letter c w k.0 k.1) (faults_on c w k.0 f)
 
-      least : (rest : List ℕ) → ((v : List ℕ) → Completes lengths (one_more done b) v → FaultsOn turn (one_more done b) next v → IsUpTo rest v)
-          → (v : List ℕ) → Begins lengths done b v → FaultsOn turn done state v → IsUpTo (b ∷ rest) v
-      least rest h [] k f = absurd k.0
-      least rest h (c ∷ v) k f = inr (sym k.0, h v (at_letter c v k.0 k.1) (faults_on c v k.0 f))
+      least : (letters : List ℕ) → ((v : List ℕ) → Completes lengths (one_more done b) v → FaultsOn turn rest (one_more done b) next v → IsUpTo letters v)
+          → (v : List ℕ) → Begins lengths done b v → FaultsOn turn rest done state v → IsUpTo (b ∷ letters) v
+      least letters h [] k f = absurd k.0
+      least letters h (c ∷ v) k f = inr (sym k.0, h v (at_letter c v k.0 k.1) (faults_on c v k.0 f))
 
-      bounds : (w : List ℕ) (n : ℕ) → Begins lengths done b w → run turn done state w ≡ StopsAt n False → length before + n ≤ y.far
+      bounds : (w : List ℕ) (n : ℕ) → Begins lengths done b w → run turn rest done state w ≡ StopsAt n False → length before + n ≤ y.far
       bounds [] n k f = absurd k.0
       bounds (c ∷ w) n k f = let s = later-StopsAt _ n False (sym (run-letter c w k.0) ∙ f) in
           omega (arith, a.bounds w s.steps (at_letter c w k.0 k.1) s.ends, s.more, length-append before (b ∷ []))
 
   -- the words behind a stop, and the run of each
-  run-begins : (why : Why F) → turn state b (get_or done b 0) ≡ Stop why → (w : List ℕ) → Begins lengths done b w → run turn done state w ≡ StopsAt 0 why
+  run-begins : (why : Why F) → turn state b (get_or done b 0) ≡ Stop why → (w : List ℕ) → Begins lengths done b w → run turn rest done state w ≡ StopsAt 0 why
   run-begins why e [] k = absurd k.0
-  run-begins why e (c ∷ w) k = ap (λ a. run turn done state (a ∷ w)) k.0 ∙ run-Stop why e w
+  run-begins why e (c ∷ w) k = ap (λ a. run turn rest done state (a ∷ w)) k.0 ∙ run-Stop why e w
 
   -- the words behind a false event
   pub Covered-False : (before : List ℕ) (x y : Best F) → turn state b (get_or done b 0) ≡ Stop False
       → (w : List ℕ) → Completes lengths (one_more done b) w
       → y.fault ≡ x.fault → x.far ≤ y.far → length before ≤ y.far → (y.far ≡ x.far) ⊎ (y.far ≡ length before)
-      → Covered turn done state before (Begins lengths done b) x y
+      → Covered turn rest done state before (Begins lengths done b) x y
   Covered-False before x y e some some_is same grows bound far = record {
     none_true = λ w k f. let r : StopsAt 0 False ≡ AllTrue = sym (run-begins False e w k) ∙ f in cc;
     kept = λ f g. same ∙ g;
@@ -199,7 +201,7 @@ module _ {S F : Type 0} (turn : S → ℕ → ℕ → Turn S F) (lengths done : 
     reached = elim far [
       | inl d ↦ inl d
       | inr d ↦ inr (record {
-        rest = b ∷ some;
+        letters = b ∷ some;
         steps = 0;
         member = (refl, Completes-cons lengths done b fits some some_is);
         stops = run-Stop False e some;
@@ -210,7 +212,7 @@ module _ {S F : Type 0} (turn : S → ℕ → ℕ → Turn S F) (lengths done : 
 
   -- the words behind a fault, where one was found before
   pub Covered-Fault-later : (before : List ℕ) (fault : F) (x y : Best F) (g : FaultedMerge F) → turn state b (get_or done b 0) ≡ Stop (Fault fault)
-      → x.fault ≡ Some g → y.fault ≡ Some g → y.far ≡ x.far → Covered turn done state before (Begins lengths done b) x y
+      → x.fault ≡ Some g → y.fault ≡ Some g → y.far ≡ x.far → Covered turn rest done state before (Begins lengths done b) x y
   Covered-Fault-later before fault x y g e there now far = record {
     none_true = λ w k f. let r : StopsAt 0 (Fault fault) ≡ AllTrue = sym (run-begins (Fault fault) e w k) ∙ f in cc;
     kept = λ f h. now ∙ sym there ∙ h;
@@ -223,19 +225,19 @@ module _ {S F : Type 0} (turn : S → ℕ → ℕ → Turn S F) (lengths done : 
 
   -- the words behind the first fault
   pub Covered-Fault-first : (before : List ℕ) (x y : Best F) (g : FaultedMerge F) → turn state b (get_or done b 0) ≡ Stop (Fault g.fault)
-      → (rest : List ℕ) → Completes lengths (one_more done b) rest → ((v : List ℕ) → Completes lengths (one_more done b) v → IsUpTo rest v)
-      → g.word.items ≡ before ++ b ∷ rest → g.at ≡ length before
-      → x.fault ≡ None → y.fault ≡ Some g → y.far ≡ x.far → Covered turn done state before (Begins lengths done b) x y
-  Covered-Fault-first before x y g e rest is least word place was now far = record {
+      → (letters : List ℕ) → Completes lengths (one_more done b) letters → ((v : List ℕ) → Completes lengths (one_more done b) v → IsUpTo letters v)
+      → g.word.items ≡ before ++ b ∷ letters → g.at ≡ length before
+      → x.fault ≡ None → y.fault ≡ Some g → y.far ≡ x.far → Covered turn rest done state before (Begins lengths done b) x y
+  Covered-Fault-first before x y g e letters is least word place was now far = record {
     none_true = λ w k f. let r : StopsAt 0 (Fault g.fault) ≡ AllTrue = sym (run-begins (Fault g.fault) e w k) ∙ f in cc;
     kept = λ f h. let r : Some f ≡ None = sym h ∙ was in cc;
     none_faults = λ n w k f. let r : Some g ≡ None = sym now ∙ n in cc;
-    first = λ n f h. let r : g ≡ f = (let u : Some g ≡ Some f = sym now ∙ h in cc) in subst (λ z. IsLeastFault turn done state before (Begins lengths done b) z) r (record {
-      rest = b ∷ rest;
+    first = λ n f h. let r : g ≡ f = (let u : Some g ≡ Some f = sym now ∙ h in cc) in subst (λ z. IsLeastFault turn rest done state before (Begins lengths done b) z) r (record {
+      letters = b ∷ letters;
       steps = 0;
-      member = (refl, Completes-cons lengths done b fits rest is);
+      member = (refl, Completes-cons lengths done b fits letters is);
       word = word;
-      faults = run-Stop (Fault g.fault) e rest;
+      faults = run-Stop (Fault g.fault) e letters;
       place = omega arith;
       least = least_here;
     });
@@ -244,22 +246,22 @@ module _ {S F : Type 0} (turn : S → ℕ → ℕ → Turn S F) (lengths done : 
     reached = inl far;
   }
     where
-      least_here : (v : List ℕ) → Begins lengths done b v → FaultsOn turn done state v → IsUpTo (b ∷ rest) v
+      least_here : (v : List ℕ) → Begins lengths done b v → FaultsOn turn rest done state v → IsUpTo (b ∷ letters) v
       least_here [] k f = absurd k.0
       least_here (c ∷ v) k f = inr (sym k.0, least v (Completes-tail lengths done b fits v (subst (λ a. Completes lengths done (a ∷ v)) k.0 k.1)))
 
-module _ {S F : Type 0} (turn : S → ℕ → ℕ → Turn S F) (lengths done : List ℕ) (state : S) where
+module _ {S F : Type 0} (turn : S → ℕ → ℕ → Turn S F) (rest : S → Ending F) (lengths done : List ℕ) (state : S) where
   -- a branch that has no command left
-  pub Covered-full : (b : ℕ) (before : List ℕ) (x : Best F) → get_or lengths b 0 ≤ get_or done b 0 → Covered turn done state before (Begins lengths done b) x x
-  Covered-full b before x h = Covered-none turn done state before (Begins lengths done b) x none
+  pub Covered-full : (b : ℕ) (before : List ℕ) (x : Best F) → get_or lengths b 0 ≤ get_or done b 0 → Covered turn rest done state before (Begins lengths done b) x x
+  Covered-full b before x h = Covered-none turn rest done state before (Begins lengths done b) x none
     where
       none : (w : List ℕ) → Begins lengths done b w → ⊥
       none [] k = k.0
       none (c ∷ w) k = let p = Completes-head lengths done c w k.1 in let e : c ≡ b = k.0 in
           let q : get_or done b 0 < get_or lengths b 0 = subst (λ a. get_or done a 0 < get_or lengths a 0) e p in omega arith
 
-  pub Covered-start : (before : List ℕ) (x : Best F) → Covered turn done state before (BeginsBelow lengths done 0) x x
-  Covered-start before x = Covered-none turn done state before (BeginsBelow lengths done 0) x none
+  pub Covered-start : (before : List ℕ) (x : Best F) → Covered turn rest done state before (BeginsBelow lengths done 0) x x
+  Covered-start before x = Covered-none turn rest done state before (BeginsBelow lengths done 0) x none
     where
       none : (w : List ℕ) → BeginsBelow lengths done 0 w → ⊥
       none [] k = k.0
@@ -267,9 +269,9 @@ module _ {S F : Type 0} (turn : S → ℕ → ℕ → Turn S F) (lengths done : 
 
   -- one branch more
   pub Covered-more : (b : ℕ) (before : List ℕ) (x y z : Best F)
-      → Covered turn done state before (BeginsBelow lengths done b) x y → Covered turn done state before (Begins lengths done b) y z
-      → Covered turn done state before (BeginsBelow lengths done (b + 1)) x z
-  Covered-more b before x y z p q = Covered-join turn done state before (BeginsBelow lengths done b) (Begins lengths done b) (BeginsBelow lengths done (b + 1)) x y z split left right sorted p q
+      → Covered turn rest done state before (BeginsBelow lengths done b) x y → Covered turn rest done state before (Begins lengths done b) y z
+      → Covered turn rest done state before (BeginsBelow lengths done (b + 1)) x z
+  Covered-more b before x y z p q = Covered-join turn rest done state before (BeginsBelow lengths done b) (Begins lengths done b) (BeginsBelow lengths done (b + 1)) x y z split left right sorted p q
     where
       split : (w : List ℕ) → BeginsBelow lengths done (b + 1) w → BeginsBelow lengths done b w ⊎ Begins lengths done b w
       split [] k = absurd k.0
@@ -290,8 +292,8 @@ module _ {S F : Type 0} (turn : S → ℕ → ℕ → Turn S F) (lengths done : 
 
   -- all branches, where some command is left
   pub Covered-all : (b : ℕ) (before : List ℕ) (x y : Best F) (open_branch : ℕ) → get_or done open_branch 0 < get_or lengths open_branch 0 → length lengths ≤ b
-      → Covered turn done state before (BeginsBelow lengths done b) x y → Covered turn done state before (Completes lengths done) x y
-  Covered-all b before x y c left past p = Covered-same turn done state before (BeginsBelow lengths done b) (Completes lengths done) x y (λ w k. k.1) all p
+      → Covered turn rest done state before (BeginsBelow lengths done b) x y → Covered turn rest done state before (Completes lengths done) x y
+  Covered-all b before x y c left past p = Covered-same turn rest done state before (BeginsBelow lengths done b) (Completes lengths done) x y (λ w k. k.1) all p
     where
       all : (w : List ℕ) → Completes lengths done w → BeginsBelow lengths done b w
       all [] k = let e = k c in absurd (omega arith)

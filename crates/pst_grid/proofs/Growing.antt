@@ -2,9 +2,11 @@
 use Rattle.std.proofs.Common.{◌≡◌, ℕ, ◌+◌, ◌*◌, ◌<◌, ◌≤◌, List, [], ◌∷◌, ◌++◌, length, sum, get_or, Bool, true, false, ◌||◌, if◌then◌else◌, refl, sym, ap, subst, ◌∙◌, arith, true≢false, append_assoc, length-append, map}
 use Rattle.std.specs.List.{list_any, IsDistinct, AllByRecursion}
 use Rattle.std.proofs.lemmas.List.{length-map}
-use Rattle.pst_grid.specs.Bounds.{HasNoRepeats, IsBounded, Each, Leads}
+use Rattle.std.proofs.lemmas.Slice.Eq.{bytes_eq-Decides}
+use Rattle.std.specs.Str.{bytes_eq}
+use Rattle.pst_grid.specs.Bounds.{HasNoRepeats, IsBounded, IsReached, Each}
 use Rattle.pst_grid.specs.Merges.{one_more, none_done}
-use Rattle.pst_grid.specs.Remembered.{IsReached, IsGrown}
+use Rattle.pst_grid.specs.Remembered.{IsReachedFrom, IsGrown, ends_of}
 use Rattle.pst_grid.specs.declared.position.Position.{Position}
 use Rattle.pst_grid.specs.declared.answer.Turn.{Turn}
 use Rattle.pst_grid.specs.declared.answer.Turn.TheVariants.{Next}
@@ -24,48 +26,71 @@ none-append K test (k ∷ ks) ls e h = by (test k) refl (λ f. none-append K tes
     by true f rest = absurd (true≢false (sym (ap (λ b. b || list_any test ks) f) ∙ e))
     by false f rest = ap (λ b. b || list_any test (ks ++ ls)) f ∙ rest (sym (ap (λ b. b || list_any test ks) f) ∙ e)
 
-module _ {S F : Type 0} (turn : S → ℕ → ℕ → Turn S F) (lengths : List ℕ) where
+module _ {S : Type 0} (lengths : List ℕ) where
+  ends-append : (ks ls : List (Position S)) → ends_of lengths (ks ++ ls) ≡ ends_of lengths ks ++ ends_of lengths ls
+  ends-append [] ls = refl
+  ends-append (k ∷ ks) ls = by (bytes_eq k.done.items lengths) (ends-append ks ls)
+    where
+      by : (b : Bool) → ends_of lengths (ks ++ ls) ≡ ends_of lengths ks ++ ends_of lengths ls
+          → (if b then k.state ∷ ends_of lengths (ks ++ ls) else ends_of lengths (ks ++ ls))
+          ≡ (if b then k.state ∷ ends_of lengths ks else ends_of lengths ks) ++ ends_of lengths ls
+      by true h = ap (λ ts. k.state ∷ ts) h
+      by false h = h
+
+  -- as many ends as both have, each times the most steps of the rest
+  ends-more : (most : ℕ) (ks ls : List (Position S)) → most * length (ends_of lengths (ks ++ ls))
+      ≡ most * length (ends_of lengths ks) + most * length (ends_of lengths ls)
+  ends-more most ks ls =
+      ap (λ n. most * n) (ap length (ends-append ks ls) ∙ length-append (ends_of lengths ks) (ends_of lengths ls)) ∙ (omega arith)
+
+  -- one end is one
+  end-once : (k : Position S) → k.done.items ≡ lengths → length (ends_of lengths (k ∷ [])) ≡ 1
+  end-once k e = ap (λ b. length (if b then k.state ∷ [] else [])) ((bytes_eq-Decides k.done.items lengths).1 e)
+
+module _ {S F : Type 0} (turn : S → ℕ → ℕ → Turn S F) (lengths : List ℕ) (most : ℕ) where
   module _ (n : ℕ) (done : List ℕ) (state : S) where
-    pub grown-none : (keys : List (Position S)) (i s t : ℕ) → t ≤ s + i → IsGrown turn lengths i n done state keys keys s t
+    pub grown-none : (keys : List (Position S)) (i s t : ℕ) → t ≤ s + i → IsGrown turn lengths most i n done state keys keys s t
     grown-none keys i s t h = record { added = []; keys = sym (append-nil keys); reached = tt; deep = tt; steps = omega arith }
 
-    pub grown-more : (i : ℕ) (a b c : List (Position S)) (s t u : ℕ) → IsGrown turn lengths i n done state a b s t → IsGrown turn lengths 1 n done state b c t u
-        → IsGrown turn lengths (i + 1) n done state a c s u
+    pub grown-more : (i : ℕ) (a b c : List (Position S)) (s t u : ℕ) → IsGrown turn lengths most i n done state a b s t → IsGrown turn lengths most 1 n done state b c t u
+        → IsGrown turn lengths most (i + 1) n done state a c s u
     grown-more i a b c s t u p q = record {
       added = p.added ++ q.added;
       keys = q.keys ∙ ap (λ ks. ks ++ q.added) p.keys ∙ append_assoc a p.added q.added;
-      reached = Each-append (IsReached turn lengths done state) p.added q.added p.reached q.reached;
+      reached = Each-append (IsReachedFrom turn lengths most done state) p.added q.added p.reached q.reached;
       deep = Each-append (λ k. n ≤ sum k.done.items) p.added q.added p.deep q.deep;
       steps = let e = length-append p.added q.added in let x = p.steps in let y = q.steps in
-          let z : length lengths * length (p.added ++ q.added) ≡ length lengths * length p.added + length lengths * length q.added = ap (λ k. length lengths * k) e ∙ (omega arith) in omega arith;
+          let z : length lengths * length (p.added ++ q.added) ≡ length lengths * length p.added + length lengths * length q.added = ap (λ k. length lengths * k) e ∙ (omega arith) in
+          let r = ends-more lengths most p.added q.added in omega arith;
     }
 
   -- behind a true event
   pub grown-behind : (done : List ℕ) (state : S) (b : ℕ) (next : S) (there : List ℕ) (old new : List (Position S)) (s t u : ℕ) → get_or done b 0 < get_or lengths b 0 → turn state b (get_or done b 0) ≡ Next next
       → there ≡ one_more done b → sum (one_more done b) ≡ sum done + 1 → t ≤ s + 1
-      → IsGrown turn lengths 0 (sum there) there next old new t u → IsGrown turn lengths 1 (sum done + 1) done state old new s u
+      → IsGrown turn lengths most 0 (sum there) there next old new t u → IsGrown turn lengths most 1 (sum done + 1) done state old new s u
   grown-behind done state b next there old new s t u left e d more h q =
-      let p = subst (λ x. IsGrown turn lengths 0 (sum x) x next old new t u) d q in
+      let p = subst (λ x. IsGrown turn lengths most 0 (sum x) x next old new t u) d q in
       record {
         added = p.added;
         keys = p.keys;
-        reached = Each-map (IsReached turn lengths (one_more done b) next) (IsReached turn lengths done state) (λ k r. (b ∷ r.0, (left, (next, e, r.1)))) p.added p.reached;
+        reached = Each-map (IsReachedFrom turn lengths most (one_more done b) next) (IsReachedFrom turn lengths most done state) (λ k r. (b ∷ r.0, (left, (next, e, r.1)))) p.added p.reached;
         deep = Each-map (λ k. sum (one_more done b) ≤ sum k.done.items) (λ k. sum done + 1 ≤ sum k.done.items) (λ k r. omega arith) p.added p.deep;
         steps = let x = p.steps in omega arith;
       }
 
   -- the position itself, which is new
   pub grown-insert : (done : List ℕ) (state : S) (i : ℕ) (old now new : List (Position S)) (s t : ℕ) (k : Position S) (test : Position S → Bool) → i ≤ length lengths
-      → IsGrown turn lengths i (sum done + 1) done state old now s t → k.done.items ≡ done → k.state ≡ state
+      → IsGrown turn lengths most i (sum done + 1) done state old now s t → k.done.items ≡ done → k.state ≡ state
       → list_any test old ≡ false → ((l : Position S) → test l ≡ true → l.done.items ≡ done) → new ≡ (if list_any test now then now else now ++ k ∷ [])
-      → IsGrown turn lengths 0 (sum done) done state old new s t
+      → IsGrown turn lengths most 0 (sum done) done state old new s t
   grown-insert done state i old now new s t k test h p d e absent same is = record {
     added = p.added ++ k ∷ [];
     keys = is ∙ ap (λ b. if b then now else now ++ k ∷ []) not_there ∙ ap (λ ks. ks ++ k ∷ []) p.keys ∙ append_assoc old p.added (k ∷ []);
-    reached = Each-append (IsReached turn lengths done state) p.added (k ∷ []) p.reached (([], (sym d, sym e)), tt);
+    reached = Each-append (IsReachedFrom turn lengths most done state) p.added (k ∷ []) p.reached (([], (sym d, sym e)), tt);
     deep = Each-append (λ l. sum done ≤ sum l.done.items) p.added (k ∷ []) (Each-map (λ l. sum done + 1 ≤ sum l.done.items) (λ l. sum done ≤ sum l.done.items) (λ l r. omega arith) p.added p.deep) (omega (arith, ap sum d), tt);
     steps = let x = p.steps in let f = length-append p.added (k ∷ []) in
-        let z : length lengths * length (p.added ++ k ∷ []) ≡ length lengths * length p.added + length lengths = ap (λ n. length lengths * n) f ∙ (omega arith) in omega arith;
+        let z : length lengths * length (p.added ++ k ∷ []) ≡ length lengths * length p.added + length lengths = ap (λ n. length lengths * n) f ∙ (omega arith) in
+        let r = ends-more lengths most p.added (k ∷ []) in omega arith;
   }
     where
       others : (l : Position S) → sum done + 1 ≤ sum l.done.items → test l ≡ false
@@ -77,6 +102,21 @@ module _ {S F : Type 0} (turn : S → ℕ → ℕ → Turn S F) (lengths : List 
 
       not_there : list_any test now ≡ false
       not_there = ap (list_any test) p.keys ∙ none-append (Position S) test old p.added absent (Each-map (λ l. sum done + 1 ≤ sum l.done.items) (λ l. test l ≡ false) others p.added p.deep)
+
+  -- a position at which all branches have ended, which is new
+  pub grown-end : (done : List ℕ) (state : S) (old new : List (Position S)) (s t : ℕ) (k : Position S) (there : Bool)
+      → done ≡ lengths → t ≤ s + most → k.done.items ≡ done → k.state ≡ state → there ≡ false
+      → new ≡ (if there then old else old ++ k ∷ []) → IsGrown turn lengths most 0 (sum done) done state old new s t
+  grown-end done state old new s t k there all h d e absent is = record {
+    added = k ∷ [];
+    keys = is ∙ ap (λ b. if b then old else old ++ k ∷ []) absent;
+    reached = (([], (sym d, sym e)), tt);
+    deep = (omega (arith, ap sum d), tt);
+    steps =
+        let one = ap (λ n. most * n) (end-once lengths k (d ∙ all)) in
+        let same : most * 1 ≡ most = omega arith in
+        omega arith;
+  }
 
 -- the place and the state
 abbrev pub seen_as : {S : Type 0} → Position S → List ℕ × S
@@ -92,19 +132,58 @@ module _ {S : Type 0} (eq : Position S → Position S → Bool) (law : (a b : Po
   no-repeats [] h = tt
   no-repeats (k ∷ ks) h = (others-differ k ks h.0, no-repeats ks h.1)
 
-Each-seen : {S : Type 0} (P : List ℕ × S → Type 0) (ks : List (Position S)) → Each (λ k. P (seen_as k)) ks → Each P (map seen_as ks)
-Each-seen P [] h = tt
-Each-seen P (k ∷ ks) h = (h.0, Each-seen P ks h.1)
+module _ {S : Type 0} (eq : Position S → Position S → Bool)
+    (law : (a b : Position S) → a.done.items ≡ b.done.items → a.state ≡ b.state → eq a b ≡ true) (lengths : List ℕ) where
+  ends-differ : (k : Position S) (ks : List (Position S)) → k.done.items ≡ lengths
+      → AllByRecursion (λ l. eq k l ≡ false) ks → Each (λ s. k.state ≡ s → ⊥) (ends_of lengths ks)
+  ends-differ k [] e h = tt
+  ends-differ k (l ∷ ks) e h = by (bytes_eq l.done.items lengths) refl h.0 (ends-differ k ks e h.1)
+    where
+      by : (b : Bool) → bytes_eq l.done.items lengths ≡ b → eq k l ≡ false → Each (λ s. k.state ≡ s → ⊥) (ends_of lengths ks)
+          → Each (λ s. k.state ≡ s → ⊥) (if b then l.state ∷ ends_of lengths ks else ends_of lengths ks)
+      by true f n r =
+          ((λ g. true≢false (sym (law k l (e ∙ sym ((bytes_eq-Decides l.done.items lengths).0 f)) g) ∙ n)), r)
+      by false f n r = r
 
-module _ {S F : Type 0} (turn : S → ℕ → ℕ → Turn S F) (lengths : List ℕ) where
+  pub ends-distinct : (ks : List (Position S)) → IsDistinct eq ks → HasNoRepeats (ends_of lengths ks)
+  unfolding IsDistinct
+  ends-distinct [] h = tt
+  ends-distinct (k ∷ ks) h = by (bytes_eq k.done.items lengths) refl h.0 (ends-distinct ks h.1)
+    where
+      by : (b : Bool) → bytes_eq k.done.items lengths ≡ b → AllByRecursion (λ l. eq k l ≡ false) ks → HasNoRepeats (ends_of lengths ks)
+          → HasNoRepeats (if b then k.state ∷ ends_of lengths ks else ends_of lengths ks)
+      by true f n r = (ends-differ k ks ((bytes_eq-Decides k.done.items lengths).0 f) n, r)
+      by false f n r = r
+
+module _ {S : Type 0} (P : List ℕ × S → Type 0) where
+  Each-seen : (ks : List (Position S)) → Each (λ k. P (seen_as k)) ks → Each P (map seen_as ks)
+  Each-seen [] h = tt
+  Each-seen (k ∷ ks) h = (h.0, Each-seen ks h.1)
+
+  Each-end : (lengths : List ℕ) (ks : List (Position S)) → Each (λ k. P (seen_as k)) ks
+      → Each (λ s. P (lengths, s)) (ends_of lengths ks)
+  Each-end lengths [] h = tt
+  Each-end lengths (k ∷ ks) h = by (bytes_eq k.done.items lengths) refl h.0 (Each-end lengths ks h.1)
+    where
+      by : (b : Bool) → bytes_eq k.done.items lengths ≡ b → P (seen_as k) → Each (λ s. P (lengths, s)) (ends_of lengths ks)
+          → Each (λ s. P (lengths, s)) (if b then k.state ∷ ends_of lengths ks else ends_of lengths ks)
+      by true f p r = (subst (λ d. P (d, k.state)) ((bytes_eq-Decides k.done.items lengths).0 f) p, r)
+      by false f p r = r
+
+module _ {S F : Type 0} (turn : S → ℕ → ℕ → Turn S F) (lengths : List ℕ) (most : ℕ) where
   pub bounded : (done : List ℕ) (start state : S) (old new : List (Position S)) (s t : ℕ) (eq : Position S → Position S → Bool)
       → ((a b : Position S) → a.done.items ≡ b.done.items → a.state ≡ b.state → eq a b ≡ true) → IsDistinct eq new
-      → done ≡ none_done lengths → state ≡ start → old ≡ [] → s ≡ 0 → IsGrown turn lengths 0 (sum done) done state old new s t → IsBounded turn lengths start t
+      → done ≡ none_done lengths → state ≡ start → old ≡ [] → s ≡ 0
+      → IsGrown turn lengths most 0 (sum done) done state old new s t → IsBounded turn lengths most start t
   bounded done start state old new s t eq law distinct d e none zero_steps p =
       let keys : new ≡ p.added = p.keys ∙ ap (λ ks. ks ++ p.added) none in
-      let reached = subst (λ n. Each (IsReached turn lengths (none_done lengths) n) p.added) e (subst (λ x. Each (IsReached turn lengths x state) p.added) d p.reached) in (
-        map seen_as p.added,
-        no-repeats eq law p.added (subst (IsDistinct eq) keys distinct),
-        Each-seen (λ q. (u : List ℕ) × Leads turn lengths (none_done lengths) start u q.0 q.1) p.added reached,
-        (let x = p.steps in let y = length-map p.added seen_as in let z = ap (λ n. length lengths * n) y in omega arith),
-      )
+      let reached = subst (λ n. Each (IsReachedFrom turn lengths most (none_done lengths) n) p.added) e
+      (subst (λ x. Each (IsReachedFrom turn lengths most x state) p.added) d p.reached) in
+      let unique = subst (IsDistinct eq) keys distinct in
+      record {
+        places = map seen_as p.added;
+        reached = (no-repeats eq law p.added unique, Each-seen (IsReached turn lengths start) p.added reached);
+        ends = ends_of lengths p.added;
+        ended = (ends-distinct eq law lengths p.added unique, Each-end (IsReached turn lengths start) lengths p.added reached);
+        within = (let x = p.steps in let y = length-map p.added seen_as in let z = ap (λ n. length lengths * n) y in omega arith);
+      }

@@ -3,6 +3,7 @@ use Rattle.std.proofs.Common.{◌≡◌, ℕ, ◌≤◌, inl, List, [], ◌∷�
 use Rattle.std.proofs.lemmas.Slice.Eq.{bytes_eq-Decides}
 use Rattle.std.specs.Str.{bytes_eq}
 use Rattle.std.specs.List.{list_any}
+use Rattle.pst_grid.specs.declared.answer.Ending.{Ending}
 use Rattle.pst_grid.specs.declared.answer.Turn.{Turn}
 use Rattle.pst_grid.specs.Bounds.{Each}
 use Rattle.pst_grid.specs.Completions.{Completes}
@@ -26,8 +27,8 @@ Each-find K P test [] e h = absurd (true≢false (sym e))
 Each-find K P test (k ∷ ks) e h = by (test k) refl (λ f. Each-find K P test ks f h.1)
   where
     by : (b : Bool) → test k ≡ b → (list_any test ks ≡ true → (k : K) × (test k ≡ true) × P k) → (k : K) × (test k ≡ true) × P k
-    by true f rest = (k, f, h.0)
-    by false f rest = rest (sym (ap (λ c. c || list_any test ks) f) ∙ e)
+    by true f others = (k, f, h.0)
+    by false f others = others (sym (ap (λ c. c || list_any test ks) f) ∙ e)
 
 pub Each-insert : {K : Type 0} (P : K → Type 0) (b : Bool) (ks new : List K) (k : K) → new ≡ (if b then ks else ks ++ k ∷ []) → Each P ks → P k → Each P new
 Each-insert P true ks new k e h p = subst (Each P) (sym e) h
@@ -46,13 +47,13 @@ module _ {S : Type 0} (eq : S → S → Bool) where
   pub position-equal : ((a : S) → eq a a ≡ true) → (k l : Position S) → k.done.items ≡ l.done.items → k.state ≡ l.state → bytes_eq k.done.items l.done.items && eq k.state l.state ≡ true
   position-equal law k l d e = ap (λ b. b && eq k.state l.state) ((bytes_eq-Decides k.done.items l.done.items).1 d) ∙ subst (λ s. eq k.state s ≡ true) e (law k.state)
 
-module _ {S F : Type 0} (turn : S → ℕ → ℕ → Turn S F) (lengths : List ℕ) where
+module _ {S F : Type 0} (turn : S → ℕ → ℕ → Turn S F) (rest : S → Ending F) (lengths : List ℕ) where
   -- what was covered is accounted for
-  pub accounted : (done before : List ℕ) (state : S) (old new : Best F) → sum done ≡ length before → Covered turn done state before (Completes lengths done) old new → IsAccounted turn lengths new done state
+  pub accounted : (done before : List ℕ) (state : S) (old new : Best F) → sum done ≡ length before → Covered turn rest done state before (Completes lengths done) old new → IsAccounted turn rest lengths new done state
   accounted done before state old new e c = record { none_true = c.none_true; none_faults = c.none_faults; bounds = λ w n k r. omega (arith, c.bounds w n k r, e) }
 
   -- what is accounted for is covered with no further search
-  pub covered : (done before : List ℕ) (state : S) (best : Best F) → sum done ≡ length before → IsAccounted turn lengths best done state → Covered turn done state before (Completes lengths done) best best
+  pub covered : (done before : List ℕ) (state : S) (best : Best F) → sum done ≡ length before → IsAccounted turn rest lengths best done state → Covered turn rest done state before (Completes lengths done) best best
   covered done before state best e a = record {
     none_true = a.none_true;
     kept = λ x f. f;
@@ -65,7 +66,7 @@ module _ {S F : Type 0} (turn : S → ℕ → ℕ → Turn S F) (lengths : List 
 
   -- it stays so while the search goes on
   pub accounted-on : (old new : Best F) → ((x : FaultedMerge F) → old.fault ≡ Some x → new.fault ≡ Some x) → old.far ≤ new.far
-      → (done : List ℕ) (state : S) → IsAccounted turn lengths old done state → IsAccounted turn lengths new done state
+      → (done : List ℕ) (state : S) → IsAccounted turn rest lengths old done state → IsAccounted turn rest lengths new done state
   accounted-on old new kept grows done state a = record {
     none_true = a.none_true;
     none_faults = λ n. a.none_faults (none_before n);
@@ -79,22 +80,22 @@ module _ {S F : Type 0} (turn : S → ℕ → ℕ → Turn S F) (lengths : List 
           by None k = k
           by (Some f) k = let j : Some f ≡ None = sym (kept f k) ∙ e in cc
 
-  pub all-accounted-on : (done before : List ℕ) (state : S) (W : List ℕ → Type 0) (old new : Best F) (keys : List (Position S)) → Covered turn done state before W old new
-      → AreAccounted turn lengths old keys → AreAccounted turn lengths new keys
+  pub all-accounted-on : (done before : List ℕ) (state : S) (W : List ℕ → Type 0) (old new : Best F) (keys : List (Position S)) → Covered turn rest done state before W old new
+      → AreAccounted turn rest lengths old keys → AreAccounted turn rest lengths new keys
   all-accounted-on done before state W old new keys c h =
-      Each-map (λ k. IsAccounted turn lengths old k.done.items k.state) (λ k. IsAccounted turn lengths new k.done.items k.state) (λ k a. accounted-on old new c.kept c.grows k.done.items k.state a) keys h
+      Each-map (λ k. IsAccounted turn rest lengths old k.done.items k.state) (λ k. IsAccounted turn rest lengths new k.done.items k.state) (λ k a. accounted-on old new c.kept c.grows k.done.items k.state a) keys h
 
   -- a position that is met again
   pub met-again : (best : Best F) (keys : List (Position S)) (test : Position S → Bool) (done before : List ℕ) (state : S)
       → list_any test keys ≡ true → ((k : Position S) → test k ≡ true → (k.done.items ≡ done) × (k.state ≡ state)) → sum done ≡ length before
-      → AreAccounted turn lengths best keys → Covered turn done state before (Completes lengths done) best best
+      → AreAccounted turn rest lengths best keys → Covered turn rest done state before (Completes lengths done) best best
   met-again best keys test done before state found same e all =
-      let k = Each-find (Position S) (λ k. IsAccounted turn lengths best k.done.items k.state) test keys found all in
+      let k = Each-find (Position S) (λ k. IsAccounted turn rest lengths best k.done.items k.state) test keys found all in
       let s = same k.0 k.1 in
-      covered done before state best e (subst (λ d. IsAccounted turn lengths best d state) s.0 (subst (λ n. IsAccounted turn lengths best k.0.done.items n) s.1 k.2))
+      covered done before state best e (subst (λ d. IsAccounted turn rest lengths best d state) s.0 (subst (λ n. IsAccounted turn rest lengths best k.0.done.items n) s.1 k.2))
 
   -- one position more
   pub remembered : (best : Best F) (there : Bool) (keys new : List (Position S)) (k : Position S) (done : List ℕ) → new ≡ (if there then keys else keys ++ k ∷ []) → k.done.items ≡ done
-      → AreAccounted turn lengths best keys → IsAccounted turn lengths best done k.state → AreAccounted turn lengths best new
+      → AreAccounted turn rest lengths best keys → IsAccounted turn rest lengths best done k.state → AreAccounted turn rest lengths best new
   remembered best there keys new k done e d h a =
-      Each-insert (λ k. IsAccounted turn lengths best k.done.items k.state) there keys new k e h (subst (λ d. IsAccounted turn lengths best d k.state) (sym d) a)
+      Each-insert (λ k. IsAccounted turn rest lengths best k.done.items k.state) there keys new k e h (subst (λ d. IsAccounted turn rest lengths best d k.state) (sym d) a)

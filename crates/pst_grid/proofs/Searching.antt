@@ -4,11 +4,13 @@ use Rattle.std.proofs.lemmas.Bool.{cases_eq, cases_lt}
 use Rattle.std.proofs.lemmas.List.{get_or-set_same, get_or-set_other, set-set, set-get_or, length-set, take_at, get_or_past}
 use Rattle.std.proofs.lemmas.List.Sums.{sum_by-set, sum_by-cons}
 use Rattle.pst_grid.specs.declared.answer.Why.TheVariants.{False, Fault}
+use Rattle.pst_grid.specs.declared.answer.Ending.{Ending}
 use Rattle.pst_grid.specs.declared.answer.Turn.{Turn}
 use Rattle.pst_grid.specs.declared.answer.Turn.TheVariants.{Next, Stop}
 use Rattle.pst_grid.specs.Completions.{Completes, fill_from, IsAt, Begins}
 use Rattle.pst_grid.specs.Covered.{Covered, IsLeastTrue, HasCovered}
-use Rattle.pst_grid.specs.Merges.{run, AllTrue, IsUpTo, later, one_more}
+use Rattle.pst_grid.specs.Merges.{run, IsUpTo, later, one_more}
+use Rattle.pst_grid.specs.declared.answer.Ending.TheVariants.{AllTrue}
 use Rattle.pst_grid.specs.declared.search.Best.{Best}
 use Rattle.pst_grid.specs.declared.search.FaultedMerge.{FaultedMerge}
 use Rattle.pst_grid.specs.declared.search.Search.{Search}
@@ -61,107 +63,93 @@ back_again done now b h e =
 pub take_again : (before now : List ℕ) (b : ℕ) → now ≡ before ++ b ∷ [] → take (length now - 1) now ≡ before
 take_again before now b e = ap (λ x. take (length x - 1) x) e ∙ take_at before (b ∷ []) (length (before ++ b ∷ []) - 1) (omega (arith, length-append before (b ∷ [])))
 
-module _ {S F : Type 0} (turn : S → ℕ → ℕ → Turn S F) (lengths : List ℕ) (state : S) where
-  -- all is done
-  pub explored-done : (done before : List ℕ) → IsAt lengths done → ((b : ℕ) → get_or lengths b 0 ≤ get_or done b 0) → IsLeastTrue turn state done before (Completes lengths done) before
-  explored-done done before at full = record {
-    rest = [];
-    member = λ b. (let k = full b in let l = at.within b in omega arith);
-    is_true = refl;
-    word_is = sym (append_nil before);
-    least = λ v k r. tt;
-  }
-    where
-      append_nil : (xs : List ℕ) → xs ++ [] ≡ xs
-      append_nil [] = refl
-      append_nil (x ∷ xs) = ap (λ ys. x ∷ ys) (append_nil xs)
-
+module _ {S F : Type 0} (turn : S → ℕ → ℕ → Turn S F) (rest : S → Ending F) (lengths : List ℕ) (state : S) where
   -- found behind branch b
-  pub explored-true : (old now : Search F) (b : ℕ) (word : List ℕ) → HasCovered turn state (BeginsBelow lengths old.done.items b) old now
-      → IsLeastTrue turn state now.done.items now.word.items (Begins lengths now.done.items b) word
-      → IsLeastTrue turn state old.done.items old.word.items (Completes lengths old.done.items) word
+  pub explored-true : (old now : Search F) (b : ℕ) (word : List ℕ) → HasCovered turn rest state (BeginsBelow lengths old.done.items b) old now
+      → IsLeastTrue turn rest state now.done.items now.word.items (Begins lengths now.done.items b) word
+      → IsLeastTrue turn rest state old.done.items old.word.items (Completes lengths old.done.items) word
   explored-true old now b word h k =
-      let j = subst (λ d. IsLeastTrue turn state d now.word.items (Begins lengths d b) word) h.done k in
-      let l = subst (λ u. IsLeastTrue turn state old.done.items u (Begins lengths old.done.items b) word) h.word j in
-      record { rest = l.rest; member = l.member.1; is_true = l.is_true; word_is = l.word_is; least = least l.rest l.member l.least }
+      let j = subst (λ d. IsLeastTrue turn rest state d now.word.items (Begins lengths d b) word) h.done k in
+      let l = subst (λ u. IsLeastTrue turn rest state old.done.items u (Begins lengths old.done.items b) word) h.word j in
+      record { letters = l.letters; member = l.member.1; is_true = l.is_true; word_is = l.word_is; least = least l.letters l.member l.least }
     where
-      least : (rest : List ℕ) → Begins lengths old.done.items b rest → ((v : List ℕ) → Begins lengths old.done.items b v → run turn old.done.items state v ≡ AllTrue → IsUpTo rest v)
-          → (v : List ℕ) → Completes lengths old.done.items v → run turn old.done.items state v ≡ AllTrue → IsUpTo rest v
+      least : (letters : List ℕ) → Begins lengths old.done.items b letters → ((v : List ℕ) → Begins lengths old.done.items b v → run turn rest old.done.items state v ≡ AllTrue → IsUpTo letters v)
+          → (v : List ℕ) → Completes lengths old.done.items v → run turn rest old.done.items state v ≡ AllTrue → IsUpTo letters v
       least [] s l v c r = tt
-      least (a ∷ rest) s l [] c r = absurd (let p = c a in let q = Completes-head lengths old.done.items a rest s.1 in omega arith)
-      least (a ∷ rest) s l (d ∷ v) c r = by (cases_lt d b) (cases_lt b d)
+      least (a ∷ letters) s l [] c r = absurd (let p = c a in let q = Completes-head lengths old.done.items a letters s.1 in omega arith)
+      least (a ∷ letters) s l (d ∷ v) c r = by (cases_lt d b) (cases_lt b d)
         where
-          by : (d < b) ⊎ (b ≤ d) → (b < d) ⊎ (d ≤ b) → IsUpTo (a ∷ rest) (d ∷ v)
+          by : (d < b) ⊎ (b ≤ d) → (b < d) ⊎ (d ≤ b) → IsUpTo (a ∷ letters) (d ∷ v)
           by (inl x) y = absurd (h.covered.none_true (d ∷ v) (x, c) r)
           by (inr x) (inl y) = let e : a ≡ b = s.0 in inl (omega arith)
           by (inr x) (inr y) = let e : d ≡ b = omega arith in l (d ∷ v) (e, c) r
 
   -- one branch more
-  pub explored-more : (old now new : Search F) (b : ℕ) → HasCovered turn state (BeginsBelow lengths old.done.items b) old now
-      → HasCovered turn state (Begins lengths now.done.items b) now new → HasCovered turn state (BeginsBelow lengths old.done.items (b + 1)) old new
+  pub explored-more : (old now new : Search F) (b : ℕ) → HasCovered turn rest state (BeginsBelow lengths old.done.items b) old now
+      → HasCovered turn rest state (Begins lengths now.done.items b) now new → HasCovered turn rest state (BeginsBelow lengths old.done.items (b + 1)) old new
   explored-more old now new b h k =
-      let j = subst (λ d. Covered turn d state now.word.items (Begins lengths d b) now.best new.best) h.done k.covered in
-      let l = subst (λ u. Covered turn old.done.items state u (Begins lengths old.done.items b) now.best new.best) h.word j in
-      record { word = k.word ∙ h.word; done = k.done ∙ h.done; covered = Covered-more turn lengths old.done.items state b old.word.items old.best now.best new.best h.covered l }
+      let j = subst (λ d. Covered turn rest d state now.word.items (Begins lengths d b) now.best new.best) h.done k.covered in
+      let l = subst (λ u. Covered turn rest old.done.items state u (Begins lengths old.done.items b) now.best new.best) h.word j in
+      record { word = k.word ∙ h.word; done = k.done ∙ h.done; covered = Covered-more turn rest lengths old.done.items state b old.word.items old.best now.best new.best h.covered l }
 
-  pub explored-start : (old : Search F) → HasCovered turn state (BeginsBelow lengths old.done.items 0) old old
-  explored-start old = record { word = refl; done = refl; covered = Covered-start turn lengths old.done.items state old.word.items old.best }
+  pub explored-start : (old : Search F) → HasCovered turn rest state (BeginsBelow lengths old.done.items 0) old old
+  explored-start old = record { word = refl; done = refl; covered = Covered-start turn rest lengths old.done.items state old.word.items old.best }
 
   -- all branches
   pub explored-all : (old new : Search F) (b : ℕ) → ((c : ℕ) × (get_or old.done.items c 0 < get_or lengths c 0)) → length lengths ≤ b
-      → HasCovered turn state (BeginsBelow lengths old.done.items b) old new → HasCovered turn state (Completes lengths old.done.items) old new
+      → HasCovered turn rest state (BeginsBelow lengths old.done.items b) old new → HasCovered turn rest state (Completes lengths old.done.items) old new
   explored-all old new b left past h = record {
     word = h.word;
     done = h.done;
-    covered = Covered-all turn lengths old.done.items state b old.word.items old.best new.best left.0 left.1 past h.covered;
+    covered = Covered-all turn rest lengths old.done.items state b old.word.items old.best new.best left.0 left.1 past h.covered;
   }
 
   module _ (done before : List ℕ) (b : ℕ) (at : IsAt lengths done) (left : get_or done b 0 < get_or lengths b 0) where
     -- found behind a true event
     pub visited-true : (next : S) (done1 word1 word : List ℕ) → turn state b (get_or done b 0) ≡ Next next → done1 ≡ one_more done b → word1 ≡ before ++ b ∷ []
-        → IsLeastTrue turn next done1 word1 (Completes lengths done1) word → IsLeastTrue turn state done before (Begins lengths done b) word
+        → IsLeastTrue turn rest next done1 word1 (Completes lengths done1) word → IsLeastTrue turn rest state done before (Begins lengths done b) word
     visited-true next done1 word1 word e d u k =
-        let j = subst (λ x. IsLeastTrue turn next x word1 (Completes lengths x) word) d k in
-        let l = subst (λ x. IsLeastTrue turn next (one_more done b) x (Completes lengths (one_more done b)) word) u j in
+        let j = subst (λ x. IsLeastTrue turn rest next x word1 (Completes lengths x) word) d k in
+        let l = subst (λ x. IsLeastTrue turn rest next (one_more done b) x (Completes lengths (one_more done b)) word) u j in
         record {
-          rest = b ∷ l.rest;
-          member = (refl, Completes-cons lengths done b fits l.rest l.member);
-          is_true = run-Next turn lengths done state b fits next e l.rest ∙ ap later l.is_true;
-          word_is = l.word_is ∙ append_assoc before (b ∷ []) l.rest;
-          least = least l.rest l.least;
+          letters = b ∷ l.letters;
+          member = (refl, Completes-cons lengths done b fits l.letters l.member);
+          is_true = run-Next turn rest lengths done state b fits next e l.letters ∙ ap later l.is_true;
+          word_is = l.word_is ∙ append_assoc before (b ∷ []) l.letters;
+          least = least l.letters l.least;
         }
       where
         fits : b < length done
         fits = IsAt-branch lengths done b at left
 
-        least : (rest : List ℕ) → ((v : List ℕ) → Completes lengths (one_more done b) v → run turn (one_more done b) next v ≡ AllTrue → IsUpTo rest v)
-            → (v : List ℕ) → Begins lengths done b v → run turn done state v ≡ AllTrue → IsUpTo (b ∷ rest) v
-        least rest l [] k r = absurd k.0
-        least rest l (c ∷ v) k r = inr (
+        least : (letters : List ℕ) → ((v : List ℕ) → Completes lengths (one_more done b) v → run turn rest (one_more done b) next v ≡ AllTrue → IsUpTo letters v)
+            → (v : List ℕ) → Begins lengths done b v → run turn rest done state v ≡ AllTrue → IsUpTo (b ∷ letters) v
+        least letters l [] k r = absurd k.0
+        least letters l (c ∷ v) k r = inr (
           sym k.0,
           l v (Completes-tail lengths done b fits v (subst (λ a. Completes lengths done (a ∷ v)) k.0 k.1))
-              (later-AllTrue _ (sym (run-Next turn lengths done state b fits next e v) ∙ sym (ap (λ a. run turn done state (a ∷ v)) k.0) ∙ r)),
+              (later-AllTrue _ (sym (run-Next turn rest lengths done state b fits next e v) ∙ sym (ap (λ a. run turn rest done state (a ∷ v)) k.0) ∙ r)),
         )
 
     -- all behind a true event
     pub visited-Next : (next : S) (best : Best F) (entered explored : Search F) (best2 : Best F)
         → turn state b (get_or done b 0) ≡ Next next
         → entered.done.items ≡ one_more done b → entered.word.items ≡ before ++ b ∷ [] → entered.best ≡ best
-        → HasCovered turn next (Completes lengths entered.done.items) entered explored
+        → HasCovered turn rest next (Completes lengths entered.done.items) entered explored
         → best2 ≡ explored.best
-        → Covered turn done state before (Begins lengths done b) best best2
+        → Covered turn rest done state before (Begins lengths done b) best best2
     visited-Next next best entered explored best2 e d u t h s =
-        Covered-Next turn lengths done state b (IsAt-branch lengths done b at left) before next best best2 e
-        (subst (λ x. Covered turn (one_more done b) next (before ++ b ∷ []) (Completes lengths (one_more done b)) best x) (sym s)
-        (subst (λ x. Covered turn (one_more done b) next (before ++ b ∷ []) (Completes lengths (one_more done b)) x explored.best) t
-        (subst (λ x. Covered turn (one_more done b) next x (Completes lengths (one_more done b)) entered.best explored.best) u
-        (subst (λ x. Covered turn x next entered.word.items (Completes lengths x) entered.best explored.best) d h.covered))))
+        Covered-Next turn rest lengths done state b (IsAt-branch lengths done b at left) before next best best2 e
+        (subst (λ x. Covered turn rest (one_more done b) next (before ++ b ∷ []) (Completes lengths (one_more done b)) best x) (sym s)
+        (subst (λ x. Covered turn rest (one_more done b) next (before ++ b ∷ []) (Completes lengths (one_more done b)) x explored.best) t
+        (subst (λ x. Covered turn rest (one_more done b) next x (Completes lengths (one_more done b)) entered.best explored.best) u
+        (subst (λ x. Covered turn rest x next entered.word.items (Completes lengths x) entered.best explored.best) d h.covered))))
 
     pub visited-False : (x y : Best F) → turn state b (get_or done b 0) ≡ Stop False → y.fault ≡ x.fault → y.far ≡ max x.far (length before)
-        → Covered turn done state before (Begins lengths done b) x y
+        → Covered turn rest done state before (Begins lengths done b) x y
     visited-False x y e f far =
         let n = IsAt-more lengths done b at left in
-        Covered-False turn lengths done state b (IsAt-branch lengths done b at left) before x y e (fill_from 0 lengths (one_more done b)) (Completes-fill lengths (one_more done b) n.branches n.within)
+        Covered-False turn rest lengths done state b (IsAt-branch lengths done b at left) before x y e (fill_from 0 lengths (one_more done b)) (Completes-fill lengths (one_more done b) n.branches n.within)
         f (omega arith) (omega arith) (by (cases_lt x.far (length before)))
       where
         by : (x.far < length before) ⊎ (length before ≤ x.far) → (y.far ≡ x.far) ⊎ (y.far ≡ length before)
@@ -171,22 +159,22 @@ module _ {S F : Type 0} (turn : S → ℕ → ℕ → Turn S F) (lengths : List 
     pub visited-Fault : (fault : F) (x y : Best F) → turn state b (get_or done b 0) ≡ Stop (Fault fault) → y.far ≡ x.far
         → MatchOption x.fault (Unit {0}) (λ g. y.fault ≡ Some g)
         → MatchOption x.fault (MatchOption y.fault ⊥ (λ g. (g.fault ≡ fault) × (g.at ≡ length before) × (g.word.items ≡ before ++ b ∷ fill_from 0 lengths (one_more done b)))) (λ _. Unit {0})
-        → Covered turn done state before (Begins lengths done b) x y
+        → Covered turn rest done state before (Begins lengths done b) x y
     visited-Fault fault x y e far = by x.fault refl
       where
         fits : b < length done
         fits = IsAt-branch lengths done b at left
 
         first : x.fault ≡ None → (o : Option (FaultedMerge F)) → y.fault ≡ o → MatchOption o ⊥ (λ g. (g.fault ≡ fault) × (g.at ≡ length before) × (g.word.items ≡ before ++ b ∷ fill_from 0 lengths (one_more done b)))
-            → Covered turn done state before (Begins lengths done b) x y
+            → Covered turn rest done state before (Begins lengths done b) x y
         first none None k h = absurd h
         first none (Some g) k h =
             let n = IsAt-more lengths done b at left in
-            Covered-Fault-first turn lengths done state b fits before x y g (e ∙ ap (λ f. Stop (Fault f)) (sym h.0)) (fill_from 0 lengths (one_more done b))
+            Covered-Fault-first turn rest lengths done state b fits before x y g (e ∙ ap (λ f. Stop (Fault f)) (sym h.0)) (fill_from 0 lengths (one_more done b))
             (Completes-fill lengths (one_more done b) n.branches n.within) (λ v q. fill_least lengths (one_more done b) v q) h.2 h.1 none k far
 
         by : (o : Option (FaultedMerge F)) → x.fault ≡ o → MatchOption o (Unit {0}) (λ g. y.fault ≡ Some g)
             → MatchOption o (MatchOption y.fault ⊥ (λ g. (g.fault ≡ fault) × (g.at ≡ length before) × (g.word.items ≡ before ++ b ∷ fill_from 0 lengths (one_more done b)))) (λ _. Unit {0})
-            → Covered turn done state before (Begins lengths done b) x y
+            → Covered turn rest done state before (Begins lengths done b) x y
         by None k later_is first_is = first k y.fault refl first_is
-        by (Some g) k later_is first_is = Covered-Fault-later turn lengths done state b fits before fault x y g e k later_is far
+        by (Some g) k later_is first_is = Covered-Fault-later turn rest lengths done state b fits before fault x y g e k later_is far

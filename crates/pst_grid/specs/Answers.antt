@@ -1,6 +1,8 @@
 -- What `some` and `every` answer, over all merges.
 use Rattle.std.specs.Prelude.{◌≡◌, ◌≢◌, ℕ, ◌≤◌, List}
-use Rattle.pst_grid.specs.Merges.{IsMerge, IsLeast, run, none_done, Ending, AllTrue, StopsAt}
+use Rattle.pst_grid.specs.Merges.{IsMerge, IsLeast, run, none_done}
+use Rattle.pst_grid.specs.declared.answer.Ending.{Ending}
+use Rattle.pst_grid.specs.declared.answer.Ending.TheVariants.{AllTrue, StopsAt}
 use Rattle.pst_grid.specs.declared.answer.Why.TheVariants.{False, Fault}
 use Rattle.pst_grid.specs.declared.answer.Turn.{Turn}
 use Rattle.pst_grid.specs.declared.answer.SomeAnswer.{SomeAnswer}
@@ -8,10 +10,11 @@ use Rattle.pst_grid.specs.declared.answer.SomeAnswer.TheVariants.{Found, Faulted
 use Rattle.pst_grid.specs.declared.answer.EveryAnswer.{EveryAnswer}
 use Rattle.pst_grid.specs.declared.answer.EveryAnswer.TheVariants.{All, Not}
 
-module _ {S F : Type 0} (turn : S → ℕ → ℕ → Turn S F) (lengths : List ℕ) (start : S) where
-  -- the ending of a word's run from the start
+module _ {S F : Type 0} (turn : S → ℕ → ℕ → Turn S F) (rest : S → Ending F)
+    (lengths : List ℕ) (start : S) where
+  -- the ending of a word's run from the start, and of what follows it
   abbrev pub ending : List ℕ → Ending F
-  ending word = run turn (none_done lengths) start word
+  ending word = run turn rest (none_done lengths) start word
 
   -- a merge whose run ends so
   abbrev pub Ends : Ending F → List ℕ → Type 0

@@ -6,36 +6,40 @@ use Rattle.pst_grid.specs.declared.search.Search.{Search}
 use Rattle.pst_grid.specs.declared.position.Position.{Position}
 use Rattle.pst_grid.specs.Bounds.{Each}
 use Rattle.pst_grid.specs.Completions.{Completes}
-use Rattle.pst_grid.specs.Merges.{run, AllTrue, StopsAt, IsUpTo}
+use Rattle.pst_grid.specs.Merges.{run, IsUpTo}
+use Rattle.pst_grid.specs.declared.answer.Ending.{Ending}
+use Rattle.pst_grid.specs.declared.answer.Ending.TheVariants.{AllTrue, StopsAt}
 
-module _ {S F : Type 0} (turn : S → ℕ → ℕ → Turn S F) (done : List ℕ) (s : S) where
+module _ {S F : Type 0} (turn : S → ℕ → ℕ → Turn S F) (rest : S → Ending F) (done : List ℕ) (s : S) where
   -- each word of W is all true
   abbrev pub AreTrue : (List ℕ → Type 0) → Type 0
-  AreTrue W = (w : List ℕ) → W w → run turn done s w ≡ AllTrue
+  AreTrue W = (w : List ℕ) → W w → run turn rest done s w ≡ AllTrue
 
   -- the least word of W that is not all true, kept behind the letters before it
   pub record IsLeastFailed (before : List ℕ) (W : List ℕ → Type 0) (x : FailedMerge F) : Type 0 where
-    pub rest : List ℕ
+    pub letters : List ℕ
     pub steps : ℕ
-    pub member : W rest
-    pub word : x.word.items ≡ before ++ rest
-    pub stops : run turn done s rest ≡ StopsAt steps x.why
+    pub member : W letters
+    pub word : x.word.items ≡ before ++ letters
+    pub stops : run turn rest done s letters ≡ StopsAt steps x.why
     pub place : x.at ≡ length before + steps
-    pub least : (v : List ℕ) → W v → (run turn done s v ≡ AllTrue → ⊥) → IsUpTo rest v
+    pub least : (v : List ℕ) → W v → (run turn rest done s v ≡ AllTrue → ⊥) → IsUpTo letters v
 
-module _ {S F : Type 0} (turn : S → ℕ → ℕ → Turn S F) (lengths : List ℕ) where
+module _ {S F : Type 0} (turn : S → ℕ → ℕ → Turn S F) (rest : S → Ending F) (lengths : List ℕ) where
   -- all words behind each position that is remembered are all true
   abbrev pub AreAllTrue : List (Position S) → Type 0
-  AreAllTrue keys = Each (λ k. AreTrue turn k.done.items k.state (Completes lengths k.done.items)) keys
+  AreAllTrue keys = Each (λ k. AreTrue turn rest k.done.items k.state (Completes lengths k.done.items)) keys
 
   -- the search is where it was, the words of W are all true, and so are those behind what is remembered
-  pub record HasChecked (s : S) (W : List ℕ → Type 0) (old new : Search F) (keys : List (Position S)) : Type 0 where
+  pub record HasChecked (s : S) (W : List ℕ → Type 0) (old new : Search F) (keys : List (Position S)) :
+      Type 0 where
     pub word : new.word.items ≡ old.word.items
     pub done : new.done.items ≡ old.done.items
-    pub are_true : AreTrue turn old.done.items s W
+    pub are_true : AreTrue turn rest old.done.items s W
     pub all_true : AreAllTrue keys
 
   -- where one was found it is the least of W that is not all true; else all of W are
-  abbrev pub IsChecked : (s : S) (W : List ℕ → Type 0) → Search F → Search F → List (Position S) → Option (FailedMerge F) → Type 0
+  abbrev pub IsChecked : (s : S) (W : List ℕ → Type 0) → Search F → Search F → List (Position S)
+      → Option (FailedMerge F) → Type 0
   IsChecked s W old new keys None = HasChecked s W old new keys
-  IsChecked s W old new keys (Some x) = IsLeastFailed turn old.done.items s old.word.items W x
+  IsChecked s W old new keys (Some x) = IsLeastFailed turn rest old.done.items s old.word.items W x

@@ -1,60 +1,68 @@
 -- What a search knows of the words that it has covered.
-use Rattle.std.specs.Prelude.{◌≡◌, ℕ, ◌+◌, ◌≤◌, ◌⊎◌, List, ◌++◌, length, Some, None, Bool, MatchBool}
+use Rattle.std.specs.Prelude.{◌≡◌, ℕ, ◌+◌, ◌≤◌, ◌⊎◌, List, [], ◌++◌, length, Some, None, Bool, MatchBool}
 use Rattle.pst_grid.specs.declared.answer.Why.TheVariants.{False, Fault}
 use Rattle.pst_grid.specs.declared.answer.Turn.{Turn}
 use Rattle.pst_grid.specs.declared.search.Best.{Best}
 use Rattle.pst_grid.specs.declared.search.FaultedMerge.{FaultedMerge}
 use Rattle.pst_grid.specs.declared.search.Search.{Search}
-use Rattle.pst_grid.specs.Merges.{run, AllTrue, StopsAt, IsUpTo}
+use Rattle.pst_grid.specs.Merges.{run, IsUpTo}
+use Rattle.pst_grid.specs.declared.answer.Ending.{Ending}
+use Rattle.pst_grid.specs.declared.answer.Ending.TheVariants.{AllTrue, StopsAt}
 
-module _ {S F : Type 0} (turn : S → ℕ → ℕ → Turn S F) (done : List ℕ) (s : S) where
+-- the word with no letters
+abbrev pub IsEmpty : List ℕ → Type 0
+IsEmpty w = w ≡ []
+
+module _ {S F : Type 0} (turn : S → ℕ → ℕ → Turn S F) (rest : S → Ending F) (done : List ℕ) (s : S) where
   -- the run of this word faults
   abbrev pub FaultsOn : List ℕ → Type 0
-  FaultsOn w = (n : ℕ) × (f : F) × (run turn done s w ≡ StopsAt n (Fault f))
+  FaultsOn w = (n : ℕ) × (f : F) × (run turn rest done s w ≡ StopsAt n (Fault f))
 
   -- the least faulting word of W, as it is kept behind the letters before it
   pub record IsLeastFault (before : List ℕ) (W : List ℕ → Type 0) (x : FaultedMerge F) : Type 0 where
-    pub rest : List ℕ
+    pub letters : List ℕ
     pub steps : ℕ
-    pub member : W rest
-    pub word : x.word.items ≡ before ++ rest
-    pub faults : run turn done s rest ≡ StopsAt steps (Fault x.fault)
+    pub member : W letters
+    pub word : x.word.items ≡ before ++ letters
+    pub faults : run turn rest done s letters ≡ StopsAt steps (Fault x.fault)
     pub place : x.at ≡ length before + steps
-    pub least : (v : List ℕ) → W v → FaultsOn v → IsUpTo rest v
+    pub least : (v : List ℕ) → W v → FaultsOn v → IsUpTo letters v
 
   -- a false word of W with so many true events, those of the letters before it among them
   pub record IsFalseAfter (before : List ℕ) (W : List ℕ → Type 0) (far : ℕ) : Type 0 where
-    pub rest : List ℕ
+    pub letters : List ℕ
     pub steps : ℕ
-    pub member : W rest
-    pub stops : run turn done s rest ≡ StopsAt steps False
+    pub member : W letters
+    pub stops : run turn rest done s letters ≡ StopsAt steps False
     pub place : far ≡ length before + steps
 
-  -- what the search has seen, old before and new after it covered the words of W, which stand behind the letters before:
-  -- none of W is all true; the first fault is kept, and is that of W's least faulting word; `far` is reached, and bounds W
+  -- What the search has seen, old before and new after it covered the words of W, which stand behind the letters
+  -- before: none of W is all true; the first fault is kept, and is that of W's least faulting word; `far` is reached,
+  -- and bounds W.
   pub record Covered (before : List ℕ) (W : List ℕ → Type 0) (old new : Best F) : Type 0 where
-    pub none_true : (w : List ℕ) → W w → run turn done s w ≡ AllTrue → ⊥
+    pub none_true : (w : List ℕ) → W w → run turn rest done s w ≡ AllTrue → ⊥
     pub kept : (x : FaultedMerge F) → old.fault ≡ Some x → new.fault ≡ Some x
     pub none_faults : new.fault ≡ None → (w : List ℕ) → W w → FaultsOn w → ⊥
     pub first : old.fault ≡ None → (x : FaultedMerge F) → new.fault ≡ Some x → IsLeastFault before W x
     pub grows : old.far ≤ new.far
-    pub bounds : (w : List ℕ) (n : ℕ) → W w → run turn done s w ≡ StopsAt n False → length before + n ≤ new.far
+    pub bounds : (w : List ℕ) (n : ℕ) →
+        W w → run turn rest done s w ≡ StopsAt n False → length before + n ≤ new.far
     pub reached : (new.far ≡ old.far) ⊎ IsFalseAfter before W new.far
 
-module _ {S F : Type 0} (turn : S → ℕ → ℕ → Turn S F) (s : S) where
+module _ {S F : Type 0} (turn : S → ℕ → ℕ → Turn S F) (rest : S → Ending F) (s : S) where
   -- the least word of W that is all true, kept behind the letters before it
   pub record IsLeastTrue (done before : List ℕ) (W : List ℕ → Type 0) (word : List ℕ) : Type 0 where
-    pub rest : List ℕ
-    pub member : W rest
-    pub is_true : run turn done s rest ≡ AllTrue
-    pub word_is : word ≡ before ++ rest
-    pub least : (v : List ℕ) → W v → run turn done s v ≡ AllTrue → IsUpTo rest v
+    pub letters : List ℕ
+    pub member : W letters
+    pub is_true : run turn rest done s letters ≡ AllTrue
+    pub word_is : word ≡ before ++ letters
+    pub least : (v : List ℕ) → W v → run turn rest done s v ≡ AllTrue → IsUpTo letters v
 
   -- the search is where it was, and has covered the words of W
   pub record HasCovered (W : List ℕ → Type 0) (old new : Search F) : Type 0 where
     pub word : new.word.items ≡ old.word.items
     pub done : new.done.items ≡ old.done.items
-    pub covered : Covered turn old.done.items s old.word.items W old.best new.best
+    pub covered : Covered turn rest old.done.items s old.word.items W old.best new.best
 
   -- where one was found, the search's word is the least of W that is all true; else it has covered W
   abbrev pub IsExplored : (W : List ℕ → Type 0) → Search F → Search F → Bool → Type 0

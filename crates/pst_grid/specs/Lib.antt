@@ -3,6 +3,7 @@ pub mod Merges
 pub mod Turns
 pub mod Answers
 pub mod Bounds
+pub mod Laws
 -- what the contracts within a search cite
 pub mod Completions
 pub mod Covered

@@ -1,6 +1,7 @@
 -- Words, merges, the order of words, and the run of a word.
 use Rattle.std.specs.Prelude.{◌≡◌, ℕ, ◌+◌, ◌<◌, ◌==◌, ◌⊎◌, List, [], ◌∷◌, length, replicate, slice_index, slice_set, suc, if◌then◌else◌}
-use Rattle.pst_grid.specs.declared.answer.Why.{Why}
+use Rattle.pst_grid.specs.declared.answer.Ending.{Ending}
+use Rattle.pst_grid.specs.declared.answer.Ending.TheVariants.{AllTrue, StopsAt}
 use Rattle.pst_grid.specs.declared.answer.Turn.{Turn}
 use Rattle.pst_grid.specs.declared.answer.Turn.TheVariants.{Next, Stop}
 
@@ -24,11 +25,6 @@ IsUpTo (a ∷ v) (b ∷ w) = (a < b) ⊎ ((a ≡ b) × IsUpTo v w)
 abbrev pub IsLeast : (List ℕ → Type 0) → List ℕ → Type 0
 IsLeast P w = P w × ((v : List ℕ) → P v → IsUpTo w v)
 
--- how a run ends: with all events true, or after so many true events, and why
-pub data Ending (F : Type 0) : Type 0 where
-  AllTrue : Ending F
-  StopsAt : ℕ → Why F → Ending F
-
 -- the ending, with one true event more before it
 abbrev pub later : {F : Type 0} → Ending F → Ending F
 later AllTrue = AllTrue
@@ -47,7 +43,14 @@ none_done lengths = replicate (length lengths) 0
 abbrev pub one_more : List ℕ → ℕ → List ℕ
 one_more done b = slice_set done b (slice_index done b + 1)
 
--- the run of a word from a state: each letter takes the next command of its branch, by the index of those that are done
-abbrev pub run : {S F : Type 0} → (S → ℕ → ℕ → Turn S F) → List ℕ → S → List ℕ → Ending F
-run turn done s [] = AllTrue
-run turn done s (b ∷ w) = after (turn s b (slice_index done b)) (λ next. run turn (one_more done b) next w)
+-- The run of a word from a state: each letter takes the next command of its branch, by the index of those that are
+-- done. Where the word ends, the rest follows.
+abbrev pub run : {S F : Type 0} → (S → ℕ → ℕ → Turn S F) → (rest : S → Ending F)
+    → (done : List ℕ) → S → List ℕ → Ending F
+run turn rest done s [] = rest s
+run turn rest done s (b ∷ w) =
+    after (turn s b (slice_index done b)) (λ next. run turn rest (one_more done b) next w)
+
+-- where nothing follows the branches
+abbrev pub nothing_follows : {S F : Type 0} → S → Ending F
+nothing_follows s = AllTrue

@@ -1,6 +1,8 @@
 -- What a search that remembers knows of the positions that it has searched from.
-use Rattle.std.specs.Prelude.{◌≡◌, ℕ, ◌+◌, ◌*◌, ◌≤◌, List, ◌++◌, length, sum, None, Bool, MatchBool}
+use Rattle.std.specs.Prelude.{◌≡◌, ℕ, ◌+◌, ◌*◌, ◌≤◌, List, [], ◌∷◌, ◌++◌, length, sum, None, Bool, MatchBool, bytes_eq, if◌then◌else◌}
 use Rattle.pst_grid.specs.declared.answer.Why.TheVariants.{False}
+use Rattle.pst_grid.specs.declared.answer.Ending.{Ending}
+use Rattle.pst_grid.specs.declared.answer.Ending.TheVariants.{AllTrue, StopsAt}
 use Rattle.pst_grid.specs.declared.answer.Turn.{Turn}
 use Rattle.pst_grid.specs.declared.search.Best.{Best}
 use Rattle.pst_grid.specs.declared.search.Search.{Search}
@@ -8,39 +10,54 @@ use Rattle.pst_grid.specs.declared.position.Position.{Position}
 use Rattle.pst_grid.specs.Bounds.{Each, Leads}
 use Rattle.pst_grid.specs.Completions.{Completes}
 use Rattle.pst_grid.specs.Covered.{FaultsOn, IsLeastTrue, HasCovered}
-use Rattle.pst_grid.specs.Merges.{run, AllTrue, StopsAt}
+use Rattle.pst_grid.specs.Merges.{run}
 
-module _ {S F : Type 0} (turn : S → ℕ → ℕ → Turn S F) (lengths : List ℕ) where
-  -- the position is reached from a place and a state
-  abbrev pub IsReached : List ℕ → S → Position S → Type 0
-  IsReached done s k = (u : List ℕ) × Leads turn lengths done s u k.done.items k.state
-
+module _ {S F : Type 0} (turn : S → ℕ → ℕ → Turn S F) (rest : S → Ending F) (lengths : List ℕ) where
   -- all that the words behind this place and state could give is in what the search has seen
   pub record IsAccounted (best : Best F) (done : List ℕ) (s : S) : Type 0 where
-    pub none_true : (w : List ℕ) → Completes lengths done w → run turn done s w ≡ AllTrue → ⊥
-    pub none_faults : best.fault ≡ None → (w : List ℕ) → Completes lengths done w → FaultsOn turn done s w → ⊥
-    pub bounds : (w : List ℕ) (n : ℕ) → Completes lengths done w → run turn done s w ≡ StopsAt n False → sum done + n ≤ best.far
+    pub none_true : (w : List ℕ) → Completes lengths done w → run turn rest done s w ≡ AllTrue → ⊥
+    pub none_faults :
+        best.fault ≡ None → (w : List ℕ) → Completes lengths done w → FaultsOn turn rest done s w → ⊥
+    pub bounds : (w : List ℕ) (n : ℕ) →
+        Completes lengths done w → run turn rest done s w ≡ StopsAt n False → sum done + n ≤ best.far
 
   -- so it is with each position that is remembered
   abbrev pub AreAccounted : Best F → List (Position S) → Type 0
   AreAccounted best keys = Each (λ k. IsAccounted best k.done.items k.state) keys
 
   -- the search has covered the words of W, and all that is remembered is accounted for
-  pub record HasCoveredAll (s : S) (W : List ℕ → Type 0) (old new : Search F) (keys : List (Position S)) : Type 0 where
-    pub covered : HasCovered turn s W old new
+  pub record HasCoveredAll (s : S) (W : List ℕ → Type 0) (old new : Search F) (keys : List (Position S)) :
+      Type 0 where
+    pub covered : HasCovered turn rest s W old new
     pub accounted : AreAccounted new.best keys
 
   -- where one was found, the search's word is the least of W that is all true; else it has covered W
-  abbrev pub IsSearched : (s : S) (W : List ℕ → Type 0) → Search F → Search F → List (Position S) → Bool → Type 0
+  abbrev pub IsSearched :
+      (s : S) (W : List ℕ → Type 0) → Search F → Search F → List (Position S) → Bool → Type 0
   IsSearched s W old new keys found =
-      MatchBool found (IsLeastTrue turn s old.done.items old.word.items W new.word.items) (HasCoveredAll s W old new keys)
+      MatchBool found
+      (IsLeastTrue turn rest s old.done.items old.word.items W new.word.items)
+      (HasCoveredAll s W old new keys)
 
-module _ {S F : Type 0} (turn : S → ℕ → ℕ → Turn S F) (lengths : List ℕ) where
-  -- the positions that were remembered on the way from a place and a state, each with at least so many commands done,
-  -- and how many steps that took at most
-  pub record IsGrown (extra depth : ℕ) (done : List ℕ) (s : S) (old new : List (Position S)) (before now : ℕ) : Type 0 where
+-- the states of those positions at which all branches have ended
+abbrev pub ends_of : {S : Type 0} → List ℕ → List (Position S) → List S
+ends_of lengths [] = []
+ends_of lengths (k ∷ ks) =
+    if bytes_eq k.done.items lengths then k.state ∷ ends_of lengths ks else ends_of lengths ks
+
+module _ {S F : Type 0} (turn : S → ℕ → ℕ → Turn S F) (lengths : List ℕ) (most_rest : ℕ) where
+  -- the position is reached from a place and a state
+  abbrev pub IsReachedFrom : List ℕ → S → Position S → Type 0
+  IsReachedFrom done s k = (u : List ℕ) × Leads turn lengths done s u k.done.items k.state
+
+  -- The positions that were remembered on the way from a place and a state, each with at least so many commands
+  -- done, and how many steps that took at most: as many as there are branches for each of the positions, and as many
+  -- as the rest takes for each at which all branches have ended.
+  pub record IsGrown (extra depth : ℕ) (done : List ℕ) (s : S)
+      (old new : List (Position S)) (before now : ℕ) : Type 0 where
     pub added : List (Position S)
     pub keys : new ≡ old ++ added
-    pub reached : Each (IsReached turn lengths done s) added
+    pub reached : Each (IsReachedFrom done s) added
     pub deep : Each (λ k. depth ≤ sum k.done.items) added
-    pub steps : now ≤ before + extra + length lengths * length added
+    pub steps :
+        now ≤ before + extra + length lengths * length added + most_rest * length (ends_of lengths added)

@@ -1,5 +1,7 @@
 -- What a step is asked, and what it answers.
 use Rattle.std.specs.Prelude.{ℕ, ◌<◌, List, slice_index}
+use Rattle.pst_grid.specs.declared.answer.Ending.{Ending}
+use Rattle.pst_grid.specs.declared.answer.Ending.TheVariants.{AllTrue, StopsAt}
 use Rattle.pst_grid.specs.declared.answer.Turn.{Turn}
 use Rattle.pst_grid.specs.declared.answer.Turn.TheVariants.{Next, Stop}
 
@@ -11,3 +13,8 @@ AreCommands is_command lengths = (b i : ℕ) → i < slice_index lengths b → i
 abbrev pub OnNext : {S F : Type 0} → Turn S F → (S → Type 0) → Type 0
 OnNext (Next s) P = P s
 OnNext (Stop why) P = Unit {0}
+
+-- a fact of the number of true events before a stop, if there is one
+abbrev pub OnStop : {F : Type 0} → Ending F → (ℕ → Type 0) → Type 0
+OnStop AllTrue P = Unit {0}
+OnStop (StopsAt n why) P = P n

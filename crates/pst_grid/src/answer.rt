@@ -18,6 +18,15 @@ pub enum Turn<S, F> {
     Stop(Why<F>),
 }
 
+/// How the run of a word, or of what follows it, ends.
+#[derive(Debug, PartialEq, Eq, Drop)]
+pub enum Ending<F> {
+    /// All events are true.
+    AllTrue,
+    /// The run stops after so many true events.
+    StopsAt(usize, Why<F>),
+}
+
 /// What a search for a merge that is true to its end answers. A `word` has one letter for each command of all
 /// branches: the number of the branch, from 0, whose next command it is.
 #[derive(Debug, PartialEq, Eq, Drop)]
@@ -32,7 +41,8 @@ pub enum SomeAnswer<F> {
         at: usize,
         fault: F,
     },
-    /// No merge is true to its end and none faults. `far` is the most events that a merge has true before its false one.
+    /// No merge is true to its end and none faults. `far` is the most events that a merge has true before its false
+    /// one, those of the rest among them.
     Nothing {
         far: usize,
     },

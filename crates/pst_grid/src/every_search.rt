@@ -2,15 +2,17 @@
 ghost use Rattle.std.specs.Prelude.{◌≡◌, ℕ, ◌+◌, ◌-◌, ◌*◌, ◌++◌, ◌∷◌, ◌^◌, ◌<◌, ◌≤◌, length, sum, slice_index, IfOk, OnOk, MatchOption};
 ghost use Rattle.pst_grid.specs.Answers.{IsEveryAnswer};
 ghost use Rattle.pst_grid.specs.Bounds.{IsBounded};
-ghost use Rattle.pst_grid.specs.Checked.{IsChecked, AreAllTrue};
+ghost use Rattle.pst_grid.specs.Checked.{IsChecked, IsLeastFailed, AreAllTrue};
 ghost use Rattle.pst_grid.specs.Completions.{IsAt, Completes, Begins, fill_from};
+ghost use Rattle.pst_grid.specs.Covered.{IsEmpty};
+ghost use Rattle.pst_grid.specs.declared.answer.Ending.TheVariants.{AllTrue};
 ghost use Rattle.pst_grid.specs.Merges.{one_more};
 ghost use Rattle.pst_grid.specs.Remembered.{IsGrown};
 ghost use Rattle.pst_grid.specs.Turns.{AreCommands};
 
 use crate::position::Position;
 use crate::search::{Search, is_done};
-use crate::{EveryAnswer, Steps, Turn, Why};
+use crate::{Ending, EveryAnswer, Steps, Turn, Why};
 use indexmap::IndexSet;
 use std::alloc::{AllocError, Global};
 
@@ -45,6 +47,34 @@ fn failed_merge<F: Drop>(
     })
 }
 
+/// Runs what follows the word, which is a merge. The answer is where the merge stops, if it is not true to its end.
+fn check_rest<S: Steps>(
+    alloc: Global,
+    steps: &S,
+    search: &mut Search<S::Fault>,
+    state: &S::State,
+) -> Result<Option<FailedMerge<S::Fault>>, AllocError>
+    requires state { S.is_state steps.now state.now }
+    requires room { length search.old.word.items + S.most_rest steps.now < 2 ^ 64 }
+    ensures done { OnOk result (search.new.done.items ≡ search.old.done.items) }
+    ensures word { OnOk result (search.new.word.items ≡ search.old.word.items) }
+    ensures steps { OnOk result (search.new.steps ≤ search.old.steps + S.most_rest steps.now) }
+    ensures checked { IfOk result (λ failed. MatchOption failed (S.rest steps.now state.now ≡ AllTrue)
+        (IsLeastFailed (S.turn steps.now) (S.rest steps.now)
+        search.old.done.items state.now search.old.word.items IsEmpty)) }
+{
+    let (ending, made) = steps.run_rest(alloc, state)?;
+    search.steps = search.steps.saturating_add(made);
+    match ending {
+        Ending::AllTrue => Ok(None),
+        Ending::StopsAt(at, why) => Ok(Some(FailedMerge {
+            word: search.word.to_vec(alloc)?,
+            at: search.word.len() + at,
+            why,
+        })),
+    }
+}
+
 /// Searches the completions of the word for the least that is not true to its end.
 #[cycle(check)]
 fn check<S: Steps>(
@@ -58,21 +88,25 @@ fn check<S: Steps>(
     requires place { IsAt lengths.now search.old.done.items }
     requires state { S.is_state steps.now state }
     requires commands { AreCommands (S.is_command steps.now) lengths.now }
-    requires all_true { AreAllTrue (S.turn steps.now) lengths.now seen.old.keys }
-    ensures grown { OnOk result (IsGrown (S.turn steps.now) lengths.now 0 (sum search.old.done.items)
-        search.old.done.items state seen.old.keys seen.new.keys search.old.steps search.new.steps) }
-    ensures checked { IfOk result (IsChecked (S.turn steps.now) lengths.now state
+    requires room { S.most_rest steps.now < 2 ^ 32 }
+    requires all_true { AreAllTrue (S.turn steps.now) (S.rest steps.now) lengths.now seen.old.keys }
+    ensures grown { OnOk result (IsGrown (S.turn steps.now) lengths.now (S.most_rest steps.now)
+        0 (sum search.old.done.items) search.old.done.items state
+        seen.old.keys seen.new.keys search.old.steps search.new.steps) }
+    ensures checked { IfOk result (IsChecked (S.turn steps.now) (S.rest steps.now) lengths.now state
         (Completes lengths.now search.old.done.items) search.old search.new seen.new.keys) }
 {
-    if is_done(lengths, &search.done) {
-        return Ok(None);
-    }
     let position = Position {
         done: search.done.to_vec(alloc)?,
         state,
     };
     if seen.contains(&position) {
         return Ok(None);
+    }
+    if is_done(lengths, &search.done) {
+        let stopped = check_rest(alloc, steps, search, &position.state)?;
+        seen.insert(position)?;
+        return Ok(stopped);
     }
     for branch in 0..lengths.len() {
         match check_branch(alloc, steps, lengths, search, seen, &position.state, branch)? {
@@ -102,10 +136,12 @@ fn check_branch<S: Steps>(
     requires state { S.is_state steps.now state.now }
     requires commands { AreCommands (S.is_command steps.now) lengths.now }
     requires branch { branch < length lengths.now }
-    requires all_true { AreAllTrue (S.turn steps.now) lengths.now seen.old.keys }
-    ensures grown { OnOk result (IsGrown (S.turn steps.now) lengths.now 1 (sum search.old.done.items + 1)
-        search.old.done.items state.now seen.old.keys seen.new.keys search.old.steps search.new.steps) }
-    ensures checked { IfOk result (IsChecked (S.turn steps.now) lengths.now state.now
+    requires room { S.most_rest steps.now < 2 ^ 32 }
+    requires all_true { AreAllTrue (S.turn steps.now) (S.rest steps.now) lengths.now seen.old.keys }
+    ensures grown { OnOk result (IsGrown (S.turn steps.now) lengths.now (S.most_rest steps.now)
+        1 (sum search.old.done.items + 1) search.old.done.items state.now
+        seen.old.keys seen.new.keys search.old.steps search.new.steps) }
+    ensures checked { IfOk result (IsChecked (S.turn steps.now) (S.rest steps.now) lengths.now state.now
         (Begins lengths.now search.old.done.items branch) search.old search.new seen.new.keys) }
 {
     let index = search.done[branch];
@@ -130,7 +166,8 @@ fn check_branch<S: Steps>(
 
 /// What the search answers in the end.
 fn every_answer<F: Drop>(failed: Option<FailedMerge<F>>) -> EveryAnswer<F>
-    ensures { MatchOption failed (result ≡ EveryAnswer.All) (λ x. result ≡ EveryAnswer.Not x.word x.at x.why) }
+    ensures { MatchOption failed (result ≡ EveryAnswer.All)
+        (λ x. result ≡ EveryAnswer.Not x.word x.at x.why) }
 {
     match failed {
         Some(FailedMerge { word, at, why }) => EveryAnswer::Not { word, at, why },
@@ -142,8 +179,9 @@ fn every_answer<F: Drop>(failed: Option<FailedMerge<F>>) -> EveryAnswer<F>
 /// that is not.
 ///
 /// Branch `b` has `lengths[b]` commands. Merges are ordered as words of branch numbers. The number beside the answer is
-/// how many steps were made, up to `usize::MAX`: at most as many as there are branches for each place and state that is
-/// reached. `AllocError` where memory is refused.
+/// how many steps were made, those of the rest among them, up to `usize::MAX`: at most as many as there are branches
+/// for each place and state that is reached, and as many as the rest takes for each state in which all branches can
+/// end. `AllocError` where memory is refused.
 pub fn every<S: Steps>(
     alloc: Global,
     steps: &S,
@@ -152,8 +190,11 @@ pub fn every<S: Steps>(
 ) -> Result<(EveryAnswer<S::Fault>, usize), AllocError>
     requires state { S.is_state steps.now start.now }
     requires commands { AreCommands (S.is_command steps.now) lengths.now }
-    ensures answer { IfOk result (λ r. IsEveryAnswer (S.turn steps.now) lengths.now start.now r.0) }
-    ensures bound { IfOk result (λ r. IsBounded (S.turn steps.now) lengths.now start.now r.1) }
+    requires room { sum lengths.now + S.most_rest steps.now < 2 ^ 32 }
+    ensures answer { IfOk result
+        (λ r. IsEveryAnswer (S.turn steps.now) (S.rest steps.now) lengths.now start.now r.0) }
+    ensures bound { IfOk result
+        (λ r. IsBounded (S.turn steps.now) lengths.now (S.most_rest steps.now) start.now r.1) }
 {
     let mut search = Search::new(alloc, lengths)?;
     let mut seen = IndexSet::new(alloc);

@@ -1,10 +1,11 @@
 //! The search by plain backtracking, which remembers nothing.
-ghost use Rattle.std.specs.Prelude.{◌≡◌, ℕ, ◌+◌, ◌-◌, ◌*◌, ◌<◌, ◌≤◌, length, sum, slice_index, IfOk, OnOk, MatchBool, MatchOption};
+ghost use Rattle.std.specs.Prelude.{◌≡◌, ℕ, ◌+◌, ◌-◌, ◌*◌, ◌^◌, ◌<◌, ◌≤◌, length, sum, slice_index, IfOk, OnOk, MatchBool, MatchOption};
 ghost use Rattle.pst_grid.specs.Answers.{IsAnswer};
 ghost use Rattle.pst_grid.specs.Completions.{IsAt, Completes, Begins};
 ghost use Rattle.pst_grid.specs.Covered.{IsExplored};
 ghost use Rattle.pst_grid.specs.Turns.{AreCommands};
 
+use crate::finish::finish;
 use crate::search::{Search, is_done};
 use crate::{SomeAnswer, Steps, Turn, Why};
 use std::alloc::{AllocError, Global};
@@ -21,11 +22,12 @@ fn explore<S: Steps>(
     requires place { IsAt lengths.now search.old.done.items }
     requires state { S.is_state steps.now state.now }
     requires commands { AreCommands (S.is_command steps.now) lengths.now }
-    ensures { IfOk result (IsExplored (S.turn steps.now) state.now
+    requires room { S.most_rest steps.now < 2 ^ 32 }
+    ensures { IfOk result (IsExplored (S.turn steps.now) (S.rest steps.now) state.now
         (Completes lengths.now search.old.done.items) search.old search.new) }
 {
     if is_done(lengths, &search.done) {
-        return Ok(true);
+        return finish(alloc, steps, search, state);
     }
     for branch in 0..lengths.len() {
         if visit(alloc, steps, lengths, search, state, branch)? {
@@ -48,8 +50,9 @@ fn visit<S: Steps>(
     requires place { IsAt lengths.now search.old.done.items }
     requires state { S.is_state steps.now state.now }
     requires commands { AreCommands (S.is_command steps.now) lengths.now }
+    requires room { S.most_rest steps.now < 2 ^ 32 }
     requires branch { branch < length lengths.now }
-    ensures { IfOk result (IsExplored (S.turn steps.now) state.now
+    ensures { IfOk result (IsExplored (S.turn steps.now) (S.rest steps.now) state.now
         (Begins lengths.now search.old.done.items branch) search.old search.new) }
 {
     let index = search.done[branch];
@@ -67,7 +70,8 @@ fn visit<S: Steps>(
             Ok(false)
         }
         Turn::Stop(Why::False) => {
-            search.note_false();
+            let at = search.word.len();
+            search.note_false(at);
             Ok(false)
         }
         Turn::Stop(Why::Fault(fault)) => {
@@ -77,8 +81,9 @@ fn visit<S: Steps>(
     }
 }
 
-/// What [`crate::some`] answers, by plain backtracking: the number of steps has no bound but the number of merges, and
-/// each step is made anew wherever it is met. It is the slow program to compare with.
+/// What [`crate::some`] answers, by plain backtracking. Only tests call it: it is the slow program that they compare
+/// [`crate::some`] with. The number of steps has no bound but the number of merges, since each step is made anew
+/// wherever it is met, and so is the rest.
 ///
 /// The number beside the answer is how many steps were made, up to `usize::MAX`. `AllocError` where memory is refused.
 pub fn some_plainly<S: Steps>(
@@ -89,7 +94,9 @@ pub fn some_plainly<S: Steps>(
 ) -> Result<(SomeAnswer<S::Fault>, usize), AllocError>
     requires state { S.is_state steps.now start.now }
     requires commands { AreCommands (S.is_command steps.now) lengths.now }
-    ensures { IfOk result (λ r. IsAnswer (S.turn steps.now) lengths.now start.now r.0) }
+    requires room { sum lengths.now + S.most_rest steps.now < 2 ^ 32 }
+    ensures { IfOk result
+        (λ r. IsAnswer (S.turn steps.now) (S.rest steps.now) lengths.now start.now r.0) }
 {
     let mut search = Search::new(alloc, lengths)?;
     let found = explore(alloc, steps, lengths, &mut search, start)?;

@@ -90,15 +90,15 @@ impl<F: Drop> Search<F> {
         self.done[branch] -= 1;
     }
 
-    /// Notes that the next event behind the word is false.
-    pub(crate) fn note_false(&mut self)
+    /// Notes that an event is false after so many true ones.
+    pub(crate) fn note_false(&mut self, at: usize)
         ensures done { self.new.done.items ≡ self.old.done.items }
         ensures word { self.new.word.items ≡ self.old.word.items }
         ensures fault { self.new.best.fault ≡ self.old.best.fault }
         ensures steps { self.new.steps ≡ self.old.steps }
-        ensures far { self.new.best.far ≡ max self.old.best.far (length self.old.word.items) }
+        ensures far { self.new.best.far ≡ max self.old.best.far at }
     {
-        self.best.far = self.best.far.max(self.word.len());
+        self.best.far = self.best.far.max(at);
     }
 
     /// Notes that a branch's next command faults behind the word, if it is the first fault.
@@ -116,15 +116,47 @@ impl<F: Drop> Search<F> {
         ensures word { OnOk result (self.new.word.items ≡ self.old.word.items) }
         ensures far { OnOk result (self.new.best.far ≡ self.old.best.far) }
         ensures steps { self.new.steps ≡ self.old.steps }
-        ensures later { OnOk result (MatchOption self.old.best.fault (Unit {0}) (λ g. self.new.best.fault ≡ Some g)) }
-        ensures first { OnOk result (MatchOption self.old.best.fault (MatchOption self.new.best.fault ⊥
+        ensures later { OnOk result (MatchOption self.old.best.fault (Unit {0})
+            (λ g. self.new.best.fault ≡ Some g)) }
+        ensures first { OnOk result (MatchOption self.old.best.fault
+            (MatchOption self.new.best.fault ⊥
             (λ g. (g.fault ≡ fault) × (g.at ≡ length self.old.word.items)
-            × (g.word.items ≡ self.old.word.items ++ branch ∷ fill_from 0 lengths.now (one_more self.old.done.items branch)))) (λ _. Unit {0})) }
+            × (g.word.items ≡ self.old.word.items
+            ++ branch ∷ fill_from 0 lengths.now (one_more self.old.done.items branch))))
+            (λ _. Unit {0})) }
     {
         if self.best.fault.is_none() {
             self.best.fault = Some(FaultedMerge {
                 word: self.least_merge(alloc, lengths, branch)?,
                 at: self.word.len(),
+                fault,
+            });
+        }
+        Ok(())
+    }
+
+    /// Notes that the word, which is a merge, faults after `at` true events, if it is the first fault.
+    pub(crate) fn note_faulted_word(
+        &mut self,
+        alloc: Global,
+        at: usize,
+        fault: F,
+    ) -> Result<(), AllocError>
+        ensures done { OnOk result (self.new.done.items ≡ self.old.done.items) }
+        ensures word { OnOk result (self.new.word.items ≡ self.old.word.items) }
+        ensures far { OnOk result (self.new.best.far ≡ self.old.best.far) }
+        ensures steps { self.new.steps ≡ self.old.steps }
+        ensures later { OnOk result (MatchOption self.old.best.fault (Unit {0})
+            (λ g. self.new.best.fault ≡ Some g)) }
+        ensures first { OnOk result (MatchOption self.old.best.fault
+            (MatchOption self.new.best.fault ⊥
+            (λ g. (g.fault ≡ fault) × (g.at ≡ at) × (g.word.items ≡ self.old.word.items)))
+            (λ _. Unit {0})) }
+    {
+        if self.best.fault.is_none() {
+            self.best.fault = Some(FaultedMerge {
+                word: self.word.to_vec(alloc)?,
+                at,
                 fault,
             });
         }

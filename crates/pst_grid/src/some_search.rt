@@ -1,11 +1,12 @@
 //! The search for a merge that is true to its end, which remembers the positions that it has searched from.
-ghost use Rattle.std.specs.Prelude.{◌≡◌, ℕ, ◌+◌, ◌-◌, ◌*◌, ◌<◌, ◌≤◌, length, sum, slice_index, IfOk, OnOk, MatchBool, MatchOption};
+ghost use Rattle.std.specs.Prelude.{◌≡◌, ℕ, ◌+◌, ◌-◌, ◌*◌, ◌^◌, ◌<◌, ◌≤◌, length, sum, slice_index, IfOk, OnOk, MatchBool, MatchOption};
 ghost use Rattle.pst_grid.specs.Answers.{IsAnswer};
 ghost use Rattle.pst_grid.specs.Bounds.{IsBounded};
 ghost use Rattle.pst_grid.specs.Completions.{IsAt, Completes, Begins};
 ghost use Rattle.pst_grid.specs.Remembered.{AreAccounted, IsSearched, IsGrown};
 ghost use Rattle.pst_grid.specs.Turns.{AreCommands};
 
+use crate::finish::finish;
 use crate::position::Position;
 use crate::search::{Search, is_done};
 use crate::{SomeAnswer, Steps, Turn, Why};
@@ -26,21 +27,26 @@ fn explore<S: Steps>(
     requires depth { sum search.old.done.items ≡ length search.old.word.items }
     requires state { S.is_state steps.now state }
     requires commands { AreCommands (S.is_command steps.now) lengths.now }
-    requires accounted { AreAccounted (S.turn steps.now) lengths.now search.old.best seen.old.keys }
-    ensures grown { OnOk result (IsGrown (S.turn steps.now) lengths.now 0 (sum search.old.done.items)
-        search.old.done.items state seen.old.keys seen.new.keys search.old.steps search.new.steps) }
-    ensures searched { IfOk result (IsSearched (S.turn steps.now) lengths.now state
+    requires room { S.most_rest steps.now < 2 ^ 32 }
+    requires accounted { AreAccounted (S.turn steps.now) (S.rest steps.now) lengths.now
+        search.old.best seen.old.keys }
+    ensures grown { OnOk result (IsGrown (S.turn steps.now) lengths.now (S.most_rest steps.now)
+        0 (sum search.old.done.items) search.old.done.items state
+        seen.old.keys seen.new.keys search.old.steps search.new.steps) }
+    ensures searched { IfOk result (IsSearched (S.turn steps.now) (S.rest steps.now) lengths.now state
         (Completes lengths.now search.old.done.items) search.old search.new seen.new.keys) }
 {
-    if is_done(lengths, &search.done) {
-        return Ok(true);
-    }
     let position = Position {
         done: search.done.to_vec(alloc)?,
         state,
     };
     if seen.contains(&position) {
         return Ok(false);
+    }
+    if is_done(lengths, &search.done) {
+        let found = finish(alloc, steps, search, &position.state)?;
+        seen.insert(position)?;
+        return Ok(found);
     }
     for branch in 0..lengths.len() {
         if visit(alloc, steps, lengths, search, seen, &position.state, branch)? {
@@ -68,10 +74,13 @@ fn visit<S: Steps>(
     requires state { S.is_state steps.now state.now }
     requires commands { AreCommands (S.is_command steps.now) lengths.now }
     requires branch { branch < length lengths.now }
-    requires accounted { AreAccounted (S.turn steps.now) lengths.now search.old.best seen.old.keys }
-    ensures grown { OnOk result (IsGrown (S.turn steps.now) lengths.now 1 (sum search.old.done.items + 1)
-        search.old.done.items state.now seen.old.keys seen.new.keys search.old.steps search.new.steps) }
-    ensures searched { IfOk result (IsSearched (S.turn steps.now) lengths.now state.now
+    requires room { S.most_rest steps.now < 2 ^ 32 }
+    requires accounted { AreAccounted (S.turn steps.now) (S.rest steps.now) lengths.now
+        search.old.best seen.old.keys }
+    ensures grown { OnOk result (IsGrown (S.turn steps.now) lengths.now (S.most_rest steps.now)
+        1 (sum search.old.done.items + 1) search.old.done.items state.now
+        seen.old.keys seen.new.keys search.old.steps search.new.steps) }
+    ensures searched { IfOk result (IsSearched (S.turn steps.now) (S.rest steps.now) lengths.now state.now
         (Begins lengths.now search.old.done.items branch) search.old search.new seen.new.keys) }
 {
     let index = search.done[branch];
@@ -89,7 +98,8 @@ fn visit<S: Steps>(
             Ok(false)
         }
         Turn::Stop(Why::False) => {
-            search.note_false();
+            let at = search.word.len();
+            search.note_false(at);
             Ok(false)
         }
         Turn::Stop(Why::Fault(fault)) => {
@@ -102,8 +112,9 @@ fn visit<S: Steps>(
 /// Searches all merges of branches of these lengths, from the state `start`, for the least that is true to its end.
 ///
 /// Branch `b` has `lengths[b]` commands. Merges are ordered as words of branch numbers. The number beside the answer is
-/// how many steps were made, up to `usize::MAX`: at most as many as there are branches for each place and state that is
-/// reached. `AllocError` where memory is refused.
+/// how many steps were made, those of the rest among them, up to `usize::MAX`: at most as many as there are branches
+/// for each place and state that is reached, and as many as the rest takes for each state in which all branches can
+/// end. `AllocError` where memory is refused.
 pub fn some<S: Steps>(
     alloc: Global,
     steps: &S,
@@ -112,8 +123,11 @@ pub fn some<S: Steps>(
 ) -> Result<(SomeAnswer<S::Fault>, usize), AllocError>
     requires state { S.is_state steps.now start.now }
     requires commands { AreCommands (S.is_command steps.now) lengths.now }
-    ensures answer { IfOk result (λ r. IsAnswer (S.turn steps.now) lengths.now start.now r.0) }
-    ensures bound { IfOk result (λ r. IsBounded (S.turn steps.now) lengths.now start.now r.1) }
+    requires room { sum lengths.now + S.most_rest steps.now < 2 ^ 32 }
+    ensures answer { IfOk result
+        (λ r. IsAnswer (S.turn steps.now) (S.rest steps.now) lengths.now start.now r.0) }
+    ensures bound { IfOk result
+        (λ r. IsBounded (S.turn steps.now) lengths.now (S.most_rest steps.now) start.now r.1) }
 {
     let mut search = Search::new(alloc, lengths)?;
     let mut seen = IndexSet::new(alloc);

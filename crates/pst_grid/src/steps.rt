@@ -1,13 +1,15 @@
 //! The system that a search steps through.
-ghost use Rattle.std.specs.Prelude.{◌≡◌, ℕ, IfOk, true};
+ghost use Rattle.std.specs.Prelude.{◌≡◌, ◌≤◌, ℕ, IfOk, true};
+ghost use Rattle.pst_grid.specs.declared.answer.Ending.{Ending};
 ghost use Rattle.pst_grid.specs.declared.answer.Turn.{Turn};
-ghost use Rattle.pst_grid.specs.Turns.{OnNext};
+ghost use Rattle.pst_grid.specs.Turns.{OnNext, OnStop};
 
-use crate::Turn;
+use crate::{Ending, Turn};
 use std::alloc::{AllocError, Global};
 use std::hash::Hash;
 
-/// States, and a step of each command of each branch from a state. A step is a function of its arguments.
+/// States, a step of each command of each branch from a state, and what follows when all branches have ended. Both are
+/// functions of their arguments.
 pub trait Steps {
     /// A state: plain data, of which `==` tells apart all that differ.
     type State: Eq + Hash + Drop;
@@ -24,6 +26,12 @@ pub trait Steps {
     // What the step of a branch's command, by its index, answers from a state.
     ghost turn: { Self → Self.State → ℕ → ℕ → Turn Self.State Self.Fault };
 
+    // How the run goes on from a state in which all branches have ended.
+    ghost rest: { Self → Self.State → Ending Self.Fault };
+
+    // The most steps that the rest takes.
+    ghost most_rest: { Self → ℕ };
+
     /// The step of the command `index` (from 0) of the branch `branch` (from 0), from this state.
     /// `AllocError` where memory is refused.
     fn step(
@@ -37,6 +45,18 @@ pub trait Steps {
         requires command { is_command self.now branch index }
         ensures answer { IfOk result (λ t. t ≡ turn self.now state.now branch index) }
         ensures next { IfOk result (λ t. OnNext t (is_state self.now)) };
+
+    /// Runs what follows when all branches have ended, from this state: how it ends, and how many steps it took.
+    /// `AllocError` where memory is refused.
+    fn run_rest(
+        &self,
+        alloc: Global,
+        state: &Self::State,
+    ) -> Result<(Ending<Self::Fault>, usize), AllocError>
+        requires state { is_state self.now state.now }
+        ensures ending { IfOk result (λ r. r.0 ≡ rest self.now state.now) }
+        ensures place { IfOk result (λ r. OnStop r.0 (λ at. at ≤ most_rest self.now)) }
+        ensures steps { IfOk result (λ r. r.1 ≤ most_rest self.now) };
 
     /// The same state once more. `AllocError` where memory is refused.
     fn copy(&self, alloc: Global, state: &Self::State) -> Result<Self::State, AllocError>

@@ -1,20 +1,20 @@
 -- A history has one verdict, and a case one reason not to be valid.
-use Rattle.std.proofs.Common.{◌≡◌, ℕ, List, [], ◌∷◌, map, Option, Some, None, refl, sym, ap, ◌∙◌, subst, inl, inr, arith}
+use Rattle.std.proofs.Common.{◌≡◌, ℕ, List, [], ◌∷◌, Option, Some, None, refl, sym, ap, ◌∙◌, subst, inl, inr, arith}
 use Rattle.pst_case.specs.declared.case.Case.{Case}
 use Rattle.pst_case.specs.declared.history.History.{History}
-use Rattle.pst_grid.specs.Merges.{IsUpTo, IsLeast, AllTrue, StopsAt}
+use Rattle.pst_grid.specs.Merges.{IsUpTo, IsLeast}
+use Rattle.pst_grid.specs.declared.answer.Ending.TheVariants.{AllTrue, StopsAt}
 use Rattle.pst_grid.specs.declared.answer.Why.TheVariants as stop
 use Rattle.pst_judge.specs.Judgement.{IsJudgementOf}
-use Rattle.pst_judge.specs.Replay.{replayed, recorded}
+use Rattle.pst_judge.specs.Replay.{replayed}
+use Rattle.pst_case.specs.Recorded.{recorded}
 use Rattle.pst_judge.specs.Same.{SameVerdict, SameWhy, SameJudgement, OneVerdict, OneWhy, OneJudgement}
 use Rattle.pst_judge.specs.Symbolic.{symbolic}
 use Rattle.pst_judge.specs.Validity.{IsValid, Fails, FailsFirst, IsWhy}
 use Rattle.pst_judge.specs.Verdict.{first_broken, Ends, FaultsAt, IsJudged, IsVerdictOf}
-use Rattle.pst_judge.specs.Words.{side_of}
 use Rattle.pst_judge.specs.declared.judgement.Judged.{Judged}
-use Rattle.pst_judge.specs.declared.judgement.Judged.TheVariants.{Verdict as Told, Valid, Invalid}
-use Rattle.pst_judge.specs.declared.place.Place.{Place}
-use Rattle.pst_judge.specs.declared.place.Side.{Side}
+use Rattle.pst_judge.specs.declared.judgement.Judged.TheVariants.{Verdict as WithVerdict, Valid, Invalid}
+use Rattle.pst_eval.specs.declared.place.Place.{Place}
 use Rattle.pst_judge.specs.declared.symbolic.Failing.{Failing}
 use Rattle.pst_judge.specs.declared.symbolic.Failing.TheVariants as failing
 use Rattle.pst_judge.specs.declared.verdicts.Verdict.{Verdict}
@@ -59,17 +59,17 @@ at_place p q e = cc
 module _ (m : Source) (c : Case) (h : History) where
   one_judged : (v w : Verdict) → IsJudged m c h v → IsJudged m c h w → SameVerdict v w
   one_judged (Explained word) (Explained other) p q =
-      p.1 ∙ ap (map side_of) (one_least (Ends m c h AllTrue) p.0 q.0 p.2 q.2) ∙ sym q.1
-  one_judged (Explained word) (Faulted place) p q = absurd (q.0 p.0 p.2.0)
-  one_judged (Explained word) (Unexplained far) p q = absurd (q.0 p.0 p.2.0)
+      one_least (Ends m c h AllTrue) word.items other.items p q
+  one_judged (Explained word) (Faulted place) p q = absurd (q.0 word.items p.0)
+  one_judged (Explained word) (Unexplained far) p q = absurd (q.0 word.items p.0)
   one_judged (Explained word) (Broken number) p q = absurd q
-  one_judged (Faulted place) (Explained word) p q = absurd (p.0 q.0 q.2.0)
+  one_judged (Faulted place) (Explained word) p q = absurd (p.0 word.items q.0)
   one_judged (Faulted place) (Faulted other) p q =
       let w = one_least (FaultsAt m c h) p.1.0 q.1.0 p.1.1 q.1.1 in
       fault_is p.1.2.0 q.1.2.0 place other (sym p.1.2.1 ∙ ap (replayed m c h) w ∙ q.1.2.1)
   one_judged (Faulted place) (Unexplained far) p q = absurd (q.1 p.1.0 p.1.1.0)
   one_judged (Faulted place) (Broken number) p q = absurd q
-  one_judged (Unexplained far) (Explained word) p q = absurd (p.0 q.0 q.2.0)
+  one_judged (Unexplained far) (Explained word) p q = absurd (p.0 word.items q.0)
   one_judged (Unexplained far) (Faulted place) p q = absurd (p.1 q.1.0 q.1.1.0)
   one_judged (Unexplained far) (Unexplained other) p q =
       omega (arith, p.3 q.2.0 other q.2.1, q.3 p.2.0 far p.2.1)
@@ -92,10 +92,10 @@ one_verdict m c h v w p q = one_of m c h (first_broken 1 (recorded h)) v w p q
 -- ---- reasons
 
 module _ (m : Source) (c : Case) where
-  one_failing : (f g : Failing) (v w : List Side) → FailsFirst m c f v → FailsFirst m c g w → (f ≡ g) × (v ≡ w)
+  one_failing : (f g : Failing) (v w : List ℕ) → FailsFirst m c f v → FailsFirst m c g w → (f ≡ g) × (v ≡ w)
   one_failing f g v w p q =
-      let e = one_least (Fails m c) p.0 q.0 p.2 q.2 in
-      (fault_is p.3.0 q.3.0 f g (sym p.3.1 ∙ ap (symbolic m c) e ∙ q.3.1), p.1 ∙ ap (map side_of) e ∙ sym q.1)
+      let e = one_least (Fails m c) v w p.0 q.0 in
+      (fault_is p.1.0 q.1.0 f g (sym p.1.1 ∙ ap (symbolic m c) e ∙ q.1.1), e)
 
   one_reason : (v w : Why) → IsWhy m c v → IsWhy m c w → SameWhy v w
   one_reason (PreFalse command merge) (PreFalse other word) p q =
@@ -114,21 +114,21 @@ module _ (m : Source) (c : Case) where
 
   -- a case that is valid has no reason not to be
   valid_no_why : (v : Why) → IsValid m c → IsWhy m c v → ⊥
-  valid_no_why (PreFalse command merge) p q = q.2.0.1 (p q.0 q.2.0.0)
-  valid_no_why (CallbackFault place merge) p q = q.2.0.1 (p q.0 q.2.0.0)
+  valid_no_why (PreFalse command merge) p q = q.0.0.1 (p merge.items q.0.0.0)
+  valid_no_why (CallbackFault place merge) p q = q.0.0.1 (p merge.items q.0.0.0)
   valid_no_why NoMemory p q = q
 
   one_judgement_of : (h : Option History) (v w : Judged) → IsJudgementOf m c h v → IsJudgementOf m c h w → SameJudgement v w
-  one_judgement_of None (Told v) w p q = absurd p
-  one_judgement_of None Valid (Told w) p q = absurd q
+  one_judgement_of None (WithVerdict v) w p q = absurd p
+  one_judgement_of None Valid (WithVerdict w) p q = absurd q
   one_judgement_of None Valid Valid p q = record {}
   one_judgement_of None Valid (Invalid why) p q = absurd (valid_no_why why p q)
-  one_judgement_of None (Invalid why) (Told w) p q = absurd q
+  one_judgement_of None (Invalid why) (WithVerdict w) p q = absurd q
   one_judgement_of None (Invalid why) Valid p q = absurd (valid_no_why why q p)
   one_judgement_of None (Invalid why) (Invalid other) p q = one_reason why other p q
-  one_judgement_of (Some h) (Told v) (Told w) p q = one_verdict m c h v w p q
-  one_judgement_of (Some h) (Told v) Valid p q = absurd q
-  one_judgement_of (Some h) (Told v) (Invalid why) p q = absurd q
+  one_judgement_of (Some h) (WithVerdict v) (WithVerdict w) p q = one_verdict m c h v w p q
+  one_judgement_of (Some h) (WithVerdict v) Valid p q = absurd q
+  one_judgement_of (Some h) (WithVerdict v) (Invalid why) p q = absurd q
   one_judgement_of (Some h) Valid w p q = absurd p
   one_judgement_of (Some h) (Invalid why) w p q = absurd p
 
@@ -136,4 +136,4 @@ pub one_why : OneWhy
 one_why m c v w p q = one_reason m c v w p q
 
 pub one_judgement : OneJudgement
-one_judgement m run v w p q = one_judgement_of m run.shaped run.history v w p q
+one_judgement m run v w p q = one_judgement_of m run.shaped.case run.history v w p q

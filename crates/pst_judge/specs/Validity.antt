@@ -1,13 +1,11 @@
 -- When a case is valid, and why it is not.
-use Rattle.std.specs.Prelude.{◌≡◌, ℕ, List, map, Option, Some, None}
-use Rattle.pst_case.specs.Shape.{IsShaped}
+use Rattle.std.specs.Prelude.{◌≡◌, ℕ, List, Option, Some, None}
 use Rattle.pst_case.specs.declared.case.Case.{Case}
-use Rattle.pst_grid.specs.Merges.{IsMerge, IsLeast, AllTrue, StopsAt}
+use Rattle.pst_grid.specs.Merges.{IsMerge, IsLeast}
+use Rattle.pst_grid.specs.declared.answer.Ending.TheVariants.{AllTrue, StopsAt}
 use Rattle.pst_grid.specs.declared.answer.Why.TheVariants as stop
 use Rattle.pst_judge.specs.Replay.{branch_lengths}
 use Rattle.pst_judge.specs.Symbolic.{symbolic}
-use Rattle.pst_judge.specs.Words.{side_of}
-use Rattle.pst_judge.specs.declared.place.Side.{Side}
 use Rattle.pst_judge.specs.declared.symbolic.Failing.{Failing}
 use Rattle.pst_judge.specs.declared.symbolic.Failing.TheVariants as failing
 use Rattle.pst_judge.specs.declared.why.Why.{Why}
@@ -15,7 +13,8 @@ use Rattle.pst_judge.specs.declared.why.Why.TheVariants.{PreFalse, CallbackFault
 use Rattle.pst_model.specs.declared.model.Source.{Source}
 
 module _ (m : Source) (c : Case) where
-  -- valid: in every merge of the branches after the prefix, each precondition is true and no callback faults
+  -- valid: in every interleaving of the branches, each precondition is true and no callback faults, from the
+  -- prefix to the end of the suffix
   abbrev pub IsValid : Type 0
   IsValid = (word : List ℕ) → IsMerge (branch_lengths c) word → symbolic m c word ≡ AllTrue
 
@@ -24,8 +23,8 @@ module _ (m : Source) (c : Case) where
   Fails word = IsMerge (branch_lengths c) word × (symbolic m c word ≡ AllTrue → ⊥)
 
   -- the word is the least merge that fails, and it does so by this
-  abbrev pub FailsFirst : Failing → List Side → Type 0
-  FailsFirst f word = (letters : List ℕ) × (word ≡ map side_of letters) × IsLeast Fails letters × ((n : ℕ) × (symbolic m c letters ≡ StopsAt n (stop.Fault f)))
+  abbrev pub FailsFirst : Failing → List ℕ → Type 0
+  FailsFirst f word = IsLeast Fails word × ((n : ℕ) × (symbolic m c word ≡ StopsAt n (stop.Fault f)))
 
   -- prefalse: the least merge that fails does so at this command, whose precondition is not true
   -- callback fault: it does so at this place
@@ -38,7 +37,3 @@ module _ (m : Source) (c : Case) where
   abbrev pub IsReason : Option Why → Type 0
   IsReason None = IsValid
   IsReason (Some why) = IsWhy why
-
--- the case is shaped and valid by some model
-abbrev pub HasValidity : Case → Type 0
-HasValidity c = (m : Source) × IsShaped m c × IsValid m c

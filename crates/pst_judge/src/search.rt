@@ -1,41 +1,36 @@
 //! The search over the merges of the branches.
-ghost use Rattle.std.specs.Prelude.{◌≡◌, ◌+◌, ◌<◌, ◌≤◌, ◌^◌, true, [], List, ℕ, IfOk, map, length, sum};
+ghost use Rattle.std.specs.Prelude.{◌≡◌, ◌+◌, ◌<◌, ◌≤◌, ◌^◌, IfOk, map, length, sum};
 ghost use Rattle.pst_case.specs.Shape.{result_types};
-ghost use Rattle.pst_eval.specs.Callbacks.{is_state};
-ghost use Rattle.pst_grid.specs.Answers.{IsAnswer};
-ghost use Rattle.pst_grid.specs.Turns.{AreCommands};
-ghost use Rattle.pst_grid.specs.declared.answer.SomeAnswer.{SomeAnswer};
-ghost use Rattle.pst_judge.specs.Replay.{EventFits, branch_turn, branch_lengths, event_at};
-ghost use Rattle.pst_judge.specs.Prefix.{BranchesFit};
-ghost use Rattle.pst_judge.specs.Telling.{Tells, OnNothing};
-ghost use Rattle.pst_judge.specs.Words.{side_of};
-ghost use Rattle.pst_judge.specs.declared.events.Event.{Event};
-ghost use Rattle.pst_judge.specs.declared.place.Place.{Place};
+ghost use Rattle.pst_judge.specs.FromAnswer.{IsVerdictOfSearch, OnNothing, verdict_of};
+ghost use Rattle.pst_judge.specs.Replay.{branch_lengths};
+ghost use Rattle.pst_judge.specs.Running.{BranchesFit, EventsFit, IsRealState};
 
 use crate::events::Event;
-use crate::place::{Place, Side};
 use crate::replay::event_turn;
+use crate::running::run_last;
 use crate::verdicts::Verdict;
 use pst_case::{Command, Shaped};
-use pst_eval::Callbacks;
-use pst_grid::{SomeAnswer, Steps, Turn, some};
+use pst_eval::{Callbacks, Place};
+use pst_grid::{Ending, SomeAnswer, Steps, Turn, some};
 use pst_items::Items;
 use pst_value::Value;
 use std::alloc::{AllocError, Global};
 
-/// The events of the branches of a case, to be stepped through.
+/// The events of the branches of a case, to be stepped through, and those of its suffix, which run when all
+/// branches have ended.
 #[derive(Drop)]
 pub struct Branches<'a, C> {
     pub callbacks: &'a C,
     pub shaped: &'a Shaped,
     pub events: Items<Items<Event>>,
+    pub suffix: Items<Event>,
 }
 
 impl<'a, C: Callbacks> Steps for Branches<'a, C> {
-    ghost use Rattle.std.specs.Prelude.{◌≡◌, true, [], Some};
+    ghost use Rattle.std.specs.Prelude.{◌≡◌, Some, length};
     ghost use Rattle.pst_case.specs.Shape.{result_types};
-    ghost use Rattle.pst_eval.specs.Callbacks.{is_state};
     ghost use Rattle.pst_judge.specs.Replay.{EventFits, branch_turn, event_at};
+    ghost use Rattle.pst_judge.specs.Running.{EventsFit, IsRealState, last_events};
     ghost use Rattle.pst_judge.specs.declared.events.Event.{Event};
     ghost use Rattle.pst_value.proofs.Exact.{same_value-Decides};
 
@@ -43,11 +38,18 @@ impl<'a, C: Callbacks> Steps for Branches<'a, C> {
 
     type Fault = Place;
 
-    ghost is_state = { λ b s. is_state (C.model b.callbacks.now) [] (result_types (C.model b.callbacks.now) b.shaped.now) s ≡ true };
+    ghost is_state = { λ b s. let m = C.model b.callbacks.now in
+        IsRealState m b.shaped.now.case s × EventsFit m (result_types m b.shaped.now.case) b.suffix };
 
-    ghost is_command = { λ b branch index. (e : Event) × (event_at b.events branch index ≡ Some e) × EventFits (C.model b.callbacks.now) (result_types (C.model b.callbacks.now) b.shaped.now) e };
+    ghost is_command = { λ b branch index. let m = C.model b.callbacks.now in
+        (e : Event) × (event_at b.events branch index ≡ Some e)
+        × EventFits m (result_types m b.shaped.now.case) e };
 
     ghost turn = { λ b s branch index. branch_turn (C.model b.callbacks.now) b.events s branch index };
+
+    ghost rest = { λ b s. last_events (C.model b.callbacks.now) b.suffix s };
+
+    ghost most_rest = { λ b. length b.suffix };
 
     fn step(
         &self,
@@ -63,6 +65,14 @@ impl<'a, C: Callbacks> Steps for Branches<'a, C> {
             unreachable!()
         };
         event_turn(self.callbacks, alloc, state, event)
+    }
+
+    fn run_rest(&self, alloc: Global, state: &Value) -> Result<(Ending<Place>, usize), AllocError> {
+        let start = state.copy(alloc)?;
+        match run_last(self.callbacks, alloc, start, self.suffix.as_slice())? {
+            Ending::AllTrue => Ok((Ending::AllTrue, self.suffix.len())),
+            Ending::StopsAt(at, why) => Ok((Ending::StopsAt(at, why), at + 1)),
+        }
     }
 
     fn copy(&self, alloc: Global, state: &Value) -> Result<Value, AllocError> {
@@ -86,43 +96,38 @@ pub(crate) fn lengths_of(
     Ok(lengths)
 }
 
-/// A word, as the letters of its branches.
-pub(crate) fn sides_of(alloc: Global, word: &[usize]) -> Result<Vec<Side>, AllocError>
-    ensures { IfOk result (λ sides. sides.items ≡ map side_of word.now) }
-{
-    let mut sides = Vec::new(alloc);
-    for branch in word {
-        sides.push(Side::of(*branch))?;
-    }
-    Ok(sides)
-}
-
 /// The verdict that an answer stands for, where so many events stand before the branches.
-fn told(alloc: Global, prefix: usize, answer: SomeAnswer<Place>) -> Result<Verdict, AllocError>
+fn verdict_of(prefix: usize, answer: SomeAnswer<Place>) -> Verdict
     requires { OnNothing answer (λ far. prefix + far < 2 ^ 64) }
-    ensures { IfOk result (Tells prefix answer) }
+    ensures { result ≡ verdict_of prefix answer }
 {
     match answer {
-        SomeAnswer::Found { word } => Ok(Verdict::Explained(sides_of(alloc, word.as_slice())?)),
-        SomeAnswer::Faulted { fault, .. } => Ok(Verdict::Faulted(fault)),
-        SomeAnswer::Nothing { far } => Ok(Verdict::Unexplained(prefix + far)),
+        SomeAnswer::Found { word } => Verdict::Explained(word),
+        SomeAnswer::Faulted { fault, .. } => Verdict::Faulted(fault),
+        SomeAnswer::Nothing { far } => Verdict::Unexplained(prefix + far),
     }
 }
 
-/// Searches the merges of the branches, from the state after the prefix.
+/// Searches the merges of the branches, from the state after the prefix, with the suffix behind each.
 pub fn search<C: Callbacks>(
     alloc: Global,
     branches: &Branches<'_, C>,
     state: &Value,
     prefix: usize,
 ) -> Result<Verdict, AllocError>
-    requires state { is_state (C.model branches.now.callbacks.now) [] (result_types (C.model branches.now.callbacks.now) branches.now.shaped.now) state.now ≡ true }
-    requires commands { BranchesFit (C.model branches.now.callbacks.now) branches.now.shaped.now branches.now.events }
+    requires state { IsRealState (C.model branches.now.callbacks.now) branches.now.shaped.now.case state.now }
+    requires commands { let m = C.model branches.now.callbacks.now in
+        BranchesFit m branches.now.shaped.now.case branches.now.events }
+    requires events { let m = C.model branches.now.callbacks.now in
+        EventsFit m (result_types m branches.now.shaped.now.case) branches.now.suffix }
     requires prefix { prefix ≤ 64 }
-    requires lengths { sum (branch_lengths branches.now.shaped.now) ≤ 16 }
-    ensures { IfOk result (λ v. (answer : SomeAnswer Place) × IsAnswer (branch_turn (C.model branches.now.callbacks.now) branches.now.events) (branch_lengths branches.now.shaped.now) state.now answer × Tells prefix answer v) }
+    requires lengths { sum (branch_lengths branches.now.shaped.now.case) ≤ 16 }
+    requires suffix { length branches.now.suffix ≤ 8 }
+    ensures { let b = branches.now in IfOk result
+        (IsVerdictOfSearch (C.model b.callbacks.now) b.events b.suffix (branch_lengths b.shaped.now.case)
+        prefix state.now) }
 {
     let lengths = lengths_of(alloc, branches.shaped.case().branches.as_slice())?;
     let (answer, _) = some(alloc, branches, lengths.as_slice(), state)?;
-    told(alloc, prefix, answer)
+    Ok(verdict_of(prefix, answer))
 }

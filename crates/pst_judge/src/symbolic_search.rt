@@ -1,40 +1,36 @@
 //! The search for a merge that fails on symbolic states.
-ghost use Rattle.std.specs.Prelude.{◌≡◌, ◌+◌, ◌++◌, ◌<◌, ◌≤◌, ◌^◌, true, IfOk, map, length, replicate};
+ghost use Rattle.std.specs.Prelude.{◌≡◌, ◌+◌, ◌++◌, ◌<◌, ◌≤◌, ◌^◌, IfOk, map, length, replicate, sum};
 ghost use Rattle.pst_case.specs.Shape.{result_types};
-ghost use Rattle.pst_eval.specs.Callbacks.{is_state};
-ghost use Rattle.pst_grid.specs.Answers.{IsEveryAnswer};
-ghost use Rattle.pst_grid.specs.declared.answer.EveryAnswer.{EveryAnswer};
-ghost use Rattle.pst_judge.specs.SymbolicSearch.{BranchesFit, FailsByReason, IsFailing, TellsStop, TellsWhy, IsReasonOf, reason_of, in_turn};
 ghost use Rattle.pst_judge.specs.Replay.{branch_lengths};
-ghost use Rattle.pst_judge.specs.Symbolic.{symbolic_turn};
-ghost use Rattle.pst_judge.specs.declared.symbolic.Failing.{Failing};
+ghost use Rattle.pst_judge.specs.SymbolicSearch.{BranchesFit, CommandsFit, FailsByReason, IsReasonOf, IsReasonOfSearch, IsSymbolicState, in_turn, reason_of, reason_of_answer};
 
 use crate::events::{split_commands, split_parts};
 use crate::numbered::NumberedCommand;
-use crate::place::Side;
-use crate::search::{lengths_of, sides_of};
-use crate::symbolic::{Failing, symbolic_step};
+use crate::search::lengths_of;
+use crate::symbolic::{Failing, run_last, symbolic_step};
 use crate::why::Why;
 use pst_case::{Command, Shaped};
 use pst_eval::Callbacks;
-use pst_grid::{EveryAnswer, Steps, Turn, every};
+use pst_grid::{Ending, EveryAnswer, Steps, Turn, every};
 use pst_items::Items;
 use pst_value::Value;
 use std::alloc::{AllocError, Global};
 
-/// The commands of the branches of a case, to be stepped through on symbolic states.
+/// The commands of the branches of a case, to be stepped through on symbolic states, and those of its suffix,
+/// which run when all branches have ended.
 #[derive(Drop)]
 pub struct SymbolicBranches<'a, C> {
     pub callbacks: &'a C,
     pub shaped: &'a Shaped,
     pub commands: Items<Items<NumberedCommand>>,
+    pub suffix: Items<NumberedCommand>,
 }
 
 impl<'a, C: Callbacks> Steps for SymbolicBranches<'a, C> {
-    ghost use Rattle.std.specs.Prelude.{◌≡◌, true, Some};
+    ghost use Rattle.std.specs.Prelude.{◌≡◌, Some, length};
     ghost use Rattle.pst_case.specs.Shape.{result_types};
-    ghost use Rattle.pst_eval.specs.Callbacks.{is_state};
     ghost use Rattle.pst_judge.specs.Symbolic.{CommandFits, symbolic_turn, command_at};
+    ghost use Rattle.pst_judge.specs.SymbolicSearch.{CommandsFit, IsSymbolicState, last_commands};
     ghost use Rattle.pst_judge.specs.declared.numbered.NumberedCommand.{NumberedCommand};
     ghost use Rattle.pst_value.proofs.Exact.{same_value-Decides};
 
@@ -42,11 +38,18 @@ impl<'a, C: Callbacks> Steps for SymbolicBranches<'a, C> {
 
     type Fault = Failing;
 
-    ghost is_state = { λ b s. is_state (C.model b.callbacks.now) (result_types (C.model b.callbacks.now) b.shaped.now) (result_types (C.model b.callbacks.now) b.shaped.now) s ≡ true };
+    ghost is_state = { λ b s. let m = C.model b.callbacks.now in
+        IsSymbolicState m b.shaped.now.case s × CommandsFit m (result_types m b.shaped.now.case) b.suffix };
 
-    ghost is_command = { λ b branch index. (e : NumberedCommand) × (command_at b.commands branch index ≡ Some e) × CommandFits (C.model b.callbacks.now) (result_types (C.model b.callbacks.now) b.shaped.now) e };
+    ghost is_command = { λ b branch index. let m = C.model b.callbacks.now in
+        (e : NumberedCommand) × (command_at b.commands branch index ≡ Some e)
+        × CommandFits m (result_types m b.shaped.now.case) e };
 
     ghost turn = { λ b s branch index. symbolic_turn (C.model b.callbacks.now) b.commands s branch index };
+
+    ghost rest = { λ b s. last_commands (C.model b.callbacks.now) b.suffix s };
+
+    ghost most_rest = { λ b. length b.suffix };
 
     fn step(
         &self,
@@ -67,6 +70,18 @@ impl<'a, C: Callbacks> Steps for SymbolicBranches<'a, C> {
         }
     }
 
+    fn run_rest(
+        &self,
+        alloc: Global,
+        state: &Value,
+    ) -> Result<(Ending<Failing>, usize), AllocError> {
+        let start = state.copy(alloc)?;
+        match run_last(self.callbacks, alloc, start, self.suffix.as_slice())? {
+            Ending::AllTrue => Ok((Ending::AllTrue, self.suffix.len())),
+            Ending::StopsAt(at, why) => Ok((Ending::StopsAt(at, why), at + 1)),
+        }
+    }
+
     fn copy(&self, alloc: Global, state: &Value) -> Result<Value, AllocError> {
         state.copy(alloc)
     }
@@ -75,7 +90,7 @@ impl<'a, C: Callbacks> Steps for SymbolicBranches<'a, C> {
 }
 
 /// The reason of a failing, in the merge that fails.
-fn reason_of(failing: Failing, merge: Vec<Side>) -> Why
+fn reason_of(failing: Failing, merge: Vec<usize>) -> Why
     ensures { result ≡ reason_of failing merge }
 {
     match failing {
@@ -84,53 +99,42 @@ fn reason_of(failing: Failing, merge: Vec<Side>) -> Why
     }
 }
 
-/// The reason of a failing, in the merge of the word.
-fn reason_in(alloc: Global, failing: Failing, word: &[usize]) -> Result<Option<Why>, AllocError>
-    ensures { IfOk result (IsReasonOf failing word.now) }
-{
-    let merge = sides_of(alloc, word)?;
-    Ok(Some(reason_of(failing, merge)))
-}
-
-/// The reason why the merge of the word stops.
-fn told_stop(
-    alloc: Global,
-    word: &[usize],
-    why: pst_grid::Why<Failing>,
-) -> Result<Option<Why>, AllocError>
-    requires { IsFailing why }
-    ensures { IfOk result (TellsStop why word.now) }
-{
-    match why {
-        pst_grid::Why::False => unreachable!(),
-        pst_grid::Why::Fault(failing) => reason_in(alloc, failing, word),
-    }
-}
-
 /// The reason that an answer stands for, if it is one.
-fn told_why(alloc: Global, answer: EveryAnswer<Failing>) -> Result<Option<Why>, AllocError>
+fn reason_of_answer(answer: EveryAnswer<Failing>) -> Option<Why>
     requires { FailsByReason answer }
-    ensures { IfOk result (TellsWhy answer) }
+    ensures { result ≡ reason_of_answer answer }
 {
     match answer {
-        EveryAnswer::All => Ok(None),
-        EveryAnswer::Not { word, why, .. } => told_stop(alloc, word.as_slice(), why),
+        EveryAnswer::All => None,
+        EveryAnswer::Not { word, why, .. } => match why {
+            pst_grid::Why::False => unreachable!(),
+            pst_grid::Why::Fault(failing) => Some(reason_of(failing, word)),
+        },
     }
 }
 
-/// Searches the merges of the branches for the least that fails, from the symbolic state after the prefix.
+/// Searches the merges of the branches for the least that fails, from the symbolic state after the prefix and
+/// with the suffix behind each.
 pub fn search_failing<C: Callbacks>(
     alloc: Global,
     branches: &SymbolicBranches<'_, C>,
     state: &Value,
 ) -> Result<Option<Why>, AllocError>
-    requires state { is_state (C.model branches.now.callbacks.now) (result_types (C.model branches.now.callbacks.now) branches.now.shaped.now) (result_types (C.model branches.now.callbacks.now) branches.now.shaped.now) state.now ≡ true }
-    requires commands { BranchesFit (C.model branches.now.callbacks.now) branches.now.shaped.now branches.now.commands }
-    ensures { IfOk result (λ v. (answer : EveryAnswer Failing) × IsEveryAnswer (symbolic_turn (C.model branches.now.callbacks.now) branches.now.commands) (branch_lengths branches.now.shaped.now) state.now answer × TellsWhy answer v) }
+    requires state { let m = C.model branches.now.callbacks.now in
+        IsSymbolicState m branches.now.shaped.now.case state.now }
+    requires commands { let m = C.model branches.now.callbacks.now in
+        BranchesFit m branches.now.shaped.now.case branches.now.commands }
+    requires last { let m = C.model branches.now.callbacks.now in
+        CommandsFit m (result_types m branches.now.shaped.now.case) branches.now.suffix }
+    requires lengths { sum (branch_lengths branches.now.shaped.now.case) ≤ 16 }
+    requires suffix { length branches.now.suffix ≤ 8 }
+    ensures { let b = branches.now in IfOk result
+        (IsReasonOfSearch (C.model b.callbacks.now) b.commands b.suffix (branch_lengths b.shaped.now.case)
+        state.now) }
 {
     let lengths = lengths_of(alloc, branches.shaped.case().branches.as_slice())?;
     let (answer, _) = every(alloc, branches, lengths.as_slice(), state)?;
-    told_why(alloc, answer)
+    Ok(reason_of_answer(answer))
 }
 
 /// A letter of the branch for each of its commands, after others.
@@ -170,10 +174,10 @@ pub fn in_first_merge(
     shaped: &Shaped,
     failing: Failing,
 ) -> Result<Option<Why>, AllocError>
-    requires { length shaped.now.branches ≤ 4 }
-    ensures { IfOk result (IsReasonOf failing (in_turn 0 (branch_lengths shaped.now))) }
+    requires { length shaped.now.case.branches ≤ 4 }
+    ensures { IfOk result (IsReasonOf failing (in_turn 0 (branch_lengths shaped.now.case))) }
 {
     let branches = shaped.case().branches.as_slice();
     let word = in_turn(0, branches, Vec::new(alloc))?;
-    reason_in(alloc, failing, word.as_slice())
+    Ok(Some(reason_of(failing, word)))
 }

@@ -1,25 +1,21 @@
 //! Whether a case is valid.
-ghost use Rattle.std.specs.Prelude.{◌≡◌, ◌⊎◌, true, IfOk, IfErr};
-ghost use Rattle.pst_case.specs.Shape.{IsShaped, result_types};
-ghost use Rattle.pst_eval.specs.Callbacks.{is_state};
-ghost use Rattle.pst_grid.specs.Answers.{IsEveryAnswer};
-ghost use Rattle.pst_grid.specs.declared.answer.EveryAnswer.{EveryAnswer};
-ghost use Rattle.pst_judge.specs.SymbolicSearch.{TellsWhy};
+ghost use Rattle.std.specs.Prelude.{◌≡◌, ◌⊎◌, IfOk, IfErr};
+ghost use Rattle.pst_case.specs.Shape.{IsShaped};
+ghost use Rattle.pst_judge.specs.SymbolicSearch.{IsReasonOfSearch, IsSymbolicState};
 ghost use Rattle.pst_judge.specs.Real.{IsAlwaysValid};
 ghost use Rattle.pst_judge.specs.Replay.{branch_lengths};
-ghost use Rattle.pst_judge.specs.Symbolic.{symbolic_turn, branch_commands};
+ghost use Rattle.pst_judge.specs.Symbolic.{branch_commands, suffix_commands};
 ghost use Rattle.pst_judge.specs.Validity.{IsValid, IsWhy, IsReason};
-ghost use Rattle.pst_judge.specs.declared.symbolic.Failing.{Failing};
 ghost use Rattle.pst_rules.specs.WellTyped.{WellModel};
 
+use crate::events::number_behind;
 use crate::numbered::{branches_with_numbers, with_numbers};
-use crate::place::Callback;
 use crate::symbolic::{fault_in, run_symbolic};
 use crate::symbolic_search::{SymbolicBranches, in_first_merge, search_failing};
 use crate::validated::Valid;
 use crate::why::Why;
 use pst_case::Shaped;
-use pst_eval::Callbacks;
+use pst_eval::{Callback, Callbacks};
 use pst_items::Items;
 use pst_value::Value;
 use std::alloc::{AllocError, Global};
@@ -31,38 +27,45 @@ fn why_not_after_prefix<C: Callbacks>(
     shaped: &Shaped,
     state: &Value,
 ) -> Result<Option<Why>, AllocError>
-    requires shape { IsShaped (C.model callbacks.now) shaped.now }
-    requires state { is_state (C.model callbacks.now) (result_types (C.model callbacks.now) shaped.now) (result_types (C.model callbacks.now) shaped.now) state.now ≡ true }
-    ensures { IfOk result (λ v. (answer : EveryAnswer Failing) × IsEveryAnswer (symbolic_turn (C.model callbacks.now) (branch_commands shaped.now)) (branch_lengths shaped.now) state.now answer × TellsWhy answer v) }
+    requires shape { IsShaped (C.model callbacks.now) shaped.now.case }
+    requires state { IsSymbolicState (C.model callbacks.now) shaped.now.case state.now }
+    ensures { let c = shaped.now.case in IfOk result
+        (IsReasonOfSearch (C.model callbacks.now) (branch_commands c) (suffix_commands c) (branch_lengths c)
+        state.now) }
 {
     let case = shaped.case();
     let number = 1 + case.prefix.len() as u32;
     let branches = case.branches.as_slice();
     let commands = branches_with_numbers(alloc, number, branches, Items::new(alloc))?;
+    let number = number_behind(number, branches);
+    let suffix = with_numbers(alloc, number, case.suffix.as_slice(), Items::new(alloc))?;
     let symbolic = SymbolicBranches {
         callbacks,
         shaped,
         commands,
+        suffix,
     };
     search_failing(alloc, &symbolic, state)
 }
 
-/// Why the case is not valid by the model of the callbacks, if it is not. `AllocError` where memory is refused.
+/// Why the case is not valid by the model of the callbacks, if it is not. `AllocError` where memory is
+/// refused.
 pub fn why_not<C: Callbacks>(
     callbacks: &C,
     alloc: Global,
     shaped: &Shaped,
 ) -> Result<Option<Why>, AllocError>
-    requires { IsShaped (C.model callbacks.now) shaped.now }
-    ensures { IfOk result (IsReason (C.model callbacks.now) shaped.now) }
+    requires { shaped.now.model ≡ C.model callbacks.now }
+    ensures { IfOk result (IsReason (C.model callbacks.now) shaped.now.case) }
 {
+    let case = shaped.case();
     let (state, _) = match callbacks.init(alloc)? {
         Ok(opening) => opening,
         Err(fault) => {
             return in_first_merge(alloc, shaped, fault_in(0, Callback::Init, fault));
         }
     };
-    let commands = shaped.case().prefix.as_slice();
+    let commands = case.prefix.as_slice();
     let prefix = with_numbers(alloc, 1, commands, Items::new(alloc))?;
     match run_symbolic(callbacks, alloc, state, prefix.as_slice())? {
         Ok(last) => why_not_after_prefix(callbacks, alloc, shaped, &last),
@@ -70,24 +73,30 @@ pub fn why_not<C: Callbacks>(
     }
 }
 
-/// The case as a valid one, where it is valid by the model of the callbacks. Else the case comes back with the reason.
+/// The case as a valid one, where it is valid by the model of the callbacks. Else the case comes back with
+/// the reason.
 ///
-/// The case is run on symbolic states, from the opening state, in every merge of the branches after the prefix: each command's precondition
-/// must be true, and the next state, where the variable of the command's number stands for its result, must come without a fault. The reason is that
-/// of the least merge that fails, at its first command that fails; it is `NoMemory` where memory is refused.
+/// The case is run on symbolic states, from the initial state, in every merge of the branches, behind the
+/// prefix and before the suffix: each command's precondition must be true, and the next state, where the
+/// variable of the command's number stands for its result, must come without a fault. The reason is that of
+/// the least merge that fails, at its first command that fails; it is `NoMemory` where memory is refused.
 ///
-/// Over a well-typed model a valid case stays so with recorded results for variables: whatever history of values is recorded, in every merge each
-/// precondition is true on the real state, and neither `init` nor a `pre` or `next` faults.
+/// Over a well-typed model a valid case stays so with recorded results for variables: whatever history of
+/// values is recorded, in every merge each precondition is true on the real state, and neither `init` nor a
+/// `pre` or `next` faults.
 pub fn valid<C: Callbacks>(
     callbacks: &C,
     alloc: Global,
     shaped: Shaped,
 ) -> Result<Valid, (Shaped, Why)>
-    requires shape { IsShaped (C.model callbacks.now) shaped }
-    ensures valid { IfOk result (λ v. (v ≡ shaped) × IsValid (C.model callbacks.now) shaped) }
-    ensures real { IfOk result (λ v. WellModel (C.model callbacks.now) → IsAlwaysValid (C.model callbacks.now) shaped) }
-    ensures refused { IfErr result (λ r. (r.0 ≡ shaped) × ((r.1 ≡ Why.NoMemory) ⊎ IsWhy (C.model callbacks.now) shaped r.1)) }
+    requires model { shaped.model ≡ C.model callbacks.now }
+    ensures valid { IfOk result (λ v. (v ≡ shaped) × IsValid (C.model callbacks.now) shaped.case) }
+    ensures real { IfOk result
+        (λ v. WellModel (C.model callbacks.now) → IsAlwaysValid (C.model callbacks.now) shaped.case) }
+    ensures refused { IfErr result (λ r. (r.0 ≡ shaped)
+        × ((r.1 ≡ Why.NoMemory) ⊎ IsWhy (C.model callbacks.now) shaped.case r.1)) }
 {
+    let _case = shaped.case();
     match why_not(callbacks, alloc, &shaped) {
         Ok(None) => Ok(Valid::new(shaped)),
         Ok(Some(why)) => Err((shaped, why)),

@@ -9,7 +9,7 @@ use Rattle.pst_sexpr.specs.Reading.{max_levels}
 use Rattle.pst_sexpr.specs.Lawful.{IsTree, AreTrees, greatest, levels}
 use Rattle.pst_sexpr.proofs.Made.{levels_word, levels_text, levels_node, node_is_tree}
 use Rattle.pst_syntax.specs.Counting.{trees_in}
-use Rattle.pst_syntax.specs.Shape.{node_of, node_at, word_of, word_at}
+use Rattle.pst_sexpr.specs.Parts.{node_of, node_at, word_of, word_at}
 use Rattle.pst_syntax.proofs.Counted.{trees_in_node, trees_in_word}
 
 -- ---- the parts of a form

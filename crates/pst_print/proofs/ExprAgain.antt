@@ -14,15 +14,20 @@ use Rattle.pst_syntax.specs.declared.fault.FaultKind.TheVariants.{OverLimit}
 use Rattle.pst_syntax.specs.declared.heads.Head.{Head}
 use Rattle.pst_syntax.specs.declared.heads.Head.TheVariants as head
 use Rattle.pst_syntax.specs.Heads.{head_of}
-use Rattle.pst_syntax.specs.Integers.{is_i64, is_integer, is_positive, value, natural}
+use Rattle.pst_words.specs.Integers.{is_integer, value}
+use Rattle.pst_value.specs.Text.{is_i64}
+use Rattle.pst_syntax.specs.Places.{is_positive, natural}
 use Rattle.pst_syntax.specs.Names.{is_free}
-use Rattle.pst_syntax.specs.Shape.{Shape, ClauseShape, Integer, Truth, Quoted, Used, Let, If, And, Or, Unary, Binary, Tuple, At, ListOf, For, Fold, Call, Apply, InEach, WhenTrue, shape_of, clause_shape, clause_node, clause_headed, word_of, node_of, made}
-use Rattle.pst_syntax.specs.Reading.{Read, ◌>>=◌, known, within, each, bound, bound_beside, item_at, max_text, are_few, max_parts, ty_of, ty_room, expr_of, expr_parts, clause_of, clause_parts}
+use Rattle.pst_syntax.specs.Shape.{Shape, ClauseShape, Integer, Truth, Quoted, Used, Let, If, And, Or, Unary, Binary, Tuple, At, ListOf, For, Fold, Call, Apply, InEach, WhenTrue, shape_of, clause_shape, clause_node, clause_headed}
+use Rattle.pst_sexpr.specs.Parts.{word_of, node_of, and_then}
+use Rattle.pst_syntax.specs.Reading.{Read, ◌>>=◌, known, within, each, bound, bound_beside, item_at, are_few, ty_of, expr_of, expr_parts, clause_of, clause_parts}
+use Rattle.pst_syntax.specs.Limits.{max_text, max_parts, ty_room}
 use Rattle.pst_print.specs.Printed.{ty_form, expr_form, clause_form}
 use Rattle.pst_print.specs.Words.{headed}
 use Rattle.pst_print.proofs.Alike.{Alike, none, more, itself, alike_node, words_alike, node_of_node, word_of_word}
 use Rattle.pst_print.proofs.Forms as form
-use Rattle.pst_print.proofs.Numbers.{spells_integer, spells_place, place_read, both_hold}
+use Rattle.pst_print.proofs.Numbers.{spells_integer, spells_place, place_read}
+use Rattle.pst_words.proofs.Numbers.{both_hold}
 use Rattle.pst_print.proofs.Shapes.{spelled, head_word, head_spelled, word_is, node_is, made_some, form_of, Lawful, shape_is, shaped}
 use Rattle.pst_print.proofs.TyAgain.{behind, onward, knows, inside, okay, same, declared_is, Again, each_again, ty_again}
 
@@ -56,11 +61,11 @@ clause_shape_is f s k = let p = made_some (node_of f) clause_node s k in node_is
 clause_at_head : (w : List ℕ) (h : Head) (parts : List Form) → head_of w ≡ Some h → clause_shape (headed w parts) ≡ clause_headed (Some h) parts
 unfolding clause_shape
 clause_at_head w h parts e =
-    ap (λ o. made o clause_node) (node_of_node (Word w ∷ parts)) ∙ ap (λ o. made o (λ v. clause_headed (head_of v) parts)) (word_of_word w) ∙ ap (λ o. clause_headed o parts) e
+    ap (λ o. and_then o clause_node) (node_of_node (Word w ∷ parts)) ∙ ap (λ o. and_then o (λ v. clause_headed (head_of v) parts)) (word_of_word w) ∙ ap (λ o. clause_headed o parts) e
 
 clause_shaped : (s : ClauseShape) → clause_shape (clause_form_of s) ≡ Some s
 unfolding spelled
-clause_shaped (InEach x e) = clause_at_head (codes "in") head.In (Word x ∷ e ∷ []) (head_spelled head.In) ∙ ap (λ o. made o (λ x. Some (InEach x e))) (word_of_word x)
+clause_shaped (InEach x e) = clause_at_head (codes "in") head.In (Word x ∷ e ∷ []) (head_spelled head.In) ∙ ap (λ o. and_then o (λ x. Some (InEach x e))) (word_of_word x)
 clause_shaped (WhenTrue c) = clause_at_head (codes "when") head.When (c ∷ []) (head_spelled head.When)
 
 record ClauseWritten (e : Form → Read Expr) (s : ClauseShape) (z : Clause) : Type 0 where

@@ -18,7 +18,8 @@ use Rattle.pst_syntax.specs.Counting.{trees_in}
 use Rattle.pst_model.specs.Names.{is_name}
 use Rattle.pst_syntax.specs.Names.{is_free}
 use Rattle.pst_syntax.specs.ItemShape.{ItemShape, CallbackShape, StateItem, InitItem, CommandItem, FunItem, OpItem, Pre, Next, Post, item_shape, callback_shape, param_shape}
-use Rattle.pst_syntax.specs.Reading.{◌>>=◌, known, within, once, declared, are_few, expr_room, ty_room}
+use Rattle.pst_syntax.specs.Reading.{◌>>=◌, known, within, once, declared, are_few}
+use Rattle.pst_syntax.specs.Limits.{expr_room, ty_room}
 use Rattle.pst_syntax.specs.Items.{whole_ty, whole_expr, is_param, param_of, params_from, params_of, is_some, no_callbacks, callback_of, callbacks_from, all_callbacks, is_state, is_init, is_command, is_fun, is_op, is_fun_named, is_op_named, has_room, fun_of, op_parts, item_parts, item_of}
 use Rattle.pst_print.specs.Printed.{ty_form, expr_form, param_form, single, item_form, fun_word}
 use Rattle.pst_print.specs.Words.{headed}
@@ -168,10 +169,10 @@ record Stand {B : Type 0} (end : Callbacks) (make : Expr → Expr → Expr → B
   next : Expr
   post : Expr
   are : end ≡ so_far (Some pre) (Some next) (Some post)
-  made : make pre next post ≡ b
+  gives : make pre next post ≡ b
 
 stand_at : {B : Type 0} (x y z : Option Expr) (make : Expr → Expr → Expr → B) (b : B) → (all_callbacks (so_far x y z) >>= (λ all. okay (make all.pre all.next all.post))) ≡ Ok b → Stand (so_far x y z) make b
-stand_at (Some x) (Some y) (Some z) make b e = record { pre = x; next = y; post = z; are = refl; made = same (make x y z) b e }
+stand_at (Some x) (Some y) (Some z) make b e = record { pre = x; next = y; post = z; are = refl; gives = same (make x y z) b e }
 stand_at None y z make b e = absurd (cc)
 stand_at (Some x) None z make b e = absurd (cc)
 stand_at (Some x) (Some y) None make b e = absurd (cc)
@@ -295,7 +296,7 @@ written seen (OpItem x ps t cs) z k =
     let a = three_again cs c.pre c.next c.post (subst (Kept cs None None None) c.are (callbacks_kept no_callbacks cs v.0 v.1)) in
     let g = op p.0 q.0 r.0 c.pre c.next c.post in
     let n = three c.pre c.next c.post in
-    subst (Written seen (OpItem x ps t cs)) (ap (λ f. item.Op f) c.made ∙ same (item.Op f.0) z f.2) (record {
+    subst (Written seen (OpItem x ps t cs)) (ap (λ f. item.Op f) c.gives ∙ same (item.Op f.0) z f.2) (record {
       shape = OpItem x ps t n;
       form =
           ap (λ y. headed (codes "op") (Word y ∷ Node (map param_form q.0) ∷ ty_form r.0 ∷ n)) (sym i)

@@ -5,7 +5,7 @@ use Rattle.std.specs.Str.{bytes_eq}
 use Rattle.std.proofs.lemmas.Slice.Eq.{bytes_eq-Decides}
 use Rattle.pst_sexpr.specs.declared.form.Form.{Form}
 use Rattle.pst_sexpr.specs.declared.form.Form.TheVariants.{Word, Node}
-use Rattle.pst_syntax.specs.Shape.{word_of, node_of, made, where_true}
+use Rattle.pst_sexpr.specs.Parts.{word_of, node_of, and_then, where_true}
 use Rattle.pst_syntax.specs.ItemShape.{ItemShape, CallbackShape, StateItem, InitItem, CommandItem, FunItem, OpItem, Pre, Next, Post, single, as_fun, as_op, item_shape, item_node, item_headed, callback_shape, callback_node, callback_headed, param_shape, param_node, model_shape, model_node, as_model}
 use Rattle.pst_print.specs.Printed.{fun_word}
 use Rattle.pst_print.specs.Words.{headed}
@@ -31,14 +31,14 @@ single_is (part ∷ other ∷ parts) make s k = absurd (cc)
 
 fun_is : (b : Bool) (parts : List Form) (s : ItemShape) → as_fun b parts ≡ Some s → headed (fun_word b) parts ≡ item_form_of s
 fun_is b (x ∷ ps ∷ t ∷ e ∷ []) s k =
-    let p = made_some (word_of x) (λ x. made (node_of ps) (λ ps. Some (FunItem b x ps t e))) s k in
+    let p = made_some (word_of x) (λ x. and_then (node_of ps) (λ ps. Some (FunItem b x ps t e))) s k in
     let q = made_some (node_of ps) (λ ps. Some (FunItem b p.0 ps t e)) s p.2 in
     ap (λ y. headed (fun_word b) (y ∷ ps ∷ t ∷ e ∷ [])) (word_is x p.0 p.1) ∙ ap (λ y. headed (fun_word b) (Word p.0 ∷ y ∷ t ∷ e ∷ [])) (node_is ps q.0 q.1) ∙ item_got _ s q.2
 fun_is b _ s k = absurd (cc)
 
 op_is : (parts : List Form) (s : ItemShape) → as_op parts ≡ Some s → headed (codes "op") parts ≡ item_form_of s
 op_is (x ∷ ps ∷ t ∷ cs) s k =
-    let p = made_some (word_of x) (λ x. made (node_of ps) (λ ps. Some (OpItem x ps t cs))) s k in
+    let p = made_some (word_of x) (λ x. and_then (node_of ps) (λ ps. Some (OpItem x ps t cs))) s k in
     let q = made_some (node_of ps) (λ ps. Some (OpItem p.0 ps t cs)) s p.2 in
     ap (λ y. headed (codes "op") (y ∷ ps ∷ t ∷ cs)) (word_is x p.0 p.1) ∙ ap (λ y. headed (codes "op") (Word p.0 ∷ y ∷ t ∷ cs)) (node_is ps q.0 q.1) ∙ item_got _ s q.2
 op_is _ s k = absurd (cc)
@@ -77,11 +77,11 @@ item_is f s k = let p = made_some (node_of f) item_node s k in node_is f p.0 p.1
 
 item_at_word : (w : List ℕ) (parts : List Form) → item_shape (headed w parts) ≡ item_headed w parts
 unfolding item_shape
-item_at_word w parts = ap (λ o. made o item_node) (node_of_node (Word w ∷ parts)) ∙ ap (λ o. made o (λ v. item_headed v parts)) (word_of_word w)
+item_at_word w parts = ap (λ o. and_then o item_node) (node_of_node (Word w ∷ parts)) ∙ ap (λ o. and_then o (λ v. item_headed v parts)) (word_of_word w)
 
 fun_shaped : (b : Bool) (x : List ℕ) (ps : List Form) (t e : Form) → as_fun b (Word x ∷ Node ps ∷ t ∷ e ∷ []) ≡ Some (FunItem b x ps t e)
 fun_shaped b x ps t e =
-    ap (λ o. made o (λ x. made (node_of (Node ps)) (λ ps. Some (FunItem b x ps t e)))) (word_of_word x) ∙ ap (λ o. made o (λ ps. Some (FunItem b x ps t e))) (node_of_node ps)
+    ap (λ o. and_then o (λ x. and_then (node_of (Node ps)) (λ ps. Some (FunItem b x ps t e)))) (word_of_word x) ∙ ap (λ o. and_then o (λ ps. Some (FunItem b x ps t e))) (node_of_node ps)
 
 pub item_shaped : (s : ItemShape) → item_shape (item_form_of s) ≡ Some s
 item_shaped (StateItem t) = item_at_word (codes "state") (t ∷ [])
@@ -91,7 +91,7 @@ item_shaped (FunItem true x ps t e) = item_at_word (codes "postfun") (Word x ∷
 item_shaped (FunItem false x ps t e) = item_at_word (codes "fun") (Word x ∷ Node ps ∷ t ∷ e ∷ []) ∙ fun_shaped false x ps t e
 item_shaped (OpItem x ps t cs) =
     item_at_word (codes "op") (Word x ∷ Node ps ∷ t ∷ cs)
-    ∙ ap (λ o. made o (λ x. made (node_of (Node ps)) (λ ps. Some (OpItem x ps t cs)))) (word_of_word x) ∙ ap (λ o. made o (λ ps. Some (OpItem x ps t cs))) (node_of_node ps)
+    ∙ ap (λ o. and_then o (λ x. and_then (node_of (Node ps)) (λ ps. Some (OpItem x ps t cs)))) (word_of_word x) ∙ ap (λ o. and_then o (λ ps. Some (OpItem x ps t cs))) (node_of_node ps)
 
 -- ---- callbacks
 
@@ -124,7 +124,7 @@ callback_is f s k = let p = made_some (node_of f) callback_node s k in node_is f
 
 callback_at_word : (w : List ℕ) (e : Form) → callback_shape (headed w (e ∷ [])) ≡ callback_headed w e
 unfolding callback_shape
-callback_at_word w e = ap (λ o. made o callback_node) (node_of_node (Word w ∷ e ∷ [])) ∙ ap (λ o. made o (λ v. callback_headed v e)) (word_of_word w)
+callback_at_word w e = ap (λ o. and_then o callback_node) (node_of_node (Word w ∷ e ∷ [])) ∙ ap (λ o. and_then o (λ v. callback_headed v e)) (word_of_word w)
 
 pub callback_shaped : (s : CallbackShape) → callback_shape (callback_form_of s) ≡ Some s
 callback_shaped (Pre e) = callback_at_word (codes "pre") e
@@ -167,5 +167,5 @@ model_is f pair k = let p = made_some (node_of f) model_node pair k in node_is f
 pub model_shaped : (x : List ℕ) (items : List Form) → model_shape (headed (codes "model") (Word x ∷ items)) ≡ Some (x, items)
 unfolding model_shape
 model_shaped x items =
-    ap (λ o. made o model_node) (node_of_node (Word (codes "model") ∷ Word x ∷ items)) ∙ ap (λ o. made o (λ v. as_model v (Word x ∷ items))) (word_of_word (codes "model"))
-    ∙ ap (λ o. made o (λ x. Some (x, items))) (word_of_word x)
+    ap (λ o. and_then o model_node) (node_of_node (Word (codes "model") ∷ Word x ∷ items)) ∙ ap (λ o. and_then o (λ v. as_model v (Word x ∷ items))) (word_of_word (codes "model"))
+    ∙ ap (λ o. and_then o (λ x. Some (x, items))) (word_of_word x)

@@ -12,7 +12,8 @@ use Rattle.pst_syntax.specs.Counting.{trees_in}
 use Rattle.pst_model.specs.Names.{is_name}
 use Rattle.pst_syntax.specs.ItemShape.{model_shape}
 use Rattle.pst_syntax.specs.Reading.{known, within, declared}
-use Rattle.pst_syntax.specs.Items.{item_of, at_item, go_on, items_from, is_complete, complete, max_trees, head_parts, head_of_model, model_of, IsModel}
+use Rattle.pst_syntax.specs.Items.{item_of, at_item, go_on, items_from, is_complete, complete, head_parts, head_of_model, model_of, IsModel}
+use Rattle.pst_syntax.specs.Limits.{max_trees}
 use Rattle.pst_syntax.proofs.Complete.{go_ok, at_ok}
 use Rattle.pst_print.specs.Printed.{item_form, source_form}
 use Rattle.pst_print.specs.Words.{headed}

@@ -14,8 +14,10 @@ use Rattle.pst_syntax.specs.declared.heads.Head.{Head}
 use Rattle.pst_syntax.specs.declared.heads.Head.TheVariants as head
 use Rattle.pst_syntax.specs.Heads.{head_of, look_up, rows}
 use Rattle.pst_syntax.specs.Names.{is_used, is_used_operation}
-use Rattle.pst_syntax.specs.Integers.{is_integer, is_place}
-use Rattle.pst_syntax.specs.Shape.{Shape, Integer, Truth, Quoted, Used, Let, If, And, Or, Unary, Binary, Tuple, At, ListOf, For, Fold, Call, Apply, shape_of, shape_at, word_of, word_at, node_of, node_at, made, where_true, some_of, word_shape, node_shape, applied, headed}
+use Rattle.pst_words.specs.Integers.{is_integer}
+use Rattle.pst_syntax.specs.Places.{is_place}
+use Rattle.pst_syntax.specs.Shape.{Shape, Integer, Truth, Quoted, Used, Let, If, And, Or, Unary, Binary, Tuple, At, ListOf, For, Fold, Call, Apply, shape_of, shape_at, some_of, word_shape, node_shape, applied, headed}
+use Rattle.pst_sexpr.specs.Parts.{word_of, word_at, node_of, node_at, and_then, where_true}
 use Rattle.pst_print.specs.Words.{unary_word, binary_word, truth_word}
 use Rattle.pst_print.specs.Words as print
 use Rattle.pst_print.proofs.Alike.{node_of_node, word_of_word}
@@ -117,7 +119,7 @@ node_is_at (Form-F.Node v) f w r e = let q : v ≡ w = cc in sym r ∙ rolls-Nod
 pub node_is : (f : Form) (w : List Form) → node_of f ≡ Some w → f ≡ Node w
 node_is f w e = node_is_at (out-Form f) f w (roll-out-Form f) e
 
-pub made_some : {A B : Type 0} (o : Option A) (f : A → Option B) (s : B) → made o f ≡ Some s → (a : A) × (o ≡ Some a) × (f a ≡ Some s)
+pub made_some : {A B : Type 0} (o : Option A) (f : A → Option B) (s : B) → and_then o f ≡ Some s → (a : A) × (o ≡ Some a) × (f a ≡ Some s)
 made_some None f s e = absurd (cc)
 made_some (Some a) f s e = (a, refl, e)
 
@@ -186,12 +188,12 @@ headed_is head.At (e ∷ i ∷ []) s k =
     is_same _ _ _ q.1 (record { form = ap (λ y. print.headed (codes "at") (e ∷ y ∷ [])) (word_is i p.0 p.1); lawful = q.0 })
 headed_is head.List (t ∷ es) s k = is_same _ (ListOf t es) s k (record { form = refl; lawful = tt })
 headed_is head.For (cs ∷ b ∷ []) s k =
-    let p = made_some (node_of cs) (λ cs. made (some_of cs) (λ cs. Some (For cs b))) s k in
+    let p = made_some (node_of cs) (λ cs. and_then (some_of cs) (λ cs. Some (For cs b))) s k in
     let q = made_some (some_of p.0) (λ cs. Some (For cs b)) s p.2 in
     let i = some_same p.0 q.0 q.1 in
     is_same _ _ _ q.2 (record { form = ap (λ y. print.headed (codes "for") (y ∷ b ∷ [])) (node_is cs p.0 p.1 ∙ ap Node i); lawful = ap some_of (sym i) ∙ q.1 })
 headed_is head.Fold (x ∷ e ∷ acc ∷ i ∷ b ∷ []) s k =
-    let p = made_some (word_of x) (λ x. made (word_of acc) (λ acc. Some (Fold x e acc i b))) s k in
+    let p = made_some (word_of x) (λ x. and_then (word_of acc) (λ acc. Some (Fold x e acc i b))) s k in
     let q = made_some (word_of acc) (λ acc. Some (Fold p.0 e acc i b)) s p.2 in
     is_same _ _ _ q.2 (record {
       form = ap (λ y. print.headed (codes "fold") (y ∷ e ∷ acc ∷ i ∷ b ∷ [])) (word_is x p.0 p.1) ∙ ap (λ y. print.headed (codes "fold") (Word p.0 ∷ e ∷ y ∷ i ∷ b ∷ [])) (word_is acc q.0 q.1);
@@ -260,7 +262,7 @@ shape_node : (w : List ℕ) (parts : List Form) → shape_of (print.headed w par
 unfolding shape_of
 shape_node w parts =
     ap (λ f. shape_at (out-Form f)) (sym (rolls-Node (Word w ∷ parts))) ∙ ap shape_at (out-roll-Form (Form-F.Node (Word w ∷ parts)))
-    ∙ ap (λ o. made o (λ v. applied (head_of v) v parts)) (word_of_word w)
+    ∙ ap (λ o. and_then o (λ v. applied (head_of v) v parts)) (word_of_word w)
 
 at_head : (w : List ℕ) (h : Head) (parts : List Form) → head_of w ≡ Some h → shape_of (print.headed w parts) ≡ headed h parts
 at_head w h parts e = shape_node w parts ∙ ap (λ o. applied o w parts) e
@@ -280,19 +282,19 @@ shaped (Integer w) l = shape_word w ∙ integer_shape w l
 shaped (Truth b) l = shape_word (truth_word b) ∙ truth_shape b
 shaped (Quoted t) l = shape_text t
 shaped (Used x) l = shape_word x ∙ l
-shaped (Let x e b) l = at_head (codes "let") head.Let (Word x ∷ e ∷ b ∷ []) (head_spelled head.Let) ∙ ap (λ o. made o (λ x. Some (Let x e b))) (word_of_word x)
+shaped (Let x e b) l = at_head (codes "let") head.Let (Word x ∷ e ∷ b ∷ []) (head_spelled head.Let) ∙ ap (λ o. and_then o (λ x. Some (Let x e b))) (word_of_word x)
 shaped (If c a b) l = at_head (codes "if") head.If (c ∷ a ∷ b ∷ []) (head_spelled head.If)
 shaped (And a b) l = at_head (codes "and") head.And (a ∷ b ∷ []) (head_spelled head.And)
 shaped (Or a b) l = at_head (codes "or") head.Or (a ∷ b ∷ []) (head_spelled head.Or)
 shaped (Unary op a) l = at_head (unary_word op) (head.Unary op) (a ∷ []) (head_unary op)
 shaped (Binary op a b) l = at_head (binary_word op) (head.Binary op) (a ∷ b ∷ []) (head_binary op)
-shaped (Tuple es) l = at_head (codes "tuple") head.Tuple es (head_spelled head.Tuple) ∙ ap (λ o. made o (λ es. Some (Tuple es))) l
-shaped (At e i) l = at_head (codes "at") head.At (e ∷ Word i ∷ []) (head_spelled head.At) ∙ ap (λ o. made o (λ i. where_true (is_place i) (At e i))) (word_of_word i) ∙ ap (λ b. where_true b (At e i)) l
+shaped (Tuple es) l = at_head (codes "tuple") head.Tuple es (head_spelled head.Tuple) ∙ ap (λ o. and_then o (λ es. Some (Tuple es))) l
+shaped (At e i) l = at_head (codes "at") head.At (e ∷ Word i ∷ []) (head_spelled head.At) ∙ ap (λ o. and_then o (λ i. where_true (is_place i) (At e i))) (word_of_word i) ∙ ap (λ b. where_true b (At e i)) l
 shaped (ListOf t es) l = at_head (codes "list") head.List (t ∷ es) (head_spelled head.List)
-shaped (For cs b) l = at_head (codes "for") head.For (Node cs ∷ b ∷ []) (head_spelled head.For) ∙ ap (λ o. made o (λ cs. made (some_of cs) (λ cs. Some (For cs b)))) (node_of_node cs) ∙ ap (λ o. made o (λ cs. Some (For cs b))) l
+shaped (For cs b) l = at_head (codes "for") head.For (Node cs ∷ b ∷ []) (head_spelled head.For) ∙ ap (λ o. and_then o (λ cs. and_then (some_of cs) (λ cs. Some (For cs b)))) (node_of_node cs) ∙ ap (λ o. and_then o (λ cs. Some (For cs b))) l
 shaped (Fold x e acc i b) l =
     at_head (codes "fold") head.Fold (Word x ∷ e ∷ Word acc ∷ i ∷ b ∷ []) (head_spelled head.Fold)
-    ∙ ap (λ o. made o (λ x. made (word_of (Word acc)) (λ acc. Some (Fold x e acc i b)))) (word_of_word x)
-    ∙ ap (λ o. made o (λ acc. Some (Fold x e acc i b))) (word_of_word acc)
-shaped (Call op es) l = at_head (codes "call") head.Call (Word op ∷ es) (head_spelled head.Call) ∙ ap (λ o. made o (λ op. where_true (is_used_operation op) (Call op es))) (word_of_word op) ∙ ap (λ b. where_true b (Call op es)) l
+    ∙ ap (λ o. and_then o (λ x. and_then (word_of (Word acc)) (λ acc. Some (Fold x e acc i b)))) (word_of_word x)
+    ∙ ap (λ o. and_then o (λ acc. Some (Fold x e acc i b))) (word_of_word acc)
+shaped (Call op es) l = at_head (codes "call") head.Call (Word op ∷ es) (head_spelled head.Call) ∙ ap (λ o. and_then o (λ op. where_true (is_used_operation op) (Call op es))) (word_of_word op) ∙ ap (λ b. where_true b (Call op es)) l
 shaped (Apply f es) l = shape_node f es ∙ ap (λ o. applied o f es) l.0 ∙ ap (λ b. where_true b (Apply f es)) l.1

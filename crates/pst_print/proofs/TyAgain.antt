@@ -12,7 +12,8 @@ use Rattle.pst_syntax.specs.declared.heads.Head.{Head}
 use Rattle.pst_syntax.specs.declared.heads.Head.TheVariants as head
 use Rattle.pst_syntax.specs.Heads.{head_of}
 use Rattle.pst_syntax.specs.Names.{is_short}
-use Rattle.pst_syntax.specs.Shape.{TyShape, IntType, BoolType, TextType, CallType, TupleType, ListType, RefType, ty_shape, ty_at, ty_node, ty_headed, word_of, some_of}
+use Rattle.pst_syntax.specs.Shape.{TyShape, IntType, BoolType, TextType, CallType, TupleType, ListType, RefType, ty_shape, ty_at, ty_node, ty_headed, some_of}
+use Rattle.pst_sexpr.specs.Parts.{word_of}
 use Rattle.pst_syntax.specs.Reading.{Read, ◌>>=◌, known, within, once, lawful, each, declared, are_few, ty_of, ty_parts}
 use Rattle.pst_print.specs.Printed.{ty_form}
 use Rattle.pst_print.specs.Words.{headed}

@@ -1,4 +1,5 @@
--- The tree that is written for a model: integers in their shortest form, callbacks in the order pre, next, post.
+-- The tree that is written for a model: integers in their shortest form, callbacks in the order pre, next,
+-- post.
 use Rattle.std.specs.Prelude.{ℕ, Bool, true, false, List, [], ◌∷◌, map, codes, decimal}
 use Rattle.std.specs.Fmt.{signed_decimal}
 use Rattle.pst_model.specs.declared.expr.Clause.{Clause, Clause-F, fold-Clause}
@@ -87,7 +88,9 @@ abbrev pub single : List ℕ → Expr → Form
 single word e = headed word (expr_form e ∷ [])
 
 abbrev pub op_form : Op → Form
-op_form o = headed (codes "op") (signature o.name o.params o.result (single (codes "pre") o.pre ∷ single (codes "next") o.next ∷ single (codes "post") o.post ∷ []))
+op_form o =
+    headed (codes "op") (signature o.name o.params o.result (single (codes "pre") o.pre
+    ∷ single (codes "next") o.next ∷ single (codes "post") o.post ∷ []))
 
 abbrev pub item_form : Item → Form
 item_form (item.State t) = headed (codes "state") (ty_form t ∷ [])

@@ -1,8 +1,7 @@
--- Each run that is read may be judged: its case has the shape of the model, and its history matches the case.
-use Rattle.std.proofs.Common.{◌≡◌, ℕ, ◌+◌, ◌&&◌, ◌==◌, Bool, true, false, if◌then◌else◌, List, [], ◌∷◌, ◌++◌, length, Option, Some, None, Result, Ok, Err, refl, sym, ap, ◌∙◌, subst, append_assoc, eqb-true, arith}
-use Rattle.std.proofs.lemmas.List.{append-nil}
+-- Each run that is read may be judged: its case is one of the model, and its history matches the case.
+use Rattle.std.proofs.Common.{◌≡◌, ℕ, ◌+◌, ◌&&◌, ◌==◌, Bool, true, false, if◌then◌else◌, List, [], ◌∷◌, length, Option, Some, None, Result, Ok, Err, refl, ap, subst, eqb-true, arith}
 use Rattle.pst_case.specs.Matches.{reply_fits, part_matches, branches_match, matches}
-use Rattle.pst_case.specs.Shape.{IsShaped, shape_fault, result_type}
+use Rattle.pst_case.specs.Shape.{result_type, before_suffix}
 use Rattle.pst_case.specs.declared.case.Case.{Case}
 use Rattle.pst_case.specs.declared.case.Command.{Command}
 use Rattle.pst_case.specs.declared.fault.CaseFault.{CaseFault}
@@ -10,10 +9,13 @@ use Rattle.pst_case.specs.declared.history.History.{History}
 use Rattle.pst_case.specs.declared.history.Reply.{Reply}
 use Rattle.pst_case.specs.declared.history.Reply.TheVariants as reply
 use Rattle.pst_case.specs.declared.history.Run.{Run}
-use Rattle.pst_eval.specs.Callbacks.{fits_in}
+use Rattle.pst_rules.specs.Fitting.{fits_in}
 use Rattle.pst_model.specs.declared.model.Source.{Source}
-use Rattle.pst_runs.specs.Items.{◌>>=◌, listed, answered, reply_word, or_value, reply_of, and_reply, replies_from, branches_from, history_of, branches_count, are_counted, of_history, run_of, Parts, unless_fault, of_parts, parts_of, item_of, numbered, runs_from, runs_of}
+use Rattle.pst_runs.specs.Forms.{Parts, parts_of}
+use Rattle.pst_runs.specs.Items.{run as run_with, with_history, run_of, unless_fault, of_parts, item_of, numbered, runs_from, runs_of}
 use Rattle.pst_runs.specs.Lawful.{IsLawful, AreLawful}
+use Rattle.pst_runs.specs.Reading.{readable_case, case_fault}
+use Rattle.pst_runs.specs.Replies.{◌>>=◌, then_more, or_number, listed, listed_at, answered, reply_word, or_value, reply_of, part_replies, branch_replies, history_of, branches_count, are_counted}
 use Rattle.pst_runs.specs.Values.{made, word_of, value_of}
 use Rattle.pst_runs.specs.declared.fault.ItemFault.{ItemFault}
 use Rattle.pst_runs.specs.declared.fault.RunFaultKind.TheVariants.{NotAFit}
@@ -29,28 +31,29 @@ both true y h = (refl, h)
 both false y h = absurd (cc)
 
 joined_true : (x y : Bool) → x ≡ true → y ≡ true → (x && y) ≡ true
-joined_true true y h k = k
+joined_true true true h k = refl
+joined_true true false h k = absurd (cc)
 joined_true false y h k = absurd (cc)
 
 bound : {A B E : Type 0} (r : Result A E) (f : A → Result B E) (b : B) → (r >>= f) ≡ Ok b → (a : A) × (r ≡ Ok a) × (f a ≡ Ok b)
 bound (Ok a) f b h = (a, refl, h)
 bound (Err e) f b h = absurd (cc)
 
-replied : (number : ℕ) (o : Option Reply) (next : Reply → Result (List Reply) ℕ) (out : List Reply) → and_reply number o next ≡ Ok out → (said : Reply) × (o ≡ Some said) × (next said ≡ Ok out)
-replied number None next out h = absurd (cc)
-replied number (Some said) next out h = (said, refl, h)
+first_and_more : {A E : Type 0} (one : A) (r : Result (List A) E) (out : List A) → then_more one r ≡ Ok out → (more : List A) × (r ≡ Ok more) × ((one ∷ more) ≡ out)
+first_and_more one (Ok more) out h = (more, refl, cc)
+first_and_more one (Err e) out h = absurd (cc)
 
-unfaulted : (f : Option CaseFault) (r : Result Run ItemFault) (run : Run) → unless_fault f r ≡ Ok run → (f ≡ None) × (r ≡ Ok run)
-unfaulted None r run h = (refl, h)
+there : {A : Type 0} (number : ℕ) (o : Option A) (a : A) → or_number number o ≡ Ok a → o ≡ Some a
+there number (Some b) a h = let e : b ≡ a = cc in ap (λ x. Some x) e
+there number None a h = absurd (cc)
+
+unfaulted : (f : Option CaseFault) (r : Result Run ItemFault) (run : Run) → unless_fault f r ≡ Ok run → r ≡ Ok run
+unfaulted None r run h = h
 unfaulted (Some fault) r run h = absurd (cc)
 
 unnumbered : (number : ℕ) (r : Result Run ItemFault) (run : Run) → numbered number r ≡ Ok run → r ≡ Ok run
 unnumbered number (Ok other) run h = let e : other ≡ run = cc in ap (λ x. Ok x) e
 unnumbered number (Err fault) run h = absurd (cc)
-
--- one element more, behind others
-behind : {A : Type 0} (built : List A) (one : A) (more out : List A) → out ≡ (built ++ one ∷ []) ++ more → out ≡ built ++ (one ∷ more)
-behind built one more out e = e ∙ append_assoc built (one ∷ []) more
 
 module _ (m : Source) where
   -- ---- replies
@@ -85,95 +88,97 @@ module _ (m : Source) where
   reply_of_fits c form said h = either_fits c (reply_word (word_of form)) (value_of false form) said (word_fits c (word_of form)) h
 
   -- the replies that are read match their commands
-  part_read : (cs : List Command) (forms : List Form) (number : ℕ) (built out : List Reply) → length forms ≡ length cs
-      → replies_from m number built cs forms ≡ Ok out → (more : List Reply) × (out ≡ built ++ more) × (part_matches m cs more ≡ true)
-  part_read [] forms number built out l h = let e : built ≡ out = cc in ([], sym e ∙ sym (append-nil built), refl)
-  part_read (c ∷ cs) [] number built out l h = absurd (omega arith)
-  part_read (c ∷ cs) (form ∷ forms) number built out l h =
-      let first = replied number (reply_of m c form) (λ said. replies_from m (number + 1) (built ++ said ∷ []) cs forms) out h in
-      let rest = part_read cs forms (number + 1) (built ++ first.0 ∷ []) out (omega arith) first.2 in (
-        first.0 ∷ rest.0,
-        behind built first.0 rest.0 out rest.1,
-        joined_true (reply_fits m c first.0) (part_matches m cs rest.0) (reply_of_fits c form first.0 first.1) rest.2,
-      )
+  part_read : (cs : List Command) (forms : List Form) (number : ℕ) (out : List Reply) → length forms ≡ length cs
+      → part_replies m number cs forms ≡ Ok out → part_matches m cs out ≡ true
+  part_read [] forms number out l h =
+      let e : [] ≡ out = cc in let P : List Reply → Type 0 = λ rs. part_matches m [] rs ≡ true in subst P e refl
+  part_read (c ∷ cs) [] number out l h = absurd (omega arith)
+  part_read (c ∷ cs) (form ∷ forms) number out l h =
+      let more = part_replies m (number + 1) cs forms in
+      let first = bound (or_number number (reply_of m c form)) (λ r. then_more r more) out h in
+      let rest = first_and_more first.0 more out first.2 in
+      let fits = reply_of_fits c form first.0 (there number (reply_of m c form) first.0 first.1) in
+      let P : List Reply → Type 0 = λ rs. part_matches m (c ∷ cs) rs ≡ true in
+      subst P rest.2 (joined_true (reply_fits m c first.0) (part_matches m cs rest.0) fits
+      (part_read cs forms (number + 1) rest.0 (omega arith) rest.1))
 
-  whole_part : (cs : List Command) (list : Form) (number : ℕ) (out : List Reply) → (length (listed list) == length cs) ≡ true
-      → replies_from m number [] cs (listed list) ≡ Ok out → part_matches m cs out ≡ true
-  whole_part cs list number out l h =
-      let r = part_read cs (listed list) number [] out (eqb-true _ _ l) h in
-      let P : List Reply → Type 0 = λ rs. part_matches m cs rs ≡ true in subst P (sym r.1) r.2
+  whole_part : (cs : List Command) (forms : List Form) (number : ℕ) (out : List Reply) → (length forms == length cs) ≡ true
+      → part_replies m number cs forms ≡ Ok out → part_matches m cs out ≡ true
+  whole_part cs forms number out l h = part_read cs forms number out (eqb-true _ _ l) h
 
-  branches_read : (bs : List (List Command)) (lists : List Form) (before : ℕ) (built out : List (List Reply)) → branches_count bs lists ≡ true
-      → branches_from m before built bs lists ≡ Ok out → (more : List (List Reply)) × (out ≡ built ++ more) × (branches_match m bs more ≡ true)
-  branches_read [] lists before built out k h = let e : built ≡ out = cc in ([], sym e ∙ sym (append-nil built), refl)
-  branches_read (b ∷ bs) [] before built out k h = absurd (cc)
-  branches_read (b ∷ bs) (list ∷ lists) before built out k h =
+  branches_read : (bs : List (List Command)) (lists : List Form) (before : ℕ) (out : List (List Reply)) → branches_count bs lists ≡ true
+      → branch_replies m before bs lists ≡ Ok out → branches_match m bs out ≡ true
+  branches_read [] lists before out k h =
+      let e : [] ≡ out = cc in let P : List (List Reply) → Type 0 = λ rs. branches_match m [] rs ≡ true in subst P e refl
+  branches_read (b ∷ bs) [] before out k h = absurd (cc)
+  branches_read (b ∷ bs) (list ∷ lists) before out k h =
       let counts = both (length (listed list) == length b) (branches_count bs lists) k in
-      let first = bound (replies_from m (before + 1) [] b (listed list)) (λ said. branches_from m (before + length b) (built ++ said ∷ []) bs lists) out h in
-      let rest = branches_read bs lists (before + length b) (built ++ first.0 ∷ []) out counts.1 first.2 in (
-        first.0 ∷ rest.0,
-        behind built first.0 rest.0 out rest.1,
-        joined_true (part_matches m b first.0) (branches_match m bs rest.0) (whole_part b list (before + 1) first.0 counts.0 first.1) rest.2,
-      )
-
-  whole_branches : (bs : List (List Command)) (lists : List Form) (before : ℕ) (out : List (List Reply)) → branches_count bs lists ≡ true
-      → branches_from m before [] bs lists ≡ Ok out → branches_match m bs out ≡ true
-  whole_branches bs lists before out k h =
-      let r = branches_read bs lists before [] out k h in
-      let P : List (List Reply) → Type 0 = λ rs. branches_match m bs rs ≡ true in subst P (sym r.1) r.2
+      let more = branch_replies m (before + length b) bs lists in
+      let first = bound (part_replies m (before + 1) b (listed list)) (λ rs. then_more rs more) out h in
+      let rest = first_and_more first.0 more out first.2 in
+      let P : List (List Reply) → Type 0 = λ rs. branches_match m (b ∷ bs) rs ≡ true in
+      subst P rest.2 (joined_true (part_matches m b first.0) (branches_match m bs rest.0)
+      (whole_part b (listed list) (before + 1) first.0 counts.0 first.1)
+      (branches_read bs lists (before + length b) rest.0 counts.1 rest.1))
 
   -- the history that is read matches the case
   history_matches : (c : Case) (lists : List Form) (h : History) → are_counted c lists ≡ true → history_of m c lists ≡ Ok h → matches m c h ≡ true
   unfolding matches
   history_matches c [] h k e = absurd (cc)
   history_matches c (list ∷ lists) h k e =
-      let counts = both (length (listed list) == length c.prefix) (branches_count c.branches lists) k in
-      let made_of : List Reply → List (List Reply) → History = λ p bs. record { prefix = p; branches = bs } in
-      let first = bound (replies_from m 1 [] c.prefix (listed list)) (λ p. branches_from m (length c.prefix) [] c.branches lists >>= (λ bs. Ok (made_of p bs))) h e in
-      let rest = bound (branches_from m (length c.prefix) [] c.branches lists) (λ bs. Ok (made_of first.0 bs)) h first.2 in
-      let same : made_of first.0 rest.0 ≡ h = let f = rest.2 in cc in
-      let P : History → Type 0 = λ h. (part_matches m c.prefix h.prefix && branches_match m c.branches h.branches) ≡ true in
-      subst P same (joined_true (part_matches m c.prefix first.0) (branches_match m c.branches rest.0)
-      (whole_part c.prefix list 1 first.0 counts.0 first.1) (whole_branches c.branches lists (length c.prefix) rest.0 counts.1 rest.1))
+      let history : List Reply → List (List Reply) → List Reply → History = λ p bs s. record { prefix = p; branches = bs; suffix = s } in
+      let last = listed_at lists (length c.branches) in
+      let counts = both ((length (listed list) == length c.prefix) && branches_count c.branches lists) (length last == length c.suffix) k in
+      let others = both (length (listed list) == length c.prefix) (branches_count c.branches lists) counts.0 in
+      let suffix = part_replies m (before_suffix c + 1) c.suffix last in
+      let branches = branch_replies m (length c.prefix) c.branches lists in
+      let p = bound (part_replies m 1 c.prefix (listed list)) (λ p. branches >>= (λ bs. suffix >>= (λ s. Ok (history p bs s)))) h e in
+      let bs = bound branches (λ bs. suffix >>= (λ s. Ok (history p.0 bs s))) h p.2 in
+      let s = bound suffix (λ s. Ok (history p.0 bs.0 s)) h bs.2 in
+      let same : history p.0 bs.0 s.0 ≡ h = let f = s.2 in cc in
+      let P : History → Type 0 =
+      λ h. (part_matches m c.prefix h.prefix && branches_match m c.branches h.branches && part_matches m c.suffix h.suffix) ≡ true in
+      let first = whole_part c.prefix (listed list) 1 p.0 others.0 p.1 in
+      let middle = branches_read c.branches lists (length c.prefix) bs.0 others.1 bs.1 in
+      let end = whole_part c.suffix last (before_suffix c + 1) s.0 counts.1 s.1 in
+      subst P same (joined_true (part_matches m c.prefix p.0 && branches_match m c.branches bs.0) (part_matches m c.suffix s.0)
+      (joined_true (part_matches m c.prefix p.0) (branches_match m c.branches bs.0) first middle) end)
 
   -- ---- items
 
-  counted_run : (c : Case) (run : Run) (counted : Bool) (r : Result History ℕ) → IsShaped m c → (counted ≡ true → (h : History) → r ≡ Ok h → matches m c h ≡ true)
-      → (if counted then of_history c r else Err (record { kind = NotAFit; command = 0 })) ≡ Ok run → IsLawful m run
-  counted_run c run true (Ok h) s p e =
-      let made_of : Run = record { shaped = c; history = Some h } in
-      let same : made_of ≡ run = cc in subst (IsLawful m) same (record { shaped = s; matching = p refl h refl })
-  counted_run c run true (Err number) s p e = absurd (cc)
-  counted_run c run false r s p e = absurd (cc)
+  counted_run : (c : Case) (run : Run) (counted : Bool) (r : Result History ℕ) → (counted ≡ true → (h : History) → r ≡ Ok h → matches m c h ≡ true)
+      → (if counted then with_history m c r else Err (record { kind = NotAFit; command = 0 })) ≡ Ok run → IsLawful m run
+  counted_run c run true (Ok h) p e =
+      let same : run_with m c (Some h) ≡ run = cc in subst (IsLawful m) same (record { model = refl; matching = p refl h refl })
+  counted_run c run true (Err number) p e = absurd (cc)
+  counted_run c run false r p e = absurd (cc)
 
-  run_lawful : (c : Case) (replies : Option (List Form)) (run : Run) → IsShaped m c → run_of m c replies ≡ Ok run → IsLawful m run
-  run_lawful c None run s e =
-      let made_of : Run = record { shaped = c; history = None } in
-      let same : made_of ≡ run = cc in subst (IsLawful m) same (record { shaped = s; matching = tt })
-  run_lawful c (Some lists) run s e = counted_run c run (are_counted c lists) (history_of m c lists) s (λ k h. history_matches c lists h k) e
+  run_lawful : (c : Case) (replies : Option (List Form)) (run : Run) → run_of m c replies ≡ Ok run → IsLawful m run
+  run_lawful c None run e =
+      let same : run_with m c None ≡ run = cc in subst (IsLawful m) same (record { model = refl; matching = tt })
+  run_lawful c (Some lists) run e =
+      counted_run c run (are_counted c lists) (history_of m c lists) (λ k h. history_matches c lists h k) e
 
   parts_lawful : (parts : Option Parts) (run : Run) → of_parts m parts ≡ Ok run → IsLawful m run
   parts_lawful None run e = absurd (cc)
   parts_lawful (Some parts) run e =
-      let r = unfaulted (shape_fault m parts.read) (run_of m parts.read parts.replies) run e in
-      run_lawful parts.read parts.replies run r.0 r.1
+      let case = readable_case parts.read in
+      let whole = run_of m case parts.replies in
+      run_lawful case parts.replies run (unfaulted (case_fault m parts.read) whole run e)
 
   item_lawful : (form : Form) (run : Run) → item_of m form ≡ Ok run → IsLawful m run
   unfolding item_of
   item_lawful form run e = parts_lawful (parts_of m form) run e
 
-  one_more : (built : List Run) (run : Run) → AreLawful m built → IsLawful m run → AreLawful m (built ++ run ∷ [])
-  one_more [] run h k = (k, tt)
-  one_more (first ∷ built) run h k = (h.0, one_more built run h.1 k)
-
-  all_lawful : (forms : List Form) (built runs : List Run) → AreLawful m built → runs_from m built forms ≡ Ok runs → AreLawful m runs
-  all_lawful [] built runs h e = let same : built ≡ runs = cc in subst (AreLawful m) same h
-  all_lawful (form ∷ forms) built runs h e =
-      let number = length built + 1 in
-      let first = bound (numbered number (item_of m form)) (λ run. runs_from m (built ++ run ∷ []) forms) runs e in
+  all_lawful : (forms : List Form) (number : ℕ) (runs : List Run) → runs_from m number forms ≡ Ok runs → AreLawful m runs
+  all_lawful [] number runs e = let same : [] ≡ runs = cc in subst (AreLawful m) same tt
+  all_lawful (form ∷ forms) number runs e =
+      let more = runs_from m (number + 1) forms in
+      let first = bound (numbered number (item_of m form)) (λ run. then_more run more) runs e in
+      let rest = first_and_more first.0 more runs first.2 in
       let lawful = item_lawful form first.0 (unnumbered number (item_of m form) first.0 first.1) in
-      all_lawful forms (built ++ first.0 ∷ []) runs (one_more built first.0 h lawful) first.2
+      subst (AreLawful m) rest.2 (lawful, all_lawful forms (number + 1) rest.0 rest.1)
 
   -- the runs that are read may be judged
   pub runs_lawful : (forms : List Form) (runs : List Run) → runs_of m forms ≡ Ok runs → AreLawful m runs
-  runs_lawful forms runs e = all_lawful forms [] runs tt e
+  runs_lawful forms runs e = all_lawful forms 1 runs e

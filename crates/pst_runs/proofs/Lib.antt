@@ -1,5 +1,9 @@
+pub mod Behind
 pub mod Growing
+pub mod Last
 pub mod Lawful
 pub mod Limits
+pub mod Named
+pub mod Present
 pub mod Rooms
 pub mod Small

@@ -1,20 +1,17 @@
 -- The words that are printed for the faults of runs.
 use Rattle.std.specs.Prelude.{ℕ, List, ◌++◌, codes, decimal}
+use Rattle.pst_case.specs.FaultName as of_case
 use Rattle.pst_runs.specs.declared.fault.RunFault.{RunFault}
 use Rattle.pst_runs.specs.declared.fault.RunFaultKind.{RunFaultKind}
-use Rattle.pst_runs.specs.declared.fault.RunFaultKind.TheVariants.{UnknownOp, BadArgument, ForwardVar, CrossVar, OverLimit, NoMemory, BadReply, NotAFit, BadForm}
+use Rattle.pst_runs.specs.declared.fault.RunFaultKind.TheVariants.{Case, BadReply, NotAFit, BadForm}
 
 abbrev pub fault_name : RunFaultKind → List ℕ
-fault_name UnknownOp = codes "UnknownOp"
-fault_name BadArgument = codes "BadArgument"
-fault_name ForwardVar = codes "ForwardVar"
-fault_name CrossVar = codes "CrossVar"
-fault_name OverLimit = codes "OverLimit"
-fault_name NoMemory = codes "NoMemory"
+fault_name (Case kind) = of_case.fault_name kind
 fault_name BadReply = codes "BadReply"
 fault_name NotAFit = codes "NotAFit"
 fault_name BadForm = codes "BadForm"
 
 -- how a fault is printed, as `1 command 3 CrossVar`
 abbrev pub text_of : RunFault → List ℕ
-text_of fault = decimal fault.run ++ codes " command " ++ decimal fault.command ++ codes " " ++ fault_name fault.kind
+text_of fault =
+    decimal fault.run ++ codes " command " ++ decimal fault.command ++ codes " " ++ fault_name fault.kind

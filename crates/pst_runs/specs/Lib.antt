@@ -1,6 +1,13 @@
-pub mod FaultName
-pub mod Integers
+-- what the public contracts cite
 pub mod Items
 pub mod Lawful
-pub mod Shown
+pub mod FaultName
+-- what these are made of
+pub mod Forms
+pub mod Commands
+pub mod Reading
+pub mod Replies
 pub mod Values
+pub mod Integers
+-- what the contracts within the crate cite
+pub mod Shown

@@ -8,7 +8,7 @@ use Rattle.pst_sexpr.specs.declared.form.Form.TheOpen.{Form-F}
 use Rattle.pst_value.specs.declared.value.Value.{Value}
 use Rattle.pst_value.specs.declared.value.Value as value
 
--- where something stands there, what is made of it
+-- what is made of it, where it is there
 abbrev pub made : {A B : Type 0} → Option A → (A → Option B) → Option B
 made None f = None
 made (Some a) f = f a
@@ -43,7 +43,8 @@ number_in digits = if nat_le (length digits) 4 && are_digits digits then Some (m
 -- the variable that `$` and its number spell, where variables may stand
 abbrev pub variable_of : Bool → List ℕ → Option Value
 variable_of symbolic [] = None
-variable_of symbolic (byte ∷ digits) = if symbolic && (byte == 36) then made (number_in digits) (λ number. Some (value.Var number)) else None
+variable_of symbolic (byte ∷ digits) =
+    if symbolic && (byte == 36) then made (number_in digits) (λ number. Some (value.Var number)) else None
 
 abbrev pub integer_or : Option ℤ → Option Value → Option Value
 integer_or (Some number) other = Some (value.Int number)
@@ -56,8 +57,9 @@ word_value symbolic word =
     else if bytes_eq word (codes "false") then Some (value.Bool false)
     else integer_or (integer_of word) (variable_of symbolic word)
 
-abbrev pub headed : (Form → Option Value) → List ℕ → List Form → Option Value
-headed v head parts =
+-- what a node is that is headed by the word
+abbrev pub tuple_or_list : (Form → Option Value) → List ℕ → List Form → Option Value
+tuple_or_list v head parts =
     if bytes_eq head (codes "tuple") then made (each v parts) (λ vs. Some (value.Tuple vs))
     else if bytes_eq head (codes "list") then made (each v parts) (λ vs. Some (value.List vs))
     else None
@@ -65,7 +67,7 @@ headed v head parts =
 -- a tuple or a list
 abbrev pub node_value : (Form → Option Value) → List Form → Option Value
 node_value v [] = None
-node_value v (first ∷ parts) = made (word_of first) (λ head. headed v head parts)
+node_value v (first ∷ parts) = made (word_of first) (λ head. tuple_or_list v head parts)
 
 abbrev pub value_at : Bool → (Form → Option Value) → Form-F Form → Option Value
 value_at symbolic v (Form-F.Word word) = word_value symbolic word

@@ -1,49 +1,69 @@
 //! The commands that trees spell.
 ghost use Rattle.std.specs.Prelude.{◌≡◌, ◌++◌, IfOk, map, option_copied};
 ghost use Rattle.pst_model.specs.Parts.{number_of};
-ghost use Rattle.pst_runs.specs.Items as spec;
+ghost use Rattle.pst_runs.specs.Commands as spec;
 
 use crate::values::{node_of, value_of, word_of};
 use pst_case::Command;
-use pst_items::{Boxed, Items, Text};
-use pst_model::{Item, Source, number_of};
+use pst_items::{Items, Text};
+use pst_model::number_of;
+use pst_rules::Typed;
 use pst_sexpr::Form;
 use pst_value::Value;
 use std::alloc::{AllocError, Global};
 
-/// The number of no operation.
-const NO_OPERATION: u32 = u32::MAX;
-
-fn op_of(items: &[Item], name: &Text) -> u32
-    ensures { result ≡ spec.op_in (number_of items.now name.now) }
-{
-    match number_of(items, name.as_bytes()) {
-        Some(number) => number.min(NO_OPERATION as usize) as u32,
-        None => NO_OPERATION,
-    }
+/// A command as a tree spells it.
+#[derive(Drop)]
+pub enum Spelled {
+    /// Each argument spells a value.
+    Whole(Command),
+    /// An argument spells no value. The others are kept.
+    Partial(Command),
+    /// No operation has the name.
+    Unknown,
 }
 
-fn argument_of(alloc: Global, form: &Form) -> Result<Value, AllocError>
-    ensures { IfOk result (λ value. value ≡ spec.argument_of form.now) }
-{
-    match value_of(alloc, form, true)? {
-        Some(value) => Ok(value),
-        None => Ok(Value::Ref(0, Boxed::new(alloc, Value::Bool(false))?)),
-    }
+/// A case as trees spell it.
+#[derive(Drop)]
+pub struct SpelledCase {
+    pub prefix: Items<Spelled>,
+    pub branches: Items<Items<Spelled>>,
+    pub suffix: Items<Spelled>,
 }
 
-fn arguments_of(alloc: Global, forms: &[Form]) -> Result<Items<Value>, AllocError>
-    ensures { IfOk result (λ values. values ≡ map spec.argument_of forms.now) }
+/// The values that arguments spell, and whether each argument spells one.
+#[derive(Drop)]
+struct Arguments {
+    values: Items<Value>,
+    are_all: bool,
+}
+
+/// The number of the operation of a name.
+#[tactic(auto, using(crate::proofs::Named::named))]
+fn op_of(typed: &Typed, name: &Text) -> Option<u32>
+    ensures { result ≡ number_of typed.now.items name.now }
 {
-    let mut arguments = Items::new(alloc);
+    let number = number_of(typed.source().items.as_slice(), name.as_bytes())?;
+    Some(number as u32)
+}
+
+fn arguments_of(alloc: Global, forms: &[Form]) -> Result<Arguments, AllocError>
+    ensures values { IfOk result (λ args. args.values ≡ spec.present (spec.arguments_of forms.now)) }
+    ensures all { IfOk result (λ args. args.are_all ≡ spec.are_present (spec.arguments_of forms.now)) }
+{
+    let mut values = Items::new(alloc);
+    let mut are_all = true;
     for form in forms {
-        arguments.push(argument_of(alloc, form)?)?;
+        match value_of(alloc, form, true)? {
+            Some(value) => values.push(value)?,
+            None => are_all = false,
+        }
     }
-    Ok(arguments)
+    Ok(Arguments { values, are_all })
 }
 
-fn command_of(alloc: Global, model: &Source, form: &Form) -> Result<Option<Command>, AllocError>
-    ensures { IfOk result (λ command. command ≡ spec.command_of model.now form.now) }
+fn command_of(alloc: Global, typed: &Typed, form: &Form) -> Result<Option<Spelled>, AllocError>
+    ensures { IfOk result (λ command. command ≡ spec.command_of typed.now form.now) }
 {
     let Some(parts) = node_of(form) else {
         return Ok(None);
@@ -54,22 +74,29 @@ fn command_of(alloc: Global, model: &Source, form: &Form) -> Result<Option<Comma
     let Some(name) = word_of(first) else {
         return Ok(None);
     };
-    let args = arguments_of(alloc, arguments)?;
-    let op = op_of(model.items.as_slice(), name);
-    Ok(Some(Command { op, args }))
+    let Arguments { values, are_all } = arguments_of(alloc, arguments)?;
+    let Some(op) = op_of(typed, name) else {
+        return Ok(Some(Spelled::Unknown));
+    };
+    let command = Command { op, args: values };
+    if are_all {
+        Ok(Some(Spelled::Whole(command)))
+    } else {
+        Ok(Some(Spelled::Partial(command)))
+    }
 }
 
 /// The commands that trees spell, where each has the form of one.
 pub fn commands_of(
     alloc: Global,
-    model: &Source,
+    typed: &Typed,
     forms: &[Form],
-) -> Result<Option<Items<Command>>, AllocError>
-    ensures { IfOk result (λ commands. commands ≡ spec.commands_of model.now forms.now) }
+) -> Result<Option<Items<Spelled>>, AllocError>
+    ensures { IfOk result (λ commands. commands ≡ spec.commands_of typed.now forms.now) }
 {
     let mut commands = Items::new(alloc);
     for form in forms {
-        let Some(command) = command_of(alloc, model, form)? else {
+        let Some(command) = command_of(alloc, typed, form)? else {
             return Ok(None);
         };
         commands.push(command)?;

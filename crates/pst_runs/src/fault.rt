@@ -1,7 +1,6 @@
 //! Why a run is refused.
 ghost use Rattle.std.specs.Prelude.{◌≡◌};
 ghost use Rattle.pst_runs.specs.FaultName.{fault_name};
-ghost use Rattle.pst_runs.specs.Items.{kind_of};
 
 use pst_case::CaseFaultKind;
 use std::alloc::{AllocError, AllocFailed};
@@ -11,24 +10,15 @@ use std::fmt;
 /// The kinds of a run's faults.
 #[derive(Clone, Copy, Debug, PartialEq, Eq, Drop)]
 pub enum RunFaultKind {
-    /// No operation has the name.
-    UnknownOp = 1,
-    /// The count or a type of the arguments is wrong, or an argument spells no value.
-    BadArgument = 2,
-    /// An argument holds variable 0, or that of the command itself or of a later one.
-    ForwardVar = 3,
-    /// An argument holds the variable of a command of another branch.
-    CrossVar = 4,
-    /// Over 64 commands in the prefix, 8 in a branch, or 16 in all branches together.
-    OverLimit = 5,
-    /// Memory was refused.
-    NoMemory = 6,
+    /// A fault of the case. Besides those of `shape`, `UnknownOp` stands for a name that no operation has, and
+    /// `BadArgument` for an argument that spells no value. `NoMemory`: memory was refused.
+    Case(CaseFaultKind),
     /// A tree spells no reply.
-    BadReply = 7,
+    BadReply,
     /// A part has another number of replies than commands.
-    NotAFit = 8,
+    NotAFit,
     /// The tree is neither a case nor a run.
-    BadForm = 9,
+    BadForm,
 }
 
 impl RunFaultKind {
@@ -37,12 +27,7 @@ impl RunFaultKind {
         ensures { result.now ≡ fault_name self.now }
     {
         match self {
-            RunFaultKind::UnknownOp => "UnknownOp",
-            RunFaultKind::BadArgument => "BadArgument",
-            RunFaultKind::ForwardVar => "ForwardVar",
-            RunFaultKind::CrossVar => "CrossVar",
-            RunFaultKind::OverLimit => "OverLimit",
-            RunFaultKind::NoMemory => "NoMemory",
+            RunFaultKind::Case(kind) => kind.name(),
             RunFaultKind::BadReply => "BadReply",
             RunFaultKind::NotAFit => "NotAFit",
             RunFaultKind::BadForm => "BadForm",
@@ -50,14 +35,15 @@ impl RunFaultKind {
     }
 }
 
-/// What is wrong with a run, and at which command, from 1; 0 is the run itself.
+/// What is wrong with a run, and at which command, counted from 1; 0 stands for the run itself.
 #[derive(Clone, Copy, Debug, PartialEq, Eq, Drop)]
 pub struct ItemFault {
     pub kind: RunFaultKind,
     pub command: u32,
 }
 
-/// Which run is refused, from 1, and why, at which command, from 1; 0 is the run itself. Where memory was refused both are 0.
+/// Which run is refused, counted from 1, why, and at which command, counted from 1; 0 stands for the run itself.
+/// Where memory was refused both numbers are 0. It is printed as `1 command 3 CrossVar`.
 #[derive(Clone, Copy, Debug, PartialEq, Eq, Drop)]
 pub struct RunFault {
     pub run: usize,
@@ -81,46 +67,32 @@ impl fmt::Display for RunFault {
 
 impl Error for RunFault {}
 
-/// The kind of a case's fault, as that of a run.
-pub fn kind_of(kind: CaseFaultKind) -> RunFaultKind
-    ensures { result ≡ kind_of kind }
-{
-    match kind {
-        CaseFaultKind::UnknownOp => RunFaultKind::UnknownOp,
-        CaseFaultKind::BadArgument => RunFaultKind::BadArgument,
-        CaseFaultKind::ForwardVar => RunFaultKind::ForwardVar,
-        CaseFaultKind::CrossVar => RunFaultKind::CrossVar,
-        CaseFaultKind::OverLimit => RunFaultKind::OverLimit,
-        CaseFaultKind::NoMemory => RunFaultKind::NoMemory,
-    }
-}
-
 impl From<AllocError> for RunFault {
     ghost use Rattle.std.specs.Prelude.{◌≡◌};
-    ghost use Rattle.pst_runs.specs.declared.fault.RunFaultKind.TheVariants.{NoMemory};
+    ghost use Rattle.pst_runs.specs.Items.{no_memory};
 
-    ghost from_gives = { λ _ e. e ≡ record { run = 0; command = 0; kind = NoMemory } };
+    ghost from_gives = { λ _ e. e ≡ no_memory };
 
     fn from(_: AllocError) -> RunFault {
         RunFault {
             run: 0,
             command: 0,
-            kind: RunFaultKind::NoMemory,
+            kind: RunFaultKind::Case(CaseFaultKind::NoMemory),
         }
     }
 }
 
 impl<T: Drop> From<AllocFailed<T>> for RunFault {
     ghost use Rattle.std.specs.Prelude.{◌≡◌};
-    ghost use Rattle.pst_runs.specs.declared.fault.RunFaultKind.TheVariants.{NoMemory};
+    ghost use Rattle.pst_runs.specs.Items.{no_memory};
 
-    ghost from_gives = { λ _ e. e ≡ record { run = 0; command = 0; kind = NoMemory } };
+    ghost from_gives = { λ _ e. e ≡ no_memory };
 
     fn from(_: AllocFailed<T>) -> RunFault {
         RunFault {
             run: 0,
             command: 0,
-            kind: RunFaultKind::NoMemory,
+            kind: RunFaultKind::Case(CaseFaultKind::NoMemory),
         }
     }
 }

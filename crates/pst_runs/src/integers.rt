@@ -8,7 +8,7 @@ use pst_items::Text;
 fn all_digits(bytes: &[u8]) -> bool
     ensures { result ≡ list_all spec.is_digit bytes.now }
 {
-    bytes.iter().all(|byte| 48 <= *byte && *byte <= 57)
+    bytes.iter().all(|byte| b'0' <= *byte && *byte <= b'9')
 }
 
 /// Whether the bytes are one digit or more.
@@ -17,7 +17,7 @@ pub fn are_digits(bytes: &[u8]) -> bool
 {
     match bytes {
         [] => false,
-        [first, digits @ ..] => 48 <= *first && *first <= 57 && all_digits(digits),
+        [first, digits @ ..] => b'0' <= *first && *first <= b'9' && all_digits(digits),
     }
 }
 
@@ -27,7 +27,7 @@ fn next(number: u64, digit: u8) -> Option<u64>
 {
     number
         .checked_mul(10)?
-        .checked_add(u64::from(digit.saturating_sub(48)))
+        .checked_add(u64::from(digit.saturating_sub(b'0')))
 }
 
 /// The number that digits spell, where it has at most 64 bits.
@@ -73,7 +73,7 @@ pub fn integer_of(word: &Text) -> Option<i64>
     let bytes = word.as_bytes();
     match bytes {
         [] => None,
-        [first, digits @ ..] => if *first == 45 {
+        [first, digits @ ..] => if *first == b'-' {
             if are_digits(digits) {
                 negative_of(digits)
             } else {

@@ -2,10 +2,12 @@
 #![tactic(auto)]
 
 mod commands;
+mod counts;
 mod fault;
 mod integers;
 mod parts;
 mod reader;
+mod reading;
 mod replies;
 mod values;
 

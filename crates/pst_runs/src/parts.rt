@@ -1,23 +1,29 @@
-//! Cases that trees spell, with their reply lists.
-ghost use Rattle.std.specs.Prelude.{◌≡◌, ◌++◌, IfOk, length, option_copied};
+//! Cases that trees spell, with their lists of replies.
+ghost use Rattle.std.specs.Prelude.{◌≡◌, ◌++◌, IfOk, MatchOption, length, option_copied};
 ghost use Rattle.std.specs.List.{list_all};
-ghost use Rattle.pst_runs.specs.Items as spec;
-ghost use Rattle.pst_runs.specs.Shown.{shown_option};
+ghost use Rattle.pst_runs.specs.Forms as spec;
+ghost use Rattle.pst_runs.specs.Shown.{shown_option, shown_sections};
 ghost use Rattle.pst_runs.specs.Values as values;
 
-use crate::commands::commands_of;
+use crate::commands::{Spelled, SpelledCase, commands_of};
 use crate::values::{node_of, word_of};
-use pst_case::{Case, Command};
 use pst_items::Items;
-use pst_model::Source;
+use pst_rules::Typed;
 use pst_sexpr::Form;
 use std::alloc::{AllocError, Global};
 
-/// A case, and its reply lists, if it has them.
+/// A case as it is spelled, and its lists of replies, if it has them.
 #[derive(Drop)]
 pub struct ItemParts<'a> {
-    pub read: Case,
+    pub read: SpelledCase,
     pub replies: Option<&'a [Form]>,
+}
+
+/// The prefix and the branches of a case, and the commands of its suffix, where there is one.
+#[derive(Drop)]
+struct Sections<'a> {
+    front: &'a [Form],
+    suffix: Option<&'a [Form]>,
 }
 
 /// The parts of a node that is headed by the word.
@@ -32,72 +38,53 @@ fn section<'a>(name: &str, form: &'a Form) -> Option<&'a [Form]>
     }
 }
 
+/// The commands of a section.
 fn section_commands(
     alloc: Global,
-    model: &Source,
+    typed: &Typed,
     name: &str,
     form: &Form,
-) -> Result<Option<Items<Command>>, AllocError>
-    ensures { IfOk result (λ commands. commands ≡ spec.section_commands model.now name.now form.now) }
+) -> Result<Option<Items<Spelled>>, AllocError>
+    ensures { IfOk result (λ commands. commands ≡ spec.section_commands typed.now name.now form.now) }
 {
     match section(name, form) {
-        Some(forms) => commands_of(alloc, model, forms),
+        Some(forms) => commands_of(alloc, typed, forms),
         None => Ok(None),
     }
 }
 
 fn branch_of(
     alloc: Global,
-    model: &Source,
+    typed: &Typed,
     form: &Form,
-) -> Result<Option<Items<Command>>, AllocError>
-    ensures { IfOk result (λ commands. commands ≡ spec.branch_of model.now form.now) }
+) -> Result<Option<Items<Spelled>>, AllocError>
+    ensures { IfOk result (λ commands. commands ≡ spec.branch_of typed.now form.now) }
 {
     match node_of(form) {
-        Some(forms) => commands_of(alloc, model, forms),
+        Some(forms) => commands_of(alloc, typed, forms),
         None => Ok(None),
     }
 }
 
-fn branches_of(
-    alloc: Global,
-    model: &Source,
-    forms: &[Form],
-) -> Result<Option<Items<Items<Command>>>, AllocError>
-    ensures { IfOk result (λ branches. branches ≡ values.each (spec.branch_of model.now) forms.now) }
-{
-    let mut branches = Items::new(alloc);
-    for form in forms {
-        let Some(branch) = branch_of(alloc, model, form)? else {
-            return Ok(None);
-        };
-        branches.push(branch)?;
-    }
-    Ok(Some(branches))
-}
-
+/// The branches `(left ..)` and `(right ..)`.
 fn two_branches(
     alloc: Global,
-    model: &Source,
-    prefix: &Form,
+    typed: &Typed,
     left: &Form,
     right: &Form,
-) -> Result<Option<Case>, AllocError>
-    ensures { IfOk result (λ case. case ≡ spec.two_branches model.now prefix.now left.now right.now) }
+) -> Result<Option<Items<Items<Spelled>>>, AllocError>
+    ensures { IfOk result (λ branches. branches ≡ spec.two_branches typed.now left.now right.now) }
 {
-    let Some(prefix) = section_commands(alloc, model, "prefix", prefix)? else {
+    let Some(left) = section_commands(alloc, typed, "left", left)? else {
         return Ok(None);
     };
-    let Some(left) = section_commands(alloc, model, "left", left)? else {
-        return Ok(None);
-    };
-    let Some(right) = section_commands(alloc, model, "right", right)? else {
+    let Some(right) = section_commands(alloc, typed, "right", right)? else {
         return Ok(None);
     };
     let mut branches = Items::new(alloc);
     branches.push(left)?;
     branches.push(right)?;
-    Ok(Some(Case { prefix, branches }))
+    Ok(Some(branches))
 }
 
 fn are_two_to_four(forms: &[Form]) -> bool
@@ -106,27 +93,108 @@ fn are_two_to_four(forms: &[Form]) -> bool
     2 <= forms.len() && forms.len() <= 4
 }
 
-fn many_branches(
+fn each_branch(
     alloc: Global,
-    model: &Source,
-    prefix: &Form,
-    branches: &Form,
-) -> Result<Option<Case>, AllocError>
-    ensures { IfOk result (λ case. case ≡ spec.many_branches model.now prefix.now branches.now) }
+    typed: &Typed,
+    forms: &[Form],
+) -> Result<Option<Items<Items<Spelled>>>, AllocError>
+    ensures { IfOk result (λ branches. branches ≡ spec.each_branch typed.now forms.now) }
 {
-    let Some(prefix) = section_commands(alloc, model, "prefix", prefix)? else {
-        return Ok(None);
-    };
-    let Some(forms) = section("branches", branches) else {
-        return Ok(None);
-    };
     if !are_two_to_four(forms) {
         return Ok(None);
     }
-    match branches_of(alloc, model, forms)? {
-        Some(branches) => Ok(Some(Case { prefix, branches })),
-        None => Ok(None),
+    let mut branches = Items::new(alloc);
+    for form in forms {
+        let Some(branch) = branch_of(alloc, typed, form)? else {
+            return Ok(None);
+        };
+        branches.push(branch)?;
     }
+    Ok(Some(branches))
+}
+
+fn branches_of(
+    alloc: Global,
+    typed: &Typed,
+    forms: &[Form],
+) -> Result<Option<Items<Items<Spelled>>>, AllocError>
+    ensures { IfOk result (λ branches. branches ≡ spec.branches_of typed.now forms.now) }
+{
+    match forms {
+        [left, right] => two_branches(alloc, typed, left, right),
+        [branches] => match section("branches", branches) {
+            Some(forms) => each_branch(alloc, typed, forms),
+            None => Ok(None),
+        },
+        _ => Ok(None),
+    }
+}
+
+/// The last of some trees, behind those before it.
+#[tactic(auto, using(crate::proofs::Last::last))]
+fn front_and_last(parts: &[Form]) -> Option<(&[Form], &Form)>
+    ensures { MatchOption result (spec.front_and_last parts.now ≡ None)
+        (λ p. spec.front_and_last parts.now ≡ Some (p.0.now, p.1.now)) }
+{
+    let (last, front) = parts.split_last()?;
+    Some((front, last))
+}
+
+/// The sections of a case: `(suffix ..)` may stand behind the branches.
+fn sections_of(parts: &[Form]) -> Sections<'_>
+    ensures { shown_sections result ≡ spec.sections_of parts.now }
+{
+    if let Some((front, last)) = front_and_last(parts) {
+        if let Some(suffix) = section("suffix", last) {
+            return Sections {
+                front,
+                suffix: Some(suffix),
+            };
+        }
+    }
+    Sections {
+        front: parts,
+        suffix: None,
+    }
+}
+
+fn suffix_of(
+    alloc: Global,
+    typed: &Typed,
+    suffix: Option<&[Form]>,
+) -> Result<Option<Items<Spelled>>, AllocError>
+    ensures { IfOk result (λ commands. commands ≡ spec.suffix_of typed.now (option_copied suffix.entry)) }
+{
+    match suffix {
+        Some(forms) => commands_of(alloc, typed, forms),
+        None => Ok(Some(Items::new(alloc))),
+    }
+}
+
+fn case_of(
+    alloc: Global,
+    typed: &Typed,
+    sections: &Sections<'_>,
+) -> Result<Option<SpelledCase>, AllocError>
+    ensures { IfOk result (λ case. case ≡ spec.case_of typed.now (shown_sections sections.now)) }
+{
+    let Some((first, others)) = sections.front.split_first() else {
+        return Ok(None);
+    };
+    let Some(prefix) = section_commands(alloc, typed, "prefix", first)? else {
+        return Ok(None);
+    };
+    let Some(branches) = branches_of(alloc, typed, others)? else {
+        return Ok(None);
+    };
+    let Some(suffix) = suffix_of(alloc, typed, sections.suffix)? else {
+        return Ok(None);
+    };
+    Ok(Some(SpelledCase {
+        prefix,
+        branches,
+        suffix,
+    }))
 }
 
 fn is_node(form: &Form) -> bool
@@ -135,27 +203,31 @@ fn is_node(form: &Form) -> bool
     node_of(form).is_some()
 }
 
+/// Whether there are as many lists as parts: the prefix, each branch, and the suffix where it is written.
+fn is_number_of_parts(lists: usize, sections: &Sections<'_>, case: &SpelledCase) -> bool
+    ensures { result ≡ spec.is_number_of_parts lists (shown_sections sections.now) case.now }
+{
+    match sections.suffix {
+        Some(_) => lists == case.branches.as_slice().len() + 2,
+        None => lists == case.branches.as_slice().len() + 1,
+    }
+}
+
 fn are_nodes(forms: &[Form]) -> bool
     ensures { result ≡ list_all (λ form. spec.is_node (values.node_of form)) forms.now }
 {
     forms.iter().all(|form| is_node(form))
 }
 
-fn without_replies<'a>(read: Option<Case>) -> Option<ItemParts<'a>>
-    ensures { shown_option result ≡ values.made read spec.without_replies }
+fn with_replies<'a>(
+    form: &'a Form,
+    sections: &Sections<'_>,
+    read: SpelledCase,
+) -> Option<ItemParts<'a>>
+    ensures { shown_option result ≡ spec.with_replies form.now (shown_sections sections.now) read }
 {
-    Some(ItemParts {
-        read: read?,
-        replies: None,
-    })
-}
-
-fn with_replies(form: &Form, read: Option<Case>) -> Option<ItemParts<'_>>
-    ensures { shown_option result ≡ values.made read (spec.with_replies form.now) }
-{
-    let read = read?;
     let lists = section("replies", form)?;
-    if lists.len() == read.branches.len() + 1 && are_nodes(lists) {
+    if is_number_of_parts(lists.len(), sections, &read) && are_nodes(lists) {
         Some(ItemParts {
             read,
             replies: Some(lists),
@@ -167,46 +239,45 @@ fn with_replies(form: &Form, read: Option<Case>) -> Option<ItemParts<'_>>
 
 fn case_parts<'a>(
     alloc: Global,
-    model: &Source,
+    typed: &Typed,
     parts: &'a [Form],
 ) -> Result<Option<ItemParts<'a>>, AllocError>
-    ensures { IfOk result (λ item. shown_option item ≡ spec.case_parts model.now parts.now) }
+    ensures { IfOk result (λ item. shown_option item ≡ spec.case_parts typed.now parts.now) }
 {
-    match parts {
-        [prefix, left, right] => {
-            Ok(without_replies(two_branches(alloc, model, prefix, left, right)?))
-        }
-        [prefix, branches] => Ok(without_replies(many_branches(alloc, model, prefix, branches)?)),
-        _ => Ok(None),
-    }
+    let Some(read) = case_of(alloc, typed, &sections_of(parts))? else {
+        return Ok(None);
+    };
+    Ok(Some(ItemParts {
+        read,
+        replies: None,
+    }))
 }
 
 fn run_parts<'a>(
     alloc: Global,
-    model: &Source,
+    typed: &Typed,
     parts: &'a [Form],
 ) -> Result<Option<ItemParts<'a>>, AllocError>
-    ensures { IfOk result (λ item. shown_option item ≡ spec.run_parts model.now parts.now) }
+    ensures { IfOk result (λ item. shown_option item ≡ spec.run_parts typed.now parts.now) }
 {
-    match parts {
-        [prefix, left, right, replies] => {
-            Ok(with_replies(replies, two_branches(alloc, model, prefix, left, right)?))
-        }
-        [prefix, branches, replies] => {
-            Ok(with_replies(replies, many_branches(alloc, model, prefix, branches)?))
-        }
-        _ => Ok(None),
-    }
+    let Some((front, replies)) = front_and_last(parts) else {
+        return Ok(None);
+    };
+    let sections = sections_of(front);
+    let Some(read) = case_of(alloc, typed, &sections)? else {
+        return Ok(None);
+    };
+    Ok(with_replies(replies, &sections, read))
 }
 
-/// The case of an item with its reply lists, where the tree has the form of an item.
-#[tactic(auto, unfolding(crate::specs::Items::parts_of))]
+/// The case of an item with its lists of replies, where the tree has the form of an item.
+#[tactic(auto, unfolding(crate::specs::Forms::parts_of))]
 pub fn parts_of<'a>(
     alloc: Global,
-    model: &Source,
+    typed: &Typed,
     form: &'a Form,
 ) -> Result<Option<ItemParts<'a>>, AllocError>
-    ensures { IfOk result (λ item. shown_option item ≡ spec.parts_of model.now form.now) }
+    ensures { IfOk result (λ item. shown_option item ≡ spec.parts_of typed.now form.now) }
 {
     let Some(parts) = node_of(form) else {
         return Ok(None);
@@ -218,10 +289,10 @@ pub fn parts_of<'a>(
         return Ok(None);
     };
     if head.as_str() == "case" {
-        return case_parts(alloc, model, parts);
+        return case_parts(alloc, typed, parts);
     }
     if head.as_str() == "run" {
-        return run_parts(alloc, model, parts);
+        return run_parts(alloc, typed, parts);
     }
     Ok(None)
 }

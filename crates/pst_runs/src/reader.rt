@@ -1,18 +1,18 @@
 //! Reading runs.
 ghost use Rattle.std.specs.Prelude.{◌≡◌, ◌⊎◌, IfOk, IfErr, Ok, Err, option_copied};
-ghost use Rattle.pst_case.specs.Shape.{IsShaped};
 ghost use Rattle.pst_runs.specs.Items as spec;
 ghost use Rattle.pst_runs.specs.Lawful.{AreLawful};
 
-use crate::fault::{ItemFault, RunFault, RunFaultKind, kind_of};
+use crate::fault::{ItemFault, RunFault, RunFaultKind};
 use crate::parts::{ItemParts, parts_of};
+use crate::reading::shaped_of;
 use crate::replies::{are_counted, history_of};
-use pst_case::{CaseFaultKind, Run, Shaped, shape};
+use pst_case::{Run, Shaped};
 use pst_rules::Typed;
 use pst_sexpr::{Form, Tree};
 use std::alloc::{AllocError, Global};
 
-/// The run of a shaped case and its reply lists.
+/// The run of a shaped case and its lists of replies.
 #[tactic(auto, using(crate::proofs::Limits::limits))]
 fn run_of(
     alloc: Global,
@@ -20,8 +20,8 @@ fn run_of(
     shaped: Shaped,
     replies: Option<&[Form]>,
 ) -> Result<Result<Run, ItemFault>, AllocError>
-    requires { IsShaped typed.now shaped }
-    ensures { IfOk result (λ run. run ≡ spec.run_of typed.now shaped (option_copied replies.entry)) }
+    requires { shaped.model ≡ typed.now }
+    ensures { IfOk result (λ run. run ≡ spec.run_of typed.now shaped.case (option_copied replies.entry)) }
 {
     let Some(lists) = replies else {
         let history = None;
@@ -50,35 +50,33 @@ fn run_of(
 fn item_of(alloc: Global, typed: &Typed, form: &Form) -> Result<Result<Run, ItemFault>, AllocError>
     ensures { IfOk result (λ run. run ≡ spec.item_of typed.now form.now) }
 {
-    let Some(parts) = parts_of(alloc, typed.source(), form)? else {
+    let Some(parts) = parts_of(alloc, typed, form)? else {
         return Ok(Err(ItemFault {
             kind: RunFaultKind::BadForm,
             command: 0,
         }));
     };
     let ItemParts { read, replies } = parts;
-    match shape(alloc, typed, read) {
+    match shaped_of(alloc, typed, read)? {
         Ok(shaped) => run_of(alloc, typed, shaped, replies),
-        Err((_, fault)) => {
-            if fault.kind == CaseFaultKind::NoMemory {
-                return Err(AllocError);
-            }
-            Ok(Err(ItemFault {
-                kind: kind_of(fault.kind),
-                command: fault.command,
-            }))
-        }
+        Err(fault) => Ok(Err(ItemFault {
+            kind: RunFaultKind::Case(fault.kind),
+            command: fault.command,
+        })),
     }
 }
 
 /// Reads the runs that trees spell: `case` items without a history, and `run` items with one.
 ///
-/// The fault is that of the first refused item, numbered from 1. Each item is judged in order: its form; the faults of `shape`;
-/// the counts of its replies; each reply. `NoMemory`: memory was refused.
+/// The fault is that of the first refused item, numbered from 1. Each item is judged in order: its form, its limits, its
+/// commands by their numbers, the counts of its replies, and each reply. The kind is `NoMemory` where memory was
+/// refused.
+#[tactic(auto, using(crate::proofs::Behind::behind))]
 pub fn read_runs(alloc: Global, typed: &Typed, trees: &[Tree]) -> Result<Vec<Run>, RunFault>
     ensures read { IfOk result (λ runs. spec.runs_of typed.now trees.now ≡ Ok runs.items) }
     ensures lawful { IfOk result (λ runs. AreLawful typed.now runs.items) }
-    ensures refused { IfErr result (λ fault. (spec.runs_of typed.now trees.now ≡ Err fault) ⊎ (fault ≡ spec.no_memory)) }
+    ensures refused { IfErr result (λ fault.
+        (spec.runs_of typed.now trees.now ≡ Err fault) ⊎ (fault ≡ spec.no_memory)) }
 {
     let mut runs = Vec::new(alloc);
     for tree in trees {

@@ -1,9 +1,10 @@
-//! The histories that reply lists spell.
-ghost use Rattle.std.specs.Prelude.{◌≡◌, ◌<◌, ◌+◌, ◌^◌, IfOk, length, option_copied};
-ghost use Rattle.pst_case.specs.Shape.{joined};
-ghost use Rattle.pst_runs.specs.Items as spec;
+//! The histories that lists of replies spell.
+ghost use Rattle.std.specs.Prelude.{◌≡◌, ◌<◌, ◌+◌, ◌^◌, ◌++◌, IfOk, length, option_copied};
+ghost use Rattle.pst_case.specs.Shape.{before_suffix, joined};
+ghost use Rattle.pst_runs.specs.Replies as spec;
 ghost use Rattle.pst_runs.specs.Values as values;
 
+use crate::counts::joined_len;
 use crate::values::{node_of, value_of, word_of};
 use pst_case::{Case, Command, History, Reply};
 use pst_items::Items;
@@ -12,12 +13,22 @@ use pst_sexpr::Form;
 use pst_value::Value;
 use std::alloc::{AllocError, Global};
 
-/// The trees of a reply list.
+/// The trees of a list.
 fn listed(form: &Form) -> &[Form]
     ensures { result.now ≡ spec.listed form.now }
 {
     match node_of(form) {
         Some(parts) => parts,
+        None => &[],
+    }
+}
+
+/// The trees of the list of a number from 0, where there is one.
+fn listed_at(lists: &[Form], number: usize) -> &[Form]
+    ensures { result.now ≡ spec.listed_at lists.now number }
+{
+    match lists.get(number) {
+        Some(list) => listed(list),
         None => &[],
     }
 }
@@ -48,7 +59,7 @@ fn answered(typed: &Typed, command: &Command, value: Value) -> Reply
 }
 
 /// The reply to a command that a tree spells.
-#[tactic(auto, unfolding(crate::specs::Items::reply_of))]
+#[tactic(auto, unfolding(crate::specs::Replies::reply_of))]
 fn reply_of(
     alloc: Global,
     typed: &Typed,
@@ -67,86 +78,116 @@ fn reply_of(
 }
 
 /// The replies of a part after others, or the number of the first command whose tree spells no reply.
+#[tactic(auto, using(crate::proofs::Behind::behind))]
 fn replies_from(
     alloc: Global,
     typed: &Typed,
     number: u32,
-    mut built: Items<Reply>,
+    mut read: Items<Reply>,
     commands: &[Command],
     forms: &[Form],
 ) -> Result<Result<Items<Reply>, u32>, AllocError>
     requires { number + length commands.now < 2 ^ 32 }
-    ensures { IfOk result (λ replies. replies ≡ spec.replies_from typed.now number built commands.now forms.now) }
+    ensures { IfOk result (λ replies.
+        replies ≡ spec.behind read (spec.part_replies typed.now number commands.now forms.now)) }
 {
     let Some((command, commands)) = commands.split_first() else {
-        return Ok(Ok(built));
+        return Ok(Ok(read));
     };
     let Some((form, forms)) = forms.split_first() else {
-        return Ok(Ok(built));
+        return Ok(Ok(read));
     };
     let Some(reply) = reply_of(alloc, typed, command, form)? else {
         return Ok(Err(number));
     };
-    built.push(reply)?;
-    replies_from(alloc, typed, number + 1, built, commands, forms)
+    read.push(reply)?;
+    replies_from(alloc, typed, number + 1, read, commands, forms)
+}
+
+/// The replies of a part whose first command has the number, or the number of the first command whose tree spells
+/// no reply.
+#[tactic(auto, using(crate::proofs::Behind::behind))]
+fn part_replies(
+    alloc: Global,
+    typed: &Typed,
+    number: u32,
+    commands: &[Command],
+    forms: &[Form],
+) -> Result<Result<Items<Reply>, u32>, AllocError>
+    requires { number + length commands.now < 2 ^ 32 }
+    ensures { IfOk result (λ replies.
+        replies ≡ spec.part_replies typed.now number commands.now forms.now) }
+{
+    replies_from(alloc, typed, number, Items::new(alloc), commands, forms)
 }
 
 /// The replies of branches after others, before which so many commands stand.
+#[tactic(auto, using(crate::proofs::Behind::behind))]
 fn branches_from(
     alloc: Global,
     typed: &Typed,
     before: u32,
-    mut built: Items<Items<Reply>>,
+    mut read: Items<Items<Reply>>,
     branches: &[Items<Command>],
     lists: &[Form],
 ) -> Result<Result<Items<Items<Reply>>, u32>, AllocError>
     requires { before + length (joined branches.now) + 1 < 2 ^ 32 }
-    ensures { IfOk result (λ replies. replies ≡ spec.branches_from typed.now before built branches.now lists.now) }
+    ensures { IfOk result (λ replies.
+        replies ≡ spec.behind read (spec.branch_replies typed.now before branches.now lists.now)) }
 {
     let Some((branch, branches)) = branches.split_first() else {
-        return Ok(Ok(built));
+        return Ok(Ok(read));
     };
     let Some((list, lists)) = lists.split_first() else {
-        return Ok(Ok(built));
+        return Ok(Ok(read));
     };
-    let none = Items::new(alloc);
-    let branch = branch.as_slice();
-    match replies_from(alloc, typed, before + 1, none, branch, listed(list))? {
+    match part_replies(alloc, typed, before + 1, branch.as_slice(), listed(list))? {
         Ok(replies) => {
-            built.push(replies)?;
+            read.push(replies)?;
             let before = before + branch.len() as u32;
-            branches_from(alloc, typed, before, built, branches, lists)
+            branches_from(alloc, typed, before, read, branches, lists)
         }
         Err(number) => Ok(Err(number)),
     }
 }
 
-/// The history that reply lists spell, or the number of the first command whose tree spells no reply.
+/// The history that lists of replies spell, or the number of the first command whose tree spells no reply.
 pub fn history_of(
     alloc: Global,
     typed: &Typed,
     case: &Case,
     lists: &[Form],
 ) -> Result<Result<History, u32>, AllocError>
-    requires { length case.now.prefix + length (joined case.now.branches) + 1 < 2 ^ 32 }
+    requires { before_suffix case.now + length case.now.suffix + 1 < 2 ^ 32 }
     ensures { IfOk result (λ history. history ≡ spec.history_of typed.now case.now lists.now) }
 {
     let Some((list, lists)) = lists.split_first() else {
         return Ok(Ok(History {
             prefix: Items::new(alloc),
             branches: Items::new(alloc),
+            suffix: Items::new(alloc),
         }));
     };
+    let branches = case.branches.as_slice();
     let commands = case.prefix.as_slice();
-    match replies_from(alloc, typed, 1, Items::new(alloc), commands, listed(list))? {
-        Ok(prefix) => {
-            let before = commands.len() as u32;
-            let none = Items::new(alloc);
-            match branches_from(alloc, typed, before, none, case.branches.as_slice(), lists)? {
-                Ok(branches) => Ok(Ok(History { prefix, branches })),
-                Err(number) => Ok(Err(number)),
-            }
-        }
+    let prefix = match part_replies(alloc, typed, 1, commands, listed(list))? {
+        Ok(replies) => replies,
+        Err(number) => return Ok(Err(number)),
+    };
+    let before = commands.len() as u32;
+    let read = Items::new(alloc);
+    let branch_replies = match branches_from(alloc, typed, before, read, branches, lists)? {
+        Ok(replies) => replies,
+        Err(number) => return Ok(Err(number)),
+    };
+    let first = before + joined_len(branches) + 1;
+    let forms = listed_at(lists, branches.len());
+    match part_replies(alloc, typed, first, case.suffix.as_slice(), forms)? {
+        Ok(suffix) => Ok(Ok(History {
+            prefix,
+            branches: branch_replies,
+            suffix,
+        })),
         Err(number) => Ok(Err(number)),
     }
 }
@@ -155,7 +196,7 @@ fn branches_count(branches: &[Items<Command>], lists: &[Form]) -> bool
     ensures { result ≡ spec.branches_count branches.now lists.now }
 {
     let Some((branch, branches)) = branches.split_first() else {
-        return lists.is_empty();
+        return true;
     };
     match lists.split_first() {
         Some((list, lists)) => {
@@ -173,6 +214,7 @@ pub fn are_counted(case: &Case, lists: &[Form]) -> bool
         Some((list, lists)) => {
             listed(list).len() == case.prefix.len()
                 && branches_count(case.branches.as_slice(), lists)
+                && listed_at(lists, case.branches.len()).len() == case.suffix.len()
         }
         None => false,
     }

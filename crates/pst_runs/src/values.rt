@@ -47,7 +47,7 @@ fn variable_of(word: &Text, symbolic: bool) -> Option<Value>
 {
     match word.as_bytes() {
         [] => None,
-        [first, digits @ ..] => if symbolic && *first == 36 {
+        [first, digits @ ..] => if symbolic && *first == b'$' {
             Some(Value::Var(number_of(digits)?))
         } else {
             None

@@ -7,7 +7,6 @@ pub mod Faults
 pub mod Trees
 pub mod Answer
 pub mod Spelled
-pub mod Sequence
 pub mod Again
 pub mod One
 pub mod Made

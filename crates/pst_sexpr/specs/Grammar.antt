@@ -24,9 +24,11 @@ pub data Escapes : List ℕ → List ℕ → Type 0 where
   -- the text is empty, and so is what spells it
   none : Escapes [] []
   -- a byte that stands for itself
-  itself : {byte : ℕ} {spelled text : List ℕ} → is_text_byte byte ≡ true → Escapes spelled text → Escapes (byte ∷ spelled) (byte ∷ text)
+  itself : {byte : ℕ} {spelled text : List ℕ} → is_text_byte byte ≡ true → Escapes spelled text →
+      Escapes (byte ∷ spelled) (byte ∷ text)
   -- " or \, behind a \
-  behind : {byte : ℕ} {spelled text : List ℕ} → is_escaped_byte byte ≡ true → Escapes spelled text → Escapes (92 ∷ byte ∷ spelled) (byte ∷ text)
+  behind : {byte : ℕ} {spelled text : List ℕ} → is_escaped_byte byte ≡ true → Escapes spelled text →
+      Escapes (92 ∷ byte ∷ spelled) (byte ∷ text)
 
 -- The bytes begin with a spelling of the trees, which stand in so many nodes, and with these bytes left over.
 -- A node stands in fewer nodes than the limit.
@@ -35,10 +37,12 @@ pub data Begins (limit : ℕ) : ℕ → List ℕ → List Form → List ℕ → 
   nothing : {depth : ℕ} {left : List ℕ} → Begins limit depth left [] left
   -- white space, and then trees
   blank : {depth byte : ℕ} {bytes left : List ℕ} {trees : List Form} →
-      is_blank byte ≡ true → Begins limit depth bytes trees left → Begins limit depth (byte ∷ bytes) trees left
+      is_blank byte ≡ true → Begins limit depth bytes trees left →
+      Begins limit depth (byte ∷ bytes) trees left
   -- a comment, from ; to the line end, and then trees
   comment : {depth : ℕ} (line : List ℕ) {bytes left : List ℕ} {trees : List Form} →
-      IsLine line → Begins limit depth bytes trees left → Begins limit depth (59 ∷ line ++ 10 ∷ bytes) trees left
+      IsLine line → Begins limit depth bytes trees left →
+      Begins limit depth (59 ∷ line ++ 10 ∷ bytes) trees left
   -- a comment that goes to the end of the bytes
   last_comment : {depth : ℕ} {line : List ℕ} → IsLine line → Begins limit depth (59 ∷ line) [] []
   -- a word, where no byte of a word follows, and then trees
@@ -51,5 +55,6 @@ pub data Begins (limit : ℕ) : ℕ → List ℕ → List Form → List ℕ → 
       Begins limit depth (34 ∷ spelled ++ 34 ∷ bytes) (Text text ∷ trees) left
   -- a node: (, trees, ), and then trees
   node : {depth : ℕ} {inside bytes left : List ℕ} {inner trees : List Form} →
-      depth < limit → Begins limit (suc depth) inside inner (41 ∷ bytes) → Begins limit depth bytes trees left →
+      depth < limit → Begins limit (suc depth) inside inner (41 ∷ bytes) →
+      Begins limit depth bytes trees left →
       Begins limit depth (40 ∷ inside) (Node inner ∷ trees) left

@@ -1,9 +1,10 @@
+-- what the public contracts cite
 pub mod Fault
-pub mod Bytes
 pub mod Grammar
 pub mod Reading
-pub mod Scan
 pub mod Lawful
 pub mod Spelling
-pub mod Writing
-pub mod Out
+pub mod Parts
+-- what the contracts of the reader and the writer cite within the crate
+pub mod Bytes
+pub mod Scan

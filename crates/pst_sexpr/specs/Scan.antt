@@ -1,5 +1,5 @@
--- The reader's automaton: one byte after another, with the open nodes. It is private to the crate, and stands here because the
--- contracts of the reader's private functions cite it; no public contract does.
+-- The reader's automaton: one byte after another, with the open nodes. It is private to the crate, and stands
+-- here because the contracts of the reader's private functions cite it. No public contract does.
 use Rattle.std.specs.Prelude.{ℕ, suc, ◌==◌, nat_lt, if◌then◌else◌, List, [], ◌∷◌, ◌++◌, length, Result, Ok, Err}
 use Rattle.pst_sexpr.specs.declared.form.Form.{Form}
 use Rattle.pst_sexpr.specs.declared.form.Form.TheVariants.{Word, Text, Node}
@@ -18,7 +18,8 @@ fault kind place = record { kind = kind; place = place }
 
 -- a state, by its parts
 abbrev pub scanner : Mode → ℕ → List ℕ → List Form → List Level → Scanner
-scanner mode quote part done nodes = record { mode = mode; quote = quote; part = part; done = done; nodes = nodes }
+scanner mode quote part done nodes =
+    record { mode = mode; quote = quote; part = part; done = done; nodes = nodes }
 
 -- the trees of this level, with the word that has just ended
 abbrev pub with_word : List ℕ → List Form → List Form
@@ -40,7 +41,8 @@ closed place s = closed_by place s s.nodes
 -- a node begins
 abbrev pub opened : ℕ → ℕ → Scanner → Result Scanner SexprFault
 opened limit place s =
-    if nat_lt (length s.nodes) limit then Ok (record s { done = []; nodes = record { place = place; done = s.done } ∷ s.nodes })
+    if nat_lt (length s.nodes) limit then
+    Ok (record s { done = []; nodes = record { place = place; done = s.done } ∷ s.nodes })
     else Err (fault TooDeep place)
 
 -- a byte between trees
@@ -56,7 +58,8 @@ between limit place byte s =
 -- a byte in a word or between trees
 unfoldable pub plain : ℕ → ℕ → ℕ → Scanner → Result Scanner SexprFault
 plain limit place byte s =
-    if is_word_byte byte then Ok (record s { part = s.part ++ byte ∷ [] }) else between limit place byte (after_word s)
+    if is_word_byte byte then Ok (record s { part = s.part ++ byte ∷ [] }) else
+    between limit place byte (after_word s)
 
 -- a byte in a text
 unfoldable pub quoted : ℕ → ℕ → Scanner → Result Scanner SexprFault
@@ -67,7 +70,9 @@ quoted place byte s =
 
 -- a byte in a text, behind \
 unfoldable pub escaped : ℕ → ℕ → Scanner → Result Scanner SexprFault
-escaped place byte s = if is_escaped_byte byte then Ok (record s { mode = Quoted; part = s.part ++ byte ∷ [] }) else Err (fault BadByte place)
+escaped place byte s =
+    if is_escaped_byte byte then Ok (record s { mode = Quoted; part = s.part ++ byte ∷ [] }) else
+    Err (fault BadByte place)
 
 -- a byte in a comment
 unfoldable pub comment : ℕ → Scanner → Scanner

@@ -43,6 +43,18 @@ impl FaultKind {
     }
 }
 
+impl fmt::Display for FaultKind {
+    ghost use Rattle.std.specs.Prelude.{Some};
+    ghost use Rattle.pst_sexpr.specs.Fault.{name_of};
+
+    ghost output = { λ kind. Some (name_of kind) };
+
+    fn fmt<W: fmt::Write>(&self, f: &mut fmt::Formatter<W>) -> fmt::Result {
+        let name = self.name();
+        write!(f, "{name}")
+    }
+}
+
 /// Why bytes are no file: what is wrong, and the place of the byte, from 0.
 #[derive(Clone, Copy, Debug, Drop, PartialEq, Eq)]
 pub struct SexprFault {
@@ -59,9 +71,9 @@ impl fmt::Display for SexprFault {
     ghost output = { λ fault. Some (text_of fault) };
 
     fn fmt<W: fmt::Write>(&self, f: &mut fmt::Formatter<W>) -> fmt::Result {
-        let name = self.kind.name();
+        let kind = self.kind;
         let place = self.place;
-        write!(f, "{name} at {place}")
+        write!(f, "{kind} at {place}")
     }
 }
 

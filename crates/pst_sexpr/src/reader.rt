@@ -1,11 +1,11 @@
 //! The reader of files.
 
-ghost use Rattle.std.specs.Prelude.{◌≡◌, ◌≤◌, ◌⊎◌, List, length, IfOk, IfErr, MatchResult};
+ghost use Rattle.std.specs.Prelude.{◌≡◌, ◌≤◌, ◌<◌, ◌⊎◌, List, length, Err, IfOk, IfErr, MatchResult};
 ghost use Rattle.pst_sexpr.specs.declared.form.Form.{Form};
 ghost use Rattle.pst_sexpr.specs.Fault.{Gives, no_memory};
 ghost use Rattle.pst_sexpr.specs.Scan as spec;
 ghost use Rattle.pst_sexpr.specs.Lawful.{AreTrees};
-ghost use Rattle.pst_sexpr.specs.Reading.{max_bytes, Spells, IsFault};
+ghost use Rattle.pst_sexpr.specs.Reading.{max_bytes, too_large, Spells, IsFault};
 
 use crate::fault::{FaultKind, SexprFault};
 use crate::form::Form;
@@ -38,14 +38,16 @@ fn trees(alloc: Global, bytes: &[u8]) -> Result<Vec<Tree>, SexprFault>
 
 /// Reads a file of trees, in one pass.
 ///
-/// The fault is the first from left to right; `TooLarge` comes before all others.
-/// `NoMemory`: memory was refused.
+/// The fault is the first from left to right. A file of more than `MAX_BYTES` bytes is always `TooLarge`:
+/// this fault comes before all others, and takes no memory. `NoMemory`: memory was refused.
 pub fn read(alloc: Global, bytes: &[u8]) -> Result<Vec<Tree>, SexprFault>
     // What is read is spelled so.
     ensures found { IfOk result (λ trees. (length bytes.now ≤ max_bytes) × Spells bytes.now trees.items) }
     // What is spelled so is read, unless memory is refused.
     ensures only { (spelled : List Form) → length bytes.now ≤ max_bytes → Spells bytes.now spelled →
         MatchResult result (λ trees. trees.items ≡ spelled) (λ fault. fault ≡ no_memory) }
+    // Too many bytes are refused before memory is taken.
+    ensures too_large { max_bytes < length bytes.now → result ≡ Err too_large }
     // A fault is the first of the bytes.
     ensures fault { IfErr result (λ fault. (fault ≡ no_memory) ⊎ IsFault bytes.now fault) }
 {

@@ -7,7 +7,8 @@ use Rattle.pst_eval.proofs.Fitting.{Fit, FitAll, Agrees, frame_agrees}
 use Rattle.pst_eval.proofs.Operating.{turn_by}
 use Rattle.pst_eval.proofs.Sound.{sound}
 use Rattle.pst_eval.proofs.Table.{FunctionsWell, functions_well, functions_fit, all_well, well_operation, well_opening, well_calls, marked, state_from, frame_of, ref_of, the_operation, pre_by, by_not_stuck}
-use Rattle.pst_eval.specs.Callbacks.{max_turns, at_names, of_expr, init_of, command_of, pre_in, pre_of, next_in, next_of, is_state, PreFits, NextFits}
+use Rattle.pst_eval.specs.Callbacks.{max_turns, at_names, of_expr, init_of, command_of, pre_in, pre_of, next_in, next_of, PreFits, NextFits}
+use Rattle.pst_rules.specs.Fitting.{is_state}
 use Rattle.pst_meaning.specs.Meaning.{Env, called, frame}
 use Rattle.pst_model.specs.Parts.{operation_of, parameters_of, types_of}
 use Rattle.pst_model.specs.declared.expr.Expr.{Expr}

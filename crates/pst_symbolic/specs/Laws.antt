@@ -1,6 +1,7 @@
 -- To put results in place of variables and then to evaluate is to evaluate and then to put them in.
 use Rattle.std.specs.Prelude.{◌≡◌, ◌≢◌, ℕ, true, false, List, [], ◌∷◌, ◌++◌, map, reverse, Option}
-use Rattle.pst_eval.specs.Callbacks.{init_of, command_of, pre_of, next_of, is_state, fits_in, PreFits, NextFits}
+use Rattle.pst_eval.specs.Callbacks.{init_of, command_of, pre_of, next_of, PreFits, NextFits}
+use Rattle.pst_rules.specs.Fitting.{is_state, fits_in}
 use Rattle.pst_meaning.specs.Meaning.{Env, Mean, called, mean}
 use Rattle.pst_model.specs.declared.expr.Expr.{Expr}
 use Rattle.pst_model.specs.declared.model.Item.{Item}

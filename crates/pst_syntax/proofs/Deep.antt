@@ -1,12 +1,10 @@
 -- A type that was read has no more levels than there was room.
-use Rattle.std.proofs.Common.{◌≡◌, ◌≤◌, ℕ, zero, suc, Bool, true, false, List, [], ◌∷◌, map, Option, Some, None, Ok, Err, refl, sym, ap, ◌∙◌, subst, arith}
-use Rattle.std.specs.Prelude.{nat_le}
+use Rattle.std.proofs.Common.{◌≡◌, ◌≤◌, ℕ, zero, suc, List, [], ◌∷◌, map, Ok, Err, sym, ap, ◌∙◌, subst, arith}
 use Rattle.std.proofs.Math.Nat.{max-le}
-use Rattle.std.proofs.lemmas.Bool.Decides.{nat_tests}
 use Rattle.pst_model.specs.Levels.{levels, layer_levels, greatest}
 use Rattle.pst_sexpr.specs.declared.form.Form.{Form}
 use Rattle.pst_syntax.specs.declared.fault.FaultKind.TheVariants.{OverLimit}
-use Rattle.pst_syntax.specs.Reading.{Read, ◌>>=◌, known, within, each, are_few, ty_of, ty_parts}
+use Rattle.pst_syntax.specs.Reading.{Read, ◌>>=◌, each, are_few, ty_of, ty_parts}
 use Rattle.pst_syntax.specs.Shape.{TyShape, IntType, BoolType, TextType, CallType, TupleType, ListType, RefType, ty_shape}
 use Rattle.pst_syntax.proofs.Complete.{bind_ok, known_ok, within_ok, okay}
 use Rattle.pst_value.specs.declared.ty.Ty.{Ty, Ty-F, fold-roll-Ty}

@@ -9,9 +9,11 @@ use Rattle.pst_value.specs.declared.ty.Ty.{Ty}
 use Rattle.pst_model.specs.declared.expr.Expr.{Expr}
 use Rattle.pst_model.specs.declared.expr.Expr as expr
 use Rattle.pst_syntax.specs.Names.{is_free, is_short}
-use Rattle.pst_syntax.specs.Integers.{is_i64, value}
+use Rattle.pst_words.specs.Integers.{value}
+use Rattle.pst_value.specs.Text.{is_i64}
 use Rattle.pst_syntax.specs.Shape.{Shape, TyShape, ClauseShape, Integer, Truth, Quoted, Used, Let, If, And, Or, Unary, Binary, Tuple, At, ListOf, For, Fold, Call, Apply, IntType, BoolType, TextType, CallType, TupleType, ListType, RefType, InEach, WhenTrue, shape_of, ty_shape, clause_shape}
-use Rattle.pst_syntax.specs.Reading.{Read, ◌>>=◌, known, within, each, declared, bound, bound_beside, int_of, text_of, item_at, ty_of, expr_of, clause_of, ty_parts, expr_parts, clause_parts, are_few, max_text, ty_room}
+use Rattle.pst_syntax.specs.Reading.{Read, ◌>>=◌, known, within, each, declared, bound, bound_beside, int_of, text_of, item_at, ty_of, expr_of, clause_of, ty_parts, expr_parts, clause_parts, are_few}
+use Rattle.pst_syntax.specs.Limits.{max_text, ty_room}
 use Rattle.pst_syntax.specs.Faults.{Part, Declared, Place, OfType, Expression, Clause, parts, fits, ty_fits, name_faults, place_faults, unless, faults_of, all_faults, part_faults, clause_faults, none, ty_faults, expr_faults, first, refusal}
 use Rattle.pst_syntax.specs.Faults as faults
 

@@ -22,11 +22,13 @@ use Rattle.pst_model.specs.Names.{is_name}
 use Rattle.pst_syntax.specs.Names.{is_free, is_short}
 use Rattle.pst_syntax.specs.Counting.{trees_in}
 use Rattle.pst_syntax.specs.ItemShape.{ItemShape, CallbackShape, StateItem, InitItem, CommandItem, FunItem, OpItem, Pre, Next, Post, item_shape, callback_shape, param_shape, model_shape}
-use Rattle.pst_syntax.specs.Reading.{Read, ◌>>=◌, known, within, once, declared, are_few, ty_room, expr_room}
-use Rattle.pst_syntax.specs.Items.{whole_ty, whole_expr, is_param, param_of, params_from, params_of, is_some, no_callbacks, callback_of, callbacks_from, there, all_callbacks, max_declared, fun_of, op_parts, item_parts, item_of, at_item, go_on, items_from, is_complete, complete, max_trees, head_parts, head_of_model, model_of}
+use Rattle.pst_syntax.specs.Reading.{Read, ◌>>=◌, known, within, once, declared, are_few}
+use Rattle.pst_syntax.specs.Limits.{ty_room, expr_room}
+use Rattle.pst_syntax.specs.Items.{in_item, whole_ty, whole_expr, is_param, param_of, params_from, params_of, is_some, no_callbacks, callback_of, callbacks_from, there, all_callbacks, fun_of, op_parts, item_parts, item_of, at_item, go_on, items_from, is_complete, complete, head_parts, head_of_model, model_of}
+use Rattle.pst_syntax.specs.Limits.{max_declared, max_trees}
 use Rattle.pst_syntax.specs.Items as read
 use Rattle.pst_syntax.specs.Faults.{unless, faults_of, name_faults, ty_faults, expr_faults, first, refusal}
-use Rattle.pst_syntax.specs.ModelFaults.{seen_with, is_named, param_faults, params_faults_after, params_faults, is_pre, is_next, is_post, callback_faults, callbacks_faults, item_faults, in_item, items_faults, named_faults, model_faults}
+use Rattle.pst_syntax.specs.ModelFaults.{seen_with, is_named, param_faults, params_faults_after, params_faults, is_pre, is_next, is_post, callback_faults, callbacks_faults, item_faults, items_faults, named_faults, model_faults}
 use Rattle.pst_syntax.specs.ModelFaults as faults
 use Rattle.pst_syntax.proofs.First.{Same, onward, done, limited, shaped, declared_same, ty_same, expr_same}
 use Rattle.pst_syntax.proofs.Complete.{bind_ok, known_ok, within_ok, once_ok, okay}

@@ -1,4 +1,3 @@
-pub mod Growing
 pub mod Rooms
 pub mod Counted
 pub mod Complete

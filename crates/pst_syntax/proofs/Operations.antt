@@ -1,5 +1,5 @@
 -- The operations of a model that was read.
-use Rattle.std.proofs.Common.{◌≡◌, ◌+◌, ◌≤◌, ◌<◌, ℕ, zero, suc, Bool, true, false, List, [], ◌∷◌, ◌++◌, length, Option, Some, None, Ok, refl, sym, ap, ◌∙◌, subst, inl, inr, arith, slice_get}
+use Rattle.std.proofs.Common.{◌≡◌, ◌+◌, ◌≤◌, ◌<◌, ℕ, zero, suc, Bool, true, false, List, [], ◌∷◌, ◌++◌, length, Option, Some, None, Ok, refl, sym, ap, ◌∙◌, subst, inl, inr, arith}
 use Rattle.std.specs.Prelude.{◌⊎◌, cond, ◌&&◌, ◌||◌, if◌then◌else◌, nat_le, nat_lt}
 use Rattle.std.specs.List.{list_any, list_all, count_by}
 use Rattle.std.specs.Option.{option_map}
@@ -11,8 +11,6 @@ use Rattle.std.proofs.lemmas.Slice.Eq.{bytes_eq-Decides}
 use Rattle.pst_model.specs.Levels.{levels}
 use Rattle.pst_model.specs.Operations.{HasOperations}
 use Rattle.pst_model.specs.Parts.{operations_of, operation_of, number_of}
-use Rattle.pst_model.specs.declared.expr.Expr.{Expr}
-use Rattle.pst_model.specs.declared.model.Fun.{Fun}
 use Rattle.pst_model.specs.declared.model.Item.{Item}
 use Rattle.pst_model.specs.declared.model.Item.TheVariants as item
 use Rattle.pst_model.specs.declared.model.Op.{Op}
@@ -23,11 +21,10 @@ use Rattle.pst_syntax.specs.Items.{whole_ty, whole_expr, is_param, param_of, par
 use Rattle.pst_syntax.specs.ItemShape.{ItemShape, StateItem, InitItem, CommandItem, FunItem, OpItem, item_shape, param_shape}
 use Rattle.pst_model.specs.Names.{is_name}
 use Rattle.pst_syntax.specs.Names.{is_free, is_short}
-use Rattle.pst_syntax.specs.Reading.{Read, ◌>>=◌, known, within, once, lawful, declared, are_few, ty_room}
-use Rattle.pst_syntax.specs.declared.items.AllCallbacks.{AllCallbacks}
+use Rattle.pst_syntax.specs.Reading.{◌>>=◌, known, within, once, lawful, declared, are_few}
+use Rattle.pst_syntax.specs.Limits.{ty_room}
 use Rattle.pst_syntax.proofs.Complete.{bind_ok, known_ok, within_ok, once_ok, go_ok, at_ok, okay, completed, model_has}
 use Rattle.pst_syntax.proofs.Deep.{ty_shallow}
-use Rattle.pst_value.specs.declared.ty.Ty.{Ty}
 
 -- ---- numbers of operations
 

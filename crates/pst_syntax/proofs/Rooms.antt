@@ -3,7 +3,8 @@ use Rattle.std.proofs.Common.{◌≡◌, ◌≢◌, ℕ, zero, suc, ◌-◌, Som
 use Rattle.pst_sexpr.specs.declared.form.Form.{Form}
 use Rattle.pst_syntax.specs.declared.fault.FaultKind.TheVariants.{UnknownForm, OverLimit}
 use Rattle.pst_syntax.specs.Shape.{Shape, TyShape, shape_of, ty_shape}
-use Rattle.pst_syntax.specs.Reading.{ty_of, ty_parts, expr_of, expr_parts, ty_room, known}
+use Rattle.pst_syntax.specs.Reading.{ty_of, ty_parts, expr_of, expr_parts, known}
+use Rattle.pst_syntax.specs.Limits.{ty_room}
 
 pub ty_unknown : (room : ℕ) (f : Form) → ty_shape f ≡ None → ty_of room f ≡ Err UnknownForm
 unfolding ty_of

@@ -1,13 +1,16 @@
--- All that is wrong with a tree, in order: its own fault, and then the faults of its parts from left to right.
+-- All that is wrong with a tree, in order: its own fault, and then the faults of its parts from left to
+-- right.
 use Rattle.std.specs.Prelude.{ℕ, zero, suc, nat_le, Bool, true, false, List, [], ◌∷◌, ◌++◌, length, map, not, Option, Some, None, Result, Ok, Err}
 use Rattle.std.specs.Str.{bytes_eq}
 use Rattle.pst_sexpr.specs.declared.form.Form.{Form}
 use Rattle.pst_syntax.specs.declared.fault.FaultKind.{FaultKind}
 use Rattle.pst_syntax.specs.declared.fault.FaultKind.TheVariants.{UnknownForm, BadName, DoubleName, OverLimit}
 use Rattle.pst_syntax.specs.Names.{is_free, is_short}
-use Rattle.pst_syntax.specs.Integers.{is_i64, value}
+use Rattle.pst_words.specs.Integers.{value}
+use Rattle.pst_value.specs.Text.{is_i64}
 use Rattle.pst_syntax.specs.Shape.{Shape, TyShape, ClauseShape, Integer, Truth, Quoted, Used, Let, If, And, Or, Unary, Binary, Tuple, At, ListOf, For, Fold, Call, Apply, IntType, BoolType, TextType, CallType, TupleType, ListType, RefType, InEach, WhenTrue, shape_of, ty_shape, clause_shape}
-use Rattle.pst_syntax.specs.Reading.{max_text, are_few, ty_room}
+use Rattle.pst_syntax.specs.Reading.{are_few}
+use Rattle.pst_syntax.specs.Limits.{max_text, ty_room}
 
 -- a part, by what is wanted there
 pub data Part : Type 0 where
@@ -39,7 +42,8 @@ parts (Tuple es) = map Expression es
 parts (At e i) = Expression e ∷ Place i ∷ []
 parts (ListOf t es) = OfType t ∷ map Expression es
 parts (For cs b) = map Clause cs ++ Expression b ∷ []
-parts (Fold x e acc i b) = Bound x ∷ Expression e ∷ Declared (is_free acc) (bytes_eq x acc) acc ∷ Expression i ∷ Expression b ∷ []
+parts (Fold x e acc i b) =
+    Bound x ∷ Expression e ∷ Declared (is_free acc) (bytes_eq x acc) acc ∷ Expression i ∷ Expression b ∷ []
 parts (Call op es) = map Expression es
 parts (Apply f es) = map Expression es
 
@@ -74,7 +78,8 @@ unless true kind rest = rest
 unless false kind rest = kind ∷ rest
 
 abbrev pub name_faults : Bool → Bool → List ℕ → List FaultKind
-name_faults is_lawful is_taken word = unless is_lawful BadName (unless (not is_taken) DoubleName (unless (is_short word) OverLimit []))
+name_faults is_lawful is_taken word =
+    unless is_lawful BadName (unless (not is_taken) DoubleName (unless (is_short word) OverLimit []))
 
 abbrev pub place_faults : List ℕ → List FaultKind
 place_faults word = unless (is_i64 (value word)) OverLimit []
@@ -92,7 +97,8 @@ abbrev pub none : Form → List FaultKind
 none form = []
 
 -- the faults of a part, from those of clauses, types and expressions
-abbrev pub part_faults : (Form → List FaultKind) → (Form → List FaultKind) → (Form → List FaultKind) → Part → List FaultKind
+abbrev pub part_faults : (Form → List FaultKind) → (Form → List FaultKind) → (Form → List FaultKind) → Part →
+    List FaultKind
 part_faults c t e (Declared is_lawful is_taken word) = name_faults is_lawful is_taken word
 part_faults c t e (Place word) = place_faults word
 part_faults c t e (OfType form) = t form
@@ -100,17 +106,25 @@ part_faults c t e (Expression form) = e form
 part_faults c t e (Clause form) = c form
 
 abbrev pub clause_faults : (Form → List FaultKind) → Form → List FaultKind
-clause_faults e form = faults_of (clause_shape form) (λ shape. all_faults (part_faults none none e) (clause_parts shape))
+clause_faults e form =
+    faults_of (clause_shape form) (λ shape. all_faults (part_faults none none e) (clause_parts shape))
 
 -- a type with so many levels of room
 unfoldable pub ty_faults : ℕ → Form → List FaultKind
 ty_faults zero form = faults_of (ty_shape form) (λ shape. OverLimit ∷ [])
-ty_faults (suc room) form = faults_of (ty_shape form) (λ shape. unless (ty_fits shape) OverLimit (all_faults (part_faults none (ty_faults room) none) (ty_parts shape)))
+ty_faults (suc room) form =
+    faults_of (ty_shape form)
+    (λ shape. unless (ty_fits shape) OverLimit
+    (all_faults (part_faults none (ty_faults room) none) (ty_parts shape)))
 
 -- an expression with so many levels of room; a type in it starts anew
 unfoldable pub expr_faults : ℕ → Form → List FaultKind
 expr_faults zero form = faults_of (shape_of form) (λ shape. OverLimit ∷ [])
-expr_faults (suc room) form = faults_of (shape_of form) (λ shape. unless (fits shape) OverLimit (all_faults (part_faults (clause_faults (expr_faults room)) (ty_faults ty_room) (expr_faults room)) (parts shape)))
+expr_faults (suc room) form =
+    faults_of (shape_of form)
+    (λ shape. unless (fits shape) OverLimit
+    (all_faults (part_faults (clause_faults (expr_faults room)) (ty_faults ty_room) (expr_faults room))
+    (parts shape)))
 
 abbrev pub first : {A : Type 0} → List A → Option A
 first [] = None

@@ -2,7 +2,7 @@
 use Rattle.std.specs.Prelude.{ℕ, Bool, true, false, if◌then◌else◌, List, [], ◌∷◌, Option, Some, None, codes}
 use Rattle.std.specs.Str.{bytes_eq}
 use Rattle.pst_sexpr.specs.declared.form.Form.{Form}
-use Rattle.pst_syntax.specs.Shape.{word_of, node_of, made, where_true}
+use Rattle.pst_sexpr.specs.Parts.{word_of, node_of, and_then, where_true}
 
 pub data ItemShape : Type 0 where
   StateItem : Form → ItemShape
@@ -23,11 +23,13 @@ single _ shape = None
 
 -- a function, and whether it is marked post
 abbrev pub as_fun : Bool → List Form → Option ItemShape
-as_fun is_post (x ∷ ps ∷ t ∷ e ∷ []) = made (word_of x) (λ x. made (node_of ps) (λ ps. Some (FunItem is_post x ps t e)))
+as_fun is_post (x ∷ ps ∷ t ∷ e ∷ []) =
+    and_then (word_of x) (λ x. and_then (node_of ps) (λ ps. Some (FunItem is_post x ps t e)))
 as_fun is_post _ = None
 
 abbrev pub as_op : List Form → Option ItemShape
-as_op (x ∷ ps ∷ t ∷ callbacks) = made (word_of x) (λ x. made (node_of ps) (λ ps. Some (OpItem x ps t callbacks)))
+as_op (x ∷ ps ∷ t ∷ callbacks) =
+    and_then (word_of x) (λ x. and_then (node_of ps) (λ ps. Some (OpItem x ps t callbacks)))
 as_op _ = None
 
 -- THE TABLE OF ITEMS
@@ -43,11 +45,11 @@ item_headed word parts =
 
 abbrev pub item_node : List Form → Option ItemShape
 item_node [] = None
-item_node (first ∷ parts) = made (word_of first) (λ word. item_headed word parts)
+item_node (first ∷ parts) = and_then (word_of first) (λ word. item_headed word parts)
 
 -- which form of item a tree has
 unfoldable pub item_shape : Form → Option ItemShape
-item_shape form = made (node_of form) item_node
+item_shape form = and_then (node_of form) item_node
 
 -- THE TABLE OF CALLBACKS
 abbrev pub callback_headed : List ℕ → Form → Option CallbackShape
@@ -58,29 +60,29 @@ callback_headed word e =
     else None
 
 abbrev pub callback_node : List Form → Option CallbackShape
-callback_node (first ∷ e ∷ []) = made (word_of first) (λ word. callback_headed word e)
+callback_node (first ∷ e ∷ []) = and_then (word_of first) (λ word. callback_headed word e)
 callback_node _ = None
 
 -- which callback a tree has the form of
 unfoldable pub callback_shape : Form → Option CallbackShape
-callback_shape form = made (node_of form) callback_node
+callback_shape form = and_then (node_of form) callback_node
 
 abbrev pub param_node : List Form → Option (List ℕ × Form)
-param_node (x ∷ t ∷ []) = made (word_of x) (λ x. Some (x, t))
+param_node (x ∷ t ∷ []) = and_then (word_of x) (λ x. Some (x, t))
 param_node _ = None
 
 -- a parameter: its name and its type
 unfoldable pub param_shape : Form → Option (List ℕ × Form)
-param_shape form = made (node_of form) param_node
+param_shape form = and_then (node_of form) param_node
 
 abbrev pub as_model : List ℕ → List Form → Option (List ℕ × List Form)
 as_model word [] = None
-as_model word (x ∷ items) = made (word_of x) (λ x. where_true (bytes_eq word (codes "model")) (x, items))
+as_model word (x ∷ items) = and_then (word_of x) (λ x. where_true (bytes_eq word (codes "model")) (x, items))
 
 abbrev pub model_node : List Form → Option (List ℕ × List Form)
 model_node [] = None
-model_node (first ∷ parts) = made (word_of first) (λ word. as_model word parts)
+model_node (first ∷ parts) = and_then (word_of first) (λ word. as_model word parts)
 
 -- a model: its name and its items
 unfoldable pub model_shape : Form → Option (List ℕ × List Form)
-model_shape form = made (node_of form) model_node
+model_shape form = and_then (node_of form) model_node

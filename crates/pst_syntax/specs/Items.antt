@@ -20,8 +20,10 @@ use Rattle.pst_syntax.specs.declared.items.AllCallbacks.{AllCallbacks}
 use Rattle.pst_model.specs.Names.{is_name}
 use Rattle.pst_syntax.specs.Names.{is_free}
 use Rattle.pst_syntax.specs.Counting.{trees_in}
+use Rattle.pst_syntax.specs.Limits.{max_declared, max_trees}
 use Rattle.pst_syntax.specs.ItemShape.{ItemShape, CallbackShape, StateItem, InitItem, CommandItem, FunItem, OpItem, Pre, Next, Post, item_shape, callback_shape, param_shape, model_shape}
-use Rattle.pst_syntax.specs.Reading.{Read, ◌>>=◌, known, within, once, declared, are_few, ty_of, ty_room, expr_of, expr_room}
+use Rattle.pst_syntax.specs.Reading.{Read, ◌>>=◌, known, within, once, declared, are_few, ty_of, expr_of}
+use Rattle.pst_syntax.specs.Limits.{ty_room, expr_room}
 
 -- a type, and an expression, that stand in no other one
 abbrev pub whole_ty : Form → Read Ty
@@ -37,11 +39,14 @@ is_param params word = list_any (λ param. bytes_eq param.name word) params
 
 -- a parameter after others
 abbrev pub param_of : List Param → List ℕ × Form → Read Param
-param_of params pair = declared (is_free pair.0) (is_param params pair.0) pair.0 >>= (λ x. whole_ty pair.1 >>= (λ t. Ok (record { name = x; ty = t })))
+param_of params pair =
+    declared (is_free pair.0) (is_param params pair.0) pair.0
+    >>= (λ x. whole_ty pair.1 >>= (λ t. Ok (record { name = x; ty = t })))
 
 abbrev pub params_from : List Param → List Form → Read (List Param)
 params_from params [] = Ok params
-params_from params (form ∷ forms) = known (param_shape form) (param_of params) >>= (λ param. params_from (params ++ param ∷ []) forms)
+params_from params (form ∷ forms) =
+    known (param_shape form) (param_of params) >>= (λ param. params_from (params ++ param ∷ []) forms)
 
 abbrev pub params_of : List Form → Read (List Param)
 params_of forms = within (are_few forms) (params_from [] forms)
@@ -57,13 +62,17 @@ no_callbacks = record { pre = None; next = None; post = None }
 
 -- a callback after others
 abbrev pub callback_of : Callbacks → CallbackShape → Read Callbacks
-callback_of callbacks (Pre e) = once (is_some callbacks.pre) (whole_expr e >>= (λ e. Ok (record callbacks { pre = Some e })))
-callback_of callbacks (Next e) = once (is_some callbacks.next) (whole_expr e >>= (λ e. Ok (record callbacks { next = Some e })))
-callback_of callbacks (Post e) = once (is_some callbacks.post) (whole_expr e >>= (λ e. Ok (record callbacks { post = Some e })))
+callback_of callbacks (Pre e) =
+    once (is_some callbacks.pre) (whole_expr e >>= (λ e. Ok (record callbacks { pre = Some e })))
+callback_of callbacks (Next e) =
+    once (is_some callbacks.next) (whole_expr e >>= (λ e. Ok (record callbacks { next = Some e })))
+callback_of callbacks (Post e) =
+    once (is_some callbacks.post) (whole_expr e >>= (λ e. Ok (record callbacks { post = Some e })))
 
 abbrev pub callbacks_from : Callbacks → List Form → Read Callbacks
 callbacks_from callbacks [] = Ok callbacks
-callbacks_from callbacks (form ∷ forms) = known (callback_shape form) (callback_of callbacks) >>= (λ callbacks. callbacks_from callbacks forms)
+callbacks_from callbacks (form ∷ forms) =
+    known (callback_shape form) (callback_of callbacks) >>= (λ callbacks. callbacks_from callbacks forms)
 
 -- what has to stand there
 abbrev pub there : {A : Type 0} → Option A → Read A
@@ -72,7 +81,8 @@ there (Some a) = Ok a
 
 -- the three callbacks, where none is missing
 abbrev pub all_callbacks : Callbacks → Read AllCallbacks
-all_callbacks callbacks = there callbacks.pre >>= (λ pre. there callbacks.next >>= (λ next. there callbacks.post >>= (λ post.
+all_callbacks callbacks =
+    there callbacks.pre >>= (λ pre. there callbacks.next >>= (λ next. there callbacks.post >>= (λ post.
     Ok (record { pre = pre; next = next; post = post }))))
 
 -- ---- items
@@ -105,22 +115,20 @@ abbrev pub is_op_named : List ℕ → Item → Bool
 is_op_named word (item.Op o) = bytes_eq o.name word
 is_op_named word _ = false
 
--- a model has at most so many functions, and so many operations
-abbrev pub max_declared : ℕ
-max_declared = 64
-
 -- one more may come
 abbrev pub has_room : (Item → Bool) → List Item → Bool
 has_room test seen = nat_lt (count_by test seen) max_declared
 
 abbrev pub fun_of : Bool → List Item → List ℕ → List Form → Form → Form → Read Fun
 fun_of is_post seen x ps t e =
-    declared (is_free x) (list_any (is_fun_named x) seen) x >>= (λ x. params_of ps >>= (λ ps. whole_ty t >>= (λ t. whole_expr e >>= (λ e.
+    declared (is_free x) (list_any (is_fun_named x) seen) x
+    >>= (λ x. params_of ps >>= (λ ps. whole_ty t >>= (λ t. whole_expr e >>= (λ e.
     Ok (record { is_post = is_post; name = x; params = ps; result = t; body = e })))))
 
 abbrev pub op_parts : List Item → List ℕ → List Form → Form → List Form → Read Op
 op_parts seen x ps t callbacks =
-    declared (is_name x) (list_any (is_op_named x) seen) x >>= (λ x. params_of ps >>= (λ ps. whole_ty t >>= (λ t.
+    declared (is_name x) (list_any (is_op_named x) seen) x
+    >>= (λ x. params_of ps >>= (λ ps. whole_ty t >>= (λ t.
     callbacks_from no_callbacks callbacks >>= all_callbacks >>= (λ all.
     Ok (record { name = x; params = ps; result = t; pre = all.pre; next = all.next; post = all.post })))))
 
@@ -128,19 +136,26 @@ op_parts seen x ps t callbacks =
 abbrev pub item_parts : List Item → ItemShape → Read Item
 item_parts seen (StateItem t) = once (list_any is_state seen) (whole_ty t >>= (λ t. Ok (item.State t)))
 item_parts seen (InitItem e) = once (list_any is_init seen) (whole_expr e >>= (λ e. Ok (item.Init e)))
-item_parts seen (CommandItem e) = once (list_any is_command seen) (whole_expr e >>= (λ e. Ok (item.Command e)))
-item_parts seen (FunItem is_post x ps t e) = within (has_room is_fun seen) (fun_of is_post seen x ps t e >>= (λ f. Ok (item.Fun f)))
-item_parts seen (OpItem x ps t callbacks) = within (has_room is_op seen) (op_parts seen x ps t callbacks >>= (λ o. Ok (item.Op o)))
+item_parts seen (CommandItem e) =
+    once (list_any is_command seen) (whole_expr e >>= (λ e. Ok (item.Command e)))
+item_parts seen (FunItem is_post x ps t e) =
+    within (has_room is_fun seen) (fun_of is_post seen x ps t e >>= (λ f. Ok (item.Fun f)))
+item_parts seen (OpItem x ps t callbacks) =
+    within (has_room is_op seen) (op_parts seen x ps t callbacks >>= (λ o. Ok (item.Op o)))
 
 unfoldable pub item_of : List Item → Form → Read Item
 item_of seen form = known (item_shape form) (item_parts seen)
 
 -- ---- the model
 
+-- the fault of a kind in an item; item 0 is the model itself
+abbrev pub in_item : ℕ → FaultKind → SyntaxFault
+in_item number kind = record { kind = kind; item = number }
+
 -- what is refused in an item
 abbrev pub at_item : {A : Type 0} → ℕ → Read A → Result A SyntaxFault
 at_item number (Ok a) = Ok a
-at_item number (Err kind) = Err (record { kind = kind; item = number })
+at_item number (Err kind) = Err (in_item number kind)
 
 abbrev pub go_on : {A B : Type 0} → Result A SyntaxFault → (A → Result B SyntaxFault) → Result B SyntaxFault
 go_on (Ok a) f = f a
@@ -149,7 +164,8 @@ go_on (Err fault) f = Err fault
 -- items after others, numbered from 1
 abbrev pub items_from : List Item → List Form → Result (List Item) SyntaxFault
 items_from seen [] = Ok seen
-items_from seen (form ∷ forms) = go_on (at_item (length seen + 1) (item_of seen form)) (λ i. items_from (seen ++ i ∷ []) forms)
+items_from seen (form ∷ forms) =
+    go_on (at_item (length seen + 1) (item_of seen form)) (λ i. items_from (seen ++ i ∷ []) forms)
 
 -- the state, the init and the command stand there
 abbrev pub is_complete : List Item → Bool
@@ -158,10 +174,6 @@ is_complete items = list_any is_state items && list_any is_init items && list_an
 abbrev pub complete : Bool → List ℕ → List Item → Read Source
 complete true x items = Ok (record { name = x; items = items })
 complete false x items = Err Missing
-
--- a model has at most so many trees, its own among them
-abbrev pub max_trees : ℕ
-max_trees = 20000
 
 -- the name of the model, and its items
 abbrev pub head_parts : List ℕ × List Form → Read (List ℕ × List Form)
@@ -195,7 +207,7 @@ pub record HasItems (items : List Item) : Type 0 where
 
 abbrev pub Refuses : {A : Type 0} → FaultKind → ℕ → Result A SyntaxFault → Type 0
 Refuses NoMemory number defined = number ≡ 0
-Refuses kind number defined = defined ≡ Err (record { kind = kind; item = number })
+Refuses kind number defined = defined ≡ Err (in_item number kind)
 
 -- the answer is that of the definition, unless memory is refused
 abbrev pub Answers : {A : Type 0} → Result A SyntaxFault → Result A SyntaxFault → Type 0
@@ -203,5 +215,5 @@ Answers (Ok a) defined = defined ≡ Ok a
 Answers (Err fault) defined = Refuses fault.kind fault.item defined
 
 abbrev pub FaultOf : FaultKind → ℕ → SyntaxFault → Type 0
-FaultOf NoMemory number fault = fault ≡ record { kind = NoMemory; item = 0 }
-FaultOf kind number fault = fault ≡ record { kind = kind; item = number }
+FaultOf NoMemory number fault = fault ≡ in_item 0 NoMemory
+FaultOf kind number fault = fault ≡ in_item number kind

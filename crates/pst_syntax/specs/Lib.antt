@@ -1,13 +1,16 @@
+-- what the public contracts cite
+pub mod FaultName
+pub mod Limits
+pub mod Items
+pub mod ItemShape
+pub mod Reading
+pub mod Shape
 pub mod Heads
 pub mod Names
-pub mod Integers
-pub mod Shape
-pub mod Shown
-pub mod Reading
-pub mod FaultName
+pub mod Places
 pub mod Counting
-pub mod ItemShape
-pub mod ShownItems
-pub mod Items
 pub mod Faults
 pub mod ModelFaults
+-- what the contracts within the crate cite: what the borrowed shapes of the code stand for
+pub mod Shown
+pub mod ShownItems

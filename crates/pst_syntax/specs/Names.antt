@@ -4,6 +4,7 @@ use Rattle.std.specs.Str.{bytes_eq}
 use Rattle.pst_model.specs.Names.{is_name}
 use Rattle.pst_syntax.specs.declared.heads.Head.{Head}
 use Rattle.pst_syntax.specs.Heads.{head_of}
+use Rattle.pst_syntax.specs.Limits.{max_name}
 
 abbrev pub is_head : Option Head → Bool
 is_head None = false
@@ -11,15 +12,13 @@ is_head (Some head) = true
 
 -- the words that no function, parameter or bound name may be
 unfoldable pub is_reserved : List ℕ → Bool
-is_reserved word = bytes_eq word (codes "true") || bytes_eq word (codes "false") || bytes_eq word (codes "s") || bytes_eq word (codes "r") || is_head (head_of word)
+is_reserved word =
+    bytes_eq word (codes "true") || bytes_eq word (codes "false") || bytes_eq word (codes "s")
+    || bytes_eq word (codes "r") || is_head (head_of word)
 
 -- what a function, a parameter or a bound name may be
 abbrev pub is_free : List ℕ → Bool
 is_free word = is_name word && not (is_reserved word)
-
--- a name has at most so many bytes
-abbrev pub max_name : ℕ
-max_name = 32
 
 abbrev pub is_short : List ℕ → Bool
 is_short word = nat_le (length word) max_name

@@ -1,5 +1,5 @@
 -- Reading expressions, types and clauses: each tree before its parts, the parts from left to right.
-use Rattle.std.specs.Prelude.{ℕ, zero, suc, nat_le, Bool, true, false, List, [], ◌∷◌, length, Option, Some, None, Result, Ok, Err, ◌≡◌, ⊤}
+use Rattle.std.specs.Prelude.{ℕ, zero, suc, nat_le, Bool, true, false, List, [], ◌∷◌, length, Option, Some, None, Result, Ok, Err, ◌≡◌, ◌⊎◌}
 use Rattle.std.specs.Str.{bytes_eq}
 use Rattle.pst_sexpr.specs.declared.form.Form.{Form}
 use Rattle.pst_value.specs.declared.ty.Ty.{Ty}
@@ -11,7 +11,10 @@ use Rattle.pst_model.specs.declared.expr.Clause as clause
 use Rattle.pst_syntax.specs.declared.fault.FaultKind.{FaultKind}
 use Rattle.pst_syntax.specs.declared.fault.FaultKind.TheVariants.{UnknownForm, BadName, DoubleName, OverLimit, NoMemory}
 use Rattle.pst_syntax.specs.Names.{is_free, is_short}
-use Rattle.pst_syntax.specs.Integers.{value, is_i64, natural}
+use Rattle.pst_words.specs.Integers.{value}
+use Rattle.pst_value.specs.Text.{is_i64}
+use Rattle.pst_syntax.specs.Places.{natural}
+use Rattle.pst_syntax.specs.Limits.{max_text, max_parts, ty_room}
 use Rattle.pst_syntax.specs.Shape.{Shape, TyShape, ClauseShape, Integer, Truth, Quoted, Used, Let, If, And, Or, Unary, Binary, Tuple, At, ListOf, For, Fold, Call, Apply, IntType, BoolType, TextType, CallType, TupleType, ListType, RefType, InEach, WhenTrue, shape_of, ty_shape, clause_shape}
 
 -- what is read, or why it is refused
@@ -68,16 +71,8 @@ int_of word = within (is_i64 (value word)) (Ok (expr.Int (value word)))
 abbrev pub item_at : Expr → List ℕ → Read Expr
 item_at e word = within (is_i64 (value word)) (Ok (expr.At e (natural (value word))))
 
--- a text has at most so many bytes
-abbrev pub max_text : ℕ
-max_text = 65536
-
 abbrev pub text_of : List ℕ → Read Expr
 text_of text = within (nat_le (length text) max_text) (Ok (expr.Text text))
-
--- a tuple has at most so many items, a comprehension so many clauses, a list of parameters so many of them
-abbrev pub max_parts : ℕ
-max_parts = 8
 
 abbrev pub are_few : List Form → Bool
 are_few forms = nat_le (length forms) max_parts
@@ -97,10 +92,6 @@ ty_parts t (RefType a) = t a >>= (λ a. Ok (ty.Ref a))
 unfoldable pub ty_of : ℕ → Form → Read Ty
 ty_of zero form = known (ty_shape form) (λ shape. Err OverLimit)
 ty_of (suc room) form = known (ty_shape form) (ty_parts (ty_of room))
-
--- the most levels of a type
-abbrev pub ty_room : ℕ
-ty_room = 16
 
 -- ---- expressions
 
@@ -125,8 +116,11 @@ expr_parts t e (Binary operator a b) = e a >>= (λ a. e b >>= (λ b. Ok (expr.Bi
 expr_parts t e (Tuple es) = within (are_few es) (each e es >>= (λ es. Ok (expr.Tuple es)))
 expr_parts t e (At a i) = e a >>= (λ a. item_at a i)
 expr_parts t e (ListOf a es) = t a >>= (λ a. each e es >>= (λ es. Ok (expr.List a es)))
-expr_parts t e (For cs b) = within (are_few cs) (each (clause_of e) cs >>= (λ cs. e b >>= (λ b. Ok (expr.For cs b))))
-expr_parts t e (Fold x a acc i b) = bound x >>= (λ y. e a >>= (λ a. bound_beside x acc >>= (λ acc. e i >>= (λ i. e b >>= (λ b. Ok (expr.Fold y a acc i b))))))
+expr_parts t e (For cs b) =
+    within (are_few cs) (each (clause_of e) cs >>= (λ cs. e b >>= (λ b. Ok (expr.For cs b))))
+expr_parts t e (Fold x a acc i b) =
+    bound x >>= (λ y. e a
+    >>= (λ a. bound_beside x acc >>= (λ acc. e i >>= (λ i. e b >>= (λ b. Ok (expr.Fold y a acc i b))))))
 expr_parts t e (Call op es) = each e es >>= (λ es. Ok (expr.Call op es))
 expr_parts t e (Apply f es) = each e es >>= (λ es. Ok (expr.Apply f es))
 
@@ -135,14 +129,9 @@ unfoldable pub expr_of : ℕ → Form → Read Expr
 expr_of zero form = known (shape_of form) (λ shape. Err OverLimit)
 expr_of (suc room) form = known (shape_of form) (expr_parts (ty_of ty_room) (expr_of room))
 
--- the most levels of an expression
-abbrev pub expr_room : ℕ
-expr_room = 64
-
 -- ---- what the reader ensures
 
 -- the answer is that of the definition, unless memory is refused
 abbrev pub Gives : {A : Type 0} → Result A FaultKind → Read A → Type 0
 Gives (Ok a) defined = defined ≡ Ok a
-Gives (Err NoMemory) defined = ⊤
-Gives (Err kind) defined = defined ≡ Err kind
+Gives (Err kind) defined = (kind ≡ NoMemory) ⊎ (defined ≡ Err kind)

@@ -3,13 +3,15 @@ use Rattle.std.specs.Prelude.{◌||◌, ℕ, Bool, true, false, if◌then◌else
 use Rattle.std.specs.Str.{bytes_eq}
 use Rattle.pst_sexpr.specs.declared.form.Form.{Form, out-Form}
 use Rattle.pst_sexpr.specs.declared.form.Form.TheOpen.{Form-F}
+use Rattle.pst_sexpr.specs.Parts.{word_of, node_of, and_then, where_true}
 use Rattle.pst_model.specs.declared.expr.Unary.{Unary as UnaryOp}
 use Rattle.pst_model.specs.declared.expr.Binary.{Binary as BinaryOp}
 use Rattle.pst_syntax.specs.declared.heads.Head.{Head}
 use Rattle.pst_syntax.specs.declared.heads.Head.TheVariants as head
 use Rattle.pst_syntax.specs.Heads.{head_of}
 use Rattle.pst_syntax.specs.Names.{is_used, is_used_operation}
-use Rattle.pst_syntax.specs.Integers.{is_integer, is_place}
+use Rattle.pst_syntax.specs.Places.{is_place}
+use Rattle.pst_words.specs.Integers.{is_integer}
 
 -- an expression, whose parts are trees yet
 pub data Shape : Type 0 where
@@ -31,32 +33,6 @@ pub data Shape : Type 0 where
   Call : List ℕ → List Form → Shape
   Apply : List ℕ → List Form → Shape
 
-abbrev pub word_at : Form-F Form → Option (List ℕ)
-word_at (Form-F.Word word) = Some word
-word_at _ = None
-
--- the bytes of a word
-abbrev pub word_of : Form → Option (List ℕ)
-word_of form = word_at (out-Form form)
-
-abbrev pub node_at : Form-F Form → Option (List Form)
-node_at (Form-F.Node parts) = Some parts
-node_at _ = None
-
--- the parts of a node
-abbrev pub node_of : Form → Option (List Form)
-node_of form = node_at (out-Form form)
-
--- where something stands there, what is made of it
-abbrev pub made : {A B : Type 0} → Option A → (A → Option B) → Option B
-made None f = None
-made (Some a) f = f a
-
--- it stands there where the test holds
-abbrev pub where_true : {A : Type 0} → Bool → A → Option A
-where_true true a = Some a
-where_true false a = None
-
 -- one or more
 abbrev pub some_of : List Form → Option (List Form)
 some_of [] = None
@@ -71,18 +47,19 @@ word_shape word =
 
 -- THE TABLE OF EXPRESSIONS: what stands behind each head word
 abbrev pub headed : Head → List Form → Option Shape
-headed head.Let (x ∷ e ∷ b ∷ []) = made (word_of x) (λ x. Some (Let x e b))
+headed head.Let (x ∷ e ∷ b ∷ []) = and_then (word_of x) (λ x. Some (Let x e b))
 headed head.If (c ∷ a ∷ b ∷ []) = Some (If c a b)
 headed head.And (a ∷ b ∷ []) = Some (And a b)
 headed head.Or (a ∷ b ∷ []) = Some (Or a b)
 headed (head.Unary operator) (a ∷ []) = Some (Unary operator a)
 headed (head.Binary operator) (a ∷ b ∷ []) = Some (Binary operator a b)
-headed head.Tuple es = made (some_of es) (λ es. Some (Tuple es))
-headed head.At (e ∷ i ∷ []) = made (word_of i) (λ i. where_true (is_place i) (At e i))
+headed head.Tuple es = and_then (some_of es) (λ es. Some (Tuple es))
+headed head.At (e ∷ i ∷ []) = and_then (word_of i) (λ i. where_true (is_place i) (At e i))
 headed head.List (t ∷ es) = Some (ListOf t es)
-headed head.For (cs ∷ b ∷ []) = made (node_of cs) (λ cs. made (some_of cs) (λ cs. Some (For cs b)))
-headed head.Fold (x ∷ e ∷ acc ∷ i ∷ b ∷ []) = made (word_of x) (λ x. made (word_of acc) (λ acc. Some (Fold x e acc i b)))
-headed head.Call (op ∷ es) = made (word_of op) (λ op. where_true (is_used_operation op) (Call op es))
+headed head.For (cs ∷ b ∷ []) = and_then (node_of cs) (λ cs. and_then (some_of cs) (λ cs. Some (For cs b)))
+headed head.Fold (x ∷ e ∷ acc ∷ i ∷ b ∷ []) =
+    and_then (word_of x) (λ x. and_then (word_of acc) (λ acc. Some (Fold x e acc i b)))
+headed head.Call (op ∷ es) = and_then (word_of op) (λ op. where_true (is_used_operation op) (Call op es))
 headed _ _ = None
 
 -- another word applies a function
@@ -92,7 +69,7 @@ applied None word parts = where_true (is_used word) (Apply word parts)
 
 abbrev pub node_shape : List Form → Option Shape
 node_shape [] = None
-node_shape (first ∷ parts) = made (word_of first) (λ word. applied (head_of word) word parts)
+node_shape (first ∷ parts) = and_then (word_of first) (λ word. applied (head_of word) word parts)
 
 abbrev pub shape_at : Form-F Form → Option Shape
 shape_at (Form-F.Word word) = word_shape word
@@ -123,14 +100,14 @@ ty_word word =
     else None
 
 abbrev pub ty_headed : Option Head → List Form → Option TyShape
-ty_headed (Some head.Tuple) ts = made (some_of ts) (λ ts. Some (TupleType ts))
+ty_headed (Some head.Tuple) ts = and_then (some_of ts) (λ ts. Some (TupleType ts))
 ty_headed (Some head.List) (t ∷ []) = Some (ListType t)
 ty_headed (Some head.Ref) (t ∷ []) = Some (RefType t)
 ty_headed _ _ = None
 
 abbrev pub ty_node : List Form → Option TyShape
 ty_node [] = None
-ty_node (first ∷ parts) = made (word_of first) (λ word. ty_headed (head_of word) parts)
+ty_node (first ∷ parts) = and_then (word_of first) (λ word. ty_headed (head_of word) parts)
 
 abbrev pub ty_at : Form-F Form → Option TyShape
 ty_at (Form-F.Word word) = ty_word word
@@ -148,14 +125,14 @@ pub data ClauseShape : Type 0 where
 
 -- THE TABLE OF CLAUSES
 abbrev pub clause_headed : Option Head → List Form → Option ClauseShape
-clause_headed (Some head.In) (x ∷ e ∷ []) = made (word_of x) (λ x. Some (InEach x e))
+clause_headed (Some head.In) (x ∷ e ∷ []) = and_then (word_of x) (λ x. Some (InEach x e))
 clause_headed (Some head.When) (c ∷ []) = Some (WhenTrue c)
 clause_headed _ _ = None
 
 abbrev pub clause_node : List Form → Option ClauseShape
 clause_node [] = None
-clause_node (first ∷ parts) = made (word_of first) (λ word. clause_headed (head_of word) parts)
+clause_node (first ∷ parts) = and_then (word_of first) (λ word. clause_headed (head_of word) parts)
 
 -- which form of clause a tree has
 unfoldable pub clause_shape : Form → Option ClauseShape
-clause_shape form = made (node_of form) clause_node
+clause_shape form = and_then (node_of form) clause_node

@@ -6,7 +6,8 @@ ghost use Rattle.pst_syntax.specs.Counting.{trees_in, spent};
 
 use pst_sexpr::Form;
 
-/// The room that is left of so much once a tree and all trees in it are counted; `None` where there is not enough.
+/// The room that is left of so much once a tree and all trees in it are counted; `None` where there is not
+/// enough.
 #[cycle(room)]
 #[tactic(auto, using(crate::proofs::Counted::counted))]
 pub fn room_after(form: &Form, room: usize) -> Option<usize>

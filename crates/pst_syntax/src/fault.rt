@@ -41,6 +41,18 @@ impl FaultKind {
     }
 }
 
+impl fmt::Display for FaultKind {
+    ghost use Rattle.std.specs.Prelude.{Some};
+    ghost use Rattle.pst_syntax.specs.FaultName.{name_of};
+
+    ghost output = { λ kind. Some (name_of kind) };
+
+    fn fmt<W: fmt::Write>(&self, f: &mut fmt::Formatter<W>) -> fmt::Result {
+        let name = self.name();
+        write!(f, "{name}")
+    }
+}
+
 impl From<AllocError> for FaultKind {
     ghost use Rattle.std.specs.Prelude.{◌≡◌};
     ghost use Rattle.pst_syntax.specs.declared.fault.FaultKind.TheVariants.{NoMemory};
@@ -66,6 +78,7 @@ impl<T: Drop> From<AllocFailed<T>> for FaultKind {
 /// What is refused, and in which item of the model, from 1. Item 0 is the model itself.
 #[derive(Clone, Copy, Debug, PartialEq, Eq, Drop)]
 pub struct SyntaxFault {
+    /// What is refused.
     pub kind: FaultKind,
     /// The item, from 1; 0 for the model itself, and where memory was refused.
     pub item: usize,
@@ -78,9 +91,9 @@ impl fmt::Display for SyntaxFault {
     ghost output = { λ fault. Some (text_of fault) };
 
     fn fmt<W: fmt::Write>(&self, f: &mut fmt::Formatter<W>) -> fmt::Result {
-        let name = self.kind.name();
+        let kind = self.kind;
         let item = self.item;
-        write!(f, "{name} item {item}")
+        write!(f, "{kind} item {item}")
     }
 }
 

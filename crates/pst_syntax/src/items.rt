@@ -3,7 +3,10 @@
 ghost use Rattle.std.specs.Prelude.{◌≡◌};
 ghost use Rattle.std.specs.List.{list_any, count_by};
 ghost use Rattle.pst_syntax.specs.Items as spec;
-ghost use Rattle.pst_syntax.specs.Reading.{Gives};
+ghost use Rattle.pst_syntax.specs.ItemShape.{callback_shape};
+ghost use Rattle.pst_syntax.specs.Reading.{Gives, known, once};
+ghost use Rattle.pst_syntax.specs.declared.fault.FaultKind.TheVariants.{Missing};
+ghost use Rattle.std.specs.Option.{ok_or};
 ghost use Rattle.pst_syntax.specs.ShownItems.{shown_callback, shown_param};
 
 use crate::fault::FaultKind;
@@ -11,29 +14,27 @@ use crate::item_shape::{
     CallbackShape, FunShape, ItemShape, OpShape, ParamShape, callback_shape, item_shape,
     param_shape,
 };
+use crate::limits::{MAX_DECLARED, MAX_EXPR_LEVELS, MAX_PARTS, MAX_TY_LEVELS};
 use crate::names::{declared, is_free, is_name};
-use crate::read::{EXPR_ROOM, MAX_PARTS, TY_ROOM, expr, ty};
-use pst_items::{Items, Text};
+use crate::read::{expr, ty};
+use pst_items::{Boxed, Items, Text};
 use pst_model::{Expr, Fun, Item, Op, Param};
 use pst_sexpr::Form;
 use pst_value::Ty;
 use std::alloc::Global;
 
-/// The most functions, and the most operations.
-const MAX_DECLARED: usize = 64;
-
 /// A type that stands in no other one.
 fn whole_ty(alloc: Global, form: &Form) -> Result<Ty, FaultKind>
     ensures { Gives result (spec.whole_ty form.now) }
 {
-    ty(alloc, form, TY_ROOM)
+    ty(alloc, form, MAX_TY_LEVELS)
 }
 
 /// An expression that stands in no other one.
 fn whole_expr(alloc: Global, form: &Form) -> Result<Expr, FaultKind>
     ensures { Gives result (spec.whole_expr form.now) }
 {
-    expr(alloc, form, EXPR_ROOM)
+    expr(alloc, form, MAX_EXPR_LEVELS)
 }
 
 fn is_param(params: &[Param], word: &Text) -> bool
@@ -72,39 +73,54 @@ fn params_of(alloc: Global, forms: &[Form]) -> Result<Items<Param>, FaultKind>
 /// The callbacks of an operation that were read so far.
 #[derive(Drop)]
 pub struct Callbacks {
-    pre: Option<Expr>,
-    next: Option<Expr>,
-    post: Option<Expr>,
+    pre: Option<Boxed<Expr>>,
+    next: Option<Boxed<Expr>>,
+    post: Option<Boxed<Expr>>,
 }
 
+/// The expression of a callback that must stand once.
+fn callback_body(alloc: Global, is_taken: bool, body: &Form) -> Result<Boxed<Expr>, FaultKind>
+    ensures { Gives result (once is_taken (spec.whole_expr body.now)) }
+{
+    if is_taken {
+        return Err(FaultKind::DoubleName);
+    }
+    Ok(Boxed::new(alloc, whole_expr(alloc, body)?)?)
+}
+
+/// The callbacks, with one more.
 fn callback_of(
     alloc: Global,
-    mut callbacks: Callbacks,
+    callbacks: Callbacks,
     shape: &CallbackShape<'_>,
 ) -> Result<Callbacks, FaultKind>
     ensures { Gives result (spec.callback_of callbacks (shown_callback shape.now)) }
 {
+    let Callbacks { pre, next, post } = callbacks;
     match shape {
         CallbackShape::Pre(body) => {
-            if callbacks.pre.is_some() {
-                return Err(FaultKind::DoubleName);
-            }
-            callbacks.pre = Some(whole_expr(alloc, body)?);
+            let pre = Some(callback_body(alloc, pre.is_some(), body)?);
+            Ok(Callbacks { pre, next, post })
         }
         CallbackShape::Next(body) => {
-            if callbacks.next.is_some() {
-                return Err(FaultKind::DoubleName);
-            }
-            callbacks.next = Some(whole_expr(alloc, body)?);
+            let next = Some(callback_body(alloc, next.is_some(), body)?);
+            Ok(Callbacks { pre, next, post })
         }
         CallbackShape::Post(body) => {
-            if callbacks.post.is_some() {
-                return Err(FaultKind::DoubleName);
-            }
-            callbacks.post = Some(whole_expr(alloc, body)?);
+            let post = Some(callback_body(alloc, post.is_some(), body)?);
+            Ok(Callbacks { pre, next, post })
         }
     }
-    Ok(callbacks)
+}
+
+/// The callbacks, with the one that a tree spells.
+fn with_callback(alloc: Global, callbacks: Callbacks, form: &Form) -> Result<Callbacks, FaultKind>
+    ensures { Gives result (known (callback_shape form.now) (spec.callback_of callbacks)) }
+{
+    match callback_shape(form) {
+        Some(shape) => callback_of(alloc, callbacks, &shape),
+        None => Err(FaultKind::UnknownForm),
+    }
 }
 
 fn callbacks_of(alloc: Global, forms: &[Form]) -> Result<Callbacks, FaultKind>
@@ -116,10 +132,7 @@ fn callbacks_of(alloc: Global, forms: &[Form]) -> Result<Callbacks, FaultKind>
         post: None,
     };
     for form in forms {
-        let Some(shape) = callback_shape(form) else {
-            return Err(FaultKind::UnknownForm);
-        };
-        callbacks = callback_of(alloc, callbacks, &shape)?;
+        callbacks = with_callback(alloc, callbacks, form)?;
     }
     Ok(callbacks)
 }
@@ -132,15 +145,16 @@ struct AllCallbacks {
     post: Expr,
 }
 
-/// The callbacks where none is missing.
-fn all_callbacks(callbacks: Callbacks) -> Result<AllCallbacks, FaultKind>
-    ensures { Gives result (spec.all_callbacks callbacks) }
+/// The callbacks, where none is missing.
+fn all_callbacks(callbacks: Callbacks) -> Option<AllCallbacks>
+    ensures { ok_or result Missing ≡ spec.all_callbacks callbacks }
 {
-    let Callbacks { pre, next, post } = callbacks;
-    match pre.zip(next).zip(post) {
-        Some(((pre, next), post)) => Ok(AllCallbacks { pre, next, post }),
-        None => Err(FaultKind::Missing),
-    }
+    let ((pre, next), post) = callbacks.pre.zip(callbacks.next).zip(callbacks.post)?;
+    Some(AllCallbacks {
+        pre: pre.into_inner(),
+        next: next.into_inner(),
+        post: post.into_inner(),
+    })
 }
 
 /// Whether some item gives the type of the state: `(state ..)`.
@@ -217,7 +231,9 @@ fn has_op_room(items: &[Item]) -> bool
 }
 
 fn fun_of(alloc: Global, seen: &[Item], shape: &FunShape<'_>) -> Result<Fun, FaultKind>
-    ensures { Gives result (spec.fun_of shape.now.is_post seen.now shape.now.name.now shape.now.params.now shape.now.result.now shape.now.body.now) }
+    ensures { Gives result
+        (spec.fun_of shape.now.is_post seen.now shape.now.name.now shape.now.params.now
+        shape.now.result.now shape.now.body.now) }
 {
     let is_taken = has_fun(seen, shape.name);
     let name = declared(alloc, is_free(shape.name), is_taken, shape.name)?;
@@ -234,13 +250,16 @@ fn fun_of(alloc: Global, seen: &[Item], shape: &FunShape<'_>) -> Result<Fun, Fau
 }
 
 fn op_parts(alloc: Global, seen: &[Item], shape: &OpShape<'_>) -> Result<Op, FaultKind>
-    ensures { Gives result (spec.op_parts seen.now shape.now.name.now shape.now.params.now shape.now.result.now shape.now.callbacks.now) }
+    ensures { Gives result
+        (spec.op_parts seen.now shape.now.name.now shape.now.params.now
+        shape.now.result.now shape.now.callbacks.now) }
 {
     let is_taken = has_op(seen, shape.name);
     let name = declared(alloc, is_name(shape.name), is_taken, shape.name)?;
     let params = params_of(alloc, shape.params)?;
     let result = whole_ty(alloc, shape.result)?;
-    let AllCallbacks { pre, next, post } = all_callbacks(callbacks_of(alloc, shape.callbacks)?)?;
+    let callbacks = all_callbacks(callbacks_of(alloc, shape.callbacks)?);
+    let AllCallbacks { pre, next, post } = callbacks.ok_or(FaultKind::Missing)?;
     Ok(Op {
         name,
         params,

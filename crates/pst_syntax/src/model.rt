@@ -5,7 +5,8 @@ ghost use Rattle.pst_syntax.specs.Items.{IsModel};
 
 use pst_model::Source;
 
-/// A model within the limits: some tree spells it, and `read_model` alone makes it. Contracts see it as its source.
+/// A model within the limits: some tree spells it, and `read_model` alone makes it. Contracts see it as its
+/// source.
 #[derive(Debug, Drop)]
 pub struct Model {
     source: Source,

@@ -1,27 +1,26 @@
 //! Lawful names.
 
-ghost use Rattle.std.specs.Prelude.{◌≡◌};
+ghost use Rattle.std.specs.Prelude.{◌≡◌, Err};
 ghost use Rattle.std.specs.List.{list_all};
 ghost use Rattle.pst_model.specs.Names as names;
 ghost use Rattle.pst_syntax.specs.Names as spec;
 ghost use Rattle.pst_syntax.specs.Reading.{Gives, declared};
+ghost use Rattle.pst_syntax.specs.declared.fault.FaultKind.{FaultKind};
 
 use crate::fault::FaultKind;
 use crate::heads::head_of;
+use crate::limits::MAX_NAME;
 use pst_items::Text;
 use std::alloc::Global;
-
-/// The most bytes of a name.
-const MAX_NAME: usize = 32;
 
 fn is_name_byte(byte: u8) -> bool
     ensures { result ≡ names.is_name_byte byte }
 {
-    (97 <= byte && byte <= 122)
-        || (65 <= byte && byte <= 90)
-        || (48 <= byte && byte <= 57)
-        || byte == 95
-        || byte == 45
+    (b'a' <= byte && byte <= b'z')
+        || (b'A' <= byte && byte <= b'Z')
+        || (b'0' <= byte && byte <= b'9')
+        || byte == b'_'
+        || byte == b'-'
 }
 
 fn all_name_bytes(bytes: &[u8]) -> bool
@@ -35,7 +34,7 @@ fn begins_name(bytes: &[u8]) -> bool
 {
     match bytes {
         [] => false,
-        [first, rest @ ..] => 97 <= *first && *first <= 122 && all_name_bytes(rest),
+        [first, rest @ ..] => b'a' <= *first && *first <= b'z' && all_name_bytes(rest),
     }
 }
 
@@ -83,7 +82,10 @@ pub fn is_used_operation(word: &Text) -> bool
     is_name(word) && is_short(word)
 }
 
-/// A name where it is declared: whether it is lawful there, and whether it is taken.
+/// A copy of a name where it is declared, given whether it is lawful there and whether it is taken.
+///
+/// `BadName`: it is not lawful. `DoubleName`: it is taken. `OverLimit`: it has more than `MAX_NAME` bytes.
+/// `NoMemory`: memory was refused; a name that is refused takes none.
 #[tactic(auto, unfolding(crate::specs::Reading::declared))]
 pub fn declared(
     alloc: Global,
@@ -91,7 +93,9 @@ pub fn declared(
     is_taken: bool,
     word: &Text,
 ) -> Result<Text, FaultKind>
-    ensures { Gives result (declared is_lawful is_taken word.now) }
+    ensures gives { Gives result (declared is_lawful is_taken word.now) }
+    ensures refused { (kind : FaultKind) →
+        declared is_lawful is_taken word.now ≡ Err kind → result ≡ Err kind }
 {
     if !is_lawful {
         return Err(FaultKind::BadName);

@@ -1,32 +1,24 @@
 //! Reading expressions, types and clauses.
 
+ghost use Rattle.std.specs.Option.{ok_or};
 ghost use Rattle.std.specs.Prelude.{◌≡◌, ◌-◌, ◌<◌};
+ghost use Rattle.pst_syntax.specs.declared.fault.FaultKind.TheVariants.{OverLimit};
+ghost use Rattle.pst_syntax.specs.Limits.{ty_room};
 ghost use Rattle.pst_syntax.specs.Reading as spec;
 ghost use Rattle.pst_syntax.specs.Reading.{Gives};
 ghost use Rattle.pst_syntax.specs.Shown.{shown, shown_ty, shown_clause};
 
 use crate::fault::FaultKind;
-use crate::integer::integer;
+use crate::limits::{MAX_PARTS, MAX_TY_LEVELS};
 use crate::names::{declared, is_free};
 use crate::shape::{Shape, shape_of};
 use crate::ty_shape::{ClauseShape, TyShape, clause_shape, ty_shape};
 use pst_items::{Boxed, Items, Text};
 use pst_model::{Clause, Expr};
 use pst_sexpr::Form;
-use pst_value::Ty;
+use pst_value::{LIMIT, Ty};
+use pst_words::value_of;
 use std::alloc::Global;
-
-/// The most bytes of a text.
-const MAX_TEXT: usize = 65_536;
-
-/// The most items of a tuple, clauses of a comprehension, and parameters.
-pub const MAX_PARTS: usize = 8;
-
-/// The most levels of a type.
-pub const TY_ROOM: usize = 16;
-
-/// The most levels of an expression.
-pub const EXPR_ROOM: usize = 64;
 
 /// A bound name.
 fn bound(alloc: Global, name: &Text) -> Result<Text, FaultKind>
@@ -42,31 +34,28 @@ fn bound_beside(alloc: Global, other: &Text, name: &Text) -> Result<Text, FaultK
     declared(alloc, is_free(name), other.as_str() == name.as_str(), name)
 }
 
-fn int(word: &Text) -> Result<Expr, FaultKind>
-    ensures { Gives result (spec.int_of word.now) }
+/// An integer, where it has at most 64 bits.
+fn int(word: &Text) -> Option<Expr>
+    ensures { ok_or result OverLimit ≡ spec.int_of word.now }
 {
-    match integer(word) {
-        Some(number) => Ok(Expr::Int(number)),
-        None => Err(FaultKind::OverLimit),
-    }
+    Some(Expr::Int(value_of(word)?))
 }
 
 fn text(alloc: Global, text: &Text) -> Result<Expr, FaultKind>
     ensures { Gives result (spec.text_of text.now) }
 {
-    if text.len() > MAX_TEXT {
+    if text.len() > LIMIT {
         return Err(FaultKind::OverLimit);
     }
     Ok(Expr::Text(text.copy(alloc)?))
 }
 
-fn item_at(tuple: Boxed<Expr>, place: &Text) -> Result<Expr, FaultKind>
-    ensures { Gives result (spec.item_at tuple place.now) }
+/// An item of a tuple, where its place has at most 64 bits.
+fn item_at(tuple: Boxed<Expr>, place: &Text) -> Option<Expr>
+    ensures { ok_or result OverLimit ≡ spec.item_at tuple place.now }
 {
-    match integer(place) {
-        Some(place) => Ok(Expr::At(tuple, place.max(0) as u64)),
-        None => Err(FaultKind::OverLimit),
-    }
+    let place = value_of(place)?;
+    Some(Expr::At(tuple, place.max(0) as u64))
 }
 
 /// A type, with so many levels of room.
@@ -132,10 +121,11 @@ pub fn expr(alloc: Global, form: &Form, room: usize) -> Result<Expr, FaultKind>
 
 #[cycle(expr)]
 fn expr_parts(alloc: Global, shape: &Shape<'_>, room: usize) -> Result<Expr, FaultKind>
-    ensures { Gives result (spec.expr_parts (spec.ty_of spec.ty_room) (spec.expr_of room) (shown shape.now)) }
+    ensures { Gives result
+        (spec.expr_parts (spec.ty_of ty_room) (spec.expr_of room) (shown shape.now)) }
 {
     match shape {
-        Shape::Integer(word) => int(word),
+        Shape::Integer(word) => int(word).ok_or(FaultKind::OverLimit),
         Shape::Truth(truth) => Ok(Expr::Bool(*truth)),
         Shape::Quoted(bytes) => text(alloc, bytes),
         Shape::Used(name) => Ok(Expr::Name(name.copy(alloc)?)),
@@ -168,9 +158,11 @@ fn expr_parts(alloc: Global, shape: &Shape<'_>, room: usize) -> Result<Expr, Fau
             }
             Ok(Expr::Tuple(exprs(alloc, items, room)?))
         }
-        Shape::At(tuple, place) => item_at(boxed(alloc, tuple, room)?, place),
+        Shape::At(tuple, place) => {
+            item_at(boxed(alloc, tuple, room)?, place).ok_or(FaultKind::OverLimit)
+        }
         Shape::List(item, items) => {
-            let item = ty(alloc, item, TY_ROOM)?;
+            let item = ty(alloc, item, MAX_TY_LEVELS)?;
             Ok(Expr::List(item, exprs(alloc, items, room)?))
         }
         Shape::For(parts, body) => {

@@ -1,23 +1,22 @@
 //! Reading a model.
 
-ghost use Rattle.std.specs.Prelude.{◌≡◌, ◌∷◌, []};
+ghost use Rattle.std.specs.Prelude.{◌≡◌, ◌∷◌, [], Err};
 ghost use Rattle.pst_sexpr.specs.Lawful.{IsTree};
 ghost use Rattle.pst_syntax.specs.Items as spec;
-ghost use Rattle.pst_syntax.specs.Items.{Answers, model_of};
+ghost use Rattle.pst_syntax.specs.Items.{Answers, head_of_model, in_item, model_of};
+ghost use Rattle.pst_syntax.specs.declared.fault.FaultKind.{FaultKind};
 
 use crate::count::room_after;
 use crate::fault::{FaultKind, SyntaxFault, fault};
 use crate::item_shape::{ModelShape, model_shape};
 use crate::items::{has_command, has_init, has_state, item_of};
+use crate::limits::MAX_TREES;
 use crate::model::Model;
 use crate::names::{declared, is_name};
 use pst_items::Items;
 use pst_model::{Item, Source};
 use pst_sexpr::{Form, Tree};
 use std::alloc::Global;
-
-/// The most trees of a model, its own among them.
-const MAX_TREES: usize = 20_000;
 
 fn items_of(alloc: Global, forms: &[Form]) -> Result<Items<Item>, SyntaxFault>
     ensures { Answers result (spec.items_from [] forms.now) }
@@ -35,7 +34,9 @@ fn items_of(alloc: Global, forms: &[Form]) -> Result<Items<Item>, SyntaxFault>
 
 /// The model that a tree spells.
 fn source_of(alloc: Global, form: &Form) -> Result<Source, SyntaxFault>
-    ensures { Answers result (model_of (form.now ∷ [])) }
+    ensures answers { Answers result (model_of (form.now ∷ [])) }
+    ensures head { (kind : FaultKind) →
+        head_of_model (form.now ∷ []) ≡ Err kind → result ≡ Err (in_item 0 kind) }
 {
     if room_after(form, MAX_TREES).is_none() {
         return Err(fault(FaultKind::OverLimit, 0));
@@ -59,10 +60,20 @@ fn source_of(alloc: Global, form: &Form) -> Result<Source, SyntaxFault>
 
 /// Reads the model that the first tree spells; further trees are not looked at.
 ///
-/// The fault is the first one, where each tree is judged before its parts, and these from left to right. Its item is the
-/// one in which it stands, from 1, or 0 for the model itself, as where there is no tree. `NoMemory`: memory was refused.
+/// The fault is the first one, where each tree is judged before its parts, and these from left to right. Its
+/// item is the one in which it stands, from 1, or 0 for the model itself.
+///
+/// `Missing` of item 0: there is no tree, or no state, init or command. `OverLimit` of item 0: the first tree
+/// holds more than `MAX_TREES` trees, or the model's name is too long. `UnknownForm` of item 0: the first
+/// tree is no model. `NoMemory`: memory was refused. What is refused before the items takes no memory, so it
+/// is never `NoMemory`.
 pub fn read_model(alloc: Global, trees: &[Tree]) -> Result<Model, SyntaxFault>
-    ensures { Answers result (model_of trees.now) }
+    // The answer is that of the definition, unless memory is refused.
+    ensures answers { Answers result (model_of trees.now) }
+    // No tree, too many trees, no model, or a refused name of the model: the answer is this fault, never
+    // `NoMemory`.
+    ensures head { (kind : FaultKind) →
+        head_of_model trees.now ≡ Err kind → result ≡ Err (in_item 0 kind) }
 {
     let Some(tree) = trees.first() else {
         return Err(fault(FaultKind::Missing, 0));

@@ -1,17 +1,19 @@
 //! What a tree is as an expression, one level deep.
 
 ghost use Rattle.std.specs.Prelude.{◌≡◌, option_copied};
-ghost use Rattle.pst_syntax.specs.Integers.{is_place};
+ghost use Rattle.pst_syntax.specs.Places.{is_place};
 ghost use Rattle.pst_syntax.specs.Names.{is_used_operation};
+ghost use Rattle.pst_sexpr.specs.Parts.{where_true};
 ghost use Rattle.pst_syntax.specs.Shape as spec;
 ghost use Rattle.pst_syntax.specs.Shown.{shown_option};
 
 use crate::heads::{Head, head_of};
-use crate::integer::{is_integer, is_place};
 use crate::names::{is_used, is_used_operation};
+use crate::place::is_place;
 use pst_items::Text;
 use pst_model as model;
-use pst_sexpr::Form;
+use pst_sexpr::{Form, node_of, word_of};
+use pst_words::is_integer;
 
 /// An expression, whose parts are trees yet.
 #[derive(Drop)]
@@ -35,27 +37,7 @@ pub enum Shape<'a> {
     Apply(&'a Text, &'a [Form]),
 }
 
-/// The word that a tree is.
-pub fn word_of(form: &Form) -> Option<&Text>
-    ensures { option_copied result ≡ spec.word_of form.now }
-{
-    match form {
-        Form::Word(word) => Some(word),
-        Form::Text(_) | Form::Node(_) => None,
-    }
-}
-
-/// The parts of the node that a tree is.
-pub fn node_of(form: &Form) -> Option<&[Form]>
-    ensures { option_copied result ≡ spec.node_of form.now }
-{
-    match form {
-        Form::Node(parts) => Some(parts.as_slice()),
-        Form::Text(_) | Form::Word(_) => None,
-    }
-}
-
-/// The trees where there is one at least.
+/// The trees, or `None` where there are none.
 pub fn some_of(forms: &[Form]) -> Option<&[Form]>
     ensures { option_copied result ≡ spec.some_of forms.now }
 {
@@ -84,7 +66,7 @@ fn word_shape(word: &Text) -> Option<Shape<'_>>
 }
 
 fn at_shape<'a>(tuple: &'a Form, place: &'a Text) -> Option<Shape<'a>>
-    ensures { shown_option result ≡ spec.where_true (is_place place.now) (spec.At tuple.now place.now) }
+    ensures { shown_option result ≡ where_true (is_place place.now) (spec.At tuple.now place.now) }
 {
     if is_place(place) {
         Some(Shape::At(tuple, place))
@@ -94,7 +76,8 @@ fn at_shape<'a>(tuple: &'a Form, place: &'a Text) -> Option<Shape<'a>>
 }
 
 fn call_shape<'a>(operation: &'a Text, arguments: &'a [Form]) -> Option<Shape<'a>>
-    ensures { shown_option result ≡ spec.where_true (is_used_operation operation.now) (spec.Call operation.now arguments.now) }
+    ensures { shown_option result ≡
+        where_true (is_used_operation operation.now) (spec.Call operation.now arguments.now) }
 {
     if is_used_operation(operation) {
         Some(Shape::Call(operation, arguments))

@@ -5,9 +5,9 @@ ghost use Rattle.pst_syntax.specs.Shape as spec;
 ghost use Rattle.pst_syntax.specs.Shown.{shown_ty_option, shown_clause_option};
 
 use crate::heads::{Head, head_of};
-use crate::shape::{node_of, some_of, word_of};
+use crate::shape::some_of;
 use pst_items::Text;
-use pst_sexpr::Form;
+use pst_sexpr::{Form, node_of, word_of};
 
 /// A type, whose parts are trees yet.
 #[derive(Drop)]

@@ -4,11 +4,12 @@ use pst_case::{Run, shape};
 use pst_cli::{Status, check_text, judge_text};
 use pst_eval::{Callbacks, Plain};
 use pst_judge::verdict;
+use pst_load::load;
 use pst_rules::Typed;
 use pst_runs::read_runs;
-use pst_sexpr::{Out, read};
+use pst_sexpr::read;
+use pst_sink::Out;
 use pst_syntax::read_model;
-use pst_typing::check;
 use pst_value::Value;
 use std::alloc::{AllocError, Global};
 
@@ -78,9 +79,8 @@ pub fn judge_told(alloc: Global, bytes: &[u8]) -> Result<String, AllocError> {
 
 /// The well-typed model that a text begins with.
 pub fn typed_of(alloc: Global, text: &str) -> Option<Typed> {
-    let trees = read(alloc, text.as_bytes()).ok()?;
-    let model = read_model(alloc, trees.as_slice()).ok()?;
-    check(alloc, model).ok()
+    let file = load(alloc, text.as_bytes()).ok()?.ok()?;
+    Some(file.typed)
 }
 
 fn opening_told(alloc: Global, text: &str) -> Result<String, AllocError> {

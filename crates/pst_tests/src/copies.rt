@@ -1,19 +1,23 @@
 //! Copies are equal to what they are copies of.
+ghost use Rattle.std.specs.Prelude.{◌≡◌};
 
 use crate::answers::typed_of;
 use crate::models::{COUNTER, REGISTRY};
-use pst_case::{Case, History, Run};
+use pst_case::{Case, History, Run, shape};
+use pst_model::Source;
 use pst_runs::read_runs;
 use pst_sexpr::read;
 use std::alloc::{AllocError, Global};
 use std::test::Fail;
 
-/// The first run behind a model.
-fn run_of(alloc: Global, model: &str, item: &str) -> Option<Run> {
+/// Whether the first run behind a model is equal to its copy.
+fn is_copied(alloc: Global, model: &str, item: &str) -> Option<bool> {
     let typed = typed_of(alloc, model)?;
     let trees = read(alloc, item.as_bytes()).ok()?;
     let mut runs = read_runs(alloc, &typed, trees.as_slice()).ok()?;
-    runs.pop()
+    let Run { shaped, history } = runs.pop()?;
+    let shaped = shape(alloc, &typed, shaped.into_case()).ok()?;
+    run_is_copied(alloc, typed.source(), &Run { shaped, history }).ok()
 }
 
 /// Whether copies of a case, of its commands and of their arguments are equal.
@@ -44,9 +48,11 @@ fn history_is_copied(alloc: Global, history: &History) -> Result<bool, AllocErro
 }
 
 /// Whether a copy of a run is equal, and so are those of its parts.
-fn run_is_copied(alloc: Global, run: &Run) -> Result<bool, AllocError> {
-    let copy = run.copy(alloc)?;
-    let shaped = run.shaped.copy(alloc)?;
+fn run_is_copied(alloc: Global, model: &Source, run: &Run) -> Result<bool, AllocError>
+    requires { run.now.shaped.model ≡ model.now }
+{
+    let copy = run.copy(alloc, model)?;
+    let shaped = run.shaped.copy(alloc, model)?;
     let history_stands = match &run.history {
         Some(history) => history_is_copied(alloc, history)?,
         None => true,
@@ -71,8 +77,7 @@ fn copies_are_equal(rt: HostRuntime) -> Result<(), Fail> {
         (REGISTRY, "(case (prefix (new) (close $01)) (left) (right))"),
     ];
     for (model, item) in rows {
-        let run = run_of(alloc, model, item).ok_or("no run")?;
-        assert!(rt; run_is_copied(alloc, &run)?, "{item}");
+        assert!(rt; is_copied(alloc, model, item) == Some(true), "{item}");
     }
     Ok(())
 }

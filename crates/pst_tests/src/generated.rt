@@ -41,6 +41,7 @@ fn is_generated(alloc: Global, row: &Row<'_>) -> Option<bool> {
         &mut words,
         row.commands,
         row.branches,
+        0,
     )
     .ok()?;
     let valid = answer.ok()?;
@@ -149,7 +150,7 @@ fn fault_told(
     words: &mut Words<'_>,
 ) -> Option<(u32, &'static str, &'static str)> {
     let typed = typed_of(alloc, model)?;
-    let answer = generate(&Plain::new(&typed), alloc, &typed, words, 3, 2).ok()?;
+    let answer = generate(&Plain::new(&typed), alloc, &typed, words, 3, 2, 0).ok()?;
     let fault = answer.err()?;
     Some((fault.command, fault.callback.name(), fault.fault.name()))
 }

@@ -36,6 +36,8 @@ mod renumbered;
 #[cfg(test)]
 mod rows;
 #[cfg(test)]
+mod suffixes;
+#[cfg(test)]
 mod trees;
 #[cfg(test)]
 mod types;

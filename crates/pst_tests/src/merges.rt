@@ -1,6 +1,6 @@
 //! The search over merges, on a lamp.
 
-use pst_grid::{EveryAnswer, SomeAnswer, Steps, Turn, Why, every, some, some_plainly};
+use pst_grid::{Ending, EveryAnswer, SomeAnswer, Steps, Turn, Why, every, some, some_plainly};
 use std::alloc::{AllocError, Global};
 use std::cell::Cell;
 use std::test::Fail;
@@ -25,19 +25,22 @@ impl Command {
 }
 
 /// A lamp, which is off at first. One command turns it on and one turns it off, one is true only where it is on, and one
-/// faults where it is off. All other commands are true, and leave it.
+/// faults where it is off. All other commands are true, and leave it. When all branches have ended it may be asked for again: this
+/// is true only where it is on.
 #[derive(Drop)]
 struct Lamp {
     on: Command,
     off: Command,
     asks: Command,
     needs: Command,
+    asks_last: bool,
     steps_made: Cell<usize>,
 }
 
 impl Steps for Lamp {
-    ghost use Rattle.std.specs.Prelude.{◌==◌, ◌&&◌, if◌then◌else◌, true, false};
+    ghost use Rattle.std.specs.Prelude.{◌==◌, ◌&&◌, not, if◌then◌else◌, true, false};
     ghost use Rattle.std.proofs.Common.{rules};
+    ghost use Rattle.pst_grid.specs.declared.answer.Ending.TheVariants.{AllTrue, StopsAt};
     ghost use Rattle.pst_grid.specs.declared.answer.Turn.TheVariants.{Next, Stop};
     ghost use Rattle.pst_grid.specs.declared.answer.Why.TheVariants.{False, Fault};
 
@@ -56,6 +59,10 @@ impl Steps for Lamp {
         if (b == lamp.asks.branch) && (i == lamp.asks.index) then Stop False else
         if (b == lamp.needs.branch) && (i == lamp.needs.index) then Stop (Fault i) else
         Next false };
+
+    ghost rest = { λ lamp is_on. if lamp.asks_last && not is_on then StopsAt 0 False else AllTrue };
+
+    ghost most_rest = { λ _. 1 };
 
     ghost exact = { Prim.search rules };
 
@@ -85,6 +92,18 @@ impl Steps for Lamp {
         Ok(Turn::Next(false))
     }
 
+    fn run_rest(&self, _alloc: Global, state: &bool) -> Result<(Ending<usize>, usize), AllocError> {
+        if !self.asks_last {
+            return Ok((Ending::AllTrue, 0));
+        }
+        self.steps_made.set(self.steps_made.get().saturating_add(1));
+        if *state {
+            Ok((Ending::AllTrue, 1))
+        } else {
+            Ok((Ending::StopsAt(0, Why::False), 1))
+        }
+    }
+
     fn copy(&self, _alloc: Global, state: &bool) -> Result<bool, AllocError> {
         Ok(*state)
     }
@@ -97,8 +116,15 @@ impl Lamp {
             off,
             asks,
             needs,
+            asks_last: false,
             steps_made: Cell::new(0),
         }
+    }
+
+    /// The lamp, asked for when all branches have ended.
+    fn asked_last(mut self) -> Lamp {
+        self.asks_last = true;
+        self
     }
 }
 
@@ -128,6 +154,42 @@ fn steps_are_counted(rt: HostRuntime) -> Result<(), Fail> {
         assert!(rt; made <= most, "{made} steps");
         assert_eq!(rt; made, steps.steps_made.get());
     }
+    Ok(())
+}
+
+// One branch turns the lamp on and the other off: where it is asked for last, only the merge that turns it on last is true to its
+// end, and the other one comes to its end before it is false.
+#[test]
+fn each_end_is_asked(rt: HostRuntime) -> Result<(), Fail> {
+    let alloc = rt.alloc();
+    let none = Command::NONE;
+    let lamp = Lamp::new(Command::at(0, 0), Command::at(1, 0), none, none).asked_last();
+    let (answer, _) = some(alloc, &lamp, &[1, 1], &false)?;
+    assert!(rt;
+        matches!(&answer, SomeAnswer::Found { word } if word.as_slice() == [1, 0].as_slice()),
+        "{answer:?}"
+    );
+    let (answer, _) = some_plainly(alloc, &lamp, &[1, 1], &false)?;
+    assert!(rt;
+        matches!(&answer, SomeAnswer::Found { word } if word.as_slice() == [1, 0].as_slice()),
+        "{answer:?}"
+    );
+    let (answer, _) = every(alloc, &lamp, &[1, 1], &false)?;
+    assert!(rt;
+        matches!(&answer, EveryAnswer::Not { word, at: 2, why: Why::False } if word.as_slice() == [0, 1].as_slice()),
+        "{answer:?}"
+    );
+    let dark = Lamp::new(none, none, none, none).asked_last();
+    let (answer, _) = some(alloc, &dark, &[2, 1], &false)?;
+    assert!(rt;
+        matches!(answer, SomeAnswer::Nothing { far: 3 }),
+        "{answer:?}"
+    );
+    let (answer, _) = some(alloc, &dark, &[0, 0], &false)?;
+    assert!(rt;
+        matches!(answer, SomeAnswer::Nothing { far: 0 }),
+        "{answer:?}"
+    );
     Ok(())
 }
 

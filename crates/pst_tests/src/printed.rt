@@ -2,7 +2,8 @@
 
 use crate::models::{COUNTER, DIVIDING, KINDS, MEETING, ONE, REGISTRY, TOP};
 use pst_print::print_model;
-use pst_sexpr::{Out, Tree, read, write};
+use pst_sexpr::{Tree, read, write};
+use pst_sink::Out;
 use pst_syntax::read_model;
 use std::alloc::{AllocError, Global};
 use std::test::Fail;

@@ -1,7 +1,7 @@
 //! Values with new numbers.
 
+use pst_case::renumber_value;
 use pst_items::{Boxed, Items};
-use pst_renumber::renumber_value;
 use pst_value::Value;
 use std::alloc::{AllocError, Global};
 use std::test::Fail;

@@ -2,7 +2,8 @@
 ghost use Rattle.std.specs.Prelude.{Bool, List, ℕ, Option, Some};
 
 use pst_items::Text;
-use pst_sexpr::{Failed, Form, Out, Sink, Tree, put_all, put_each, read, write};
+use pst_sexpr::{Form, Tree, read, write};
+use pst_sink::{Failed, Out, Sink, put_all, put_each};
 use std::test::Fail;
 
 /// A sink in memory with room for a number of bytes.

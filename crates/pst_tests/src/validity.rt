@@ -20,7 +20,7 @@ fn validity_told(alloc: Global, model: &str, item: &str) -> Option<&'static str>
     let shaped = shape(alloc, &typed, case).ok()?;
     match valid(&Plain::new(&typed), alloc, shaped) {
         Ok(accepted) => {
-            let copy = accepted.copy(alloc).ok()?;
+            let copy = accepted.copy(alloc, typed.source()).ok()?;
             let is_kept = *copy.shaped().case() == wanted;
             let shaped = accepted.into_shaped();
             Some(if is_kept && *shaped.case() == wanted {

@@ -146,25 +146,34 @@ built_type (Clause-F.When e ∷ cs) body G = where_true (is_ty (e G) ty.Bool) (b
 abbrev pub operation_called : List Item → Name → Option Op
 operation_called items x = number_of items x >>= (λ n. where_true (nat_lt n (2 ^ 32)) (operation_of items n))
 
--- one form, in a mode, by the operations of the items and by the functions of the earlier ones, given the last first
+-- one form, in a mode, by the operations of the items and by the functions of the earlier ones, given the
+-- last first
 abbrev pub type_at : (items earlier : List Item) (post : Bool) → Expr-F Part Finds → Finds
 type_at items earlier post (Expr-F.Int n) G = where_true (is_i64 n) (Some ty.Int)
 type_at items earlier post (Expr-F.Bool b) G = Some ty.Bool
 type_at items earlier post (Expr-F.Text t) G = where_true (is_text t) (Some ty.Text)
 type_at items earlier post (Expr-F.Name x) G = type_named G x
 type_at items earlier post (Expr-F.Let x e b) G = e G >>= (λ S. b ((x, S) ∷ G))
-type_at items earlier post (Expr-F.If c a b) G = where_true (is_ty (c G) ty.Bool) (a G >>= (λ T. where_true (is_ty (b G) T) (Some T)))
-type_at items earlier post (Expr-F.And a b) G = where_true (is_ty (a G) ty.Bool && is_ty (b G) ty.Bool) (Some ty.Bool)
-type_at items earlier post (Expr-F.Or a b) G = where_true (is_ty (a G) ty.Bool && is_ty (b G) ty.Bool) (Some ty.Bool)
+type_at items earlier post (Expr-F.If c a b) G =
+    where_true (is_ty (c G) ty.Bool) (a G >>= (λ T. where_true (is_ty (b G) T) (Some T)))
+type_at items earlier post (Expr-F.And a b) G =
+    where_true (is_ty (a G) ty.Bool && is_ty (b G) ty.Bool) (Some ty.Bool)
+type_at items earlier post (Expr-F.Or a b) G =
+    where_true (is_ty (a G) ty.Bool && is_ty (b G) ty.Bool) (Some ty.Bool)
 type_at items earlier post (Expr-F.Unary op e) G = e G >>= unary_type post op
 type_at items earlier post (Expr-F.Binary op a b) G = a G >>= (λ R. b G >>= binary_type post op R)
 type_at items earlier post (Expr-F.Tuple es) G = all_types es G >>= (λ Ts. Some (ty.Tuple Ts))
 type_at items earlier post (Expr-F.At e place) G = e G >>= (λ T. part_type T place)
-type_at items earlier post (Expr-F.List T es) G = where_true (nat_le (length es) limit && all_have es G T) (Some (ty.List T))
+type_at items earlier post (Expr-F.List T es) G =
+    where_true (nat_le (length es) limit && all_have es G T) (Some (ty.List T))
 type_at items earlier post (Expr-F.For cs b) G = built_type cs b G >>= (λ T. Some (ty.List T))
-type_at items earlier post (Expr-F.Fold x e acc i b) G = e G >>= item_type >>= (λ S. i G >>= (λ T. where_true (is_ty (b ((acc, T) ∷ (x, S) ∷ G)) T) (Some T)))
-type_at items earlier post (Expr-F.Call x es) G = operation_called items x >>= (λ o. where_true (each_has es G (types_of o.params)) (Some ty.Call))
-type_at items earlier post (Expr-F.Apply f es) G = signature earlier f >>= (λ g. where_true ((post || not g.is_post) && each_has es G (types_of g.params)) (Some g.result))
+type_at items earlier post (Expr-F.Fold x e acc i b) G =
+    e G >>= item_type >>= (λ S. i G >>= (λ T. where_true (is_ty (b ((acc, T) ∷ (x, S) ∷ G)) T) (Some T)))
+type_at items earlier post (Expr-F.Call x es) G =
+    operation_called items x >>= (λ o. where_true (each_has es G (types_of o.params)) (Some ty.Call))
+type_at items earlier post (Expr-F.Apply f es) G =
+    signature earlier f >>= (λ g.
+    where_true ((post || not g.is_post) && each_has es G (types_of g.params)) (Some g.result))
 
 abbrev pub part_at : Clause-F Part Finds → Part
 part_at (Clause-F.In x e) = Clause-F.In x e

@@ -31,7 +31,8 @@ abbrev pub well_item : (items : List Item) (S : Ty) (earlier : List Item) → It
 well_item items S earlier (item.State T) = not (holds_call T)
 well_item items S earlier (item.Init e) = has_type items false [] e S
 well_item items S earlier (item.Command e) = has_type items false ((name_s, S) ∷ []) e (ty.List ty.Call)
-well_item items S earlier (item.Fun f) = is_ty (type_of items earlier f.is_post f.body (context_of f.params)) f.result
+well_item items S earlier (item.Fun f) =
+    is_ty (type_of items earlier f.is_post f.body (context_of f.params)) f.result
 well_item items S earlier (item.Op o) = well_operation items S o
 
 -- the number of the first item that is not well typed, of those from a number on

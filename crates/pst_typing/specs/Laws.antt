@@ -22,11 +22,15 @@ TypedIsFound = (items earlier : List Item) (post : Bool) (G : Context) (e : Expr
 
 -- an item that passes the test is well typed
 abbrev pub PassedIsWell : Type 0
-PassedIsWell = (items : List Item) (S : Ty) (earlier : List Item) (i : Item) → well_item items S earlier i ≡ true → WellItem items S earlier i
+PassedIsWell =
+    (items : List Item) (S : Ty) (earlier : List Item) (i : Item) → well_item items S earlier i ≡ true →
+    WellItem items S earlier i
 
 -- an item that is well typed passes the test
 abbrev pub WellIsPassed : Type 0
-WellIsPassed = (items : List Item) (S : Ty) (earlier : List Item) (i : Item) → WellItem items S earlier i → well_item items S earlier i ≡ true
+WellIsPassed =
+    (items : List Item) (S : Ty) (earlier : List Item) (i : Item) → WellItem items S earlier i →
+    well_item items S earlier i ≡ true
 
 -- where the search gives no number, all items are well typed
 abbrev pub NoneIsWell : Type 0
@@ -34,7 +38,9 @@ NoneIsWell = (items : List Item) (S : Ty) → first_ill items S 1 [] items ≡ N
 
 -- where it gives a number, that is of the least item that is not
 abbrev pub SomeIsLeast : Type 0
-SomeIsLeast = (items : List Item) (S : Ty) (number : ℕ) → first_ill items S 1 [] items ≡ Some number → IsLeastIll items S number
+SomeIsLeast =
+    (items : List Item) (S : Ty) (number : ℕ) → first_ill items S 1 [] items ≡ Some number →
+    IsLeastIll items S number
 
 -- no model with an item that is not well typed is well typed
 abbrev pub IllIsNotWell : Type 0

@@ -1,4 +1,5 @@
 //! The check of a model.
+
 ghost use Rattle.std.specs.Prelude.{IfOk};
 ghost use Rattle.pst_typing.specs.Checked.{Checks};
 ghost use Rattle.pst_typing.specs.Least.{IsWhole, Judged};
@@ -24,8 +25,9 @@ fn judge(alloc: Global, source: &Source) -> Result<Option<usize>, AllocError>
     }
 }
 
-/// Checks a model: well typed, or back with its fault. The fault is the least item that is not well typed, unless memory is
-/// refused.
+/// Checks a model. It answers the model as well typed, or gives it back with a fault.
+///
+/// `Item`: the least item that is not well typed. `NoMemory`: memory was refused.
 pub fn check(alloc: Global, model: Model) -> Result<Typed, (Model, TypeFault)>
     ensures { Checks model result }
 {

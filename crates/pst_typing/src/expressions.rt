@@ -38,9 +38,9 @@ fn find_type(expr: &Expr, context: &Context<'_>, scope: &Scope<'_>) -> Result<Ty
     ensures { Answers (type_in context.now expr.now (names_of scope.now)) result }
 {
     match expr {
-        Expr::Int(number) => int_type(*number),
+        Expr::Int(number) => Ok(int_type(*number)),
         Expr::Bool(_) => Ok(Ty::Bool),
-        Expr::Text(text) => text_type(text.as_bytes()),
+        Expr::Text(text) => text_type(text.as_bytes()).ok_or(Refusal::Ill),
         Expr::Name(name) => find_name(context.alloc, scope, name.as_bytes()),
         Expr::Let(name, bound, body) => {
             let ty = find_type(bound.get(), context, scope)?;
@@ -65,12 +65,13 @@ fn find_type(expr: &Expr, context: &Context<'_>, scope: &Scope<'_>) -> Result<Ty
         }
         Expr::Unary(operator, operand) => {
             let ty = find_type(operand.get(), context, scope)?;
-            unary_type(context.is_post, *operator, ty)
+            unary_type(context.is_post, *operator, ty).ok_or(Refusal::Ill)
         }
         Expr::Binary(operator, first, second) => {
             let left = find_type(first.get(), context, scope)?;
             let right = find_type(second.get(), context, scope)?;
-            binary_type(context.alloc, context.is_post, *operator, left, &right)
+            let ty = binary_type(context.alloc, context.is_post, *operator, left, &right)?;
+            ty.ok_or(Refusal::Ill)
         }
         Expr::Tuple(exprs) => Ok(Ty::Tuple(find_all(exprs.as_slice(), context, scope)?)),
         Expr::At(tuple, place) => {
@@ -90,7 +91,7 @@ fn find_type(expr: &Expr, context: &Context<'_>, scope: &Scope<'_>) -> Result<Ty
         }
         Expr::Fold(name, list, acc, first, body) => {
             let list = find_type(list.get(), context, scope)?;
-            let item = item_type(list)?;
+            let item = item_type(list).ok_or(Refusal::Ill)?;
             let built = find_type(first.get(), context, scope)?;
             let outer = Scope::With(name.as_bytes(), &item, &*scope);
             let inner = Scope::With(acc.as_bytes(), &built, &outer);
@@ -160,7 +161,8 @@ fn expect_all(
     context: &Context<'_>,
     scope: &Scope<'_>,
 ) -> Result<(), Refusal>
-    ensures { Passes (spec.all_have (map (type_in context.now) exprs.now) (names_of scope.now) ty.now) result }
+    ensures { Passes
+        (spec.all_have (map (type_in context.now) exprs.now) (names_of scope.now) ty.now) result }
 {
     for expr in exprs {
         expect_type(expr, ty, context, scope)?;
@@ -176,7 +178,9 @@ fn expect_each(
     context: &Context<'_>,
     scope: &Scope<'_>,
 ) -> Result<(), Refusal>
-    ensures { Passes (spec.each_has (map (type_in context.now) exprs.now) (names_of scope.now) (types_of params.now)) result }
+    ensures { Passes
+        (spec.each_has (map (type_in context.now) exprs.now) (names_of scope.now) (types_of params.now))
+        result }
 {
     if exprs.len() != params.len() {
         return Err(Refusal::Ill);
@@ -195,14 +199,17 @@ fn find_built(
     context: &Context<'_>,
     scope: &Scope<'_>,
 ) -> Result<Ty, Refusal>
-    ensures { Answers (spec.built_type (parts_in context.now clauses.now) (type_in context.now body.now) (names_of scope.now)) result }
+    ensures { Answers
+        (spec.built_type (parts_in context.now clauses.now) (type_in context.now body.now)
+        (names_of scope.now))
+        result }
 {
     match split_first(clauses) {
         None => find_type(body, context, scope),
         Some((first, rest)) => match first {
             Clause::In(name, list) => {
                 let list = find_type(list, context, scope)?;
-                let item = item_type(list)?;
+                let item = item_type(list).ok_or(Refusal::Ill)?;
                 let inner = Scope::With(name.as_bytes(), &item, &*scope);
                 find_built(rest, body, context, &inner)
             }

@@ -31,7 +31,8 @@ fn has_type(
 }
 
 fn has_pre(alloc: Global, items: &[Item], state: &Ty, op: &Op) -> Result<bool, AllocError>
-    ensures { IfOk result (λ has. has ≡ spec.has_type items.now false (rules.pre_context state.now op.now) op.now.pre truth) }
+    ensures { IfOk result (λ has. has ≡
+        spec.has_type items.now false (rules.pre_context state.now op.now) op.now.pre truth) }
 {
     let context = Context {
         alloc,
@@ -45,7 +46,8 @@ fn has_pre(alloc: Global, items: &[Item], state: &Ty, op: &Op) -> Result<bool, A
 }
 
 fn has_next(alloc: Global, items: &[Item], state: &Ty, op: &Op) -> Result<bool, AllocError>
-    ensures { IfOk result (λ has. has ≡ spec.has_type items.now false (rules.next_context state.now op.now) op.now.next state.now) }
+    ensures { IfOk result (λ has. has ≡
+        spec.has_type items.now false (rules.next_context state.now op.now) op.now.next state.now) }
 {
     let context = Context {
         alloc,
@@ -61,7 +63,8 @@ fn has_next(alloc: Global, items: &[Item], state: &Ty, op: &Op) -> Result<bool, 
 }
 
 fn has_post(alloc: Global, items: &[Item], state: &Ty, op: &Op) -> Result<bool, AllocError>
-    ensures { IfOk result (λ has. has ≡ spec.has_type items.now true (rules.post_context state.now op.now) op.now.post truth) }
+    ensures { IfOk result (λ has. has ≡
+        spec.has_type items.now true (rules.post_context state.now op.now) op.now.post truth) }
 {
     let context = Context {
         alloc,
@@ -107,7 +110,8 @@ fn has_opening(alloc: Global, items: &[Item], state: &Ty, expr: &Expr) -> Result
 }
 
 fn has_calls(alloc: Global, items: &[Item], state: &Ty, expr: &Expr) -> Result<bool, AllocError>
-    ensures { IfOk result (λ has. has ≡ spec.has_type items.now false ((rules.name_s, state.now) ∷ []) expr.now (list call)) }
+    ensures { IfOk result (λ has. has ≡
+        spec.has_type items.now false ((rules.name_s, state.now) ∷ []) expr.now (list call)) }
 {
     let context = Context {
         alloc,

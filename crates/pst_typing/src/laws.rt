@@ -13,7 +13,8 @@ pub fn items_are_exact()
     ensures well { WellIsPassed }
 {}
 
-/// The number that the search gives is that of the least item that is not well typed; where it gives none, all are.
+/// The number that the search gives is that of the least item that is not well typed; where it gives none,
+/// all are.
 pub fn first_ill_is_least()
     ensures none { NoneIsWell }
     ensures some { SomeIsLeast }

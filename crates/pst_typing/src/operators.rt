@@ -1,5 +1,5 @@
 //! The types of what operators give, and of the parts of types.
-ghost use Rattle.std.specs.Prelude.{◌≡◌, Some};
+ghost use Rattle.std.specs.Prelude.{◌≡◌, Some, IfOk};
 ghost use Rattle.std.specs.List.{list_all};
 ghost use Rattle.pst_typing.specs.Answers.{Answers};
 ghost use Rattle.pst_typing.specs.Decision as spec;
@@ -11,13 +11,13 @@ use crate::types::{copy_type, holds_ref};
 use pst_items::Boxed;
 use pst_model::{Binary, Unary};
 use pst_value::{LIMIT, Ty};
-use std::alloc::Global;
+use std::alloc::{AllocError, Global};
 
 /// A type, where a test is passed.
-fn where_true(test: bool, ty: Ty) -> Result<Ty, Refusal>
-    ensures { Answers (spec.where_true test (Some ty)) result }
+fn where_true(test: bool, ty: Ty) -> Option<Ty>
+    ensures { result ≡ spec.where_true test (Some ty) }
 {
-    if test { Ok(ty) } else { Err(Refusal::Ill) }
+    if test { Some(ty) } else { None }
 }
 
 fn is_sequence(ty: &Ty) -> bool
@@ -58,23 +58,23 @@ fn are_compared(is_post: bool, first: &Ty, second: &Ty) -> bool
     *first == *second && (is_post || !holds_ref(first))
 }
 
-/// The type of a list's items.
-pub fn item_type(list: Ty) -> Result<Ty, Refusal>
-    ensures { Answers (spec.item_type list) result }
+/// The type of a list's items, or `None` where the type is no list type.
+pub fn item_type(list: Ty) -> Option<Ty>
+    ensures { result ≡ spec.item_type list }
 {
     match list {
-        Ty::List(item) => Ok(item.into_inner()),
-        _ => Err(Refusal::Ill),
+        Ty::List(item) => Some(item.into_inner()),
+        _ => None,
     }
 }
 
-/// The type of the result that a reference names.
-fn referred_type(reference: Ty) -> Result<Ty, Refusal>
-    ensures { Answers (spec.referred_type reference) result }
+/// The type of the result that a reference names, or `None` where the type is no reference type.
+fn referred_type(reference: Ty) -> Option<Ty>
+    ensures { result ≡ spec.referred_type reference }
 {
     match reference {
-        Ty::Ref(named) => Ok(named.into_inner()),
-        _ => Err(Refusal::Ill),
+        Ty::Ref(named) => Some(named.into_inner()),
+        _ => None,
     }
 }
 
@@ -94,33 +94,37 @@ pub fn part_type(alloc: Global, tuple: &Ty, place: u64) -> Result<Ty, Refusal>
     }
 }
 
-/// The type of an operator's value, by that of its operand.
-pub fn unary_type(is_post: bool, operator: Unary, operand: Ty) -> Result<Ty, Refusal>
-    ensures { Answers (spec.unary_type is_post operator operand) result }
+/// The type of an operator's value, by that of its operand, or `None` where the operator takes no such
+/// operand.
+pub fn unary_type(is_post: bool, operator: Unary, operand: Ty) -> Option<Ty>
+    ensures { result ≡ spec.unary_type is_post operator operand }
 {
     match operator {
         Unary::Not => where_true(operand == Ty::Bool, Ty::Bool),
         Unary::Len => where_true(is_sequence(&operand), Ty::Int),
         Unary::Deref => {
             if !is_post {
-                return Err(Refusal::Ill);
+                return None;
             }
             referred_type(operand)
         }
     }
 }
 
-/// The type of an operator's value, by those of its operands.
+/// The type of an operator's value, by those of its operands, or `None` where the operator takes no such
+/// operands.
+///
+/// `AllocError`: memory was refused.
 pub fn binary_type(
     alloc: Global,
     is_post: bool,
     operator: Binary,
     first: Ty,
     second: &Ty,
-) -> Result<Ty, Refusal>
-    ensures { Answers (spec.binary_type is_post operator first second.now) result }
+) -> Result<Option<Ty>, AllocError>
+    ensures { IfOk result (λ ty. ty ≡ spec.binary_type is_post operator first second.now) }
 {
-    match operator {
+    Ok(match operator {
         Binary::Add | Binary::Sub | Binary::Mul | Binary::Div | Binary::Rem => {
             where_true(both_int(&first, second), Ty::Int)
         }
@@ -129,28 +133,29 @@ pub fn binary_type(
         Binary::Same => where_true(first == *second && is_ref(&first), Ty::Bool),
         Binary::Append => where_true(first == *second && is_sequence(&first), first),
         Binary::Nth => {
-            if *second != Ty::Int {
-                return Err(Refusal::Ill);
+            if *second == Ty::Int {
+                item_type(first)
+            } else {
+                None
             }
-            item_type(first)
         }
         Binary::Range => {
             let list = Ty::List(Boxed::new(alloc, Ty::Int)?);
             where_true(both_int(&first, second), list)
         }
-    }
+    })
 }
 
 /// The type of an integer: one of 64 bits is always in range.
-pub fn int_type(number: i64) -> Result<Ty, Refusal>
-    ensures { Answers (spec.where_true (lawful.is_i64 number) (Some int)) result }
+pub fn int_type(number: i64) -> Ty
+    ensures { spec.where_true (lawful.is_i64 number) (Some int) ≡ Some result }
 {
-    Ok(Ty::Int)
+    Ty::Int
 }
 
-/// The type of a text.
-pub fn text_type(bytes: &[u8]) -> Result<Ty, Refusal>
-    ensures { Answers (spec.where_true (lawful.is_text bytes.now) (Some text)) result }
+/// The type of a text, or `None` where the text is too long or has a byte that is not printable.
+pub fn text_type(bytes: &[u8]) -> Option<Ty>
+    ensures { result ≡ spec.where_true (lawful.is_text bytes.now) (Some text) }
 {
     where_true(is_text(bytes), Ty::Text)
 }
@@ -166,5 +171,5 @@ fn is_text(bytes: &[u8]) -> bool
 fn all_printable(bytes: &[u8]) -> bool
     ensures { result ≡ list_all lawful.is_printable bytes.now }
 {
-    bytes.iter().all(|byte| 32 <= *byte && *byte <= 126)
+    bytes.iter().all(|byte| b' ' <= *byte && *byte <= b'~')
 }

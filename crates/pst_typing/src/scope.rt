@@ -20,11 +20,14 @@ pub enum Scope<'a> {
 fn type_of_parameter<'a>(params: &'a [Param], name: &[u8]) -> Option<&'a Ty>
     ensures { option_copied result ≡ rules.type_named (rules.context_of params.now) name.now }
 {
-    let (param, params) = params.split_first()?;
-    if param.name.as_bytes() == name {
-        return Some(&param.ty);
+    match params {
+        [] => None,
+        [param, params @ ..] => if param.name.as_bytes() == name {
+            Some(&param.ty)
+        } else {
+            type_of_parameter(params, name)
+        },
     }
-    type_of_parameter(params, name)
 }
 
 /// The type of a variable.

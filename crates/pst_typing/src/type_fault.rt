@@ -1,7 +1,12 @@
+//! Why a model is not well typed.
+
 ghost use Rattle.std.specs.Prelude.{◌≡◌};
 ghost use Rattle.pst_typing.specs.FaultName.{fault_name};
 
-/// Why a model is not checked to be well typed.
+use std::error::Error;
+use std::fmt;
+
+/// Why the check of a model does not call it well typed.
 #[derive(Clone, Copy, Debug, PartialEq, Eq, Drop)]
 pub enum TypeFault {
     /// The number, from 1, of the least item that is not well typed.
@@ -11,7 +16,7 @@ pub enum TypeFault {
 }
 
 impl TypeFault {
-    /// The name of its kind.
+    /// The name of its kind, as `Item`.
     pub fn name(&self) -> &'static str
         ensures { result.now ≡ fault_name self.now }
     {
@@ -21,3 +26,19 @@ impl TypeFault {
         }
     }
 }
+
+impl fmt::Display for TypeFault {
+    ghost use Rattle.std.specs.Prelude.{Some};
+    ghost use Rattle.pst_typing.specs.FaultName.{text_of};
+
+    ghost output = { λ fault. Some (text_of fault) };
+
+    fn fmt<W: fmt::Write>(&self, f: &mut fmt::Formatter<W>) -> fmt::Result {
+        match self {
+            TypeFault::Item(number) => write!(f, "item {number}"),
+            TypeFault::NoMemory => write!(f, "NoMemory"),
+        }
+    }
+}
+
+impl Error for TypeFault {}

@@ -1,5 +1,5 @@
 -- The commands of a shaped case are read again from what is written for them.
-use Rattle.std.proofs.Common.{◌≡◌, ℕ, zero, suc, min, ◌+◌, ◌-◌, ◌^◌, ◌<◌, ◌≤◌, ◌||◌, not, nat_le, nat_lt, Bool, true, false, length, slice_get, List, [], ◌∷◌, map, Option, Some, None, refl, sym, ap, ◌∙◌, subst, arith}
+use Rattle.std.proofs.Common.{◌≡◌, ℕ, zero, suc, ◌+◌, ◌<◌, ◌≤◌, ◌||◌, not, nat_le, Bool, true, false, length, slice_get, List, [], ◌∷◌, map, Option, Some, None, refl, sym, ap, ◌∙◌, subst, arith}
 use Rattle.std.specs.Prelude.{if◌then◌else◌}
 use Rattle.std.specs.List.{list_any, list_all}
 use Rattle.std.proofs.lemmas.Bool.Decides.{nat_tests}
@@ -8,11 +8,11 @@ use Rattle.pst_case.specs.declared.case.Command.{Command}
 use Rattle.pst_case.specs.declared.fault.CaseFault.{CaseFault}
 use Rattle.pst_case.specs.declared.fault.CaseFaultKind.TheVariants.{UnknownOp, BadArgument, ForwardVar, CrossVar}
 use Rattle.pst_case.specs.declared.fault.CaseFaultKind.{CaseFaultKind}
-use Rattle.pst_eval.specs.Callbacks.{args_fit, args_fit_in}
+use Rattle.pst_rules.specs.Fitting.{args_fit, args_fit_in}
 use Rattle.pst_model.specs.Levels as ty_levels
 use Rattle.pst_model.specs.Names.{is_between, is_name_byte, is_name}
-use Rattle.pst_model.specs.Operations.{HasOperations, max_operations, max_levels as max_ty_levels}
-use Rattle.pst_model.specs.Parts.{operation_of, operations_of, parameters_of, types_of}
+use Rattle.pst_model.specs.Operations.{HasOperations, max_levels as max_ty_levels}
+use Rattle.pst_model.specs.Parts.{number_of, operation_of, operations_of, parameters_of, types_of}
 use Rattle.pst_model.specs.declared.model.Item.TheVariants as item
 use Rattle.pst_model.specs.declared.model.Item.{Item}
 use Rattle.pst_model.specs.declared.model.Op.{Op}
@@ -20,7 +20,10 @@ use Rattle.pst_model.specs.declared.model.Param.{Param}
 use Rattle.pst_model.specs.declared.model.Source.{Source}
 use Rattle.pst_rules.specs.Kinds.{holds_call}
 use Rattle.pst_rules.specs.WellTyped.{WellOperation, WellItems, WellModel}
-use Rattle.pst_runs.specs.Items.{op_in, op_of, or_reference, argument_of, command_in, command_of, commands_of, branch_of}
+use Rattle.pst_runs.specs.Commands.{present, are_present, arguments_of, spelled, command_in, command_of, commands_of}
+use Rattle.pst_runs.specs.Forms.{branch_of}
+use Rattle.pst_runs.specs.declared.commands.Spelled.{Spelled}
+use Rattle.pst_runs.specs.declared.commands.Spelled.TheVariants.{Whole, Partial}
 use Rattle.pst_runs.specs.Values.{made, each, word_of, word_at, node_of, node_at, value_in}
 use Rattle.pst_sexpr.proofs.Made.{word_is_tree}
 use Rattle.pst_sexpr.specs.Bytes.{is_word_byte}
@@ -109,7 +112,7 @@ get_within [] n t e = absurd (cc)
 get_within (first ∷ types) zero t e = omega arith
 get_within (first ∷ types) (suc n) t e = let h = get_within types n t e in omega arith
 
-variable_within : (types : List Ty) (n : ℕ) (t : Ty) → length types ≤ 80 → is_ty (numbered types n) t ≡ true → (true ≡ true) × (n < 10000)
+variable_within : (types : List Ty) (n : ℕ) (t : Ty) → length types ≤ 88 → is_ty (numbered types n) t ≡ true → (true ≡ true) × (n < 10000)
 variable_within types zero t h e = absurd (cc)
 variable_within types (suc n) t h e = let k = get_within types n t e in (refl, omega arith)
 
@@ -138,28 +141,44 @@ known_is (Some p) h = (p, refl)
 
 -- ---- commands
 
-arguments_read : (f : Form → Option Value) (forms : List Form) (vs : List Value) → each f forms ≡ Some vs → map (λ form. or_reference (f form)) forms ≡ vs
-arguments_read f [] vs e = some_is [] vs e
+-- each argument spells its value
+record ArgumentsRead (f : Form → Option Value) (forms : List Form) (vs : List Value) : Type 0 where
+  all : are_present (map f forms) ≡ true
+  values : present (map f forms) ≡ vs
+
+one_read : (f : Form → Option Value) (form : Form) (forms : List Form) (v : Value) (vs : List Value) → f form ≡ Some v → ArgumentsRead f forms vs → ArgumentsRead f (form ∷ forms) (v ∷ vs)
+one_read f form forms v vs e h =
+    record {
+      all = ap (λ o. are_present (o ∷ map f forms)) e ∙ h.all;
+      values = ap (λ o. present (o ∷ map f forms)) e ∙ ap (λ l. v ∷ l) h.values;
+    }
+
+arguments_read : (f : Form → Option Value) (forms : List Form) (vs : List Value) → each f forms ≡ Some vs → ArgumentsRead f forms vs
+arguments_read f [] vs e = record { all = refl; values = some_is [] vs e }
 arguments_read f (form ∷ forms) vs e =
     let p = made_some (f form) (λ b. made (each f forms) (λ bs. Some (b ∷ bs))) vs e in
     let q = made_some (each f forms) (λ bs. Some (p.0 ∷ bs)) vs p.2 in
-    ap (λ o. or_reference o ∷ map (λ form. or_reference (f form)) forms) p.1
-    ∙ ap (λ bs. p.0 ∷ bs) (arguments_read f forms q.0 q.1) ∙ some_is (p.0 ∷ q.0) vs q.2
+    let all = one_read f form forms p.0 q.0 p.1 (arguments_read f forms q.0 q.1) in
+    subst (ArgumentsRead f (form ∷ forms)) (some_is (p.0 ∷ q.0) vs q.2) all
 
 abbrev command : ℕ → List Value → Command
 command op args = record { op = op; args = args }
+
+-- commands, each spelled whole
+abbrev pub whole_part : List Command → List Spelled
+whole_part cs = map (λ c. Whole c) cs
 
 -- the tree of a command has a spelling and is read as the command, whose operation is known
 pub record CommandAgain (m : Source) (c : Command) : Type 0 where
   pub operation : Op
   pub known : operation_of m.items c.op ≡ Some operation
   pub sized : Sized 17 (command_form m c)
-  pub reads : command_of m (command_form m c) ≡ Some c
+  pub reads : command_of m (command_form m c) ≡ Some (Whole c)
 
 -- so has each command of a part
 pub record PartAgain (m : Source) (cs : List Command) : Type 0 where
   pub sized : AllSized 17 (map (command_form m) cs)
-  pub reads : commands_of m (map (command_form m) cs) ≡ Some cs
+  pub reads : commands_of m (map (command_form m) cs) ≡ Some (whole_part cs)
 
 abbrev pub EachCommand : Source → List Command → Type 0
 EachCommand m [] = Unit {0}
@@ -170,7 +189,7 @@ EachBranch m [] = Unit {0}
 EachBranch m (b ∷ bs) = EachCommand m b × EachBranch m bs
 
 module _ (m : Source) (model : WellModel m) (has : HasOperations m.items) where
-  arguments_again : (vars : List Ty) (c : Command) (o : Op) → length vars ≤ 80 → operation_of m.items c.op ≡ Some o → args_fit m vars vars c.op c.args ≡ true
+  arguments_again : (vars : List Ty) (c : Command) (o : Op) → length vars ≤ 88 → operation_of m.items c.op ≡ Some o → args_fit m vars vars c.op c.args ≡ true
       → list_any holds_reference c.args ≡ false → (depth : ℕ) × (depth ≤ 16) × EachAgain true depth c.args
   unfolding args_fit
   arguments_again vars c o few is fit closed =
@@ -183,17 +202,10 @@ module _ (m : Source) (model : WellModel m) (has : HasOperations m.items) where
         each_again true vars vars (parameters_of m.items) (λ n t e. variable_within vars n t few e) c.args ts (omega arith) calls closed fit_in,
       )
 
-  op_is : (c : Command) (o : Op) → operation_of m.items c.op ≡ Some o → op_of m (name_of m c.op) ≡ c.op
-  op_is c o is =
-      let i = has c.op o is in
-      let few : c.op < 64 = below i.few in
-      let low : min c.op (2 ^ 32 - 1) ≡ c.op = omega arith in
-      ap (λ q. op_of m (name_in q)) is ∙ ap op_in i.number ∙ low
-    where
-      below : {n : ℕ} → nat_lt n max_operations ≡ true → n < 64
-      below e = grind (arith, nat_tests)
+  number_is : (c : Command) (o : Op) → operation_of m.items c.op ≡ Some o → number_of m.items (name_of m c.op) ≡ Some c.op
+  number_is c o is = ap (λ q. number_of m.items (name_in q)) is ∙ (has c.op o is).number
 
-  named_again : (vars : List Ty) (c : Command) (o : Op) → length vars ≤ 80 → operation_of m.items c.op ≡ Some o → args_fit m vars vars c.op c.args ≡ true
+  named_again : (vars : List Ty) (c : Command) (o : Op) → length vars ≤ 88 → operation_of m.items c.op ≡ Some o → args_fit m vars vars c.op c.args ≡ true
       → list_any holds_reference c.args ≡ false → CommandAgain m c
   named_again vars c o few is fit closed =
       let a = arguments_again vars c o few is fit closed in
@@ -202,27 +214,30 @@ module _ (m : Source) (model : WellModel m) (has : HasOperations m.items) where
       let name = name_of m c.op in
       let forms = map value_form c.args in
       let lawful : IsTree (Word name) = subst (λ q. IsTree (Word (name_in q))) (sym is) (name_is_tree o.name (has c.op o is).name) in
-      let args : map argument_of forms ≡ c.args = arguments_read (value_in true max_levels) forms c.args (again.reads max_levels (omega arith)) in
+      let values = arguments_of forms in
+      let args : ArgumentsRead (value_in true max_levels) forms c.args =
+      arguments_read (value_in true max_levels) forms c.args (again.reads max_levels (omega arith)) in
       record {
         operation = o;
         known = is;
         sized = node_sized (more_sized (word_sized 16 name lawful) (all_wider 16 again.sized low)) (omega arith);
         reads =
             ap (λ q. made q (command_in m)) (node_is (Word name ∷ forms))
-            ∙ ap (λ q. made q (λ name. Some (command (op_of m name) (map argument_of forms)))) (word_is name)
-            ∙ ap (λ op. Some (command op (map argument_of forms))) (op_is c o is)
-            ∙ ap (λ vs. Some (command c.op vs)) args;
+            ∙ ap (λ q. made q (λ name. Some (spelled (number_of m.items name) values))) (word_is name)
+            ∙ ap (λ q. Some (spelled q values)) (number_is c o is)
+            ∙ ap (λ b. Some (if b then Whole (command c.op (present values)) else Partial (command c.op (present values)))) args.all
+            ∙ ap (λ vs. Some (Whole (command c.op vs))) args.values;
       }
 
   -- a command without a fault is read again
-  command_again : (vars : List Ty) (prefix before number : ℕ) (c : Command) → length vars ≤ 80 → command_fault m vars prefix before number c ≡ None → CommandAgain m c
+  command_again : (vars : List Ty) (prefix before number : ℕ) (c : Command) → length vars ≤ 88 → command_fault m vars prefix before number c ≡ None → CommandAgain m c
   command_again vars prefix before number c few e =
       let p = no_fault (is_known (operation_of m.items c.op)) (list_any (holds_var (is_forward number)) c.args) (list_any (holds_var (is_cross prefix before)) c.args)
       (args_fit m vars vars c.op c.args) (list_any holds_reference c.args) e in
       let k = known_is (operation_of m.items c.op) p.0 in
       named_again vars c k.0 few k.1 p.1 p.2
 
-  pub part_again : (vars : List Ty) (prefix before number : ℕ) (cs : List Command) → length vars ≤ 80 → part_fault m vars prefix before number cs ≡ None → EachCommand m cs
+  pub part_again : (vars : List Ty) (prefix before number : ℕ) (cs : List Command) → length vars ≤ 88 → part_fault m vars prefix before number cs ≡ None → EachCommand m cs
   part_again vars prefix before number [] few e = tt
   part_again vars prefix before number (c ∷ cs) few e =
       let p = none_either (at_command number (command_fault m vars prefix before number c)) (part_fault m vars prefix before (number + 1) cs) e in (
@@ -230,7 +245,7 @@ module _ (m : Source) (model : WellModel m) (has : HasOperations m.items) where
         part_again vars prefix before (number + 1) cs few p.1,
       )
 
-  pub branches_again : (vars : List Ty) (prefix before : ℕ) (bs : List (List Command)) → length vars ≤ 80 → branches_fault m vars prefix before bs ≡ None → EachBranch m bs
+  pub branches_again : (vars : List Ty) (prefix before : ℕ) (bs : List (List Command)) → length vars ≤ 88 → branches_fault m vars prefix before bs ≡ None → EachBranch m bs
   branches_again vars prefix before [] few e = tt
   branches_again vars prefix before (b ∷ bs) few e =
       let p = none_either (part_fault m vars prefix before (before + 1) b) (branches_fault m vars prefix (before + length b) bs) e in
@@ -245,17 +260,17 @@ module _ (m : Source) where
       let rest = part_read cs h.1 in
       record {
         sized = more_sized h.0.sized rest.sized;
-        reads = ap (λ o. made o (λ b. made (each (command_of m) (map (command_form m) cs)) (λ bs. Some (b ∷ bs)))) h.0.reads ∙ ap (λ o. made o (λ bs. Some (c ∷ bs))) rest.reads;
+        reads = ap (λ o. made o (λ b. made (each (command_of m) (map (command_form m) cs)) (λ bs. Some (b ∷ bs)))) h.0.reads ∙ ap (λ o. made o (λ bs. Some (Whole c ∷ bs))) rest.reads;
       }
 
-  branch_read : (cs : List Command) → EachCommand m cs → branch_of m (branch_form m cs) ≡ Some cs
+  branch_read : (cs : List Command) → EachCommand m cs → branch_of m (branch_form m cs) ≡ Some (whole_part cs)
   branch_read cs h = ap (λ o. made o (commands_of m)) (node_is (map (command_form m) cs)) ∙ (part_read cs h).reads
 
-  pub branches_read : (bs : List (List Command)) → EachBranch m bs → each (branch_of m) (map (branch_form m) bs) ≡ Some bs
+  pub branches_read : (bs : List (List Command)) → EachBranch m bs → each (branch_of m) (map (branch_form m) bs) ≡ Some (map whole_part bs)
   branches_read [] h = refl
   branches_read (b ∷ bs) h =
       ap (λ o. made o (λ b. made (each (branch_of m) (map (branch_form m) bs)) (λ bs. Some (b ∷ bs)))) (branch_read b h.0)
-      ∙ ap (λ o. made o (λ bs. Some (b ∷ bs))) (branches_read bs h.1)
+      ∙ ap (λ o. made o (λ bs. Some (whole_part b ∷ bs))) (branches_read bs h.1)
 
   pub branches_sized : (bs : List (List Command)) → EachBranch m bs → AllSized 18 (map (branch_form m) bs)
   branches_sized [] h = none_sized 18

@@ -7,3 +7,4 @@ pub mod Numbers
 pub mod ReplyAgain
 pub mod Sized
 pub mod ValueAgain
+pub mod WholeAgain

@@ -11,8 +11,8 @@ use Rattle.pst_case.specs.Shape.{holds_reference}
 use Rattle.pst_model.specs.Levels as ty_levels
 use Rattle.pst_rules.specs.Kinds.{holds_call, holds_call_at}
 use Rattle.pst_runs.proofs.Rooms.{value_word, value_text, value_node}
-use Rattle.pst_runs.specs.Items.{reply_word}
-use Rattle.pst_runs.specs.Values.{made, each, word_of, word_at, word_value, headed, value_in}
+use Rattle.pst_runs.specs.Replies.{reply_word}
+use Rattle.pst_runs.specs.Values.{made, each, word_of, word_at, word_value, tuple_or_list, value_in}
 use Rattle.pst_sexpr.specs.Bytes.{is_word_byte, is_text_byte, is_escaped_byte}
 use Rattle.pst_sexpr.specs.Lawful.{IsTextBytes}
 use Rattle.pst_sexpr.specs.declared.form.Form.TheVariants.{Word, Node, outs-Word, outs-Text, outs-Node}
@@ -116,7 +116,7 @@ module _ (symbolic : Bool) where
       let forms = map value_form vs in
       let inner = value_in symbolic (room - 1) in
       value_node symbolic room (Word (codes "tuple") ∷ forms) (some_room (suc depth) room h)
-      ∙ ap (λ x. made (word_at x) (λ head. headed inner head forms)) (outs-Word (codes "tuple"))
+      ∙ ap (λ x. made (word_at x) (λ head. tuple_or_list inner head forms)) (outs-Word (codes "tuple"))
       ∙ ap (λ o. made o (λ vs. Some (Tuple vs))) (a.reads (room - 1) (omega arith))
 
   list_read : (depth room : ℕ) (vs : List Value) → EachAgain symbolic depth vs → suc depth < room → value_in symbolic room (Node (Word (codes "list") ∷ map value_form vs)) ≡ Some (ListOf vs)
@@ -124,7 +124,7 @@ module _ (symbolic : Bool) where
       let forms = map value_form vs in
       let inner = value_in symbolic (room - 1) in
       value_node symbolic room (Word (codes "list") ∷ forms) (some_room (suc depth) room h)
-      ∙ ap (λ x. made (word_at x) (λ head. headed inner head forms)) (outs-Word (codes "list"))
+      ∙ ap (λ x. made (word_at x) (λ head. tuple_or_list inner head forms)) (outs-Word (codes "list"))
       ∙ ap (λ o. made o (λ vs. Some (ListOf vs))) (a.reads (room - 1) (omega arith))
 
   tuple_again : (depth : ℕ) (vs : List Value) → depth < 99 → EachAgain symbolic depth vs → FormAgain symbolic (suc depth) (Tuple vs) (value_form (Tuple vs))

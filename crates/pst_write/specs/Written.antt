@@ -1,4 +1,5 @@
--- The tree that is written for a run: integers and variables in their shortest form, two branches as `left` and `right`.
+-- The tree that is written for a run: integers and variables in their shortest form, two branches as `left` and
+-- `right`.
 use Rattle.std.specs.Prelude.{ℕ, Bool, true, false, List, [], ◌∷◌, ◌++◌, map, Option, Some, None, codes, decimal}
 use Rattle.std.specs.Fmt.{signed_decimal}
 use Rattle.pst_case.specs.declared.case.Case.{Case}
@@ -64,12 +65,19 @@ branch_form m cs = Node (map (command_form m) cs)
 
 -- a left and a right branch, or another number of branches
 abbrev pub branches_forms : Source → List (List Command) → List Form
-branches_forms m (left ∷ right ∷ []) = section_form m (codes "left") left ∷ section_form m (codes "right") right ∷ []
+branches_forms m (left ∷ right ∷ []) =
+    section_form m (codes "left") left ∷ section_form m (codes "right") right ∷ []
 branches_forms m branches = headed (codes "branches") (map (branch_form m) branches) ∷ []
 
--- the prefix, and the branches
+-- the suffix, where it has commands
+abbrev pub suffix_forms : Source → List Command → List Form
+suffix_forms m [] = []
+suffix_forms m (c ∷ cs) = section_form m (codes "suffix") (c ∷ cs) ∷ []
+
+-- the prefix, the branches, and the suffix
 abbrev pub case_forms : Source → Case → List Form
-case_forms m c = section_form m (codes "prefix") c.prefix ∷ branches_forms m c.branches
+case_forms m c =
+    section_form m (codes "prefix") c.prefix ∷ branches_forms m c.branches ++ suffix_forms m c.suffix
 
 -- ---- replies
 
@@ -83,9 +91,15 @@ reply_form reply.NotRun = Word (codes "not-run")
 abbrev pub list_form : List Reply → Form
 list_form replies = Node (map reply_form replies)
 
--- the replies of the prefix, and those of each branch
+-- the replies of the suffix, where it has commands
+abbrev pub suffix_lists : List Reply → List Form
+suffix_lists [] = []
+suffix_lists (r ∷ rs) = list_form (r ∷ rs) ∷ []
+
+-- the replies of the prefix, those of each branch, and those of the suffix
 abbrev pub replies_form : History → Form
-replies_form h = headed (codes "replies") (list_form h.prefix ∷ map list_form h.branches)
+replies_form h =
+    headed (codes "replies") (list_form h.prefix ∷ map list_form h.branches ++ suffix_lists h.suffix)
 
 -- ---- items
 
@@ -95,7 +109,7 @@ item_form m c (Some h) = headed (codes "run") (case_forms m c ++ replies_form h 
 
 -- the tree of a run: a `case` where it has no history, and else a `run`
 abbrev pub run_form : Source → Run → Form
-run_form m run = item_form m run.shaped run.history
+run_form m run = item_form m run.shaped.case run.history
 
 -- the trees of runs
 abbrev pub run_forms : Source → List Run → List Form

@@ -83,12 +83,15 @@ fn branches_forms(
     }
 }
 
-/// The trees of a case: its prefix, and its branches.
+/// The trees of a case: its prefix, its branches, and its suffix, where it has commands.
 pub fn case_forms(alloc: Global, model: &Source, case: &Case) -> Result<Items<Form>, AllocError>
     ensures { IfOk result (λ forms. forms ≡ spec.case_forms model.now case.now) }
 {
     let prefix = section_form(alloc, model, "prefix", case.prefix.as_slice())?;
     let mut forms = one(alloc, prefix)?;
     forms.append(branches_forms(alloc, model, case.branches.as_slice())?)?;
+    if !case.suffix.is_empty() {
+        forms.push(section_form(alloc, model, "suffix", case.suffix.as_slice())?)?;
+    }
     Ok(forms)
 }

@@ -2,7 +2,7 @@
 ghost use Rattle.std.specs.Prelude.{◌≡◌};
 ghost use Rattle.pst_write.specs.FaultName.{fault_name};
 
-use pst_sexpr::WriteFailed;
+use pst_sink::WriteFailed;
 use std::alloc::AllocError;
 use std::error::Error;
 use std::fmt;
@@ -12,7 +12,7 @@ use std::fmt;
 pub enum WriteFault {
     /// The writer has failed. A beginning of the text went out.
     WriteFailed,
-    /// Memory was refused. Whole items went out, and the writer has not failed.
+    /// Memory was refused. Nothing went out, and the writer has not failed.
     NoMemory,
 }
 

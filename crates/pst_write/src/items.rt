@@ -2,6 +2,7 @@
 ghost use Rattle.std.specs.Prelude.{◌≡◌, IfOk, Ok};
 ghost use Rattle.pst_runs.specs.Items.{item_of};
 ghost use Rattle.pst_runs.specs.Lawful.{IsLawful};
+ghost use Rattle.pst_sexpr.specs.Lawful.{IsTree};
 ghost use Rattle.pst_write.specs.Written as spec;
 
 use crate::cases::case_forms;
@@ -33,12 +34,14 @@ fn item_form(
 
 /// The tree of a run: a `case` where it has no history, and else a `run`. It is read as an equal run.
 ///
-/// Two branches are written as `left` and `right`, three or four as `branches`. The run must be lawful over the model.
-/// `AllocError`: memory was refused.
+/// Two branches are written as `left` and `right`, three or four as `branches`; a suffix of no commands is not
+/// written. The run must be one of the model, and its history must match. `AllocError` where memory is refused.
 pub fn run_tree(alloc: Global, typed: &Typed, run: &Run) -> Result<Tree, AllocError>
     requires { IsLawful typed.now run.now }
     // What is written of the run.
     ensures written { IfOk result (λ tree. tree ≡ spec.run_form typed.now run.now) }
+    // It has a spelling.
+    ensures lawful { IfOk result (λ tree. IsTree tree) }
     // It is read as the run.
     ensures read { IfOk result (λ tree. item_of typed.now tree ≡ Ok run.now) }
 {

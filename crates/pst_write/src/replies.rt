@@ -41,11 +41,15 @@ fn each_list(alloc: Global, branches: &[Items<Reply>]) -> Result<Items<Form>, Al
     Ok(forms)
 }
 
-/// The tree of a history: a list for the prefix, and one for each branch.
+/// The tree of a history: a list for the prefix, one for each branch, and one for the suffix, where it has
+/// commands.
 pub fn replies_form(alloc: Global, history: &History) -> Result<Form, AllocError>
     ensures { IfOk result (λ form. form ≡ spec.replies_form history.now) }
 {
     let mut lists = one(alloc, list_form(alloc, history.prefix.as_slice())?)?;
     lists.append(each_list(alloc, history.branches.as_slice())?)?;
+    if !history.suffix.is_empty() {
+        lists.push(list_form(alloc, history.suffix.as_slice())?)?;
+    }
     headed(alloc, "replies", lists)
 }

@@ -32,7 +32,8 @@ fn truth(alloc: Global, holds: bool) -> Result<Form, AllocError>
     }
 }
 
-/// The tree of a value. A reference is written as its value, and a call as its arguments: neither stands in a lawful run.
+/// The tree of a value. A reference is written as its value, and a call as its arguments: neither stands in a
+/// lawful run.
 #[cycle(value_form)]
 #[tactic(auto, using(crate::proofs::Forms::value_forms))]
 pub fn value_form(alloc: Global, value: &Value) -> Result<Form, AllocError>

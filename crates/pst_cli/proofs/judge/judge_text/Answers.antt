@@ -1,4 +1,3 @@
-use Rattle.std.proofs.Common.{string_bytes}
 use Rattle.pst_cli.proofs.Printing.{prints}
 use Rattle.pst_cli.specs.Output.{IsJudgeOutput}
 use Rattle.pst_cli.proofs.judge.judge_text.Goals as goal
@@ -6,4 +5,4 @@ use Rattle.pst_cli.proofs.judge.judge_text.Goals as goal
 pub returns-in-Ok : goal.returns-in-Ok
 returns-in-Ok g c =
     prints (IsJudgeOutput c.args.input.now) (g.W.Sink.taken c.args.sink.now) (g.W.Sink.taken c.send.new.sink) (g.W.Sink.broken c.send.new.sink) c.send.result c.in-Ok.output.status
-    (string_bytes c.in-Ok.output.text) c.as_bytes.result.now c.in-Ok.ensures c.as_bytes.ensures.value c.send.ensures
+    c.in-Ok.output.text.items c.as_slice.result.now c.in-Ok.ensures c.as_slice.ensures.value c.send.ensures

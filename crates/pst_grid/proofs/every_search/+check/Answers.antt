@@ -4,20 +4,22 @@ use Rattle.pst_grid.specs.declared.answer.Turn.TheVariants.{Stop}
 use Rattle.pst_grid.specs.Checked.{AreTrue, IsLeastFailed}
 use Rattle.pst_grid.specs.Completions.{Begins}
 use Rattle.pst_grid.specs.Remembered.{IsGrown}
-use Rattle.pst_grid.proofs.Growing.{grown-none, grown-more, grown-behind, grown-insert}
+use Rattle.pst_grid.proofs.Finishing.{all-done, ended-checked}
+use Rattle.pst_grid.proofs.Growing.{grown-none, grown-more, grown-behind, grown-insert, grown-end}
 use Rattle.pst_grid.proofs.Searching.{back_again, take_again, IsAt-branch, sum-more}
 use Rattle.pst_grid.proofs.Remembering.{position-same}
-use Rattle.pst_grid.proofs.Checking.{true-done, true-full, true-start, true-more, true-all, failed-all, true-behind, failed-behind, failed-here, true-again, true-remembered}
+use Rattle.pst_grid.proofs.Checking.{true-full, true-start, true-more, true-all, failed-all, true-behind, failed-behind, failed-here, true-again, true-remembered}
 use Rattle.pst_grid.proofs.every_search.+check.Goals as goal
 
 pub check-returns-then-is_done-clause-checked : goal.check-returns-then-is_done-clause-checked
-check-returns-then-is_done-clause-checked g t c = record {
-  word = refl;
-  done = refl;
-  are_true = true-done (g.S.Steps.turn c.args.steps.now) c.args.lengths.now c.args.state c.args.search.now.done.items
-      (subst (λ d. (b : ℕ) → get_or c.args.lengths.now b 0 ≤ get_or d b 0) c.deref.ensures.value c.if-is_done.ensures);
-  all_true = c.requires.all_true;
-}
+check-returns-then-is_done-clause-checked g t c =
+    let here = c.args.search.now in
+    let items : c.in_ok-to_vec.field-0.items ≡ here.done.items = search rules in
+    let full = subst (λ d. (b : ℕ) → get_or c.args.lengths.now b 0 ≤ get_or d b 0) c.deref-2.ensures.value c.if-is_done.ensures in
+    let e = c.in_ok-stopped.ensures in
+    ended-checked (g.S.Steps.turn c.args.steps.now) (g.S.Steps.rest c.args.steps.now) c.args.state c.args.lengths.now here
+    c.check_rest.new.search _ c.args.seen.now.keys c.insert.new.self.keys (record { done = c.in_ok-to_vec.field-0; state = c.args.state })
+    c.requires.place full c.in_ok-insert.ensures.keys items refl c.in_ok-stopped.stopped e.done e.word e.checked c.requires.all_true
 
 pub check-returns-then-contains-clause-checked : goal.check-returns-then-contains-clause-checked
 check-returns-then-contains-clause-checked g t c =
@@ -26,33 +28,35 @@ check-returns-then-contains-clause-checked g t c =
     record {
       word = refl;
       done = refl;
-      are_true = true-again (g.S.Steps.turn c.args.steps.now) c.args.lengths.now c.args.state c.args.seen.now.keys _ here.done.items (sym c.contains.ensures ∙ c.if-contains.true)
+      are_true = true-again (g.S.Steps.turn c.args.steps.now) (g.S.Steps.rest c.args.steps.now) c.args.lengths.now c.args.state c.args.seen.now.keys _ here.done.items (sym c.contains.ensures ∙ c.if-contains.true)
           (λ k e. position-same g.S.State.PartialEq.eq g.met.S.Steps.exact c.in_ok-to_vec.field-0.items here.done.items c.args.state k items e) c.requires.all_true;
       all_true = c.requires.all_true;
     }
 
 pub check-loop-branch-init : goal.check-loop-branch-init
 check-loop-branch-init g t c = record {
-  checked = record { word = refl; done = refl; are_true = true-start (g.S.Steps.turn c.args.steps.now) c.args.lengths.now c.args.state c.args.search.now.done.items; all_true = c.requires.all_true };
-  grown = grown-none (g.S.Steps.turn c.args.steps.now) c.args.lengths.now _ _ _ c.args.seen.now.keys 0 c.args.search.now.steps c.args.search.now.steps (omega arith);
-  some_left = subst (λ d. (b : ℕ) × (get_or d b 0 < get_or c.args.lengths.now b 0)) c.deref.ensures.value c.if-is_done.ensures;
+  checked = record { word = refl; done = refl; are_true = true-start (g.S.Steps.turn c.args.steps.now) (g.S.Steps.rest c.args.steps.now) c.args.lengths.now c.args.state c.args.search.now.done.items; all_true = c.requires.all_true };
+  grown = grown-none (g.S.Steps.turn c.args.steps.now) c.args.lengths.now (g.S.Steps.most_rest c.args.steps.now) _ _ _ c.args.seen.now.keys 0 c.args.search.now.steps c.args.search.now.steps (omega arith);
+  some_left = subst (λ d. (b : ℕ) × (get_or d b 0 < get_or c.args.lengths.now b 0)) c.deref-2.ensures.value c.if-is_done.ensures;
 }
 
 pub check-returns-in-Some-clause-checked : goal.check-returns-in-Some-clause-checked
 check-returns-in-Some-clause-checked g t c =
     let turn = g.S.Steps.turn c.args.steps.now in
+    let rest = g.S.Steps.rest c.args.steps.now in
     let state = c.args.state in
     let here = c.args.search.now in
     let h = c.loop-branch.invariant.checked in
     let x = c.in-Some.failed in
     let l = rw c.in-Some.is at c.in_ok-failed.ensures.checked in
-    let k = subst (λ d. IsLeastFailed turn d state c.loop-branch.search.word.items (Begins c.args.lengths.now d c.loop-branch.branch) x) h.done l in
-    let j = subst (λ u. IsLeastFailed turn here.done.items state u (Begins c.args.lengths.now here.done.items c.loop-branch.branch) x) h.word k in
-    failed-all turn c.args.lengths.now state here.done.items here.word.items c.loop-branch.branch x h.are_true j
+    let k = subst (λ d. IsLeastFailed turn rest d state c.loop-branch.search.word.items (Begins c.args.lengths.now d c.loop-branch.branch) x) h.done l in
+    let j = subst (λ u. IsLeastFailed turn rest here.done.items state u (Begins c.args.lengths.now here.done.items c.loop-branch.branch) x) h.word k in
+    failed-all turn rest c.args.lengths.now state here.done.items here.word.items c.loop-branch.branch x h.are_true j
 
 pub check-loop-branch-preserved : goal.check-loop-branch-preserved
 check-loop-branch-preserved g t c =
     let turn = g.S.Steps.turn c.args.steps.now in
+    let rest = g.S.Steps.rest c.args.steps.now in
     let state = c.args.state in
     let here = c.args.search.now in
     let h = c.loop-branch.invariant.checked in
@@ -61,36 +65,37 @@ check-loop-branch-preserved g t c =
       checked = record {
         word = k.word ∙ h.word;
         done = k.done ∙ h.done;
-        are_true = true-more turn c.args.lengths.now state here.done.items c.loop-branch.branch h.are_true (subst (λ d. AreTrue turn d state (Begins c.args.lengths.now d c.loop-branch.branch)) h.done k.are_true);
+        are_true = true-more turn rest c.args.lengths.now state here.done.items c.loop-branch.branch h.are_true (subst (λ d. AreTrue turn rest d state (Begins c.args.lengths.now d c.loop-branch.branch)) h.done k.are_true);
         all_true = k.all_true;
       };
-      grown = grown-more turn c.args.lengths.now (sum here.done.items + 1) here.done.items state c.loop-branch.branch c.args.seen.now.keys c.loop-branch.seen.keys c.check_branch.new.seen.keys here.steps c.loop-branch.search.steps c.check_branch.new.search.steps
+      grown = grown-more turn c.args.lengths.now (g.S.Steps.most_rest c.args.steps.now) (sum here.done.items + 1) here.done.items state c.loop-branch.branch c.args.seen.now.keys c.loop-branch.seen.keys c.check_branch.new.seen.keys here.steps c.loop-branch.search.steps c.check_branch.new.search.steps
           c.loop-branch.invariant.grown
-          (subst (λ d. IsGrown turn c.args.lengths.now 1 (sum d + 1) d state c.loop-branch.seen.keys c.check_branch.new.seen.keys c.loop-branch.search.steps c.check_branch.new.search.steps) h.done c.in_ok-failed.ensures.grown);
+          (subst (λ d. IsGrown turn c.args.lengths.now (g.S.Steps.most_rest c.args.steps.now) 1 (sum d + 1) d state c.loop-branch.seen.keys c.check_branch.new.seen.keys c.loop-branch.search.steps c.check_branch.new.search.steps) h.done c.in_ok-failed.ensures.grown);
       some_left = c.loop-branch.invariant.some_left;
     }
 
 pub check-returns-clause-checked : goal.check-returns-clause-checked
 check-returns-clause-checked g t c =
     let turn = g.S.Steps.turn c.args.steps.now in
+    let rest = g.S.Steps.rest c.args.steps.now in
     let state = c.args.state in
     let here = c.args.search.now in
     let h = c.loop-branch.invariant.checked in
     let items : c.in_ok-to_vec.field-0.items ≡ here.done.items = search rules in
-    let all = true-all turn c.args.lengths.now state here.done.items c.loop-branch.branch c.loop-branch.invariant.some_left (omega arith) h.are_true in
+    let all = true-all turn rest c.args.lengths.now state here.done.items c.loop-branch.branch c.loop-branch.invariant.some_left (omega arith) h.are_true in
     record {
       word = h.word;
       done = h.done;
       are_true = all;
-      all_true = true-remembered turn c.args.lengths.now state _ c.loop-branch.seen.keys c.insert-2.new.self.keys (record { done = c.in_ok-to_vec.field-0; state = c.args.state }) here.done.items
-          c.in_ok-insert.ensures.keys items refl h.all_true all;
+      all_true = true-remembered turn rest c.args.lengths.now state _ c.loop-branch.seen.keys c.insert-2.new.self.keys (record { done = c.in_ok-to_vec.field-0; state = c.args.state }) here.done.items
+          c.in_ok-insert-2.ensures.keys items refl h.all_true all;
     }
 
 pub check_branch-returns-then-index-lengths-clause-checked : goal.check_branch-returns-then-index-lengths-clause-checked
 check_branch-returns-then-index-lengths-clause-checked g t c =
     let here = c.args.search.now in
     let full : get_or c.args.lengths.now c.args.branch 0 ≤ get_or here.done.items c.args.branch 0 = grind (arith, common_steps) in
-    record { word = refl; done = refl; are_true = true-full (g.S.Steps.turn c.args.steps.now) c.args.lengths.now c.args.state.now here.done.items c.args.branch full; all_true = c.requires.all_true }
+    record { word = refl; done = refl; are_true = true-full (g.S.Steps.turn c.args.steps.now) (g.S.Steps.rest c.args.steps.now) c.args.lengths.now c.args.state.now here.done.items c.args.branch full; all_true = c.requires.all_true }
 
 pub check_branch-returns-in-Some-clause-checked : goal.check_branch-returns-in-Some-clause-checked
 check_branch-returns-in-Some-clause-checked g t c =
@@ -98,7 +103,7 @@ check_branch-returns-in-Some-clause-checked g t c =
     let index_is : c.index-index.result.now ≡ get_or here.done.items c.args.branch 0 = grind (arith, common_steps) in
     let left : get_or here.done.items c.args.branch 0 < get_or c.args.lengths.now c.args.branch 0 = grind (arith, common_steps) in
     let turn_is = sym c.in_ok-next.ensures.answer ∙ c.in-Next.is in
-    failed-behind (g.S.Steps.turn c.args.steps.now) c.args.lengths.now c.args.state.now here.done.items here.word.items c.args.branch c.requires.place left
+    failed-behind (g.S.Steps.turn c.args.steps.now) (g.S.Steps.rest c.args.steps.now) c.args.lengths.now c.args.state.now here.done.items here.word.items c.args.branch c.requires.place left
     c.in-Next.next c.enter.new.self.done.items c.enter.new.self.word.items c.in-Some.failed
     (rw index_is at turn_is) c.in_ok-enter-in-Next.ensures.done c.in_ok-enter-in-Next.ensures.word (rw c.in-Some.is at c.in_ok-failed-in-Next.ensures.checked)
 
@@ -112,7 +117,7 @@ check_branch-returns-in-None-clause-checked g t c =
     record {
       word = c.leave.ensures.word ∙ take_again here.word.items c.check.new.search.word.items c.args.branch (h.word ∙ c.in_ok-enter-in-Next.ensures.word);
       done = c.leave.ensures.done ∙ back_again here.done.items c.check.new.search.done.items c.args.branch (IsAt-branch c.args.lengths.now here.done.items c.args.branch c.requires.place left) (h.done ∙ c.in_ok-enter-in-Next.ensures.done);
-      are_true = true-behind (g.S.Steps.turn c.args.steps.now) c.args.lengths.now c.args.state.now here.done.items here.word.items c.args.branch c.requires.place left
+      are_true = true-behind (g.S.Steps.turn c.args.steps.now) (g.S.Steps.rest c.args.steps.now) c.args.lengths.now c.args.state.now here.done.items here.word.items c.args.branch c.requires.place left
           c.in-Next.next c.enter.new.self.done.items (rw index_is at turn_is) c.in_ok-enter-in-Next.ensures.done h.are_true;
       all_true = h.all_true;
     }
@@ -124,14 +129,22 @@ check_branch-returns-in_ok-failed_merge-in-Stop-clause-checked g t c =
     let left : get_or here.done.items c.args.branch 0 < get_or c.args.lengths.now c.args.branch 0 = grind (arith, common_steps) in
     let e = c.in_ok-failed_merge-in-Stop.ensures in
     let turn_is = sym c.in_ok-next.ensures.answer ∙ c.in-Stop.is in
-    failed-here (g.S.Steps.turn c.args.steps.now) c.args.lengths.now c.args.state.now here.done.items here.word.items c.args.branch c.requires.place left
+    failed-here (g.S.Steps.turn c.args.steps.now) (g.S.Steps.rest c.args.steps.now) c.args.lengths.now c.args.state.now here.done.items here.word.items c.args.branch c.requires.place left
     c.in_ok-failed_merge-in-Stop.field-0 ((rw index_is at turn_is) ∙ ap (λ w. Stop w) (sym e.why)) e.at e.word
 
 pub check-returns-then-is_done-clause-grown : goal.check-returns-then-is_done-clause-grown
-check-returns-then-is_done-clause-grown g t c = grown-none (g.S.Steps.turn c.args.steps.now) c.args.lengths.now _ _ _ c.args.seen.now.keys 0 c.args.search.now.steps c.args.search.now.steps (omega arith)
+check-returns-then-is_done-clause-grown g t c =
+    let here = c.args.search.now in
+    let items : c.in_ok-to_vec.field-0.items ≡ here.done.items = search rules in
+    let full = subst (λ d. (b : ℕ) → get_or c.args.lengths.now b 0 ≤ get_or d b 0) c.deref-2.ensures.value c.if-is_done.ensures in
+    let at = c.requires.place in
+    grown-end (g.S.Steps.turn c.args.steps.now) c.args.lengths.now (g.S.Steps.most_rest c.args.steps.now) here.done.items c.args.state
+    c.args.seen.now.keys c.insert.new.self.keys here.steps c.check_rest.new.search.steps
+    (record { done = c.in_ok-to_vec.field-0; state = c.args.state }) _ (all-done c.args.lengths.now here.done.items at.branches at.within full)
+    c.in_ok-stopped.ensures.steps items refl (sym c.contains.ensures ∙ c.if-contains.false) c.in_ok-insert.ensures.keys
 
 pub check-returns-then-contains-clause-grown : goal.check-returns-then-contains-clause-grown
-check-returns-then-contains-clause-grown g t c = grown-none (g.S.Steps.turn c.args.steps.now) c.args.lengths.now _ _ _ c.args.seen.now.keys 0 c.args.search.now.steps c.args.search.now.steps (omega arith)
+check-returns-then-contains-clause-grown g t c = grown-none (g.S.Steps.turn c.args.steps.now) c.args.lengths.now (g.S.Steps.most_rest c.args.steps.now) _ _ _ c.args.seen.now.keys 0 c.args.search.now.steps c.args.search.now.steps (omega arith)
 
 pub check-returns-in-Some-clause-grown : goal.check-returns-in-Some-clause-grown
 check-returns-in-Some-clause-grown g t c =
@@ -139,9 +152,9 @@ check-returns-in-Some-clause-grown g t c =
     let state = c.args.state in
     let now = c.loop-branch.search in
     let items : c.in_ok-to_vec.field-0.items ≡ here.done.items = search rules in
-    let visited = subst (λ d. IsGrown (g.S.Steps.turn c.args.steps.now) c.args.lengths.now 1 (sum d + 1) d state c.loop-branch.seen.keys c.check_branch.new.seen.keys now.steps c.check_branch.new.search.steps) c.loop-branch.invariant.checked.done c.in_ok-failed.ensures.grown in
-    let all = grown-more (g.S.Steps.turn c.args.steps.now) c.args.lengths.now (sum here.done.items + 1) here.done.items state c.loop-branch.branch c.args.seen.now.keys c.loop-branch.seen.keys c.check_branch.new.seen.keys here.steps now.steps c.check_branch.new.search.steps c.loop-branch.invariant.grown visited in
-    grown-insert (g.S.Steps.turn c.args.steps.now) c.args.lengths.now here.done.items state (c.loop-branch.branch + 1) c.args.seen.now.keys c.check_branch.new.seen.keys c.insert.new.self.keys here.steps c.check_branch.new.search.steps (record { done = c.in_ok-to_vec.field-0; state = c.args.state }) _
+    let visited = subst (λ d. IsGrown (g.S.Steps.turn c.args.steps.now) c.args.lengths.now (g.S.Steps.most_rest c.args.steps.now) 1 (sum d + 1) d state c.loop-branch.seen.keys c.check_branch.new.seen.keys now.steps c.check_branch.new.search.steps) c.loop-branch.invariant.checked.done c.in_ok-failed.ensures.grown in
+    let all = grown-more (g.S.Steps.turn c.args.steps.now) c.args.lengths.now (g.S.Steps.most_rest c.args.steps.now) (sum here.done.items + 1) here.done.items state c.loop-branch.branch c.args.seen.now.keys c.loop-branch.seen.keys c.check_branch.new.seen.keys here.steps now.steps c.check_branch.new.search.steps c.loop-branch.invariant.grown visited in
+    grown-insert (g.S.Steps.turn c.args.steps.now) c.args.lengths.now (g.S.Steps.most_rest c.args.steps.now) here.done.items state (c.loop-branch.branch + 1) c.args.seen.now.keys c.check_branch.new.seen.keys c.insert-in-Some.new.self.keys here.steps c.check_branch.new.search.steps (record { done = c.in_ok-to_vec.field-0; state = c.args.state }) _
     (omega arith) all items refl (sym c.contains.ensures ∙ c.if-contains.false)
     (λ k e. (position-same g.S.State.PartialEq.eq g.met.S.Steps.exact c.in_ok-to_vec.field-0.items here.done.items c.args.state k items e).0) c.in_ok-insert-in-Some.ensures.keys
 
@@ -151,12 +164,12 @@ check-returns-clause-grown g t c =
     let state = c.args.state in
     let now = c.loop-branch.search in
     let items : c.in_ok-to_vec.field-0.items ≡ here.done.items = search rules in
-    grown-insert (g.S.Steps.turn c.args.steps.now) c.args.lengths.now here.done.items state c.loop-branch.branch c.args.seen.now.keys c.loop-branch.seen.keys c.insert-2.new.self.keys here.steps now.steps (record { done = c.in_ok-to_vec.field-0; state = c.args.state }) _
+    grown-insert (g.S.Steps.turn c.args.steps.now) c.args.lengths.now (g.S.Steps.most_rest c.args.steps.now) here.done.items state c.loop-branch.branch c.args.seen.now.keys c.loop-branch.seen.keys c.insert-2.new.self.keys here.steps now.steps (record { done = c.in_ok-to_vec.field-0; state = c.args.state }) _
     (omega arith) c.loop-branch.invariant.grown items refl (sym c.contains.ensures ∙ c.if-contains.false)
-    (λ k e. (position-same g.S.State.PartialEq.eq g.met.S.Steps.exact c.in_ok-to_vec.field-0.items here.done.items c.args.state k items e).0) c.in_ok-insert.ensures.keys
+    (λ k e. (position-same g.S.State.PartialEq.eq g.met.S.Steps.exact c.in_ok-to_vec.field-0.items here.done.items c.args.state k items e).0) c.in_ok-insert-2.ensures.keys
 
 pub check_branch-returns-then-index-lengths-clause-grown : goal.check_branch-returns-then-index-lengths-clause-grown
-check_branch-returns-then-index-lengths-clause-grown g t c = grown-none (g.S.Steps.turn c.args.steps.now) c.args.lengths.now _ _ _ c.args.seen.now.keys 1 c.args.search.now.steps c.args.search.now.steps (omega arith)
+check_branch-returns-then-index-lengths-clause-grown g t c = grown-none (g.S.Steps.turn c.args.steps.now) c.args.lengths.now (g.S.Steps.most_rest c.args.steps.now) _ _ _ c.args.seen.now.keys 1 c.args.search.now.steps c.args.search.now.steps (omega arith)
 
 pub check_branch-returns-in-Some-clause-grown : goal.check_branch-returns-in-Some-clause-grown
 check_branch-returns-in-Some-clause-grown g t c =
@@ -165,7 +178,7 @@ check_branch-returns-in-Some-clause-grown g t c =
     let left : get_or here.done.items c.args.branch 0 < get_or c.args.lengths.now c.args.branch 0 = grind (arith, common_steps) in
     let turn_is = sym c.in_ok-next.ensures.answer ∙ c.in-Next.is in
     let made : c.enter.new.self.steps ≤ here.steps + 1 = grind (arith, c.saturating_add-search.ensures, c.enter.ensures.steps) in
-    grown-behind (g.S.Steps.turn c.args.steps.now) c.args.lengths.now here.done.items c.args.state.now c.args.branch c.in-Next.next c.enter.new.self.done.items c.args.seen.now.keys c.check.new.seen.keys
+    grown-behind (g.S.Steps.turn c.args.steps.now) c.args.lengths.now (g.S.Steps.most_rest c.args.steps.now) here.done.items c.args.state.now c.args.branch c.in-Next.next c.enter.new.self.done.items c.args.seen.now.keys c.check.new.seen.keys
     here.steps c.enter.new.self.steps c.check.new.search.steps left (rw index_is at turn_is) c.in_ok-enter-in-Next.ensures.done (sum-more c.args.lengths.now here.done.items c.args.branch c.requires.place left) made
     c.in_ok-failed-in-Next.ensures.grown
 
@@ -176,11 +189,11 @@ check_branch-returns-in-None-clause-grown g t c =
     let left : get_or here.done.items c.args.branch 0 < get_or c.args.lengths.now c.args.branch 0 = grind (arith, common_steps) in
     let turn_is = sym c.in_ok-next.ensures.answer ∙ c.in-Next.is in
     let made : c.enter.new.self.steps ≤ here.steps + 1 = grind (arith, c.saturating_add-search.ensures, c.enter.ensures.steps) in
-    grown-behind (g.S.Steps.turn c.args.steps.now) c.args.lengths.now here.done.items c.args.state.now c.args.branch c.in-Next.next c.enter.new.self.done.items c.args.seen.now.keys c.check.new.seen.keys
+    grown-behind (g.S.Steps.turn c.args.steps.now) c.args.lengths.now (g.S.Steps.most_rest c.args.steps.now) here.done.items c.args.state.now c.args.branch c.in-Next.next c.enter.new.self.done.items c.args.seen.now.keys c.check.new.seen.keys
     here.steps c.enter.new.self.steps c.leave.new.self.steps left (rw index_is at turn_is) c.in_ok-enter-in-Next.ensures.done (sum-more c.args.lengths.now here.done.items c.args.branch c.requires.place left) made
-    (subst (λ n. IsGrown (g.S.Steps.turn c.args.steps.now) c.args.lengths.now 0 (sum c.enter.new.self.done.items) c.enter.new.self.done.items c.in-Next.next c.args.seen.now.keys c.check.new.seen.keys c.enter.new.self.steps n) (sym c.leave.ensures.steps) c.in_ok-failed-in-Next.ensures.grown)
+    (subst (λ n. IsGrown (g.S.Steps.turn c.args.steps.now) c.args.lengths.now (g.S.Steps.most_rest c.args.steps.now) 0 (sum c.enter.new.self.done.items) c.enter.new.self.done.items c.in-Next.next c.args.seen.now.keys c.check.new.seen.keys c.enter.new.self.steps n) (sym c.leave.ensures.steps) c.in_ok-failed-in-Next.ensures.grown)
 
 pub check_branch-returns-in_ok-failed_merge-in-Stop-clause-grown : goal.check_branch-returns-in_ok-failed_merge-in-Stop-clause-grown
 check_branch-returns-in_ok-failed_merge-in-Stop-clause-grown g t c =
     let made : c.saturating_add-search.result ≤ c.args.search.now.steps + 1 = grind (arith, c.saturating_add-search.ensures) in
-    grown-none (g.S.Steps.turn c.args.steps.now) c.args.lengths.now _ _ _ c.args.seen.now.keys 1 c.args.search.now.steps c.saturating_add-search.result made
+    grown-none (g.S.Steps.turn c.args.steps.now) c.args.lengths.now (g.S.Steps.most_rest c.args.steps.now) _ _ _ c.args.seen.now.keys 1 c.args.search.now.steps c.saturating_add-search.result made

@@ -12,7 +12,7 @@ decreases-check_branch g l = 2 * (sum l.lengths.now - sum l.search.now.done.item
 
 abbrev pub invariant-check-loop-branch : goal.invariant-check-loop-branch
 invariant-check-loop-branch g l = record {
-  checked : HasChecked (g.S.Steps.turn l.steps) l.lengths l.position.state (BeginsBelow l.lengths l.initial.search.done.items l.branch) l.initial.search l.search l.seen.keys;
-  grown : IsGrown (g.S.Steps.turn l.steps) l.lengths l.branch (sum l.initial.search.done.items + 1) l.initial.search.done.items l.position.state l.initial.seen.keys l.seen.keys l.initial.search.steps l.search.steps;
+  checked : HasChecked (g.S.Steps.turn l.steps) (g.S.Steps.rest l.steps) l.lengths l.position.state (BeginsBelow l.lengths l.initial.search.done.items l.branch) l.initial.search l.search l.seen.keys;
+  grown : IsGrown (g.S.Steps.turn l.steps) l.lengths (g.S.Steps.most_rest l.steps) l.branch (sum l.initial.search.done.items + 1) l.initial.search.done.items l.position.state l.initial.seen.keys l.seen.keys l.initial.search.steps l.search.steps;
   some_left : (b : ℕ) × (slice_index l.initial.search.done.items b < slice_index l.lengths b);
 }

@@ -1,35 +1,76 @@
-use Rattle.std.proofs.Common.{◌≡◌, length, ap, ◌∙◌, arith}
-use Rattle.pst_case.specs.Shape.{joined}
-use Rattle.pst_judge.proofs.FittedCommands.{branches_asked}
-use Rattle.pst_judge.proofs.Fitted.{prefix_within, branches_within}
+use Rattle.std.proofs.Common.{◌≡◌, ◌+◌, length, ap, ◌∙◌, arith}
+use Rattle.pst_case.specs.Shape.{joined, before_suffix}
+use Rattle.pst_judge.proofs.FittedCommands.{branches_asked, suffix_asked, suffix_few}
+use Rattle.pst_judge.proofs.Fitted.{prefix_within, branches_within, suffix_within, lengths_within}
 use Rattle.pst_judge.proofs.validity.why_not_after_prefix.Goals as goal
 
 pub overflow_cast-number : goal.overflow_cast-number
 overflow_cast-number g c =
-    let h = prefix_within (g.C.Callbacks.model c.args.callbacks.now) c.args.shaped.now c.requires.shape in
-    let n : c.len.result ≡ length c.args.shaped.now.prefix = c.len.ensures ∙ ap (λ x. length x.prefix) c.case-case.ensures.same in
+    let h = prefix_within (g.C.Callbacks.model c.args.callbacks.now) c.args.shaped.now.case c.requires.shape in
+    let n : c.len.result ≡ length c.args.shaped.now.case.prefix = c.len.ensures ∙ ap (λ x. length x.prefix) c.case-case.ensures.same in
     omega (arith, h, n)
 
 pub overflow_add-number : goal.overflow_add-number
 overflow_add-number g c =
-    let h = prefix_within (g.C.Callbacks.model c.args.callbacks.now) c.args.shaped.now c.requires.shape in
-    let n : c.len.result ≡ length c.args.shaped.now.prefix = c.len.ensures ∙ ap (λ x. length x.prefix) c.case-case.ensures.same in
+    let h = prefix_within (g.C.Callbacks.model c.args.callbacks.now) c.args.shaped.now.case c.requires.shape in
+    let n : c.len.result ≡ length c.args.shaped.now.case.prefix = c.len.ensures ∙ ap (λ x. length x.prefix) c.case-case.ensures.same in
     omega (arith, h, n)
 
 pub branches_with_numbers-requires : goal.branches_with_numbers-requires
 branches_with_numbers-requires g c =
-    let h = prefix_within (g.C.Callbacks.model c.args.callbacks.now) c.args.shaped.now c.requires.shape in
-    let k = branches_within (g.C.Callbacks.model c.args.callbacks.now) c.args.shaped.now c.requires.shape in
-    let n : c.len.result ≡ length c.args.shaped.now.prefix = c.len.ensures ∙ ap (λ x. length x.prefix) c.case-case.ensures.same in
-    let b : length (joined c.as_slice-branches.result.now) ≡ length (joined c.args.shaped.now.branches) = ap (λ x. length (joined x)) c.as_slice-branches.ensures ∙ ap (λ x. length (joined x.branches)) c.case-case.ensures.same in
+    let h = prefix_within (g.C.Callbacks.model c.args.callbacks.now) c.args.shaped.now.case c.requires.shape in
+    let k = branches_within (g.C.Callbacks.model c.args.callbacks.now) c.args.shaped.now.case c.requires.shape in
+    let n : c.len.result ≡ length c.args.shaped.now.case.prefix = c.len.ensures ∙ ap (λ x. length x.prefix) c.case-case.ensures.same in
+    let b : length (joined c.as_slice-branches.result.now) ≡ length (joined c.args.shaped.now.case.branches) = ap (λ x. length (joined x)) c.as_slice-branches.ensures ∙ ap (λ x. length (joined x.branches)) c.case-case.ensures.same in
     omega (arith, h, k, n, b)
+
+pub number_behind-number-requires : goal.number_behind-number-requires
+number_behind-number-requires g c =
+    let h = prefix_within (g.C.Callbacks.model c.args.callbacks.now) c.args.shaped.now.case c.requires.shape in
+    let k = branches_within (g.C.Callbacks.model c.args.callbacks.now) c.args.shaped.now.case c.requires.shape in
+    let n : c.len.result ≡ length c.args.shaped.now.case.prefix = c.len.ensures ∙ ap (λ x. length x.prefix) c.case-case.ensures.same in
+    let b : length (joined c.as_slice-branches.result.now) ≡ length (joined c.args.shaped.now.case.branches) = ap (λ x. length (joined x)) c.as_slice-branches.ensures ∙ ap (λ x. length (joined x.branches)) c.case-case.ensures.same in
+    omega (arith, h, k, n, b)
+
+pub with_numbers-requires : goal.with_numbers-requires
+with_numbers-requires g c =
+    let h = prefix_within (g.C.Callbacks.model c.args.callbacks.now) c.args.shaped.now.case c.requires.shape in
+    let k = branches_within (g.C.Callbacks.model c.args.callbacks.now) c.args.shaped.now.case c.requires.shape in
+    let w = suffix_within (g.C.Callbacks.model c.args.callbacks.now) c.args.shaped.now.case c.requires.shape in
+    let n : c.len.result ≡ length c.args.shaped.now.case.prefix = c.len.ensures ∙ ap (λ x. length x.prefix) c.case-case.ensures.same in
+    let b : length (joined c.as_slice-branches.result.now) ≡ length (joined c.args.shaped.now.case.branches) = ap (λ x. length (joined x)) c.as_slice-branches.ensures ∙ ap (λ x. length (joined x.branches)) c.case-case.ensures.same in
+    let s : length c.as_slice.result.now ≡ length c.args.shaped.now.case.suffix = ap (λ x. length x) c.as_slice.ensures ∙ ap (λ x. length x.suffix) c.case-case.ensures.same in
+    omega (arith, h, k, w, n, b, s, c.number_behind-number.ensures)
 
 pub search_failing-requires-clause-commands : goal.search_failing-requires-clause-commands
 search_failing-requires-clause-commands g c =
     let e = rw (c.new.ensures, c.as_slice-branches.ensures, c.len.ensures, c.case-case.ensures.same) at c.in_ok-commands.ensures in
-    rw e (branches_asked (g.C.Callbacks.model c.args.callbacks.now) c.args.shaped.now c.requires.shape)
+    rw e (branches_asked (g.C.Callbacks.model c.args.callbacks.now) c.args.shaped.now.case c.requires.shape)
+
+pub search_failing-requires-clause-last : goal.search_failing-requires-clause-last
+search_failing-requires-clause-last g c =
+    let n : c.len.result ≡ length c.args.shaped.now.case.prefix = c.len.ensures ∙ ap (λ x. length x.prefix) c.case-case.ensures.same in
+    let b : length (joined c.as_slice-branches.result.now) ≡ length (joined c.args.shaped.now.case.branches) = ap (λ x. length (joined x)) c.as_slice-branches.ensures ∙ ap (λ x. length (joined x.branches)) c.case-case.ensures.same in
+    let number : c.number_behind-number.result ≡ 1 + before_suffix c.args.shaped.now.case = omega (arith, n, b, c.number_behind-number.ensures) in
+    let e = rw (c.new-2.ensures, c.as_slice.ensures, number, c.case-case.ensures.same) at c.in_ok-suffix.ensures in
+    rw e (suffix_asked (g.C.Callbacks.model c.args.callbacks.now) c.args.shaped.now.case c.requires.shape)
+
+pub search_failing-requires-clause-lengths : goal.search_failing-requires-clause-lengths
+search_failing-requires-clause-lengths g c = lengths_within (g.C.Callbacks.model c.args.callbacks.now) c.args.shaped.now.case c.requires.shape
+
+pub search_failing-requires-clause-suffix : goal.search_failing-requires-clause-suffix
+search_failing-requires-clause-suffix g c =
+    let n : c.len.result ≡ length c.args.shaped.now.case.prefix = c.len.ensures ∙ ap (λ x. length x.prefix) c.case-case.ensures.same in
+    let b : length (joined c.as_slice-branches.result.now) ≡ length (joined c.args.shaped.now.case.branches) = ap (λ x. length (joined x)) c.as_slice-branches.ensures ∙ ap (λ x. length (joined x.branches)) c.case-case.ensures.same in
+    let number : c.number_behind-number.result ≡ 1 + before_suffix c.args.shaped.now.case = omega (arith, n, b, c.number_behind-number.ensures) in
+    let e = rw (c.new-2.ensures, c.as_slice.ensures, number, c.case-case.ensures.same) at c.in_ok-suffix.ensures in
+    rw e (suffix_few (g.C.Callbacks.model c.args.callbacks.now) c.args.shaped.now.case c.requires.shape)
 
 pub returns : goal.returns
 returns g c =
+    let n : c.len.result ≡ length c.args.shaped.now.case.prefix = c.len.ensures ∙ ap (λ x. length x.prefix) c.case-case.ensures.same in
+    let b : length (joined c.as_slice-branches.result.now) ≡ length (joined c.args.shaped.now.case.branches) = ap (λ x. length (joined x)) c.as_slice-branches.ensures ∙ ap (λ x. length (joined x.branches)) c.case-case.ensures.same in
+    let number : c.number_behind-number.result ≡ 1 + before_suffix c.args.shaped.now.case = omega (arith, n, b, c.number_behind-number.ensures) in
     let e = rw (c.new.ensures, c.as_slice-branches.ensures, c.len.ensures, c.case-case.ensures.same) at c.in_ok-commands.ensures in
-    rw e at c.search_failing.ensures
+    let s = rw (c.new-2.ensures, c.as_slice.ensures, number, c.case-case.ensures.same) at c.in_ok-suffix.ensures in
+    rw (e, s) at c.search_failing.ensures

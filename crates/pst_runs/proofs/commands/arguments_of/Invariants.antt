@@ -1,6 +1,9 @@
-use Rattle.std.proofs.Common.{◌≡◌, take, map}
-use Rattle.pst_runs.specs.Items.{argument_of}
+use Rattle.std.proofs.Common.{◌≡◌, ◌++◌, ◌&&◌, drop}
+use Rattle.pst_runs.specs.Commands.{arguments_of, present, are_present}
 use Rattle.pst_runs.proofs.commands.arguments_of.Given as goal
 
 abbrev pub invariant-loop-form : goal.invariant-loop-form
-invariant-loop-form l = l.arguments ≡ map argument_of (take l.form-index l.forms)
+invariant-loop-form l = record {
+  values : present (arguments_of l.forms) ≡ l.values ++ present (arguments_of (drop l.form-index l.forms));
+  all : are_present (arguments_of l.forms) ≡ (l.are_all && are_present (arguments_of (drop l.form-index l.forms)));
+}

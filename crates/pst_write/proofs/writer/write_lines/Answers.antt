@@ -1,24 +1,13 @@
-use Rattle.std.proofs.Common.{ap, ◌∙◌, Err}
-use Rattle.std.proofs.lemmas.Result.{err_from_is_err_and}
-use Rattle.pst_write.proofs.Lines.{run_lawful, line_written, line_failed, no_more}
+use Rattle.pst_sink.proofs.Sequence.{then_all, then_fails}
+use Rattle.pst_write.proofs.Lines.{next_line}
 use Rattle.pst_write.proofs.writer.write_lines.Goals as goal
-
-pub run_tree-requires : goal.run_tree-requires
-run_tree-requires g c =
-    run_lawful c.args.typed.now c.args.runs.now c.loop-run.run-index c.run-item.result c.loop-run-test.true c.run-item.is c.requires.lawful
-
-pub returns-in_err-tree : goal.returns-in_err-tree
-returns-in_err-tree g c =
-    let p = err_from_is_err_and c.from_residual.result c.from_residual.ensures.1 in
-    no_more c.args.typed.now c.args.runs.now c.loop-run.run-index c.loop-run.invariant (p.1 ∙ ap (λ e. Err e) p.2)
 
 pub returns-in_err-write_line : goal.returns-in_err-write_line
 returns-in_err-write_line g c =
-    let p = err_from_is_err_and c.from_residual-in_err-write_line.result c.from_residual-in_err-write_line.ensures.1 in
-    line_failed c.args.typed.now c.args.runs.now c.loop-run.run-index c.run-item.result c.loop-run-test.true c.run-item.is
-    c.in_ok-tree.ensures.written c.loop-run.invariant c.in_err-write_line.ensures (p.1 ∙ ap (λ e. Err e) p.2)
+    let next = next_line c.args.trees.now c.loop-tree.tree-index c.tree-item.result c.loop-tree-test.true c.tree-item.is in
+    then_fails _ c.from_residual.ensures.0 c.loop-tree.invariant c.in_err-write_line.ensures next
 
-pub loop-run-preserved : goal.loop-run-preserved
-loop-run-preserved g c =
-    line_written c.args.typed.now c.args.runs.now c.loop-run.run-index c.run-item.result c.loop-run-test.true c.run-item.is
-    c.in_ok-tree.ensures.written c.loop-run.invariant c.in_ok-write_line.ensures
+pub loop-tree-preserved : goal.loop-tree-preserved
+loop-tree-preserved g c =
+    let next = next_line c.args.trees.now c.loop-tree.tree-index c.tree-item.result c.loop-tree-test.true c.tree-item.is in
+    then_all _ c.loop-tree.invariant c.in_ok-write_line.ensures next

@@ -1,0 +1,66 @@
+//! The results that a history records.
+ghost use Rattle.std.specs.Prelude.{◌≡◌, ◌++◌, ◌∷◌, [], IfOk, MatchOption, map};
+ghost use Rattle.pst_case.specs.Recorded.{recorded, result_of};
+ghost use Rattle.pst_case.specs.Shape.{joined};
+
+use crate::history::{History, Reply};
+use pst_items::Items;
+use pst_value::Value;
+use std::alloc::{AllocError, Global};
+
+/// The results that replies record, after others.
+fn with_part(
+    alloc: Global,
+    mut results: Vec<Option<Value>>,
+    replies: &[Reply],
+) -> Result<Vec<Option<Value>>, AllocError>
+    ensures { IfOk result (λ all. all.items ≡ results.items ++ map result_of replies.now) }
+{
+    for reply in replies {
+        match reply {
+            Reply::Value(value) => results.push(Some(value.copy(alloc)?))?,
+            Reply::Misfit | Reply::Failed | Reply::NotRun => results.push(None)?,
+        }
+    }
+    Ok(results)
+}
+
+/// The results that the replies of one part record: `None` where the reply is no value. `AllocError` where memory is refused.
+pub fn results_of(alloc: Global, replies: &[Reply]) -> Result<Vec<Option<Value>>, AllocError>
+    ensures { IfOk result (λ results. results.items ≡ map result_of replies.now) }
+{
+    with_part(alloc, Vec::new(alloc), replies)
+}
+
+fn split_first(branches: &[Items<Reply>]) -> Option<(&Items<Reply>, &[Items<Reply>])>
+    ensures { MatchOption result (branches.now ≡ []) (λ p. branches.now ≡ p.0.now ∷ p.1.now) }
+{
+    branches.split_first()
+}
+
+/// The results that the replies of branches record, after others.
+fn with_branches(
+    alloc: Global,
+    results: Vec<Option<Value>>,
+    branches: &[Items<Reply>],
+) -> Result<Vec<Option<Value>>, AllocError>
+    ensures { IfOk result (λ all. all.items ≡ results.items ++ map result_of (joined branches.now)) }
+{
+    let Some((branch, branches)) = split_first(branches) else {
+        return Ok(results);
+    };
+    let results = with_part(alloc, results, branch.as_slice())?;
+    with_branches(alloc, results, branches)
+}
+
+impl History {
+    /// The recorded results, by the numbers of the commands from 1: `None` where the reply is no value. `AllocError` where
+    /// memory is refused.
+    pub fn recorded(&self, alloc: Global) -> Result<Vec<Option<Value>>, AllocError>
+        ensures { IfOk result (λ results. results.items ≡ recorded self.now) }
+    {
+        let results = with_part(alloc, Vec::new(alloc), self.prefix.as_slice())?;
+        let results = with_branches(alloc, results, self.branches.as_slice())?;
+        with_part(alloc, results, self.suffix.as_slice())
+    }
+}

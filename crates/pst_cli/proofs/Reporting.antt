@@ -1,0 +1,57 @@
+-- Items that are reported one after another.
+use Rattle.std.proofs.Common.{◌≡◌, ◌≤◌, ◌<◌, ◌+◌, ◌++◌, ℕ, suc, List, [], ◌∷◌, Result, Ok, Err, IfOk, true, length, get_or, drop, sym, ap, ◌∙◌, subst, add-one, drop-cons, append_assoc}
+use Rattle.std.proofs.Math.ListN.{drop_of_length-le}
+use Rattle.std.proofs.lemmas.List.{append-nil}
+use Rattle.pst_case.specs.declared.history.Run.{Run}
+use Rattle.pst_case.specs.Matches.{matches}
+use Rattle.pst_case.specs.OfModel.{OfModel}
+use Rattle.pst_case.specs.declared.history.History.{History}
+use Rattle.pst_cli.specs.RunOutput.{IsReported, AreReported, ReportsRun, run_with, driven, none, next}
+use Rattle.pst_cli.specs.declared.output.Output.{Output}
+use Rattle.pst_driver.specs.Driven.{IsDriven}
+use Rattle.pst_judge.specs.Validity.{IsValid}
+use Rattle.pst_cli.specs.Status.{or_worse}
+use Rattle.pst_cli.specs.declared.status.Status.{Status}
+use Rattle.pst_model.specs.declared.model.Source.{Source}
+use Rattle.pst_system.specs.Kept.{Answers, Fails, ResetFails}
+
+pub if_ok_both : {A E : Type 0} (P Q S : A → Type 0) → ((a : A) → P a → Q a → S a) → (r : Result A E) → IfOk r P → IfOk r Q → IfOk r S
+if_ok_both P Q S f (Ok a) p q = f a p q
+if_ok_both P Q S f (Err e) p q = tt
+
+pub if_ok_then : {A E : Type 0} (P Q : A → Type 0) → ((a : A) → P a → Q a) → (r : Result A E) → IfOk r P → IfOk r Q
+if_ok_then P Q f (Ok a) h = f a h
+if_ok_then P Q f (Err e) h = tt
+
+module _ (m : Source) (A : Answers) (F : Fails) (R : ResetFails) (runs : List Run) where
+  -- the report of the runs so far is completed by the report of those that are left
+  abbrev pub Completes : (first i : ℕ) (so_far worst : Status) (text : List ℕ) → Type 0
+  Completes first i so_far worst text = (more : List ℕ) (status : Status) → AreReported m A F R (i + 1) worst (drop i runs) more status → AreReported m A F R first so_far runs (text ++ more) status
+
+  pub one_more : (first i : ℕ) (so_far worst ending : Status) (text lines : List ℕ) (run : Run) → i < length runs → run ≡ get_or runs i run
+      → IsReported m A F R (i + 1) run.shaped.case lines ending → Completes first i so_far worst text → Completes first (i + 1) so_far (or_worse worst ending) (text ++ lines)
+  one_more first i so_far worst ending text lines run h is report f more status later =
+      let split : drop i runs ≡ run ∷ drop (i + 1) runs = rw add-one (drop-cons runs i run h ∙ ap (λ r. r ∷ drop (suc i) runs) (sym is)) in
+      let here : AreReported m A F R (i + 1) worst (run ∷ drop (i + 1) runs) (lines ++ more) status = next (i + 1) worst ending status run (drop (i + 1) runs) lines more report later in
+      let OfRuns : List Run → Type 0 = λ rs. AreReported m A F R (i + 1) worst rs (lines ++ more) status in
+      let OfText : List ℕ → Type 0 = λ t. AreReported m A F R first so_far runs t status in
+      subst OfText (sym (append_assoc text lines more)) (f (lines ++ more) status (subst OfRuns (sym split) here))
+
+  pub all_reported : (first i : ℕ) (so_far worst : Status) (text : List ℕ) → length runs ≤ i → Completes first i so_far worst text → AreReported m A F R first so_far runs text worst
+  all_reported first i so_far worst text h f =
+      let left : drop i runs ≡ [] = drop_of_length-le runs h in
+      let OfRuns : List Run → Type 0 = λ rs. AreReported m A F R (i + 1) worst rs [] worst in
+      let OfText : List ℕ → Type 0 = λ t. AreReported m A F R first so_far runs t worst in
+      subst OfText (append-nil text) (f [] worst (subst OfRuns (sym left) (none (i + 1) worst)))
+
+-- the report of a valid case that was driven
+pub driven_report : {E : Type 0} (m : Source) (A : Answers) (F : Fails) (R : ResetFails) (number : ℕ) (v : OfModel) (h : History)
+    → v.model ≡ m → IsValid v.model v.case → matches m v.case h ≡ true → IsDriven m A F v.case h
+    → (r : Result Output E) → IfOk r (λ o. ReportsRun m number (run_with v h) o.text.items o.status)
+    → IfOk r (λ o. IsReported m A F R number v.case o.text.items o.status)
+driven_report m A F R number v h e valid same real (Err refused) report = tt
+driven_report m A F R number v h e valid same real (Ok o) report =
+    let OfModel' : OfModel → Type 0 = λ w. ReportsRun m number (run_with w h) o.text.items o.status in
+    let named : v ≡ record { model = m; case = v.case } = ap (λ n. let w : OfModel = record { model = n; case = v.case } in w) e in
+    let Valid : Source → Type 0 = λ n. IsValid n v.case in
+    driven (subst Valid e valid) h same real (subst OfModel' named report)

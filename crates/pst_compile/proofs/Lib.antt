@@ -1,0 +1,17 @@
+pub mod Answering
+pub mod Calls
+pub mod Checking
+pub mod Earlier
+pub mod Forms
+pub mod Good
+pub mod Lawful
+pub mod Loading
+pub mod Main
+pub mod Placing
+pub mod Regs
+pub mod Rows
+pub mod Rules
+pub mod Shapes
+pub mod Steps
+pub mod Visits
+pub mod Whole

@@ -1,0 +1,101 @@
+//! Code that is put together of parts.
+
+ghost use Rattle.std.specs.Prelude.{◌≡◌, ◌+◌, ◌++◌, ◌∷◌, [], pos, IfOk};
+ghost use Rattle.pst_machine.specs.declared.instruction.Instr.TheVariants as instr;
+ghost use Rattle.pst_operators.specs.Operators.{int};
+ghost use Rattle.pst_compile.specs.Code as spec;
+
+use crate::target::{Target, register_after};
+use pst_items::Items;
+use pst_machine::Instr;
+use pst_value::Value;
+use std::alloc::{AllocError, Global};
+
+/// Code, unless memory is refused.
+pub type Block = Result<Items<Instr>, AllocError>;
+
+/// The place so many instructions further on.
+fn place_after(place: usize, count: usize) -> Result<usize, AllocError>
+    ensures { IfOk result (λ after. after ≡ place + count) }
+{
+    match place.checked_add(count) {
+        Some(after) => Ok(after),
+        None => Err(AllocError),
+    }
+}
+
+/// One instruction.
+pub fn one(alloc: Global, instr: Instr) -> Block
+    ensures { IfOk result (λ code. code ≡ instr ∷ []) }
+{
+    let mut code = Items::new(alloc);
+    code.push(instr)?;
+    Ok(code)
+}
+
+/// The first code, and then the second.
+pub fn joined(first: Items<Instr>, second: Items<Instr>) -> Block
+    ensures { IfOk result (λ code. code ≡ first ++ second) }
+{
+    let mut code = first;
+    code.append(second)?;
+    Ok(code)
+}
+
+/// An instruction, and then the code.
+pub fn headed(alloc: Global, instr: Instr, rest: Items<Instr>) -> Block
+    ensures { IfOk result (λ code. code ≡ instr ∷ rest) }
+{
+    let first = one(alloc, instr)?;
+    joined(first, rest)
+}
+
+/// The code, and then an instruction.
+pub fn ended(code: Items<Instr>, instr: Instr) -> Block
+    ensures { IfOk result (λ all. all ≡ code ++ instr ∷ []) }
+{
+    let mut all = code;
+    all.push(instr)?;
+    Ok(all)
+}
+
+/// The code, which is passed where the register is false. The jump stands at the place.
+pub fn skipped_unless(alloc: Global, register: u32, code: Items<Instr>, place: usize) -> Block
+    ensures { IfOk result (λ all. all ≡ spec.skipped_unless register code place) }
+{
+    let after = place_after(place_after(place, 1)?, code.len())?;
+    headed(alloc, Instr::Unless(register, after), code)
+}
+
+/// The first code, or the second where the register is false. The jump to the second stands at the place.
+pub fn either(
+    alloc: Global,
+    register: u32,
+    first: Items<Instr>,
+    second: Items<Instr>,
+    place: usize,
+) -> Block
+    ensures { IfOk result (λ all. all ≡ spec.either register first second place) }
+{
+    let other = place_after(place_after(place_after(place, 1)?, first.len())?, 1)?;
+    let after = place_after(other, second.len())?;
+    let rest = headed(alloc, Instr::Jump(after), second)?;
+    let both = joined(first, rest)?;
+    headed(alloc, Instr::Unless(register, other), both)
+}
+
+/// The body, for each item of the list in a register, with the item in the register after the index.
+/// The first index is written at the place of `index`.
+pub fn counted(alloc: Global, list: u32, index: Target, body: Items<Instr>) -> Block
+    ensures { IfOk result (λ all. all ≡
+        instr.Const index.register (int (pos 0))
+        ∷ spec.looped (index.register + 1) list index.register body (index.place + 1)) }
+{
+    let jump = place_after(index.place, 1)?;
+    let start = place_after(jump, 1)?;
+    let end = place_after(start, body.len())?;
+    let item = register_after(index.register, 1)?;
+    let turns = ended(body, Instr::Loop(item, list, index.register, start))?;
+    let all = headed(alloc, Instr::Jump(end), turns)?;
+    headed(alloc, Instr::Const(index.register, Value::Int(0)), all)
+}

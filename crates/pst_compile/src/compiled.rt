@@ -1,0 +1,187 @@
+//! The callbacks of a model by its code.
+
+ghost use Rattle.std.specs.Prelude.{◌≡◌, ◌∷◌, ◌++◌, ◌+◌, ◌*◌, IfOk};
+ghost use Rattle.pst_eval.specs.Callbacks.{Says};
+ghost use Rattle.pst_machine.specs.Machine.{End};
+ghost use Rattle.pst_compile.specs.Compiled.{DoesOnly};
+ghost use Rattle.pst_compile.specs.Functions.{listing_of};
+
+use crate::functions::whole_code;
+use crate::names::functions;
+use pst_eval::Callbacks;
+use pst_items::Items;
+use pst_machine::{Code, Outcome};
+use pst_rules::Typed;
+use pst_value::{Fault, Value};
+use std::alloc::{AllocError, Global};
+use std::marker::Model;
+
+/// What a callback answers: a value and the turns left, or a fault, unless memory is refused.
+type Answer = Result<Result<(Value, u32), Fault>, AllocError>;
+
+/// The turns that a callback starts with.
+const MAX_TURNS: u32 = 1_000_000;
+
+/// The callbacks of a well-typed model, by its code. Contracts see it as the model.
+///
+/// Each callback answers what the model's expression means: the value, the fault and the turns left.
+#[derive(Drop)]
+pub struct Compiled {
+    typed: Typed,
+    code: Code,
+    /// How many functions stand before the callbacks.
+    base: usize,
+}
+
+impl Model for Compiled {
+    ghost use Rattle.pst_model.specs.declared.model.Source.{Source};
+    ghost use Rattle.pst_model.specs.contracts.model.Source as coding;
+    ghost use Rattle.pst_compile.specs.Compiled.{IsCompiled};
+
+    ghost Value = { Source };
+
+    ghost coded = { coding.the_row.coded };
+
+    ghost view = { λ c. c.typed };
+
+    ghost invariant = { λ c. IsCompiled c.typed.items c.code c.base };
+}
+
+/// Compiles a well-typed model.
+///
+/// `AllocError`: memory was refused, or the code has more registers or places than there are numbers.
+#[tactic(auto, using(crate::proofs::Checking::whole_fits))]
+pub fn compile(alloc: Global, typed: Typed) -> Result<Compiled, AllocError>
+    ensures { IfOk result (λ compiled. compiled ≡ typed) }
+{
+    let codes = whole_code(alloc, typed.source().items.as_slice())?;
+    let base = functions(typed.source().items.as_slice());
+    match Code::check(codes) {
+        Ok(code) => Ok(Compiled { typed, code, base }),
+        Err(_) => unreachable!(),
+    }
+}
+
+/// The bytes of the text of its code: a line for each instruction, with the number of its function, its
+/// place, its name and its operands, with single spaces. The functions of the model come in their order,
+/// then `init` and `command`, and then `pre`, `next` and `post` of each operation.
+///
+/// `AllocError`: memory was refused.
+pub fn listing(alloc: Global, compiled: &Compiled) -> Result<Items<u8>, AllocError>
+    ensures { IfOk result (λ text. text ≡ listing_of compiled.now.items) }
+{
+    compiled.code.listing(alloc)
+}
+
+/// What a function of the code answers. Each of its runs has one end, which is not stuck.
+fn answer(code: &Code, alloc: Global, fun: usize, args: Items<Value>) -> Answer
+    requires { (o : End) × DoesOnly code.now fun args o }
+    ensures { IfOk result (λ a. (o : End) → DoesOnly code.now fun args o → Says o a) }
+{
+    match code.run(alloc, fun, args, MAX_TURNS)? {
+        Outcome::Value(value, turns) => Ok(Ok((value, turns))),
+        Outcome::Fault(fault) => Ok(Err(fault)),
+        Outcome::Stuck => unreachable!(),
+    }
+}
+
+/// The number of a callback's function: behind the functions stand `init` and `command`, and then three
+/// for each operation.
+fn function_number(base: usize, op: u32, callback: usize) -> Result<usize, AllocError>
+    ensures { IfOk result (λ number. number ≡ base + 3 * op + callback) }
+{
+    let Some(first) = base.checked_add((op as usize) * 3) else {
+        return Err(AllocError);
+    };
+    match first.checked_add(callback) {
+        Some(number) => Ok(number),
+        None => Err(AllocError),
+    }
+}
+
+/// The first values, and then copies of the others.
+fn copied(alloc: Global, first: Items<Value>, values: &[Value]) -> Result<Items<Value>, AllocError>
+    ensures { IfOk result (λ all. all ≡ first ++ values.now) }
+{
+    let mut all = first;
+    for value in values {
+        all.push(value.copy(alloc)?)?;
+    }
+    Ok(all)
+}
+
+/// Copies of the state and the arguments.
+fn with_state(alloc: Global, state: &Value, arguments: &[Value]) -> Result<Items<Value>, AllocError>
+    ensures { IfOk result (λ all. all ≡ state.now ∷ arguments.now) }
+{
+    let mut first = Items::new(alloc);
+    first.push(state.copy(alloc)?)?;
+    copied(alloc, first, arguments)
+}
+
+/// Copies of the state, the result and the arguments.
+fn with_result(
+    alloc: Global,
+    state: &Value,
+    r: &Value,
+    arguments: &[Value],
+) -> Result<Items<Value>, AllocError>
+    ensures { IfOk result (λ all. all ≡ state.now ∷ r.now ∷ arguments.now) }
+{
+    let mut first = Items::new(alloc);
+    first.push(state.copy(alloc)?)?;
+    first.push(r.copy(alloc)?)?;
+    copied(alloc, first, arguments)
+}
+
+impl Callbacks for Compiled {
+    ghost model = { λ c. c };
+
+    fn init(&self, alloc: Global) -> Answer {
+        let _model = self.typed.source();
+        let place = function_number(self.base, 0, 0)?;
+        answer(&self.code, alloc, place, Items::new(alloc))
+    }
+
+    fn command(&self, alloc: Global, state: &Value) -> Answer {
+        let _model = self.typed.source();
+        let place = function_number(self.base, 0, 1)?;
+        let arguments = with_state(alloc, state, &[])?;
+        answer(&self.code, alloc, place, arguments)
+    }
+
+    fn pre(&self, alloc: Global, op: u32, state: &Value, arguments: &[Value]) -> Answer {
+        let _model = self.typed.source();
+        let place = function_number(self.base, op, 2)?;
+        let arguments = with_state(alloc, state, arguments)?;
+        answer(&self.code, alloc, place, arguments)
+    }
+
+    fn next(
+        &self,
+        alloc: Global,
+        op: u32,
+        state: &Value,
+        arguments: &[Value],
+        r: &Value,
+    ) -> Answer {
+        let _model = self.typed.source();
+        let place = function_number(self.base, op, 3)?;
+        let arguments = with_result(alloc, state, r, arguments)?;
+        answer(&self.code, alloc, place, arguments)
+    }
+
+    fn post(
+        &self,
+        alloc: Global,
+        op: u32,
+        state: &Value,
+        arguments: &[Value],
+        r: &Value,
+    ) -> Answer {
+        let _model = self.typed.source();
+        let place = function_number(self.base, op, 4)?;
+        let arguments = with_result(alloc, state, r, arguments)?;
+        answer(&self.code, alloc, place, arguments)
+    }
+}

@@ -1,0 +1,74 @@
+//! How many registers code needs.
+
+ghost use Rattle.std.specs.Prelude.{◌≡◌, max, IfOk};
+ghost use Rattle.pst_compile.specs.Functions as spec;
+
+use crate::target::register_after;
+use pst_machine::Instr;
+use std::alloc::AllocError;
+
+/// The larger of two counts.
+pub fn larger(a: u32, b: u32) -> u32
+    ensures { result ≡ max a b }
+{
+    if a < b { b } else { a }
+}
+
+/// One past a register.
+fn past(register: u32) -> Result<u32, AllocError>
+    ensures { IfOk result (λ count. count ≡ spec.past register) }
+{
+    register_after(register, 1)
+}
+
+/// One past the greater of two registers.
+fn past_both(a: u32, b: u32) -> Result<u32, AllocError>
+    ensures { IfOk result (λ count. count ≡ max (spec.past a) (spec.past b)) }
+{
+    Ok(larger(past(a)?, past(b)?))
+}
+
+/// One past the greatest of some registers.
+fn past_all(registers: &[u32]) -> Result<u32, AllocError>
+    ensures { IfOk result (λ count. count ≡ spec.past_all registers.now) }
+{
+    let mut count = 0;
+    for register in registers {
+        count = larger(count, past(*register)?);
+    }
+    Ok(count)
+}
+
+/// One past the greatest register of an instruction.
+fn past_instr(instr: &Instr) -> Result<u32, AllocError>
+    ensures { IfOk result (λ count. count ≡ spec.past_instr instr.now) }
+{
+    match instr {
+        Instr::Const(d, _) => past(*d),
+        Instr::Move(d, a)
+        | Instr::Take(d, a)
+        | Instr::Unary(_, d, a)
+        | Instr::At(d, a, _)
+        | Instr::Append(d, a) => past_both(*d, *a),
+        Instr::Binary(_, d, a, b) => Ok(larger(past(*d)?, past_both(*a, *b)?)),
+        Instr::Tuple(d, from)
+        | Instr::List(d, from)
+        | Instr::Call(d, _, from)
+        | Instr::Apply(d, _, from) => Ok(larger(past(*d)?, past_all(from.as_slice())?)),
+        Instr::Jump(_) => Ok(0),
+        Instr::Unless(a, _) => past(*a),
+        Instr::Loop(d, a, i, _) => Ok(larger(past(*d)?, past_both(*a, *i)?)),
+        Instr::Return(a) => past(*a),
+    }
+}
+
+/// How many registers the code needs.
+pub fn frame_size(body: &[Instr]) -> Result<u32, AllocError>
+    ensures { IfOk result (λ count. count ≡ spec.frame_size body.now) }
+{
+    let mut count = 0;
+    for instr in body {
+        count = larger(count, past_instr(instr)?);
+    }
+    Ok(count)
+}

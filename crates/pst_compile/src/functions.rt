@@ -1,0 +1,173 @@
+//! The code of functions and of callbacks.
+
+ghost use Rattle.std.specs.Prelude.{◌≡◌, [], ◌∷◌, reverse, max, IfOk};
+ghost use Rattle.std.specs.Option.{option_copied};
+ghost use Rattle.pst_compile.specs.Functions as spec;
+ghost use Rattle.pst_compile.specs.Scopes.{scope_of, function_in, numbers_in};
+
+use crate::blocks::ended;
+use crate::expressions::load;
+use crate::frame_size::{frame_size, larger};
+use crate::names::Names;
+use crate::target::{Target, register_after};
+use pst_items::Items;
+use pst_machine::{FunCode, Instr};
+use pst_meaning::Context;
+use pst_model::{Expr, Fun, Item, Op, calls_of, opening_of};
+use std::alloc::{AllocError, Global};
+
+/// The code of functions, unless memory is refused.
+type Functions = Result<Items<FunCode>, AllocError>;
+
+/// The function of an expression, whose names have so many registers.
+fn fun_code(
+    expr: &Expr,
+    context: &Context<'_>,
+    names: &Names<'_>,
+    count: u32,
+) -> Result<FunCode, AllocError>
+    ensures { IfOk result (λ code. code ≡ function_in context.now count (scope_of names.now) expr.now) }
+{
+    let start = Target {
+        register: count,
+        place: 0,
+    };
+    let loaded = load(expr, context, names, start)?;
+    let body = ended(loaded.code, Instr::Return(loaded.register))?;
+    let registers = larger(count, frame_size(body.as_slice())?);
+    Ok(FunCode {
+        args: count,
+        registers,
+        body,
+    })
+}
+
+/// How many registers the parameters have.
+fn register_count(params: usize) -> Result<u32, AllocError>
+    ensures { IfOk result (λ count. count ≡ params) }
+{
+    match u32::try_from(params) {
+        Ok(count) => Ok(count),
+        Err(_) => Err(AllocError),
+    }
+}
+
+/// The code of a function of the model. Its parameters have the first registers.
+fn function_code(fun: &Fun, context: &Context<'_>) -> Result<FunCode, AllocError>
+    ensures { IfOk result (λ code. code ≡ spec.function_code context.now.items.now
+        (numbers_in context.now) fun.now) }
+{
+    let names = Names::Frame(fun.params.as_slice(), 0);
+    fun_code(
+        &fun.body,
+        context,
+        &names,
+        register_count(fun.params.len())?,
+    )
+}
+
+/// The code of the functions among the items.
+#[tactic(auto, using(crate::proofs::Earlier::earlier_next))]
+fn functions_code(alloc: Global, items: &[Item]) -> Functions
+    ensures { IfOk result (λ all. all ≡ spec.functions_code items.now (reverse items.now)) }
+{
+    let mut all = Items::new(alloc);
+    for (place, item) in items.iter().enumerate() {
+        if let Item::Fun(fun) = item {
+            let context = Context {
+                alloc,
+                items,
+                earlier: &items[..place],
+            };
+            all.push(function_code(fun, &context)?)?;
+        }
+    }
+    Ok(all)
+}
+
+/// The code of an expression, where there is one.
+fn optional_code(
+    expr: Option<&Expr>,
+    context: &Context<'_>,
+    names: &Names<'_>,
+    count: u32,
+) -> Result<FunCode, AllocError>
+    ensures { IfOk result (λ code. code ≡ spec.optional_code context.now.items.now
+        (numbers_in context.now) count (scope_of names.now) (option_copied expr.entry)) }
+{
+    match expr {
+        Some(expr) => fun_code(expr, context, names, count),
+        None => Ok(FunCode {
+            args: 0,
+            registers: 0,
+            body: Items::new(context.alloc),
+        }),
+    }
+}
+
+/// The code of the three callbacks of an operation.
+fn operation_code(op: &Op, context: &Context<'_>) -> Functions
+    ensures { IfOk result (λ all. all ≡ spec.operation_code context.now.items.now
+        (numbers_in context.now) op.now) }
+{
+    let count = register_count(op.params.len())?;
+    let with_state = register_after(count, 1)?;
+    let with_result = register_after(count, 2)?;
+    let params = Names::Frame(op.params.as_slice(), 1);
+    let before = Names::With(b"s", 0, &params);
+    let shifted = Names::Frame(op.params.as_slice(), 2);
+    let state = Names::With(b"s", 0, &shifted);
+    let after = Names::With(b"r", 1, &state);
+    let pre = fun_code(&op.pre, context, &before, with_state)?;
+    let next = fun_code(&op.next, context, &after, with_result)?;
+    let post = fun_code(&op.post, context, &after, with_result)?;
+    let all = Vec::from_array(context.alloc, [pre, next, post])?;
+    Ok(Items::from_vec(all))
+}
+
+/// The code of the callbacks of the operations among some items.
+fn operations_code(context: &Context<'_>, some: &[Item]) -> Functions
+    ensures { IfOk result (λ all. all ≡ spec.operations_code context.now.items.now
+        (numbers_in context.now) some.now) }
+{
+    let mut all = Items::new(context.alloc);
+    for item in some {
+        if let Item::Op(op) = item {
+            all.append(operation_code(op, context)?)?;
+        }
+    }
+    Ok(all)
+}
+
+/// The code of the callbacks of a model.
+fn callbacks_code(alloc: Global, items: &[Item]) -> Functions
+    ensures { IfOk result (λ all. all ≡ spec.callbacks_code items.now) }
+{
+    let context = Context {
+        alloc,
+        items,
+        earlier: items,
+    };
+    let none = Names::Frame(&[], 0);
+    let state = Names::With(b"s", 0, &none);
+    let opening = optional_code(opening_of(items), &context, &none, 0)?;
+    let command = optional_code(calls_of(items), &context, &state, 1)?;
+    let others = operations_code(&context, items)?;
+    let mut all = Items::new(alloc);
+    all.push(opening)?;
+    all.push(command)?;
+    all.append(others)?;
+    Ok(all)
+}
+
+/// The code of a model: its functions in their order, then `init` and `command`, and then `pre`,
+/// `next` and `post` of each operation.
+#[tactic(auto, unfolding(crate::specs::Functions::whole_code))]
+pub fn whole_code(alloc: Global, items: &[Item]) -> Functions
+    ensures { IfOk result (λ all. all ≡ spec.whole_code items.now) }
+{
+    let mut all = functions_code(alloc, items)?;
+    let callbacks = callbacks_code(alloc, items)?;
+    all.append(callbacks)?;
+    Ok(all)
+}

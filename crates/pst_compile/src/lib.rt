@@ -1,0 +1,17 @@
+//! The compiler from the model language to the machine.
+//!
+//! `compile` makes the code of a well-typed model, and `Compiled` answers its callbacks by that code:
+//! each has the value, the fault and the turns left of its meaning. `specs/Code.antt` has the code of
+//! each form, `specs/Functions.antt` that of a model, and `listing` answers its text.
+#![tactic(auto)]
+
+mod blocks;
+mod compiled;
+mod expressions;
+mod frame_size;
+mod functions;
+mod names;
+mod operands;
+mod target;
+
+pub use compiled::{Compiled, compile, listing};

@@ -1,0 +1,102 @@
+//! Operands, and the code of names, calls and applications.
+
+ghost use Rattle.std.specs.Prelude.{◌≡◌, ◌∷◌, [], IfOk, MatchOption};
+ghost use Rattle.pst_compile.specs.Code as spec;
+ghost use Rattle.pst_compile.specs.Scopes.{scope_of, code_in, numbers_in};
+ghost use Rattle.pst_model.specs.Parts.{number_of};
+
+use crate::blocks::{Block, one};
+use crate::names::{Names, number, register_of};
+use crate::target::Target;
+use pst_items::{Items, Text};
+use pst_machine::Instr;
+use pst_meaning::Context;
+use pst_model::{Clause, Expr, number_of};
+use std::alloc::{AllocError, Global};
+
+/// The code of an operand, and the register of its value.
+#[derive(Drop)]
+pub struct Operand {
+    pub code: Items<Instr>,
+    pub register: u32,
+}
+
+/// The code of several operands, and the registers of their values.
+#[derive(Drop)]
+pub struct Operands {
+    pub code: Items<Instr>,
+    pub registers: Items<u32>,
+}
+
+/// The register of the name that an expression is.
+pub fn own_register(
+    expr: &Expr,
+    context: &Context<'_>,
+    names: &Names<'_>,
+) -> Result<Option<u32>, AllocError>
+    ensures { IfOk result (λ r. r ≡ spec.own (code_in context.now expr.now).name (scope_of names.now)) }
+{
+    match expr {
+        Expr::Name(name) => register_of(names, name.as_bytes()),
+        Expr::Int(_)
+        | Expr::Bool(_)
+        | Expr::Text(_)
+        | Expr::Let(_, _, _)
+        | Expr::If(_, _, _)
+        | Expr::And(_, _)
+        | Expr::Or(_, _)
+        | Expr::Unary(_, _)
+        | Expr::Binary(_, _, _)
+        | Expr::Tuple(_)
+        | Expr::At(_, _)
+        | Expr::List(_, _)
+        | Expr::For(_, _)
+        | Expr::Fold(_, _, _, _, _)
+        | Expr::Call(_, _)
+        | Expr::Apply(_, _) => Ok(None),
+    }
+}
+
+/// The value of a name. A name that is not known gets code that is stuck.
+pub fn put_name(name: &Text, alloc: Global, names: &Names<'_>, target: Target) -> Block
+    ensures { IfOk result (λ code. code ≡
+        spec.name_code name.now (scope_of names.now) target.register target.place) }
+{
+    match register_of(names, name.as_bytes())? {
+        Some(register) => one(alloc, Instr::Move(target.register, register)),
+        None => one(alloc, Instr::Move(target.register, target.register)),
+    }
+}
+
+/// A call of the operation of the name, as a value.
+pub fn call_to(name: &Text, context: &Context<'_>, target: Target, from: Items<u32>) -> Block
+    ensures { IfOk result (λ code. code ≡
+        spec.call_to target.register (number_of context.now.items.now name.now) from target.place) }
+{
+    let unknown = Instr::Move(target.register, target.register);
+    let Some(number) = number_of(context.items, name.as_bytes()) else {
+        return one(context.alloc, unknown);
+    };
+    match u32::try_from(number) {
+        Ok(number) => one(context.alloc, Instr::Call(target.register, number, from)),
+        Err(_) => one(context.alloc, unknown),
+    }
+}
+
+/// An application of the function of the name.
+pub fn apply_to(name: &Text, context: &Context<'_>, target: Target, from: Items<u32>) -> Block
+    ensures { IfOk result (λ code. code ≡
+        spec.apply_to target.register (numbers_in context.now name.now) from target.place) }
+{
+    match number(context.earlier, name.as_bytes()) {
+        Some(fun) => one(context.alloc, Instr::Apply(target.register, fun, from)),
+        None => one(context.alloc, Instr::Move(target.register, target.register)),
+    }
+}
+
+/// The first clause, and the others.
+pub fn split_first(clauses: &[Clause]) -> Option<(&Clause, &[Clause])>
+    ensures { MatchOption result (clauses.now ≡ []) (λ p. clauses.now ≡ p.0.now ∷ p.1.now) }
+{
+    clauses.split_first()
+}

@@ -1,0 +1,55 @@
+//! Where code stands, and where its value goes.
+
+ghost use Rattle.std.specs.Prelude.{◌≡◌, ◌+◌, IfOk};
+
+use std::alloc::AllocError;
+
+/// The register that a value goes to, and the place of the first instruction of its code.
+#[derive(Clone, Copy)]
+pub struct Target {
+    pub register: u32,
+    pub place: usize,
+}
+
+impl Target {
+    /// At a place so many instructions further on.
+    ///
+    /// `AllocError`: such a place has no number, and no memory holds such code.
+    pub fn after(self, count: usize) -> Result<Target, AllocError>
+        ensures register { IfOk result (λ target. target.register ≡ self.register) }
+        ensures place { IfOk result (λ target. target.place ≡ self.place + count) }
+    {
+        match self.place.checked_add(count) {
+            Some(place) => Ok(Target {
+                register: self.register,
+                place,
+            }),
+            None => Err(AllocError),
+        }
+    }
+
+    /// With a register so many further on.
+    ///
+    /// `AllocError`: such a register has no number.
+    pub fn above(self, count: u32) -> Result<Target, AllocError>
+        ensures register { IfOk result (λ target. target.register ≡ self.register + count) }
+        ensures place { IfOk result (λ target. target.place ≡ self.place) }
+    {
+        Ok(Target {
+            register: register_after(self.register, count)?,
+            place: self.place,
+        })
+    }
+}
+
+/// The register so many further on.
+///
+/// `AllocError`: it has no number.
+pub fn register_after(register: u32, count: u32) -> Result<u32, AllocError>
+    ensures { IfOk result (λ after. after ≡ register + count) }
+{
+    match register.checked_add(count) {
+        Some(after) => Ok(after),
+        None => Err(AllocError),
+    }
+}

@@ -1,0 +1,120 @@
+//! Cases driven on systems that tests make.
+
+use crate::hostile::{Liar, NoGet, Odd, ThreeFlags, TwoFlags};
+use crate::models::{COUNTER, MEETING};
+use pst_case::{Run, shape};
+use pst_driver::{DriveFault, run};
+use pst_eval::Plain;
+use pst_judge::valid;
+use pst_load::load;
+use pst_rules::Typed;
+use pst_runs::read_runs;
+use pst_sexpr::read;
+use pst_system::BoxedSystem;
+use std::alloc::Global;
+use std::sync::Wait;
+use std::test::Fail;
+use std::thread::Threads;
+
+/// A model whose operation answers a text.
+const SAYING: &str = "(model say (state int) (init 0)
+  (command (list call (call inc)))
+  (op inc () text (pre true) (next s) (post true)))";
+
+fn typed_of(alloc: Global, text: &str) -> Option<Typed> {
+    let file = load(alloc, text.as_bytes()).ok()?.ok()?;
+    Some(file.typed)
+}
+
+fn run_of(alloc: Global, typed: &Typed, item: &str) -> Option<Run> {
+    let trees = read(alloc, item.as_bytes()).ok()?;
+    let mut runs = read_runs(alloc, typed, trees.as_slice()).ok()?;
+    runs.pop()
+}
+
+/// Whether the case of a run, driven on the system, has the replies of the run.
+fn is_driven_so<R: Threads + Wait>(
+    rt: &R,
+    alloc: Global,
+    model: &str,
+    item: &str,
+    system: &mut BoxedSystem,
+) -> Option<bool> {
+    let typed = typed_of(alloc, model)?;
+    let Run { shaped, history } = run_of(alloc, &typed, item)?;
+    let shaped = shape(alloc, &typed, shaped.into_case()).ok()?;
+    let valid = valid(&Plain::new(&typed), alloc, shaped).ok()?;
+    let driven = run(rt, alloc, &typed, system, &valid).ok()?;
+    Some(driven == history?)
+}
+
+#[test]
+fn meet_needs_two_threads(rt: HostRuntime) -> Result<(), Fail> {
+    let alloc = rt.alloc();
+    let mut flags: BoxedSystem = Box::new(alloc, TwoFlags::new(10_000_000))?;
+    let item = "(run (prefix) (left (meet 1)) (right (meet 2)) (replies () (true) (true)))";
+    assert!(rt; is_driven_so(&rt, alloc, MEETING, item, &mut flags) == Some(true));
+    Ok(())
+}
+
+#[test]
+fn three_meet_on_three_threads(rt: HostRuntime) -> Result<(), Fail> {
+    let alloc = rt.alloc();
+    let mut flags: BoxedSystem = Box::new(alloc, ThreeFlags::new())?;
+    let item =
+        "(run (prefix) (branches ((meet 1)) ((meet 2)) ((meet 3))) (replies () (true) (true) (true)))";
+    assert!(rt; is_driven_so(&rt, alloc, MEETING, item, &mut flags) == Some(true));
+    Ok(())
+}
+
+#[test]
+fn one_thread_never_meets(rt: HostRuntime) -> Result<(), Fail> {
+    let alloc = rt.alloc();
+    let mut flags: BoxedSystem = Box::new(alloc, TwoFlags::new(1_000))?;
+    let item = "(run (prefix (meet 1)) (left) (right) (replies (false) () ()))";
+    assert!(rt; is_driven_so(&rt, alloc, MEETING, item, &mut flags) == Some(true));
+    Ok(())
+}
+
+#[test]
+fn a_liar_misfits(rt: HostRuntime) -> Result<(), Fail> {
+    let alloc = rt.alloc();
+    let mut liar: BoxedSystem = Box::new(alloc, Liar)?;
+    let item =
+        "(run (prefix (inc) (get)) (left (get)) (right) (replies (misfit not-run) (not-run) ()))";
+    assert!(rt; is_driven_so(&rt, alloc, COUNTER, item, &mut liar) == Some(true));
+    Ok(())
+}
+
+#[test]
+fn a_refused_call_ends_its_branch(rt: HostRuntime) -> Result<(), Fail> {
+    let alloc = rt.alloc();
+    let mut no_get: BoxedSystem = Box::new(alloc, NoGet::new())?;
+    let item =
+        "(run (prefix (inc)) (left (get) (inc)) (right (inc)) (replies (1) (failed not-run) (2)))";
+    // driven twice, since each drive resets the system
+    for _ in 0..2u8 {
+        assert!(rt; is_driven_so(&rt, alloc, COUNTER, item, &mut no_get) == Some(true));
+    }
+    Ok(())
+}
+
+#[test]
+fn odd_answers_misfit(rt: HostRuntime) -> Result<(), Fail> {
+    let alloc = rt.alloc();
+    let mut odd: BoxedSystem = Box::new(alloc, Odd::new(alloc))?;
+    let item = "(run (prefix (inc)) (left) (right) (replies (misfit) () ()))";
+    for model in [COUNTER, COUNTER, SAYING] {
+        assert!(rt; is_driven_so(&rt, alloc, model, item, &mut odd) == Some(true));
+    }
+    Ok(())
+}
+
+#[test]
+fn faults_have_names(rt: HostRuntime) -> Result<(), Fail> {
+    let alloc = rt.alloc();
+    assert_eq!(rt; DriveFault::NoThread.name(), "NoThread");
+    let text = format!(in alloc; "{}", DriveFault::ResetFailed)?;
+    assert_eq!(rt; text.as_str(), "the reset failed");
+    Ok(())
+}

@@ -1,0 +1,38 @@
+//! What follows where all branches have ended.
+ghost use Rattle.std.specs.Prelude.{◌≡◌, ◌+◌, ◌^◌, ◌<◌, ◌≤◌, ℕ, length, IfOk, OnOk, MatchBool};
+ghost use Rattle.pst_grid.specs.Covered.{IsEmpty, IsExplored};
+
+use crate::search::Search;
+use crate::{Ending, Steps, Why};
+use std::alloc::{AllocError, Global};
+
+/// Runs what follows the word, which is a merge. The answer is whether the merge is true to its end; if it is not, the
+/// search notes where it stops.
+pub(crate) fn finish<S: Steps>(
+    alloc: Global,
+    steps: &S,
+    search: &mut Search<S::Fault>,
+    state: &S::State,
+) -> Result<bool, AllocError>
+    requires state { S.is_state steps.now state.now }
+    requires room { length search.old.word.items + S.most_rest steps.now < 2 ^ 64 }
+    ensures steps { OnOk result (search.new.steps ≤ search.old.steps + S.most_rest steps.now) }
+    ensures explored { IfOk result
+        (IsExplored (S.turn steps.now) (S.rest steps.now) state.now IsEmpty search.old search.new) }
+{
+    let (ending, made) = steps.run_rest(alloc, state)?;
+    search.steps = search.steps.saturating_add(made);
+    match ending {
+        Ending::AllTrue => Ok(true),
+        Ending::StopsAt(at, Why::False) => {
+            let at = search.word.len() + at;
+            search.note_false(at);
+            Ok(false)
+        }
+        Ending::StopsAt(at, Why::Fault(fault)) => {
+            let at = search.word.len() + at;
+            search.note_faulted_word(alloc, at, fault)?;
+            Ok(false)
+        }
+    }
+}

@@ -1,0 +1,35 @@
+-- The verdict that an answer of the search stands for.
+use Rattle.std.specs.Prelude.{◌≡◌, ℕ, ◌+◌, List}
+use Rattle.pst_eval.specs.declared.place.Place.{Place}
+use Rattle.pst_grid.specs.Answers.{IsAnswer}
+use Rattle.pst_grid.specs.declared.answer.SomeAnswer.{SomeAnswer}
+use Rattle.pst_grid.specs.declared.answer.SomeAnswer.TheVariants.{Found, Faulted as FaultedWord, Nothing}
+use Rattle.pst_judge.specs.Replay.{branch_turn}
+use Rattle.pst_judge.specs.Running.{last_events}
+use Rattle.pst_judge.specs.declared.events.Event.{Event}
+use Rattle.pst_judge.specs.declared.verdicts.Verdict.{Verdict}
+use Rattle.pst_judge.specs.declared.verdicts.Verdict.TheVariants.{Explained, Faulted, Unexplained}
+use Rattle.pst_model.specs.declared.model.Source.{Source}
+use Rattle.pst_value.specs.declared.value.Value.{Value}
+
+-- so many events of the prefix are counted with those that the search counts
+abbrev pub verdict_of : (prefix : ℕ) → SomeAnswer Place → Verdict
+verdict_of prefix (Found word) = Explained word
+verdict_of prefix (FaultedWord word at place) = Faulted place
+verdict_of prefix (Nothing far) = Unexplained (prefix + far)
+
+-- the verdict of a search over the merges of branches with these events, from a state that so many events
+-- lead to, and with these events behind each merge
+abbrev pub IsVerdictOfSearch :
+    Source → (branches : List (List Event)) → (suffix : List Event) → (lengths : List ℕ) → (prefix : ℕ)
+    → Value → Verdict → Type 0
+IsVerdictOfSearch m branches suffix lengths prefix s v =
+    (answer : SomeAnswer Place)
+    × IsAnswer (branch_turn m branches) (last_events m suffix) lengths s answer
+    × (v ≡ verdict_of prefix answer)
+
+-- a fact of the events that an answer counts, where it finds no merge
+abbrev pub OnNothing : SomeAnswer Place → (ℕ → Type 0) → Type 0
+OnNothing (Found word) P = Unit {0}
+OnNothing (FaultedWord word at place) P = Unit {0}
+OnNothing (Nothing far) P = P far

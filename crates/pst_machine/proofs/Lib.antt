@@ -1,0 +1,4 @@
+pub mod Falls
+pub mod Writing
+pub mod Stepping
+pub mod ValueTexts

@@ -1,0 +1,278 @@
+//! The text of code.
+
+ghost use Rattle.std.specs.Prelude.{◌≡◌, ◌∷◌, [], ◌++◌, map, IfOk, OnOk, decimal};
+ghost use Rattle.std.specs.Fmt.{signed_decimal};
+ghost use Rattle.pst_machine.specs.Listing as spec;
+
+use crate::instruction::{FunCode, Instr};
+use pst_items::Items;
+use pst_model::{Binary, Unary};
+use pst_value::Value;
+use std::alloc::{AllocError, Global};
+
+/// The bytes of a text, unless memory is refused.
+type Bytes = Result<Items<u8>, AllocError>;
+
+/// The first text, and then the second.
+fn joined(first: Items<u8>, second: Items<u8>) -> Bytes
+    ensures { IfOk result (λ text. text ≡ first ++ second) }
+{
+    let mut text = first;
+    text.append(second)?;
+    Ok(text)
+}
+
+/// A space, and then the text.
+fn spaced(alloc: Global, text: Items<u8>) -> Bytes
+    ensures { IfOk result (λ spaced. spaced ≡ 32 ∷ text) }
+{
+    joined(Items::from_slice(alloc, b" ")?, text)
+}
+
+/// A number in decimal digits.
+fn number_text(alloc: Global, number: u64) -> Bytes
+    ensures { IfOk result (λ text. text ≡ decimal number) }
+{
+    let text = format!(in alloc; "{number}")?;
+    Items::from_slice(alloc, text.as_str().as_bytes())
+}
+
+/// An integer in decimal digits.
+fn integer_text(alloc: Global, number: i64) -> Bytes
+    ensures { IfOk result (λ text. text ≡ signed_decimal number) }
+{
+    let text = format!(in alloc; "{number}")?;
+    Items::from_slice(alloc, text.as_str().as_bytes())
+}
+
+/// Numbers, each behind a space.
+fn numbers_text(alloc: Global, numbers: &[u64]) -> Bytes
+    ensures { IfOk result (λ text. text ≡ spec.numbers_text numbers.now) }
+{
+    let mut text = Items::new(alloc);
+    for number in numbers {
+        text.append(spaced(alloc, number_text(alloc, *number)?)?)?;
+    }
+    Ok(text)
+}
+
+/// Registers, each behind a space.
+fn registers_text(alloc: Global, registers: &[u32]) -> Bytes
+    ensures { IfOk result (λ text. text ≡ spec.numbers_text registers.now) }
+{
+    let mut text = Items::new(alloc);
+    for register in registers {
+        text.append(spaced(alloc, number_text(alloc, u64::from(*register))?)?)?;
+    }
+    Ok(text)
+}
+
+/// A name and numbers.
+fn words(alloc: Global, name: &[u8], numbers: &[u64]) -> Bytes
+    ensures { IfOk result (λ text. text ≡ spec.words_text name.now numbers.now) }
+{
+    joined(
+        Items::from_slice(alloc, name)?,
+        numbers_text(alloc, numbers)?,
+    )
+}
+
+/// A name and registers.
+fn named(alloc: Global, name: &[u8], registers: &[u32]) -> Bytes
+    ensures { IfOk result (λ text. text ≡ spec.words_text name.now registers.now) }
+{
+    joined(
+        Items::from_slice(alloc, name)?,
+        registers_text(alloc, registers)?,
+    )
+}
+
+/// The name of the instruction of an operator.
+fn unary_name(operator: Unary) -> &'static [u8]
+    ensures { result.now ≡ spec.unary_name operator }
+{
+    match operator {
+        Unary::Not => b"not",
+        Unary::Len => b"len",
+        Unary::Deref => b"deref",
+    }
+}
+
+/// The name of the instruction of an operator.
+fn binary_name(operator: Binary) -> &'static [u8]
+    ensures { result.now ≡ spec.binary_name operator }
+{
+    match operator {
+        Binary::Add => b"add",
+        Binary::Sub => b"sub",
+        Binary::Mul => b"mul",
+        Binary::Div => b"div",
+        Binary::Rem => b"rem",
+        Binary::Less => b"less",
+        Binary::LessEqual => b"lesseq",
+        Binary::Equal => b"eq",
+        Binary::Same => b"same",
+        Binary::Append => b"cat",
+        Binary::Nth => b"nth",
+        Binary::Range => b"range",
+    }
+}
+
+/// What stands between the quotes of a text.
+fn bytes_text(alloc: Global, bytes: &[u8]) -> Bytes
+    ensures { IfOk result (λ text. text ≡ spec.bytes_text bytes.now) }
+{
+    let mut text = Items::new(alloc);
+    for byte in bytes {
+        if *byte == b'"' || *byte == b'\\' {
+            text.append(Items::from_slice(alloc, &[b'\\', *byte])?)?;
+        } else {
+            text.push(*byte)?;
+        }
+    }
+    Ok(text)
+}
+
+/// A text in quotes.
+fn quoted(alloc: Global, bytes: &[u8]) -> Bytes
+    ensures { IfOk result (λ text. text ≡ 34 ∷ spec.bytes_text bytes.now ++ 34 ∷ []) }
+{
+    let mut text = joined(Items::from_slice(alloc, b"\"")?, bytes_text(alloc, bytes)?)?;
+    text.push(b'"')?;
+    Ok(text)
+}
+
+/// A name in brackets, and then the parts.
+fn bracketed(alloc: Global, name: &[u8], parts: Items<u8>) -> Bytes
+    ensures { IfOk result (λ text. text ≡ name.now ++ parts ++ 41 ∷ []) }
+{
+    let mut text = joined(Items::from_slice(alloc, name)?, parts)?;
+    text.push(b')')?;
+    Ok(text)
+}
+
+/// A variable.
+fn variable_text(alloc: Global, number: u32) -> Bytes
+    ensures { IfOk result (λ text. text ≡ 36 ∷ decimal number) }
+{
+    joined(
+        Items::from_slice(alloc, b"$")?,
+        number_text(alloc, u64::from(number))?,
+    )
+}
+
+/// A value.
+#[cycle(value_text)]
+#[tactic(auto, using(crate::proofs::ValueTexts::value_texts))]
+fn value_text(alloc: Global, value: &Value) -> Bytes
+    ensures { IfOk result (λ text. text ≡ spec.value_text value.now) }
+{
+    match value {
+        Value::Int(number) => integer_text(alloc, *number),
+        Value::Bool(true) => Items::from_slice(alloc, b"true"),
+        Value::Bool(false) => Items::from_slice(alloc, b"false"),
+        Value::Text(text) => quoted(alloc, text.as_bytes()),
+        Value::Tuple(parts) => bracketed(alloc, b"(tuple", parts_text(alloc, parts.as_slice())?),
+        Value::List(parts) => bracketed(alloc, b"(list", parts_text(alloc, parts.as_slice())?),
+        Value::Var(number) => variable_text(alloc, *number),
+        Value::Ref(_, part) => value_text(alloc, part.get()),
+        Value::Call(_, parts) => bracketed(alloc, b"(call", parts_text(alloc, parts.as_slice())?),
+    }
+}
+
+/// Values, each behind a space.
+#[cycle(value_text)]
+fn parts_text(alloc: Global, parts: &[Value]) -> Bytes
+    ensures { IfOk result (λ text. text ≡ spec.parts_text (map spec.value_text parts.now)) }
+{
+    let mut text = Items::new(alloc);
+    for part in parts {
+        text.append(spaced(alloc, value_text(alloc, part)?)?)?;
+    }
+    Ok(text)
+}
+
+/// A name, numbers, and then registers.
+fn row_text(alloc: Global, name: &[u8], numbers: &[u64], registers: &[u32]) -> Bytes
+    ensures { IfOk result (λ text. text ≡
+        spec.words_text name.now numbers.now ++ spec.numbers_text registers.now) }
+{
+    joined(
+        words(alloc, name, numbers)?,
+        registers_text(alloc, registers)?,
+    )
+}
+
+/// A constant.
+fn constant_text(alloc: Global, register: u32, value: &Value) -> Bytes
+    ensures { IfOk result (λ text. text ≡ spec.instr_text (Instr.Const register value.now)) }
+{
+    let name = words(alloc, b"const", &[u64::from(register)])?;
+    joined(name, spaced(alloc, value_text(alloc, value)?)?)
+}
+
+/// An instruction.
+fn instr_text(alloc: Global, instr: &Instr) -> Bytes
+    ensures { IfOk result (λ text. text ≡ spec.instr_text instr.now) }
+{
+    match instr {
+        Instr::Const(d, value) => constant_text(alloc, *d, value),
+        Instr::Move(d, a) => named(alloc, b"move", &[*d, *a]),
+        Instr::Take(d, a) => named(alloc, b"take", &[*d, *a]),
+        Instr::Unary(operator, d, a) => named(alloc, unary_name(*operator), &[*d, *a]),
+        Instr::Binary(operator, d, a, b) => { named(alloc, binary_name(*operator), &[*d, *a, *b]) }
+        Instr::At(d, a, i) => words(alloc, b"at", &[*d as u64, *a as u64, *i]),
+        Instr::Tuple(d, from) => row_text(alloc, b"tuple", &[*d as u64], from.as_slice()),
+        Instr::List(d, from) => row_text(alloc, b"list", &[*d as u64], from.as_slice()),
+        Instr::Call(d, op, from) => {
+            row_text(alloc, b"call", &[*d as u64, *op as u64], from.as_slice())
+        }
+        Instr::Append(d, a) => named(alloc, b"append", &[*d, *a]),
+        Instr::Jump(place) => words(alloc, b"jump", &[*place as u64]),
+        Instr::Unless(a, place) => words(alloc, b"unless", &[*a as u64, *place as u64]),
+        Instr::Apply(d, fun, from) => {
+            row_text(alloc, b"apply", &[*d as u64, *fun as u64], from.as_slice())
+        }
+        Instr::Loop(d, a, i, place) => {
+            words(
+                alloc,
+                b"loop",
+                &[*d as u64, *a as u64, *i as u64, *place as u64],
+            )
+        }
+        Instr::Return(a) => named(alloc, b"ret", &[*a]),
+    }
+}
+
+/// The line of an instruction.
+fn line_text(alloc: Global, number: usize, place: usize, instr: &Instr) -> Bytes
+    ensures { IfOk result (λ text. text ≡ spec.line_text number place instr.now) }
+{
+    let place = number_text(alloc, place as u64)?;
+    let numbers = joined(number_text(alloc, number as u64)?, spaced(alloc, place)?)?;
+    let mut line = joined(numbers, spaced(alloc, instr_text(alloc, instr)?)?)?;
+    line.push(b'\n')?;
+    Ok(line)
+}
+
+/// The lines of a function.
+fn body_text(alloc: Global, number: usize, body: &[Instr]) -> Bytes
+    ensures { IfOk result (λ text. text ≡ spec.body_text number 0 body.now) }
+{
+    let mut text = Items::new(alloc);
+    for (place, instr) in body.iter().enumerate() {
+        text.append(line_text(alloc, number, place, instr)?)?;
+    }
+    Ok(text)
+}
+
+/// The lines of functions.
+pub fn code_text(alloc: Global, functions: &[FunCode]) -> Bytes
+    ensures { IfOk result (λ text. text ≡ spec.code_text 0 functions.now) }
+{
+    let mut text = Items::new(alloc);
+    for (number, function) in functions.iter().enumerate() {
+        text.append(body_text(alloc, number, function.body.as_slice())?)?;
+    }
+    Ok(text)
+}

@@ -1,6 +1,0 @@
-use Rattle.std.proofs.Common.{◌≡◌, take, map}
-use Rattle.pst_renumber.specs.Renumber.{new_number, renumbered}
-use Rattle.pst_renumber.proofs.renumber.+renumber_value.Given as goal
-
-abbrev pub invariant-renumber_values-loop-value : goal.invariant-renumber_values-loop-value
-invariant-renumber_values-loop-value l = l.all ≡ map (renumbered (new_number l.numbers)) (take l.value-index l.values)

@@ -1,7 +1,0 @@
-//! Laws of renumbering.
-ghost use Rattle.pst_renumber.specs.Laws.{NumbersThatStay};
-
-/// Where no number changes, no value and no command does.
-pub fn numbers_that_stay()
-    ensures { NumbersThatStay }
-{}

@@ -1,7 +1,0 @@
-use Rattle.std.proofs.Common.{◌≡◌, ◌++◌, drop, Some}
-use Rattle.pst_runs.specs.Values.{made, each}
-use Rattle.pst_runs.specs.Items.{branch_of}
-use Rattle.pst_runs.proofs.parts.branches_of.Given as goal
-
-abbrev pub invariant-loop-form : goal.invariant-loop-form
-invariant-loop-form l = each (branch_of l.model) l.forms ≡ made (each (branch_of l.model) (drop l.form-index l.forms)) (λ more. Some (l.branches ++ more))

@@ -1,0 +1,44 @@
+-- The commands that trees spell.
+use Rattle.std.specs.Prelude.{ℕ, Bool, true, false, if◌then◌else◌, List, [], ◌∷◌, map, Option, Some, None}
+use Rattle.pst_model.specs.Parts.{number_of}
+use Rattle.pst_model.specs.declared.model.Source.{Source}
+use Rattle.pst_runs.specs.Values.{made, each, word_of, node_of, value_of}
+use Rattle.pst_runs.specs.declared.commands.Spelled.{Spelled}
+use Rattle.pst_runs.specs.declared.commands.Spelled.TheVariants.{Whole, Partial, Unknown}
+use Rattle.pst_sexpr.specs.declared.form.Form.{Form}
+use Rattle.pst_value.specs.declared.value.Value.{Value}
+
+-- those that are there
+abbrev pub present : {A : Type 0} → List (Option A) → List A
+present [] = []
+present (None ∷ more) = present more
+present (Some a ∷ more) = a ∷ present more
+
+-- whether all are there
+abbrev pub are_present : {A : Type 0} → List (Option A) → Bool
+are_present [] = true
+are_present (None ∷ more) = false
+are_present (Some a ∷ more) = are_present more
+
+-- the values that arguments spell
+abbrev pub arguments_of : List Form → List (Option Value)
+arguments_of forms = map (value_of true) forms
+
+-- the command of an operation, if there is one, with the arguments that spell values
+abbrev pub spelled : Option ℕ → List (Option Value) → Spelled
+spelled None args = Unknown
+spelled (Some op) args =
+    if are_present args then Whole (record { op = op; args = present args })
+    else Partial (record { op = op; args = present args })
+
+abbrev pub command_in : Source → List Form → Option Spelled
+command_in m [] = None
+command_in m (first ∷ args) =
+    made (word_of first) (λ name. Some (spelled (number_of m.items name) (arguments_of args)))
+
+-- the name of an operation, and then arguments
+abbrev pub command_of : Source → Form → Option Spelled
+command_of m form = made (node_of form) (command_in m)
+
+abbrev pub commands_of : Source → List Form → Option (List Spelled)
+commands_of m forms = each (command_of m) forms

@@ -1,0 +1,226 @@
+//! The first fault of the commands of a case as they are spelled.
+ghost use Rattle.std.specs.Prelude.{◌≡◌, ◌<◌, ◌+◌, ◌^◌, false, IfOk, IfErr, None, Some, length, map, nat_le, ◌&&◌, MatchResult};
+ghost use Rattle.std.specs.List.{list_all};
+ghost use Rattle.pst_case.specs.Shape.{joined};
+ghost use Rattle.pst_runs.specs.Reading as spec;
+
+use crate::commands::{Spelled, SpelledCase};
+use crate::counts::joined_len;
+use pst_case::{
+    Case, CaseFault, CaseFaultKind, Command, MAX_BRANCH, MAX_PREFIX, MAX_SUFFIX, MAX_TOGETHER,
+    Shaped, shape,
+};
+use pst_items::Items;
+use pst_rules::Typed;
+use std::alloc::{AllocError, Global};
+
+/// The commands of a part that can be read.
+fn readable_part(alloc: Global, commands: Items<Spelled>) -> Result<Items<Command>, AllocError>
+    ensures { IfOk result (λ readable. readable ≡ spec.readable_part commands) }
+{
+    let mut readable = Items::new(alloc);
+    for command in commands.into_vec() {
+        match command {
+            Spelled::Whole(command) => readable.push(command)?,
+            Spelled::Partial(command) => readable.push(command)?,
+            Spelled::Unknown => {}
+        }
+    }
+    Ok(readable)
+}
+
+fn readable_branches(
+    alloc: Global,
+    branches: Items<Items<Spelled>>,
+) -> Result<Items<Items<Command>>, AllocError>
+    ensures { IfOk result (λ readable. readable ≡ map spec.readable_part branches) }
+{
+    let mut readable = Items::new(alloc);
+    for branch in branches.into_vec() {
+        readable.push(readable_part(alloc, branch)?)?;
+    }
+    Ok(readable)
+}
+
+/// The case without what cannot be read of it.
+fn readable_case(alloc: Global, case: SpelledCase) -> Result<Case, AllocError>
+    ensures { IfOk result (λ readable. readable ≡ spec.readable_case case) }
+{
+    let SpelledCase {
+        prefix,
+        branches,
+        suffix,
+    } = case;
+    Ok(Case {
+        prefix: readable_part(alloc, prefix)?,
+        branches: readable_branches(alloc, branches)?,
+        suffix: readable_part(alloc, suffix)?,
+    })
+}
+
+/// Why a command cannot be read whole.
+fn unread(command: &Spelled) -> Option<CaseFaultKind>
+    ensures { result ≡ spec.unread command.now }
+{
+    match command {
+        Spelled::Whole(_) => None,
+        Spelled::Partial(_) => Some(CaseFaultKind::BadArgument),
+        Spelled::Unknown => Some(CaseFaultKind::UnknownOp),
+    }
+}
+
+/// The first command that cannot be read whole, where the first of them has the number.
+fn part_unread(number: u32, commands: &[Spelled]) -> Option<CaseFault>
+    requires { number + length commands.now < 2 ^ 32 }
+    ensures { result ≡ spec.part_unread number commands.now }
+{
+    let (command, commands) = commands.split_first()?;
+    match unread(command) {
+        Some(kind) => Some(CaseFault {
+            kind,
+            command: number,
+        }),
+        None => part_unread(number + 1, commands),
+    }
+}
+
+/// The first command of branches that cannot be read whole, where so many commands stand before them.
+fn branches_unread(before: u32, branches: &[Items<Spelled>]) -> Option<CaseFault>
+    requires { before + length (joined branches.now) + 1 < 2 ^ 32 }
+    ensures { result ≡ spec.branches_unread before branches.now }
+{
+    let (branch, branches) = branches.split_first()?;
+    match part_unread(before + 1, branch.as_slice()) {
+        Some(fault) => Some(fault),
+        None => branches_unread(before + branch.len() as u32, branches),
+    }
+}
+
+/// The first command of a case that cannot be read whole.
+#[tactic(auto, using(crate::proofs::Limits::spelled_limits))]
+fn case_unread(case: &SpelledCase) -> Option<CaseFault>
+    requires { spec.over_limit case.now ≡ false }
+    ensures { result ≡ spec.case_unread case.now }
+{
+    let branches = case.branches.as_slice();
+    let prefix = case.prefix.len() as u32;
+    if let Some(fault) = part_unread(1, case.prefix.as_slice()) {
+        return Some(fault);
+    }
+    if let Some(fault) = branches_unread(prefix, branches) {
+        return Some(fault);
+    }
+    part_unread(prefix + joined_len(branches) + 1, case.suffix.as_slice())
+}
+
+/// Whether the commands of all branches are at most so many.
+fn are_within(branches: &[Items<Spelled>], room: usize) -> bool
+    ensures { result ≡ nat_le (length (joined branches.now)) room }
+{
+    let Some((branch, branches)) = branches.split_first() else {
+        return true;
+    };
+    if branch.len() > room {
+        return false;
+    }
+    are_within(branches, room - branch.len())
+}
+
+fn are_short(branches: &[Items<Spelled>]) -> bool
+    ensures { result ≡ list_all (λ b. nat_le (length b) 8) branches.now }
+{
+    branches.iter().all(|branch| branch.len() <= MAX_BRANCH)
+}
+
+fn are_two_to_four(branches: &[Items<Spelled>]) -> bool
+    ensures { result ≡ (nat_le 2 (length branches.now) && nat_le (length branches.now) 4) }
+{
+    2 <= branches.len() && branches.len() <= 4
+}
+
+fn is_over_limit(case: &SpelledCase) -> bool
+    ensures { result ≡ spec.over_limit case.now }
+{
+    let branches = case.branches.as_slice();
+    if case.prefix.len() > MAX_PREFIX {
+        return true;
+    }
+    if !are_short(branches) {
+        return true;
+    }
+    if !are_two_to_four(branches) {
+        return true;
+    }
+    if !are_within(branches, MAX_TOGETHER) {
+        return true;
+    }
+    case.suffix.len() > MAX_SUFFIX
+}
+
+/// Whether the command that cannot be read whole is refused before the fault of the shape.
+fn comes_before(unread: &CaseFault, shape: &CaseFault) -> bool
+    ensures { result ≡ spec.comes_before unread.now shape.now }
+{
+    unread.command < shape.command || (unread.command == shape.command && is_unknown(unread.kind))
+}
+
+/// Whether no operation has the name.
+fn is_unknown(kind: CaseFaultKind) -> bool
+    ensures { result ≡ spec.is_unknown kind }
+{
+    match kind {
+        CaseFaultKind::UnknownOp => true,
+        CaseFaultKind::BadArgument
+        | CaseFaultKind::ForwardVar
+        | CaseFaultKind::CrossVar
+        | CaseFaultKind::OverLimit
+        | CaseFaultKind::NoMemory => false,
+    }
+}
+
+/// The first fault of a case whose shape is faulty.
+fn first_of(unread: Option<CaseFault>, shape: CaseFault) -> CaseFault
+    ensures { Some result ≡ spec.first_of unread (Some shape) }
+{
+    match unread {
+        Some(unread) => if comes_before(&unread, &shape) {
+            unread
+        } else {
+            shape
+        },
+        None => shape,
+    }
+}
+
+/// The shaped case of what is spelled, or its first fault. `AllocError` where memory is refused.
+pub fn shaped_of(
+    alloc: Global,
+    typed: &Typed,
+    case: SpelledCase,
+) -> Result<Result<Shaped, CaseFault>, AllocError>
+    ensures shaped { IfOk result (λ read. IfOk read (λ shaped.
+        (spec.case_fault typed.now case ≡ None)
+        × (shaped ≡ record { model = typed.now; case = spec.readable_case case }))) }
+    ensures refused { IfOk result (λ read. IfErr read (λ fault.
+        spec.case_fault typed.now case ≡ Some fault)) }
+{
+    if is_over_limit(&case) {
+        return Ok(Err(CaseFault {
+            kind: CaseFaultKind::OverLimit,
+            command: 0,
+        }));
+    }
+    let unread = case_unread(&case);
+    match shape(alloc, typed, readable_case(alloc, case)?) {
+        Ok(shaped) => match unread {
+            Some(fault) => Ok(Err(fault)),
+            None => Ok(Ok(shaped)),
+        },
+        Err((_, fault)) => {
+            if fault.kind == CaseFaultKind::NoMemory {
+                return Err(AllocError);
+            }
+            Ok(Err(first_of(unread, fault)))
+        }
+    }
+}

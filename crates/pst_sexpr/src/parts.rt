@@ -1,0 +1,27 @@
+//! The parts of a tree.
+
+ghost use Rattle.std.specs.Prelude.{◌≡◌, option_copied};
+ghost use Rattle.pst_sexpr.specs.Parts as spec;
+
+use crate::form::Form;
+use pst_items::Text;
+
+/// The bytes of a word, or `None` where the tree is a text or a node.
+pub fn word_of(form: &Form) -> Option<&Text>
+    ensures { option_copied result ≡ spec.word_of form.now }
+{
+    match form {
+        Form::Word(word) => Some(word),
+        Form::Text(_) | Form::Node(_) => None,
+    }
+}
+
+/// The trees of a node, or `None` where the tree is a word or a text.
+pub fn node_of(form: &Form) -> Option<&[Form]>
+    ensures { option_copied result ≡ spec.node_of form.now }
+{
+    match form {
+        Form::Node(parts) => Some(parts.as_slice()),
+        Form::Text(_) | Form::Word(_) => None,
+    }
+}

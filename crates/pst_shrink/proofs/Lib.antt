@@ -1,0 +1,5 @@
+pub mod Counting
+pub mod Dropping
+pub mod Lesser
+pub mod Moving
+mod Keeping

@@ -1,0 +1,8 @@
+-- what the public contracts cite
+pub mod Number
+pub mod Candidates
+pub mod Weight
+pub mod Outcomes
+pub mod Shrinking
+-- what the contracts within the crate cite
+pub mod Rounds

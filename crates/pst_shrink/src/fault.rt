@@ -1,0 +1,23 @@
+//! Why a case was not shrunk.
+
+use std::alloc::AllocError;
+
+/// Why a case was not shrunk.
+#[derive(Debug, Drop)]
+pub enum ShrinkFault<F> {
+    /// An attempt answered this fault.
+    Attempt(F),
+    /// Memory was refused to shrinking itself.
+    NoMemory,
+}
+
+impl<F> From<AllocError> for ShrinkFault<F> {
+    ghost use Rattle.std.specs.Prelude.{◌≡◌};
+    ghost use Rattle.pst_shrink.specs.declared.fault.ShrinkFault.TheVariants.{NoMemory};
+
+    ghost from_gives = { λ e r. r ≡ NoMemory };
+
+    fn from(_error: AllocError) -> ShrinkFault<F> {
+        ShrinkFault::NoMemory
+    }
+}

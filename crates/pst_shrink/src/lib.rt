@@ -1,0 +1,21 @@
+//! Shrinking a test case that fails: the smaller cases that are tried in its place, and the search through
+//! them.
+#![tactic(auto)]
+
+mod attempt;
+mod candidate;
+mod fault;
+mod laws;
+mod parts;
+mod renumbering;
+mod round;
+mod shrinking;
+mod shrunk;
+
+pub use attempt::{Attempt, Outcome};
+pub use candidate::candidates;
+pub use fault::ShrinkFault;
+pub use laws::candidates_are_lesser;
+pub use renumbering::Renumbering;
+pub use shrinking::shrink;
+pub use shrunk::{Ending, Shrunk, Taken};

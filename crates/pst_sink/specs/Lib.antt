@@ -1,0 +1,3 @@
+pub mod Out
+pub mod Writing
+pub mod Names
