@@ -1,6 +1,6 @@
 #!/usr/bin/env bash
 # Refuses each growth of memory of the program in turn. The answer has to be the one with ample memory, or want of memory: `refused memory`, or an item
-# that is lost for it (a thread too needs memory to be started). Prints how often each came, and any other answer, with which it ends with status 1. The gate does not run it; it needs a C compiler.
+# that is lost for it (a thread too needs memory to be started), with status 3. Prints how often each came, and any other answer, with which it ends with status 1. The gate does not run it; it needs a C compiler.
 source "$(dirname "$0")/program.sh"
 
 # `malloc` and `realloc` that fail the time that REFUSE gives.
@@ -28,11 +28,12 @@ cc -O1 -shared -fPIC -o "$room/refuse.so" "$room/refuse.c"
 
 # Refuses each growth of one call of the program in turn.
 refuse_each() {
-  local wanted answer same=0 refused=0 turn
+  local wanted answer status same=0 refused=0 turn
   wanted="$("$program" "$@" || true)"
   if [ "$wanted" = 'refused memory' ]; then echo "$*: want of memory where there is some"; failed=1; fi
   for turn in $(seq 1 100000); do
-    answer="$(REFUSE=$turn LD_PRELOAD="$room/refuse.so" "$program" "$@" 2> "$room/errors" || true)"
+    status=0
+    answer="$(REFUSE=$turn LD_PRELOAD="$room/refuse.so" "$program" "$@" 2> "$room/errors")" || status=$?
     if [ "$answer" = "$wanted" ]; then
       same=$((same + 1))
       # Behind its last growth nothing is refused: 25 such answers in turn are the end.
@@ -41,8 +42,9 @@ refuse_each() {
     else
       last=0
       case "$answer" in
-        'refused memory' | '1 lost NoMemory' | '1 lost NoThread') refused=$((refused + 1)) ;;
-        '') if grep -qi memory "$room/errors"; then refused=$((refused + 1)); else echo "growth $turn of $*: nothing"; failed=1; fi ;;
+        'refused memory' | '1 lost NoMemory' | '1 lost NoThread')
+          refused=$((refused + 1))
+          if [ "$status" != 3 ]; then echo "growth $turn of $*: $answer, with status $status"; failed=1; fi ;;
         *) echo "growth $turn of $*: $answer"; failed=1 ;;
       esac
     fi

@@ -16,6 +16,8 @@ mod forms;
 #[cfg(test)]
 mod generated;
 #[cfg(test)]
+mod judged_suffixes;
+#[cfg(test)]
 mod limits;
 #[cfg(test)]
 mod lines;
