@@ -1,4 +1,5 @@
 //! The search over merges, on a lamp.
+ghost use Rattle.std.specs.Prelude.{◌<◌, ◌+◌, ◌^◌, sum};
 
 use pst_grid::{Ending, EveryAnswer, SomeAnswer, Steps, Turn, Why, every, some, some_plainly};
 use std::alloc::{AllocError, Global};
@@ -205,17 +206,31 @@ struct Case {
 
 const NONE: Command = Command::NONE;
 
-fn is_answered(alloc: Global, case: &Case) -> Result<bool, AllocError> {
+fn is_answered_over(alloc: Global, case: &Case, lengths: &[usize]) -> Result<bool, AllocError>
+    requires { sum lengths.now + 1 < 2 ^ 32 }
+{
     let [on, off, asks, needs] = case.commands;
     let steps = Lamp::new(on, off, asks, needs);
-    let (answer, _) = some(alloc, &steps, case.lengths, &false)?;
-    let (plain, _) = some_plainly(alloc, &steps, case.lengths, &false)?;
-    let (every_answer, _) = every(alloc, &steps, case.lengths, &false)?;
+    let (answer, _) = some(alloc, &steps, lengths, &false)?;
+    let (plain, _) = some_plainly(alloc, &steps, lengths, &false)?;
+    let (every_answer, _) = every(alloc, &steps, lengths, &false)?;
     Ok(
         format!(in alloc; "{answer:?}")?.as_str() == case.some
             && format!(in alloc; "{plain:?}")?.as_str() == case.some
             && format!(in alloc; "{every_answer:?}")?.as_str() == case.every,
     )
+}
+
+/// Whether the searches answer so, of at most three branches of at most eight commands each.
+fn is_answered(alloc: Global, case: &Case) -> Result<bool, AllocError> {
+    match case.lengths {
+        [] => is_answered_over(alloc, case, &[]),
+        [one, two] if *one <= 8 && *two <= 8 => is_answered_over(alloc, case, &[*one, *two]),
+        [one, two, three] if *one <= 8 && *two <= 8 && *three <= 8 => {
+            is_answered_over(alloc, case, &[*one, *two, *three])
+        }
+        _ => Ok(false),
+    }
 }
 
 #[test]
