@@ -1,6 +1,7 @@
 #!/usr/bin/env bash
-# How often 300 drives of two `inc` on a counter that loads and then stores, with no yield between, lose an increase: where the branches start together,
-# and where two threads call at once. Three turns, since the counts differ. No test asserts any of them.
+# How many of 300 drives of two calls on a counter that loads and then stores, with no yield between, no interleaving explains: two `inc` that answer the new
+# number, two `add` that answer true, and two `add` with a read behind both branches; and how many increases two threads lose that call `inc` at once.
+# Three turns, since the counts differ. No test asserts any of them.
 set -euo pipefail
 top="$(cd "$(dirname "$0")/.." && pwd)"
 (cd "$top/crates/pst_bench_races" && rt run > /dev/null)

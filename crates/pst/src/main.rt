@@ -8,7 +8,10 @@ mod words;
 
 use clap::ArgMatches;
 use clap::error::ErrorKind;
-use pst_cli::{Absence, KnownSystem, Status, check_text, judge_text, refuse_text, run_text};
+use pst_cli::{
+    Absence, KnownSystem, Status, campaign_text, check_text, judge_text, list_text, refuse_text,
+    run_text,
+};
 use pst_samples::{Counter, Meet, Queue, Racy, Registry, Stuck};
 use pst_sink::{Out, Sink};
 use pst_system::BoxedSystem;
@@ -19,32 +22,81 @@ use std::sync::Wait;
 use std::thread::Threads;
 use std::{env, io};
 
-/// The system of `pst run`: none where the words name none that is known.
-type System = Result<Option<BoxedSystem>, AllocError>;
+/// The systems that the words ask for: none where they name none that is known.
+type Systems = Result<Vec<BoxedSystem>, AllocError>;
 
-/// Drives the items of the input on the system, if there is one.
+/// The systems and one more.
+fn and_one(systems: Systems, system: Result<BoxedSystem, AllocError>) -> Systems {
+    let mut systems = systems?;
+    systems.push(system?)?;
+    Ok(systems)
+}
+
+/// Drives the items of the input on a system, if there is one.
 fn drive<W: Sink, R: Threads + Wait>(
     rt: &R,
     alloc: Global,
     name: &str,
-    system: System,
+    mut systems: Vec<BoxedSystem>,
     input: &[u8],
     out: &mut W,
 ) -> Status
     requires { W.broken out.old ≡ false }
 {
-    match system {
-        Ok(Some(mut system)) => run_text(rt, alloc, input, &mut system, out),
-        Ok(None) => refuse_text(Absence::NoSystem(name), out),
+    match systems.pop() {
+        Some(mut system) => run_text(rt, alloc, input, &mut system, out),
+        None => refuse_text(Absence::NoSystem(name), out),
+    }
+}
+
+/// Runs a campaign with a worker for each of the systems, if there are some.
+fn campaign<W: Sink, R: Threads + Wait + Sync>(
+    rt: &R,
+    alloc: Global,
+    words: &ArgMatches<'_>,
+    name: &str,
+    systems: Vec<BoxedSystem>,
+    input: &[u8],
+    out: &mut W,
+) -> Status
+    requires { W.broken out.old ≡ false }
+{
+    if systems.is_empty() {
+        return refuse_text(Absence::NoSystem(name), out);
+    }
+    let Some(settings) = words::settings(words) else {
+        return Status::Refused;
+    };
+    campaign_text(rt, alloc, input, settings, systems, out)
+}
+
+/// Does what the word says that takes a system.
+fn with_systems<W: Sink, R: Threads + Wait + Sync>(
+    rt: &R,
+    alloc: Global,
+    matches: &ArgMatches<'_>,
+    systems: Systems,
+    input: &[u8],
+    out: &mut W,
+) -> Status
+    requires { W.broken out.old ≡ false }
+{
+    let Some((word, words)) = matches.subcommand() else {
+        return Status::Refused;
+    };
+    let name = words.get_str("SYSTEM").unwrap_or("");
+    match systems {
+        Ok(systems) if word == "run" => drive(rt, alloc, name, systems, input, out),
+        Ok(systems) => campaign(rt, alloc, words, name, systems, input, out),
         Err(AllocError) => refuse_text(Absence::NoMemory, out),
     }
 }
 
 /// Does what the words say, on standard output.
-fn run<R: Runtime + AllocGlobal + Threads + Wait>(
+fn run<R: Runtime + AllocGlobal + Threads + Wait + Sync>(
     rt: &R,
     matches: &ArgMatches<'_>,
-    system: System,
+    systems: Systems,
 ) -> Status {
     let Some((word, words)) = matches.subcommand() else {
         return Status::Refused;
@@ -56,20 +108,22 @@ fn run<R: Runtime + AllocGlobal + Threads + Wait>(
         Err(why) => return refuse_text(why, &mut out),
     };
     let input = bytes.as_slice();
-    match (word, words.get_str("SYSTEM")) {
-        ("run", Some(name)) => drive(rt, alloc, name, system, input, &mut out),
-        ("judge", _) => judge_text(alloc, input, &mut out),
-        _ => check_text(alloc, input, &mut out),
+    match word {
+        "check" => check_text(alloc, input, &mut out),
+        "list" => list_text(alloc, input, &mut out),
+        "judge" => judge_text(alloc, input, &mut out),
+        _ => with_systems(rt, alloc, matches, systems, input, &mut out),
     }
 }
 
-/// The known system that the words of `run` name.
-fn known_system(matches: &ArgMatches<'_>) -> Option<KnownSystem> {
+/// The known system that the words name, and how many of it they ask for.
+fn wanted(matches: &ArgMatches<'_>) -> Option<(KnownSystem, u64)> {
     let (word, words) = matches.subcommand()?;
-    if word != "run" {
-        return None;
+    let known = KnownSystem::named(words.get_str("SYSTEM")?)?;
+    match word {
+        "campaign" => Some((known, words.get_one("workers")?)),
+        _ => Some((known, 1)),
     }
-    KnownSystem::named(words.get_str("SYSTEM")?)
 }
 
 /// Writes `refused memory`, and answers the status.
@@ -107,6 +161,16 @@ fn explain<R: Runtime>(rt: &R, error: &clap::Error) -> Status {
     }
 }
 
+/// A system in a box.
+macro_rules! boxed {
+    ($alloc:expr, $system:expr) => {
+        match Box::new($alloc, $system) {
+            Ok(system) => Ok(system),
+            Err(_) => Err(AllocError),
+        }
+    };
+}
+
 fn main(rt: HostRuntime) -> ExitCode {
     let alloc = rt.alloc();
     let started = match started_with(&rt) {
@@ -120,33 +184,20 @@ fn main(rt: HostRuntime) -> ExitCode {
         Ok(matches) => matches,
         Err(error) => return ExitCode::from(explain(&rt, &error).code()),
     };
-    // A boxed system is made here, since a function cannot hand one out.
-    let system: System = match known_system(&matches) {
-        Some(KnownSystem::Counter) => match Box::new(alloc, Counter::new(rt)) {
-            Ok(system) => Ok(Some(system)),
-            Err(_) => Err(AllocError),
-        },
-        Some(KnownSystem::Racy) => match Box::new(alloc, Racy::new()) {
-            Ok(system) => Ok(Some(system)),
-            Err(_) => Err(AllocError),
-        },
-        Some(KnownSystem::Stuck) => match Box::new(alloc, Stuck) {
-            Ok(system) => Ok(Some(system)),
-            Err(_) => Err(AllocError),
-        },
-        Some(KnownSystem::Registry) => match Box::new(alloc, Registry::new(rt, alloc)) {
-            Ok(system) => Ok(Some(system)),
-            Err(_) => Err(AllocError),
-        },
-        Some(KnownSystem::Queue) => match Box::new(alloc, Queue::new(rt, alloc)) {
-            Ok(system) => Ok(Some(system)),
-            Err(_) => Err(AllocError),
-        },
-        Some(KnownSystem::Meet) => match Box::new(alloc, Meet::new()) {
-            Ok(system) => Ok(Some(system)),
-            Err(_) => Err(AllocError),
-        },
-        None => Ok(None),
-    };
-    ExitCode::from(run(&rt, &matches, system).code())
+    // Boxed systems are made here, since a function cannot hand one out.
+    let mut systems: Systems = Ok(Vec::new(alloc));
+    if let Some((known, count)) = wanted(&matches) {
+        for _ in 0..count {
+            let system: Result<BoxedSystem, AllocError> = match known {
+                KnownSystem::Counter => boxed!(alloc, Counter::new(rt)),
+                KnownSystem::Racy => boxed!(alloc, Racy::new()),
+                KnownSystem::Stuck => boxed!(alloc, Stuck),
+                KnownSystem::Registry => boxed!(alloc, Registry::new(rt, alloc)),
+                KnownSystem::Queue => boxed!(alloc, Queue::new(rt, alloc)),
+                KnownSystem::Meet => boxed!(alloc, Meet::new()),
+            };
+            systems = and_one(systems, system);
+        }
+    }
+    ExitCode::from(run(&rt, &matches, systems).code())
 }

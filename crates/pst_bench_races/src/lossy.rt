@@ -3,7 +3,8 @@ use pst_system::{CallFault, RealCall, System};
 use pst_value::Value;
 use std::sync::atomic::{AtomicI64, Ordering};
 
-/// A number that `inc` loads and stores again, with no yield between; `get` answers it.
+/// A number that `inc` and `add` load and store again, with no yield between. `inc` answers the new number,
+/// `add` answers true, and `get` answers the number.
 #[derive(Drop)]
 pub struct Lossy {
     number: AtomicI64,
@@ -23,12 +24,18 @@ impl Lossy {
         self.number.store(next, Ordering::SeqCst);
         next
     }
+
+    /// Increases the number and answers true.
+    fn add(&self) -> bool {
+        self.increased();
+        true
+    }
 }
 
 impl System for Lossy {
-    ghost use Rattle.pst_bench_races.specs.Lossy.{IsInt, IsRefused};
+    ghost use Rattle.pst_bench_races.specs.Lossy.{IsNumberOrTruth, IsRefused};
 
-    ghost answers = { λ _ _ v. IsInt v };
+    ghost answers = { λ _ _ v. IsNumberOrTruth v };
 
     ghost fails = { λ _ _ f. IsRefused f };
 
@@ -42,6 +49,7 @@ impl System for Lossy {
     fn call(&self, call: &RealCall) -> Result<Value, CallFault> {
         match call.name.as_str() {
             "inc" => Ok(Value::Int(self.increased())),
+            "add" => Ok(Value::Bool(self.add())),
             "get" => Ok(Value::Int(self.number.load(Ordering::SeqCst))),
             _ => Err(CallFault::Refused),
         }

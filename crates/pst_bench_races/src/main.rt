@@ -1,6 +1,7 @@
-//! Counts how often two calls of a counter at once lose an increase, where they start together and where they do not: a measurement for `bench/`.
+//! Counts how often two calls of a counter at once lose an increase, and how often that is seen: a
+//! measurement for `bench/`.
 //!
-//! With the word `run` it prints the two counts, and else nothing.
+//! With the word `run` it prints the counts, and else nothing.
 #![tactic(auto)]
 
 mod drives;
@@ -8,12 +9,13 @@ mod lossy;
 mod threads;
 
 use anyhow::bail;
-use drives::{DRIVES, both_increase, count_in_drives};
+use drives::{DRIVES, count_unexplained};
 use lossy::Lossy;
 use pst_eval::Plain;
-use pst_gen::if_accepted;
 use pst_items::{Items, Text};
-use pst_load::load;
+use pst_judge::valid;
+use pst_load::{items_of, load};
+use pst_runs::read_runs;
 use pst_system::{BoxedSystem, RealCall};
 use std::alloc::{AllocError, Global};
 use std::env;
@@ -21,11 +23,21 @@ use std::sync::Wait;
 use std::thread::Threads;
 use threads::count_in_threads;
 
-/// A number that is counted up.
-const COUNTER: &str = "(model counter (state int) (init 0)
-  (command (list call (call inc) (call get)))
-  (op inc () int (pre true) (next (+ s 1)) (post (= r (+ s 1))))
-  (op get () int (pre true) (next s) (post (= r s))))";
+/// A counter whose `inc` answers the new number, and two calls of it.
+const INC: &str = "(model counter (state int) (init 0) (command (list call (call inc)))
+  (op inc () int (pre true) (next (+ s 1)) (post (= r (+ s 1)))))
+(case (prefix) (left (inc)) (right (inc)))";
+
+/// A counter whose `add` answers true, and two calls of it.
+const ADD: &str = "(model counter (state int) (init 0) (command (list call (call add)))
+  (op add () bool (pre true) (next (+ s 1)) (post r)))
+(case (prefix) (left (add)) (right (add)))";
+
+/// The same with a read behind both branches.
+const ADD_AND_READ: &str = "(model counter (state int) (init 0) (command (list call (call add)))
+  (op add () bool (pre true) (next (+ s 1)) (post r))
+  (op get () int (pre true) (next s) (post (= r s))))
+(case (prefix) (left (add)) (right (add)) (suffix (get)))";
 
 /// The call `inc`.
 fn increase(alloc: Global) -> Result<RealCall, AllocError> {
@@ -36,21 +48,42 @@ fn increase(alloc: Global) -> Result<RealCall, AllocError> {
     })
 }
 
-/// In how many drives of two branches of one `inc` both answer the same.
-fn count_together<R: Threads + Wait>(
+/// In how many drives of the case behind a model no interleaving explains the replies.
+fn count<R: Threads + Wait>(
     rt: &R,
     alloc: Global,
     system: &mut BoxedSystem,
+    text: &str,
 ) -> anyhow::Result<u32> {
-    let typed = match load(alloc, COUNTER.as_bytes())? {
-        Ok(file) => file.typed,
+    let file = match load(alloc, text.as_bytes())? {
+        Ok(file) => file,
         Err(refusal) => bail!("refused {refusal}"),
     };
-    let case = both_increase(alloc)?;
-    let Some(valid) = if_accepted(&Plain::new(&typed), alloc, &typed, case)? else {
+    let Ok(mut runs) = read_runs(alloc, &file.typed, items_of(file.trees.as_slice())) else {
         bail!("the case is refused");
     };
-    Ok(count_in_drives(rt, alloc, &typed, system, &valid)?)
+    let Some(run) = runs.pop() else {
+        bail!("there is no case");
+    };
+    let Ok(valid) = valid(&Plain::new(&file.typed), alloc, run.shaped) else {
+        bail!("the case is not valid");
+    };
+    count_unexplained(rt, alloc, &file.typed, system, &valid)
+}
+
+/// Prints the counts.
+fn measure<R: Threads + Wait + Print>(
+    rt: &R,
+    alloc: Global,
+    system: &mut BoxedSystem,
+) -> anyhow::Result<()> {
+    let seen = count(rt, alloc, system, INC)?;
+    println!(rt; "{seen} of {DRIVES} unexplained: two `inc` that answer the new number")?;
+    let seen = count(rt, alloc, system, ADD)?;
+    println!(rt; "{seen} of {DRIVES} unexplained: two `add` that answer true")?;
+    let seen = count(rt, alloc, system, ADD_AND_READ)?;
+    println!(rt; "{seen} of {DRIVES} unexplained: two `add` and a read behind both branches")?;
+    Ok(())
 }
 
 fn main(rt: HostRuntime) -> anyhow::Result<()> {
@@ -58,10 +91,9 @@ fn main(rt: HostRuntime) -> anyhow::Result<()> {
     let words: Vec<String> = env::args(&rt)?.collect(alloc)?;
     if words.iter().any(|word| word.as_str() == "run") {
         let mut boxed: BoxedSystem = Box::new(alloc, Lossy::new())?;
-        let together = count_together(&rt, alloc, &mut boxed)?;
-        println!(rt; "{together} of {DRIVES} lost where the branches start together")?;
-        let at_once = count_in_threads(&rt, &mut Lossy::new(), &increase(alloc)?);
-        println!(rt; "{at_once} of {DRIVES} lost where two threads call at once")?;
+        measure(&rt, alloc, &mut boxed)?;
+        let lost = count_in_threads(&rt, &mut Lossy::new(), &increase(alloc)?);
+        println!(rt; "{lost} of {DRIVES} lost where two threads call `inc` at once")?;
     }
     Ok(())
 }

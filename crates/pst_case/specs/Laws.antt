@@ -6,4 +6,6 @@ use Rattle.pst_value.specs.declared.value.Value.{Value}
 
 -- where no number changes, no value and no command does
 abbrev pub NumbersThatStay : Type 0
-NumbersThatStay = (f : ℕ → ℕ) → ((n : ℕ) → f n ≡ n) → ((v : Value) → renumbered f v ≡ v) × ((c : Command) → renumbered_command f c ≡ c)
+NumbersThatStay =
+    (f : ℕ → ℕ) → ((n : ℕ) → f n ≡ n)
+    → ((v : Value) → renumbered f v ≡ v) × ((c : Command) → renumbered_command f c ≡ c)

@@ -9,7 +9,8 @@ abbrev pub or_the_same : ℕ → Option ℕ → ℕ
 or_the_same n None = n
 or_the_same n (Some new) = new
 
--- the new number of a command, where the list has those of commands 1, 2, and so on: a number of no command stays
+-- the new number of a command, where the list has those of commands 1, 2, and so on: a number of no command
+-- stays
 abbrev pub new_number : List ℕ → ℕ → ℕ
 new_number numbers n = or_the_same n (numbered numbers n)
 

@@ -27,7 +27,8 @@ holds_var_at p (Value-F.Var n) = p n
 holds_var_at p (Value-F.Ref n held) = held
 holds_var_at p (Value-F.Call op parts) = list_any (λ held. held) parts
 
--- whether an open variable of which the test holds stands in the value (the number of a reference does not count)
+-- whether an open variable of which the test holds stands in the value (the number of a reference does not
+-- count)
 unfoldable pub holds_var : (ℕ → Bool) → Value → Bool
 holds_var p = fold-Value Bool (holds_var_at p)
 
@@ -81,15 +82,19 @@ abbrev pub is_known : Option Op → Bool
 is_known None = false
 is_known (Some o) = true
 
--- over 64 commands in the prefix, 8 in a branch, 16 in all branches, 8 in the suffix, or another number of branches than
--- two to four
+-- over 64 commands in the prefix, 8 in a branch, 16 in all branches, 8 in the suffix, or another number of
+-- branches than two to four
+abbrev pub are_over_limit :
+    {C : Type 0} → (prefix : List C) (branches : List (List C)) (suffix : List C) → Bool
+are_over_limit prefix branches suffix =
+    not (nat_le (length prefix) 64)
+    || not (list_all (λ b. nat_le (length b) 8) branches)
+    || not (nat_le (length (joined branches)) 16)
+    || not (nat_le 2 (length branches) && nat_le (length branches) 4)
+    || not (nat_le (length suffix) 8)
+
 abbrev pub over_limit : Case → Bool
-over_limit c =
-    not (nat_le (length c.prefix) 64)
-    || not (list_all (λ b. nat_le (length b) 8) c.branches)
-    || not (nat_le (length (joined c.branches)) 16)
-    || not (nat_le 2 (length c.branches) && nat_le (length c.branches) 4)
-    || not (nat_le (length c.suffix) 8)
+over_limit c = are_over_limit c.prefix c.branches c.suffix
 
 -- variable 0, or that of a command that is not earlier
 abbrev pub is_forward : ℕ → ℕ → Bool
@@ -99,8 +104,9 @@ is_forward number n = (n == 0) || nat_le number n
 abbrev pub is_cross : (prefix before : ℕ) → ℕ → Bool
 is_cross prefix before n = nat_lt prefix n && nat_le n before
 
--- What is wrong with the command of a number, where so many commands stand in the prefix, and so many before the command's
--- branch. For a command of the prefix or of the suffix the second number is 0, so that no variable crosses.
+-- What is wrong with the command of a number, where so many commands stand in the prefix, and so many before
+-- the command's branch. For a command of the prefix or of the suffix the second number is 0, so that no
+-- variable crosses.
 abbrev pub command_fault : Source → List Ty → (prefix before number : ℕ) → Command → Option CaseFaultKind
 command_fault m vars prefix before number c =
     if not (is_known (operation_of m.items c.op)) then Some UnknownOp
@@ -124,7 +130,8 @@ part_fault m vars prefix before number (c ∷ cs) =
 abbrev pub branches_fault : Source → List Ty → (prefix before : ℕ) → List (List Command) → Option CaseFault
 branches_fault m vars prefix before [] = None
 branches_fault m vars prefix before (b ∷ bs) =
-    or_else (part_fault m vars prefix before (before + 1) b) (branches_fault m vars prefix (before + length b) bs)
+    or_else (part_fault m vars prefix before (before + 1) b)
+    (branches_fault m vars prefix (before + length b) bs)
 
 -- the first fault of the commands, by their numbers: the prefix, the branches in turn, the suffix
 abbrev pub commands_fault : Source → Case → Option CaseFault

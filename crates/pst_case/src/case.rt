@@ -9,15 +9,17 @@ use std::fmt::{Debug, Error, Formatter, Write};
 use std::marker::Model;
 use std::snapshot::Snapshot;
 
-/// A call of an operation, by its number from 0, with arguments that may name the results of earlier commands.
+/// A call of an operation, by its number from 0, with arguments that may name the results of earlier
+/// commands.
 #[derive(Debug, PartialEq, Eq, Drop)]
 pub struct Command {
     pub op: u32,
     pub args: Items<Value>,
 }
 
-/// A symbolic test case: a prefix that runs first, branches that run at once after it, and a suffix that runs when all
-/// branches have ended. Commands are numbered from 1: the prefix, then each branch in turn, then the suffix.
+/// A symbolic test case: a prefix that runs first, branches that run at once after it, and a suffix that runs
+/// when all branches have ended. Commands are numbered from 1: the prefix, then each branch in turn, then the
+/// suffix.
 #[derive(Debug, PartialEq, Eq, Drop)]
 pub struct Case {
     pub prefix: Items<Command>,
@@ -25,7 +27,8 @@ pub struct Case {
     pub suffix: Items<Command>,
 }
 
-/// A case that keeps the shape of a model: its limits, its variables, and the types of its arguments. Contracts see it as the model and the case.
+/// A case that keeps the shape of a model: its limits, its variables, and the types of its arguments.
+/// Contracts see it as the model and the case.
 #[derive(Drop)]
 pub struct Shaped {
     case: Case,

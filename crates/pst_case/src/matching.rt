@@ -83,7 +83,8 @@ fn branches_match(model: &Source, branches: &[Items<Command>], replies: &[Items<
 }
 
 impl Command {
-    /// Whether the value, in which no variable and no reference may stand, is of the type of the command's result. Takes no memory.
+    /// Whether the value, in which no variable and no reference may stand, is of the type of the command's
+    /// result. Takes no memory.
     pub fn admits(&self, typed: &Typed, value: &Value) -> bool
         ensures { result ≡ fits_in typed.now [] [] value.now (result_type typed.now self.now) }
     {
@@ -92,7 +93,8 @@ impl Command {
 }
 
 impl History {
-    /// Whether it has as many replies as the case has commands in each part, and each value is of its operation's result type. Takes no memory.
+    /// Whether it has as many replies as the case has commands in each part, and each value is of its
+    /// operation's result type. Takes no memory.
     #[tactic(auto, unfolding(crate::specs::Matches::matches))]
     pub fn matches(&self, typed: &Typed, shaped: &Shaped) -> bool
         ensures { result ≡ spec.matches typed.now shaped.now.case self.now }

@@ -25,7 +25,8 @@ fn with_part(
     Ok(results)
 }
 
-/// The results that the replies of one part record: `None` where the reply is no value. `AllocError` where memory is refused.
+/// The results that the replies of one part record: `None` where the reply is no value. `AllocError` where
+/// memory is refused.
 pub fn results_of(alloc: Global, replies: &[Reply]) -> Result<Vec<Option<Value>>, AllocError>
     ensures { IfOk result (λ results. results.items ≡ map result_of replies.now) }
 {
@@ -54,8 +55,8 @@ fn with_branches(
 }
 
 impl History {
-    /// The recorded results, by the numbers of the commands from 1: `None` where the reply is no value. `AllocError` where
-    /// memory is refused.
+    /// The recorded results, by the numbers of the commands from 1: `None` where the reply is no value.
+    /// `AllocError` where memory is refused.
     pub fn recorded(&self, alloc: Global) -> Result<Vec<Option<Value>>, AllocError>
         ensures { IfOk result (λ results. results.items ≡ recorded self.now) }
     {

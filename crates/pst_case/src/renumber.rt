@@ -20,8 +20,8 @@ fn new_number(numbers: &[u32], number: u32) -> u32
     }
 }
 
-/// The value with new numbers in its variables and references, at every depth: `numbers` has those of commands 1, 2, and so on, and a number
-/// of no command stays. `AllocError` where memory is refused.
+/// The value with new numbers in its variables and references, at every depth: `numbers` has those of
+/// commands 1, 2, and so on, and a number of no command stays. `AllocError` where memory is refused.
 #[cycle(renumber_value)]
 #[tactic(auto, using(crate::proofs::Renumbering::renumbering))]
 pub fn renumber_value(alloc: Global, value: &Value, numbers: &[u32]) -> Result<Value, AllocError>
@@ -60,7 +60,8 @@ fn renumber_values(
     Ok(all)
 }
 
-/// The command with new numbers in its arguments, as `renumber_value` gives them. `AllocError` where memory is refused.
+/// The command with new numbers in its arguments, as `renumber_value` gives them. `AllocError` where memory
+/// is refused.
 pub fn renumber_command(
     alloc: Global,
     command: &Command,
@@ -74,7 +75,8 @@ pub fn renumber_command(
     })
 }
 
-/// The commands with new numbers in their arguments, as `renumber_value` gives them. `AllocError` where memory is refused.
+/// The commands with new numbers in their arguments, as `renumber_value` gives them. `AllocError` where
+/// memory is refused.
 pub fn renumber_commands(
     alloc: Global,
     commands: &[Command],

@@ -1,6 +1,6 @@
 //! Testing the shape of a case.
-ghost use Rattle.std.specs.Prelude.{◌≡◌, ◌<◌, ◌+◌, ◌^◌, ◌⊎◌, IfOk, IfErr, length, nat_le, Some, not, ◌||◌, ◌&&◌};
-ghost use Rattle.std.specs.List.{list_any, list_all};
+ghost use Rattle.std.specs.Prelude.{◌≡◌, ◌<◌, ◌+◌, ◌^◌, ◌⊎◌, IfOk, IfErr, length, Some, not, ◌||◌};
+ghost use Rattle.std.specs.List.{list_any};
 ghost use Rattle.pst_rules.specs.Fitting.{args_fit};
 ghost use Rattle.pst_model.specs.Parts.{operation_of};
 ghost use Rattle.pst_case.specs.Shape as spec;
@@ -10,24 +10,13 @@ ghost use Rattle.pst_rules.specs.WellTyped.{WellModel};
 use crate::banned::{Banned, any_banned, any_refers};
 use crate::case::{Case, Command, Shaped};
 use crate::fault::{CaseFault, CaseFaultKind};
+use crate::limits::{are_over_limit, joined_len};
 use crate::types::{each_has_type, result_types};
 use pst_items::Items;
 use pst_model::{Op, Source, operation_of};
 use pst_rules::Typed;
 use pst_value::Ty;
 use std::alloc::{AllocError, Global};
-
-/// The most commands of the prefix.
-pub const MAX_PREFIX: usize = 64;
-
-/// The most commands of a branch.
-pub const MAX_BRANCH: usize = 8;
-
-/// The most commands of all branches together.
-pub const MAX_TOGETHER: usize = 16;
-
-/// The most commands of the suffix.
-pub const MAX_SUFFIX: usize = 8;
 
 /// What the commands of a case are tested by.
 #[derive(Drop)]
@@ -39,48 +28,14 @@ struct Rules<'a> {
     prefix: u32,
 }
 
-/// Whether the commands of all branches are at most so many.
-fn are_within(branches: &[Items<Command>], room: usize) -> bool
-    ensures { result ≡ nat_le (length (spec.joined branches.now)) room }
-{
-    let Some((branch, branches)) = branches.split_first() else {
-        return true;
-    };
-    if branch.len() > room {
-        return false;
-    }
-    are_within(branches, room - branch.len())
-}
-
-fn are_short(branches: &[Items<Command>]) -> bool
-    ensures { result ≡ list_all (λ b. nat_le (length b) 8) branches.now }
-{
-    branches.iter().all(|branch| branch.len() <= MAX_BRANCH)
-}
-
-fn are_two_to_four(branches: &[Items<Command>]) -> bool
-    ensures { result ≡ (nat_le 2 (length branches.now) && nat_le (length branches.now) 4) }
-{
-    2 <= branches.len() && branches.len() <= 4
-}
-
 fn is_over_limit(case: &Case) -> bool
     ensures { result ≡ spec.over_limit case.now }
 {
-    let branches = case.branches.as_slice();
-    if case.prefix.len() > MAX_PREFIX {
-        return true;
-    }
-    if !are_short(branches) {
-        return true;
-    }
-    if !are_two_to_four(branches) {
-        return true;
-    }
-    if !are_within(branches, MAX_TOGETHER) {
-        return true;
-    }
-    case.suffix.len() > MAX_SUFFIX
+    are_over_limit(
+        case.prefix.as_slice(),
+        case.branches.as_slice(),
+        case.suffix.as_slice(),
+    )
 }
 
 /// Whether the arguments are not those of the operation, or hold a reference.
@@ -88,7 +43,10 @@ fn is_over_limit(case: &Case) -> bool
 fn is_bad(rules: &Rules<'_>, operation: &Op, command: &Command) -> bool
     requires well { WellModel rules.now.model.now }
     requires known { operation_of rules.now.model.now.items command.now.op ≡ Some operation.now }
-    ensures { result ≡ (not (args_fit rules.now.model.now rules.now.vars.now rules.now.vars.now command.now.op command.now.args) || list_any spec.holds_reference command.now.args) }
+    ensures { result ≡
+        (not (args_fit rules.now.model.now rules.now.vars.now rules.now.vars.now
+        command.now.op command.now.args)
+        || list_any spec.holds_reference command.now.args) }
 {
     let args = command.args.as_slice();
     !each_has_type(args, operation.params.as_slice(), rules.vars) || any_refers(args)
@@ -102,7 +60,8 @@ fn command_fault(
     command: &Command,
 ) -> Option<CaseFaultKind>
     requires { WellModel rules.now.model.now }
-    ensures { result ≡ spec.command_fault rules.now.model.now rules.now.vars.now rules.now.prefix before number command.now }
+    ensures { result ≡
+        spec.command_fault rules.now.model.now rules.now.vars.now rules.now.prefix before number command.now }
 {
     let items = rules.model.items.as_slice();
     let args = command.args.as_slice();
@@ -130,7 +89,8 @@ fn part_fault(
 ) -> Option<CaseFault>
     requires well { WellModel rules.now.model.now }
     requires few { number + length commands.now < 2 ^ 32 }
-    ensures { result ≡ spec.part_fault rules.now.model.now rules.now.vars.now rules.now.prefix before number commands.now }
+    ensures { result ≡
+        spec.part_fault rules.now.model.now rules.now.vars.now rules.now.prefix before number commands.now }
 {
     let (command, commands) = commands.split_first()?;
     match command_fault(rules, before, number, command) {
@@ -146,24 +106,14 @@ fn part_fault(
 fn branches_fault(rules: &Rules<'_>, before: u32, branches: &[Items<Command>]) -> Option<CaseFault>
     requires well { WellModel rules.now.model.now }
     requires few { before + length (spec.joined branches.now) + 1 < 2 ^ 32 }
-    ensures { result ≡ spec.branches_fault rules.now.model.now rules.now.vars.now rules.now.prefix before branches.now }
+    ensures { result ≡
+        spec.branches_fault rules.now.model.now rules.now.vars.now rules.now.prefix before branches.now }
 {
     let (branch, branches) = branches.split_first()?;
     match part_fault(rules, before, before + 1, branch.as_slice()) {
         Some(fault) => Some(fault),
         None => branches_fault(rules, before + branch.len() as u32, branches),
     }
-}
-
-/// How many commands the branches have together.
-fn joined_len(branches: &[Items<Command>]) -> u32
-    requires { length (spec.joined branches.now) < 2 ^ 32 }
-    ensures { result ≡ length (spec.joined branches.now) }
-{
-    let Some((branch, branches)) = branches.split_first() else {
-        return 0;
-    };
-    branch.len() as u32 + joined_len(branches)
 }
 
 /// The first fault of the commands of a case, by their numbers.
@@ -184,7 +134,7 @@ fn commands_fault(rules: &Rules<'_>, case: &Case) -> Option<CaseFault>
     part_fault(rules, 0, before + 1, case.suffix.as_slice())
 }
 
-#[tactic(auto, using(crate::proofs::Limits::limits), unfolding(crate::specs::Shape::shape_fault))]
+#[tactic(auto, using(crate::proofs::Within::limits), unfolding(crate::specs::Shape::shape_fault))]
 fn first_fault(alloc: Global, model: &Source, case: &Case) -> Result<Option<CaseFault>, AllocError>
     requires { WellModel model.now }
     ensures { IfOk result (λ fault. fault ≡ spec.shape_fault model.now case.now) }
@@ -204,10 +154,12 @@ fn first_fault(alloc: Global, model: &Source, case: &Case) -> Result<Option<Case
     Ok(commands_fault(&rules, case))
 }
 
-/// A case that keeps the shape of the model. Where it does not, or memory is refused, the case comes back with its first fault.
+/// A case that keeps the shape of the model. Where it does not, or memory is refused, the case comes back
+/// with its first fault.
 pub fn shape(alloc: Global, typed: &Typed, case: Case) -> Result<Shaped, (Case, CaseFault)>
     ensures shaped { IfOk result (λ shaped. shaped ≡ record { model = typed.now; case = case }) }
-    ensures refused { IfErr result (λ r. (r.0 ≡ case) × ((spec.shape_fault typed.now case ≡ Some r.1) ⊎ (r.1 ≡ no_memory))) }
+    ensures refused { IfErr result (λ r.
+        (r.0 ≡ case) × ((spec.shape_fault typed.now case ≡ Some r.1) ⊎ (r.1 ≡ no_memory))) }
 {
     match first_fault(alloc, typed.source(), &case) {
         Ok(None) => Ok(Shaped::new(typed.source(), case)),

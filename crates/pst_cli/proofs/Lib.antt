@@ -1,3 +1,4 @@
+pub mod Campaigning
 pub mod Judging
 pub mod Keeping
 pub mod OneOutput

@@ -1,8 +1,12 @@
+-- what the public contracts cite
 pub mod Absent
-pub mod Head
+pub mod CampaignOutput
 pub mod Known
+pub mod ListOutput
 pub mod OneOutput
 pub mod Output
 pub mod RunOutput
 pub mod Sending
 pub mod Status
+-- what these are made of
+pub mod Head

@@ -10,7 +10,7 @@ use Rattle.pst_cli.specs.declared.status.Status.TheVariants.{Accepted, Failed, R
 use Rattle.pst_judge.specs.JudgedText.{judged_text}
 use Rattle.pst_judge.specs.Judgement.{IsJudgement}
 use Rattle.pst_judge.specs.declared.judgement.Judged.{Judged}
-use Rattle.pst_judge.specs.declared.judgement.Judged.TheVariants as told
+use Rattle.pst_judge.specs.declared.judgement.Judged.TheVariants as kind
 use Rattle.pst_judge.specs.declared.verdicts.Verdict.{Verdict}
 use Rattle.pst_judge.specs.declared.verdicts.Verdict.TheVariants.{Explained, Faulted, Unexplained, Broken}
 use Rattle.pst_model.specs.declared.model.Source.{Source}
@@ -58,9 +58,9 @@ is_explained (Broken command) = false
 
 -- explained or valid
 abbrev pub is_good : Judged → Bool
-is_good (told.Verdict verdict) = is_explained verdict
-is_good told.Valid = true
-is_good (told.Invalid why) = false
+is_good (kind.Verdict verdict) = is_explained verdict
+is_good kind.Valid = true
+is_good (kind.Invalid why) = false
 
 -- Accepted where all items are explained or valid
 abbrev pub status_of : List Judged → Status

@@ -7,13 +7,14 @@ ghost use Rattle.pst_cli.specs.declared.status.Status.TheVariants.{Refused};
 ghost use Rattle.pst_runs.specs.Items.{runs_of};
 ghost use Rattle.pst_runs.specs.Lawful.{AreLawful};
 
+use crate::compiled::load_compiled;
 use crate::output::{Output, send};
 use crate::refusal::refusal_output;
 use crate::status::Status;
 use pst_case::{CaseFaultKind, Run};
-use pst_eval::{Callbacks, Plain};
+use pst_eval::Callbacks;
 use pst_judge::{Judged, Verdict, judge_one};
-use pst_load::{items_of, load};
+use pst_load::items_of;
 use pst_rules::Typed;
 use pst_runs::{RunFault, RunFaultKind, read_runs};
 use pst_sexpr::Tree;
@@ -127,13 +128,14 @@ pub fn refused_run(alloc: Global, fault: &RunFault) -> Result<Output, AllocError
 fn judge_output(alloc: Global, input: &[u8]) -> Result<Output, AllocError>
     ensures { IfOk result (λ output. IsJudgeOutput input.now output.text.items output.status) }
 {
-    let file = match load(alloc, input)? {
+    let file = match load_compiled(alloc, input)? {
         Ok(file) => file,
         Err(refusal) => return refusal_output(alloc, &refusal),
     };
-    match runs_in(alloc, &file.typed, items_of(file.trees.as_slice()))? {
+    let items = items_of(file.trees.as_slice());
+    match runs_in(alloc, file.compiled.typed(), items)? {
         Ok(runs) => {
-            let all = judge_all(&Plain::new(&file.typed), alloc, runs.as_slice())?;
+            let all = judge_all(&file.compiled, alloc, runs.as_slice())?;
             let text = item_lines(alloc, all.as_slice())?;
             Ok(Output::new(text, status_of(all.as_slice())))
         }

@@ -2,19 +2,24 @@
 #![tactic(auto)]
 
 mod absent;
+mod campaign;
 mod check;
+mod compiled;
 mod judge;
 mod known;
 mod laws;
+mod list;
 mod output;
 mod refusal;
 mod run;
 mod status;
 
 pub use absent::{Absence, refuse_text};
+pub use campaign::campaign_text;
 pub use check::check_text;
 pub use judge::judge_text;
 pub use known::{KnownSystem, known_system};
 pub use laws::one_output;
+pub use list::list_text;
 pub use run::run_text;
 pub use status::Status;

@@ -13,15 +13,16 @@ ghost use Rattle.pst_system.specs.Kept.{AreKept};
 ghost use Rattle.pst_write.specs.Lines.{line_of};
 ghost use Rattle.pst_write.specs.Written.{run_form};
 
+use crate::compiled::load_compiled;
 use crate::judge::{is_good, item_line, refused_run, runs_in};
 use crate::output::{Output, send};
 use crate::refusal::refusal_output;
 use crate::status::Status;
 use pst_case::{History, Run, Shaped};
+use pst_compile::Compiled;
 use pst_driver::DriveFault;
-use pst_eval::Plain;
 use pst_judge::{Judged, Valid, Why, judge_one, valid};
-use pst_load::{items_of, load};
+use pst_load::items_of;
 use pst_rules::Typed;
 use pst_sexpr::{Tree, write};
 use pst_sink::{Out, Sink, WriteFailed, put_all};
@@ -67,22 +68,22 @@ fn status_of_one(judged: &Judged) -> Status
 /// The report of a case that was driven: the run as a tree, and the line of the verdict on it.
 fn run_report(
     alloc: Global,
-    typed: &Typed,
+    compiled: &Compiled,
     number: usize,
     shaped: Shaped,
     history: History,
 ) -> Result<Output, AllocError>
-    requires model { shaped.model ≡ typed.now }
-    requires matches { matches typed.now shaped.case history ≡ true }
+    requires model { shaped.model ≡ compiled.now }
+    requires matches { matches compiled.now shaped.case history ≡ true }
     ensures { IfOk result (λ output.
-        ReportsRun typed.now number (run_with shaped history) output.text.items output.status) }
+        ReportsRun compiled.now number (run_with shaped history) output.text.items output.status) }
 {
     let run = Run {
         shaped,
         history: Some(history),
     };
-    let mut text = tree_line(alloc, typed, &run)?;
-    let judged = judge_one(&Plain::new(typed), alloc, &run)?;
+    let mut text = tree_line(alloc, compiled.typed(), &run)?;
+    let judged = judge_one(compiled, alloc, &run)?;
     let line = item_line(alloc, number, &judged)?;
     text.extend_from_slice(line.as_bytes())?;
     let status = status_of_one(&judged);
@@ -114,21 +115,21 @@ fn why_line(alloc: Global, number: usize, why: Why) -> Result<String, AllocError
 fn valid_report<R: Threads + Wait>(
     rt: &R,
     alloc: Global,
-    typed: &Typed,
+    compiled: &Compiled,
     system: &mut BoxedSystem,
     number: usize,
     valid: Valid,
 ) -> Result<Output, AllocError>
-    requires model { valid.model ≡ typed.now }
+    requires model { valid.model ≡ compiled.now }
     ensures reported { IfOk result (λ output.
-        IsReported typed.now (answers system.old) (fails system.old) (reset_fails system.old)
+        IsReported compiled.now (answers system.old) (fails system.old) (reset_fails system.old)
         number valid.case output.text.items output.status) }
     ensures kept { AreKept (answers system.new) (answers system.old) (fails system.new) (fails system.old)
         (reset_fails system.new) (reset_fails system.old) }
 {
     let _shaped = valid.shaped();
-    match pst_driver::run(rt, alloc, typed, system, &valid) {
-        Ok(history) => run_report(alloc, typed, number, valid.into_shaped(), history),
+    match pst_driver::run(rt, alloc, compiled.typed(), system, &valid) {
+        Ok(history) => run_report(alloc, compiled, number, valid.into_shaped(), history),
         Err(fault) => {
             let line = lost_line(alloc, number, fault)?;
             Ok(Output::new(line, Status::Lost))
@@ -140,24 +141,21 @@ fn valid_report<R: Threads + Wait>(
 fn item_report<R: Threads + Wait>(
     rt: &R,
     alloc: Global,
-    typed: &Typed,
+    compiled: &Compiled,
     system: &mut BoxedSystem,
     number: usize,
     shaped: &Shaped,
 ) -> Result<Output, AllocError>
-    requires model { shaped.now.model ≡ typed.now }
+    requires model { shaped.now.model ≡ compiled.now }
     ensures reported { IfOk result (λ output.
-        IsReported typed.now (answers system.old) (fails system.old) (reset_fails system.old)
+        IsReported compiled.now (answers system.old) (fails system.old) (reset_fails system.old)
         number shaped.now.case output.text.items output.status) }
     ensures kept { AreKept (answers system.new) (answers system.old) (fails system.new) (fails system.old)
         (reset_fails system.new) (reset_fails system.old) }
 {
-    match valid(
-        &Plain::new(typed),
-        alloc,
-        shaped.copy(alloc, typed.source())?,
-    ) {
-        Ok(valid) => valid_report(rt, alloc, typed, system, number, valid),
+    let copy = shaped.copy(alloc, compiled.typed().source())?;
+    match valid(compiled, alloc, copy) {
+        Ok(valid) => valid_report(rt, alloc, compiled, system, number, valid),
         Err(refused) => {
             let line = why_line(alloc, number, refused.1)?;
             Ok(Output::new(line, Status::Failed))
@@ -169,13 +167,13 @@ fn item_report<R: Threads + Wait>(
 fn item_reports<R: Threads + Wait>(
     rt: &R,
     alloc: Global,
-    typed: &Typed,
+    compiled: &Compiled,
     system: &mut BoxedSystem,
     runs: &[Run],
 ) -> Result<Output, AllocError>
-    requires { AreLawful typed.now runs.now }
+    requires { AreLawful compiled.now runs.now }
     ensures reported { IfOk result (λ output.
-        AreReported typed.now (answers system.old) (fails system.old) (reset_fails system.old)
+        AreReported compiled.now (answers system.old) (fails system.old) (reset_fails system.old)
         1 Accepted runs.now output.text.items output.status) }
     ensures kept { AreKept (answers system.new) (answers system.old) (fails system.new) (fails system.old)
         (reset_fails system.new) (reset_fails system.old) }
@@ -183,7 +181,7 @@ fn item_reports<R: Threads + Wait>(
     let mut text = Vec::new(alloc);
     let mut status = Status::Accepted;
     for (index, run) in runs.iter().enumerate() {
-        let output = item_report(rt, alloc, typed, system, index + 1, &run.shaped)?;
+        let output = item_report(rt, alloc, compiled, system, index + 1, &run.shaped)?;
         text.extend_from_slice(output.text.as_slice())?;
         status = status.or_worse(output.status);
     }
@@ -203,12 +201,13 @@ fn run_output<R: Threads + Wait>(
     ensures kept { AreKept (answers system.new) (answers system.old) (fails system.new) (fails system.old)
         (reset_fails system.new) (reset_fails system.old) }
 {
-    let file = match load(alloc, input)? {
+    let file = match load_compiled(alloc, input)? {
         Ok(file) => file,
         Err(refusal) => return refusal_output(alloc, &refusal),
     };
-    match runs_in(alloc, &file.typed, items_of(file.trees.as_slice()))? {
-        Ok(runs) => item_reports(rt, alloc, &file.typed, system, runs.as_slice()),
+    let items = items_of(file.trees.as_slice());
+    match runs_in(alloc, file.compiled.typed(), items)? {
+        Ok(runs) => item_reports(rt, alloc, &file.compiled, system, runs.as_slice()),
         Err(fault) => refused_run(alloc, &fault),
     }
 }

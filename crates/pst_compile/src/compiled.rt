@@ -1,6 +1,6 @@
 //! The callbacks of a model by its code.
 
-ghost use Rattle.std.specs.Prelude.{◌≡◌, ◌∷◌, ◌++◌, ◌+◌, ◌*◌, IfOk};
+ghost use Rattle.std.specs.Prelude.{◌≡◌, ◌∷◌, ◌++◌, ◌+◌, ◌*◌, IfOk, MatchResult};
 ghost use Rattle.pst_eval.specs.Callbacks.{Says};
 ghost use Rattle.pst_machine.specs.Machine.{End};
 ghost use Rattle.pst_compile.specs.Compiled.{DoesOnly};
@@ -47,14 +47,29 @@ impl Model for Compiled {
     ghost invariant = { λ c. IsCompiled c.typed.items c.code c.base };
 }
 
+impl Compiled {
+    ghost use Rattle.std.specs.Prelude.{◌≡◌};
+
+    /// The model.
+    pub fn typed(&self) -> &Typed
+        ensures { result.now ≡ self.now }
+    {
+        &self.typed
+    }
+}
+
 /// Compiles a well-typed model.
 ///
-/// `AllocError`: memory was refused, or the code has more registers or places than there are numbers.
+/// `AllocError`, with the model handed back: memory was refused, or the code has more registers or places
+/// than there are numbers.
 #[tactic(auto, using(crate::proofs::Checking::whole_fits))]
-pub fn compile(alloc: Global, typed: Typed) -> Result<Compiled, AllocError>
-    ensures { IfOk result (λ compiled. compiled ≡ typed) }
+pub fn compile(alloc: Global, typed: Typed) -> Result<Compiled, (Typed, AllocError)>
+    ensures { MatchResult result (λ compiled. compiled ≡ typed) (λ refused. refused.0 ≡ typed) }
 {
-    let codes = whole_code(alloc, typed.source().items.as_slice())?;
+    let codes = match whole_code(alloc, typed.source().items.as_slice()) {
+        Ok(codes) => codes,
+        Err(error) => return Err((typed, error)),
+    };
     let base = functions(typed.source().items.as_slice());
     match Code::check(codes) {
         Ok(code) => Ok(Compiled { typed, code, base }),

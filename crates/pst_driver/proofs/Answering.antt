@@ -1,5 +1,5 @@
 -- Which lists of replies are all values.
-use Rattle.std.proofs.Common.{◌≡◌, ◌&&◌, true, false, Bool, List, [], ◌∷◌, ◌++◌, refl, ap, ◌∙◌, sym}
+use Rattle.std.proofs.Common.{◌≡◌, ◌&&◌, true, false, Bool, List, [], ◌∷◌, ◌++◌, refl, ap, ◌∙◌}
 use Rattle.pst_case.specs.Matches.{replies_of}
 use Rattle.pst_case.specs.Shape.{joined}
 use Rattle.pst_case.specs.declared.history.History.{History}

@@ -5,7 +5,7 @@ use Rattle.pst_case.specs.declared.case.Command.{Command}
 use Rattle.pst_case.specs.declared.history.History.{History}
 use Rattle.pst_case.specs.declared.history.Reply.{Reply}
 use Rattle.pst_case.specs.declared.history.Reply.TheVariants.{Value as Answered, Misfit, Failed, NotRun}
-use Rattle.pst_driver.proofs.Real.{Wider}
+use Rattle.pst_driver.proofs.Real.{Wider, reply_wider}
 use Rattle.pst_driver.specs.Driven.{PartIsDriven, BranchesAreDriven, IsDriven, IsDriveFault, none_run}
 use Rattle.pst_driver.specs.declared.fault.DriveFault.{DriveFault}
 use Rattle.pst_driver.specs.declared.fault.DriveFault.TheVariants.{ResetFailed, NoThread, NoMemory}
@@ -18,10 +18,10 @@ module _ (m : Source) (A A' : Answers) (F F' : Fails) (wide : Wider A A' F F') w
   part_wider : (results : List (Option Value)) (cs : List Command) (rs : List Reply) → PartIsDriven m A F results cs rs → PartIsDriven m A' F' results cs rs
   part_wider results [] rs h = h
   part_wider results (c ∷ cs) [] h = h
-  part_wider results (c ∷ cs) (Answered v ∷ rs) h = ((h.0.0, wide.answers _ v h.0.1), part_wider results cs rs h.1)
-  part_wider results (c ∷ cs) (Misfit ∷ rs) h = ((h.0.0, h.0.1, wide.answers _ h.0.0 h.0.2), h.1)
-  part_wider results (c ∷ cs) (Failed ∷ rs) h = ((h.0.0, wide.fails _ h.0.0 h.0.1), h.1)
-  part_wider results (c ∷ cs) (NotRun ∷ rs) h = absurd h.0
+  part_wider results (c ∷ cs) (Answered v ∷ rs) h = (reply_wider m A A' F F' wide results c (Answered v) h.0, part_wider results cs rs h.1)
+  part_wider results (c ∷ cs) (Misfit ∷ rs) h = (reply_wider m A A' F F' wide results c Misfit h.0, h.1)
+  part_wider results (c ∷ cs) (Failed ∷ rs) h = (reply_wider m A A' F F' wide results c Failed h.0, h.1)
+  part_wider results (c ∷ cs) (NotRun ∷ rs) h = absurd h.0.reply
 
   branches_wider : (results : List (Option Value)) (bs : List (List Command)) (hs : List (List Reply)) → BranchesAreDriven m A F results bs hs → BranchesAreDriven m A' F' results bs hs
   branches_wider results [] hs h = h

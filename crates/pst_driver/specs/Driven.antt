@@ -1,5 +1,5 @@
 -- What a history says of the system on which its case was driven.
-use Rattle.std.specs.Prelude.{◌≡◌, ◌<◌, ⊤, ℕ, Bool, true, false, ◌&&◌, List, [], ◌∷◌, ◌++◌, map, length, Option, Some, None, MatchBool}
+use Rattle.std.specs.Prelude.{◌≡◌, ◌<◌, ⊤, Bool, true, false, ◌&&◌, List, [], ◌∷◌, ◌++◌, map, length, Option, Some, MatchBool}
 use Rattle.pst_case.specs.Shape.{joined, result_type}
 use Rattle.pst_case.specs.declared.case.Case.{Case}
 use Rattle.pst_case.specs.declared.case.Command.{Command}
@@ -21,19 +21,13 @@ use Rattle.pst_value.specs.declared.value.Value.{Value}
 
 -- ---- calls
 
--- the name of an operation (no shaped case has an unknown one)
-abbrev pub name_in : Option Op → List ℕ
-name_in None = []
-name_in (Some o) = o.name
-
 -- an argument with these results for its variables, made plain
 abbrev pub real_argument : List (Option Value) → Value → Value
 real_argument results v = plain_of (substituted results v)
 
--- the call that a command makes with these results for its variables
-abbrev pub real_call : Source → List (Option Value) → Command → RealCall
-real_call m results c =
-    record { op = c.op; name = name_in (operation_of m.items c.op); args = map (real_argument results) c.args }
+-- the call of an operation that a command makes with these results for its variables
+abbrev pub real_call : Op → List (Option Value) → Command → RealCall
+real_call o results c = record { op = c.op; name = o.name; args = map (real_argument results) c.args }
 
 -- ---- replies
 
@@ -60,19 +54,28 @@ fits_result m c v = fits_in m [] [] v (result_type m c)
 -- ---- histories, by what the system may answer and with what its calls may fail
 
 module _ (m : Source) (answers : Answers) (fails : Fails) where
-  -- a reply that the call of a command may have: an answer of its result type, a misfit where another may be answered, a failure where it may fail
+  -- a reply that the call of a command may have: an answer of its result type, a misfit where another may be
+  -- answered, a failure where it may fail
   abbrev pub IsReply : Command → RealCall → Reply → Type 0
   IsReply c call (Answered v) = (fits_result m c v ≡ true) × answers call v
   IsReply c call Misfit = (v : Value) × (fits_result m c v ≡ false) × answers call v
   IsReply c call Failed = (f : CallFault) × fails call f
   IsReply c call NotRun = ⊥
 
-  -- the replies of one part: each to its command's call with these results, up to the first that is no value, and after it none is run
+  -- a reply that a command may have with these results for its variables: one to the call of its operation,
+  -- which is there
+  pub record IsRealReply (results : List (Option Value)) (c : Command) (r : Reply) : Type 0 where
+    pub operation : Op
+    pub known : operation_of m.items c.op ≡ Some operation
+    pub reply : IsReply c (real_call operation results c) r
+
+  -- the replies of one part: each to its command with these results, up to the first that is no value, and
+  -- after it none is run
   abbrev pub PartIsDriven : List (Option Value) → List Command → List Reply → Type 0
   PartIsDriven results [] rs = rs ≡ []
   PartIsDriven results (c ∷ cs) [] = ⊥
   PartIsDriven results (c ∷ cs) (r ∷ rs) =
-      IsReply c (real_call m results c) r × MatchBool (is_answer r) (PartIsDriven results cs rs) (rs ≡ none_run cs)
+      IsRealReply results c r × MatchBool (is_answer r) (PartIsDriven results cs rs) (rs ≡ none_run cs)
 
   -- the same of each branch
   abbrev pub BranchesAreDriven : List (Option Value) → List (List Command) → List (List Reply) → Type 0
@@ -80,8 +83,8 @@ module _ (m : Source) (answers : Answers) (fails : Fails) where
   BranchesAreDriven results (b ∷ bs) [] = ⊥
   BranchesAreDriven results (b ∷ bs) (h ∷ hs) = PartIsDriven results b h × BranchesAreDriven results bs hs
 
-  -- A history of a case, each call made with the recorded results: the branches are run where the whole prefix has values,
-  -- the suffix where every reply before it is a value, and else they are not run at all.
+  -- A history of a case, each call made with the recorded results: the branches are run where the whole
+  -- prefix has values, the suffix where every reply before it is a value, and else they are not run at all.
   pub record IsDriven (c : Case) (h : History) : Type 0 where
     pub prefix : PartIsDriven (recorded h) c.prefix h.prefix
     pub branches : MatchBool (all_answers h.prefix)
@@ -91,7 +94,8 @@ module _ (m : Source) (answers : Answers) (fails : Fails) where
         (PartIsDriven (recorded h) c.suffix h.suffix)
         (h.suffix ≡ none_run c.suffix)
 
--- why a case may not be driven: a reset may fail, or no thread could be had where a branch is not empty, or memory was refused
+-- why a case may not be driven: a reset may fail, or no thread could be had where a branch is not empty, or
+-- memory was refused
 abbrev pub IsDriveFault : ResetFails → Case → DriveFault → Type 0
 IsDriveFault reset_fails c ResetFailed = (f : CallFault) × reset_fails f
 IsDriveFault reset_fails c NoThread = 0 < length (joined c.branches)

@@ -1,33 +1,39 @@
 -- Replies by the results that are known when each call is made, which the driver goes by.
-use Rattle.std.specs.Prelude.{◌≡◌, ◌<◌, ◌++◌, ⊤, List, [], ◌∷◌, map, length, Option, Some, None}
-use Rattle.pst_case.specs.Shape.{joined}
+use Rattle.std.specs.Prelude.{◌≡◌, ◌<◌, ◌++◌, ⊤, Bool, List, [], ◌∷◌, map, length, Option, Some, None}
+use Rattle.std.specs.List.{list_all}
+use Rattle.pst_case.specs.Shape.{joined, is_known}
 use Rattle.pst_case.specs.declared.case.Command.{Command}
 use Rattle.pst_case.specs.declared.history.Reply.{Reply}
 use Rattle.pst_case.specs.declared.history.Reply.TheVariants.{Value as Answered, Misfit, Failed, NotRun}
-use Rattle.pst_driver.specs.Driven.{IsReply, real_call, none_run}
+use Rattle.pst_driver.specs.Driven.{IsRealReply, none_run}
 use Rattle.pst_driver.specs.declared.fault.DriveFault.{DriveFault}
 use Rattle.pst_driver.specs.declared.fault.DriveFault.TheVariants.{ResetFailed, NoThread, NoMemory}
+use Rattle.pst_model.specs.Parts.{operation_of}
 use Rattle.pst_model.specs.declared.model.Source.{Source}
 use Rattle.pst_system.specs.Kept.{Answers, Fails}
 use Rattle.pst_value.specs.declared.value.Value.{Value}
+
+-- whether a command calls an operation of the model
+abbrev pub calls_known : Source → Command → Bool
+calls_known m c = is_known (operation_of m.items c.op)
+
+-- whether each command does
+abbrev pub all_known : Source → List Command → Bool
+all_known m cs = list_all (calls_known m) cs
 
 -- the results of commands of another branch, which are not known
 abbrev pub none_known : List Command → List (Option Value)
 none_known cs = map (λ c. None) cs
 
 module _ (m : Source) (answers : Answers) (fails : Fails) where
-  -- a reply to the call of a command with these results
-  pub record IsRealReply (results : List (Option Value)) (c : Command) (r : Reply) : Type 0 where
-    pub reply : IsReply m answers fails c (real_call m results c) r
-
   -- the replies of one part, where these results are known before it
   abbrev pub PartRuns : List (Option Value) → List Command → List Reply → Type 0
   PartRuns known [] rs = rs ≡ []
   PartRuns known (c ∷ cs) [] = ⊥
   PartRuns known (c ∷ cs) (Answered v ∷ rs) =
-      IsReply m answers fails c (real_call m known c) (Answered v) × PartRuns (known ++ Some v ∷ []) cs rs
-  PartRuns known (c ∷ cs) (Misfit ∷ rs) = IsReply m answers fails c (real_call m known c) Misfit × (rs ≡ none_run cs)
-  PartRuns known (c ∷ cs) (Failed ∷ rs) = IsReply m answers fails c (real_call m known c) Failed × (rs ≡ none_run cs)
+      IsRealReply m answers fails known c (Answered v) × PartRuns (known ++ Some v ∷ []) cs rs
+  PartRuns known (c ∷ cs) (Misfit ∷ rs) = IsRealReply m answers fails known c Misfit × (rs ≡ none_run cs)
+  PartRuns known (c ∷ cs) (Failed ∷ rs) = IsRealReply m answers fails known c Failed × (rs ≡ none_run cs)
   PartRuns known (c ∷ cs) (NotRun ∷ rs) = ⊥
 
   -- the replies of branches: each goes by what is known before all, and by no result of another branch

@@ -4,7 +4,8 @@ ghost use Rattle.pst_case.specs.Matches.{matches, replies_of};
 ghost use Rattle.pst_case.specs.Recorded.{recorded, result_of};
 ghost use Rattle.pst_case.specs.Shape.{IsShaped, joined};
 ghost use Rattle.pst_driver.specs.Driven.{IsDriven, IsDriveFault, all_answers, none_run};
-ghost use Rattle.pst_driver.specs.Progress.{PartRuns, BranchesRun, IsBranchFault};
+ghost use Rattle.pst_driver.specs.Progress.{PartRuns, BranchesRun, IsBranchFault, all_known};
+ghost use Rattle.std.specs.List.{list_all};
 ghost use Rattle.pst_system.specs.Kept.{AreKept};
 
 use crate::branches::run_at_once;
@@ -81,6 +82,7 @@ fn run_branches<S: Subject, R: Threads + Wait>(
     branches: &[Items<Command>],
     prefix: &[Reply],
 ) -> Result<Items<Items<Reply>>, DriveFault>
+    requires { list_all (all_known typed.now) branches.now ≡ true }
     ensures replies { IfOk result (λ hs. MatchBool (all_answers prefix.now)
         (BranchesRun typed.now (S.may_answer system.now) (S.may_fail system.now)
         (map result_of prefix.now) branches.now hs)
@@ -102,6 +104,7 @@ fn run_suffix<S: Subject>(
     suffix: &[Command],
     so_far: &History,
 ) -> Result<Items<Reply>, AllocError>
+    requires { all_known typed.now suffix.now ≡ true }
     ensures { IfOk result (λ rs. MatchBool (all_answers (replies_of so_far.now))
         (PartRuns typed.now (S.may_answer system.now) (S.may_fail system.now)
         (recorded so_far.now) suffix.now rs)
@@ -125,9 +128,12 @@ fn drive<S: Subject, R: Threads + Wait>(
     case: &Case,
 ) -> Result<History, DriveFault>
     requires shaped { IsShaped typed.now case.now }
-    ensures driven { IfOk result (λ h. IsDriven typed.now (S.may_answer system.old) (S.may_fail system.old) case.now h) }
+    ensures driven { IfOk result (λ h.
+        IsDriven typed.now (S.may_answer system.old) (S.may_fail system.old) case.now h) }
     ensures fault { IfErr result (λ e. IsDriveFault (S.may_refuse_reset system.old) case.now e) }
-    ensures kept { AreKept (S.may_answer system.new) (S.may_answer system.old) (S.may_fail system.new) (S.may_fail system.old) (S.may_refuse_reset system.new) (S.may_refuse_reset system.old) }
+    ensures kept { AreKept (S.may_answer system.new) (S.may_answer system.old)
+        (S.may_fail system.new) (S.may_fail system.old)
+        (S.may_refuse_reset system.new) (S.may_refuse_reset system.old) }
 {
     if system.restart().is_err() {
         return Err(DriveFault::ResetFailed);
@@ -160,17 +166,18 @@ fn drive<S: Subject, R: Threads + Wait>(
     })
 }
 
-/// Drives a valid case on a system: resets it, calls the commands of the prefix, runs the branches at once, each that is not
-/// empty on a thread of its own, and calls the commands of the suffix when all branches have ended. The history is what was
-/// answered. The arguments of each call are plain, with recorded results for variables. After an answer that is no value of
-/// the result type, or a call that failed, the rest of its part is not run; after one in the prefix no branch is, and after
-/// one anywhere the suffix is not.
+/// Drives a valid case on a system: resets it, calls the commands of the prefix, runs the branches at once,
+/// each that is not empty on a thread of its own, and calls the commands of the suffix when all branches have
+/// ended. The history is what was answered. The arguments of each call are plain, with recorded results for
+/// variables. After an answer that is no value of the result type, or a call that failed, the rest of its
+/// part is not run; after one in the prefix no branch is, and after one anywhere the suffix is not.
 ///
-/// `ResetFailed` where the reset fails; `NoThread` where the thread of a branch cannot be started (those that were started are joined first);
-/// `NoMemory` where memory is refused. The call waits for as long as the calls of the system do.
+/// `ResetFailed` where the reset fails; `NoThread` where the thread of a branch cannot be started (those that
+/// were started are joined first); `NoMemory` where memory is refused. The call waits for as long as the
+/// calls of the system do.
 ///
-/// The threads of the branches wait for one another for a bounded number of looks before their first calls, so that these come close together.
-/// Nothing is proved of time.
+/// The threads of the branches wait for one another for a bounded number of looks before their first calls,
+/// so that these come close together. Nothing is proved of time.
 pub fn run<R: Threads + Wait>(
     rt: &R,
     alloc: Global,
@@ -180,9 +187,11 @@ pub fn run<R: Threads + Wait>(
 ) -> Result<History, DriveFault>
     requires model { valid.now.model ≡ typed.now }
     ensures matches { IfOk result (λ h. matches typed.now valid.now.case h ≡ true) }
-    ensures driven { IfOk result (λ h. IsDriven typed.now (answers system.old) (fails system.old) valid.now.case h) }
+    ensures driven { IfOk result (λ h.
+        IsDriven typed.now (answers system.old) (fails system.old) valid.now.case h) }
     ensures fault { IfErr result (λ e. IsDriveFault (reset_fails system.old) valid.now.case e) }
-    ensures kept { AreKept (answers system.new) (answers system.old) (fails system.new) (fails system.old) (reset_fails system.new) (reset_fails system.old) }
+    ensures kept { AreKept (answers system.new) (answers system.old) (fails system.new) (fails system.old)
+        (reset_fails system.new) (reset_fails system.old) }
 {
     drive(rt, alloc, typed, system, valid.shaped().case())
 }

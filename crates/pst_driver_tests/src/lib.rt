@@ -9,3 +9,5 @@ mod hostile;
 mod models;
 #[cfg(test)]
 mod samples;
+#[cfg(test)]
+mod systems;

@@ -19,7 +19,7 @@ const QUEUE: &str = "(model q (state (list int)) (init (list int))
     (post (= r (if (= (len s) 0) s (list int (nth s 0)))))))";
 
 /// Whether that is written of a model and an item on the system, with that status.
-fn is_told<R: Threads + Wait>(
+fn is_written<R: Threads + Wait>(
     rt: &R,
     alloc: Global,
     system: &mut BoxedSystem,
@@ -40,14 +40,14 @@ fn counters_are_driven(rt: HostRuntime) -> Result<(), Fail> {
     let input = (COUNTER, "(case (prefix (inc) (inc)) (left (get)) (right))");
     let text =
         "(run (prefix (inc) (inc)) (left (get)) (right) (replies (1 2) (2) ()))\n1 explained L\n";
-    assert!(rt; is_told(&rt, alloc, &mut counter, input, (Status::Accepted, text))?);
+    assert!(rt; is_written(&rt, alloc, &mut counter, input, (Status::Accepted, text))?);
     let input = (MEETING, "(case (prefix) (left (meet 1)) (right))");
     let text = "(run (prefix) (left (meet 1)) (right) (replies () (failed) ()))\n1 broken 1\n";
-    assert!(rt; is_told(&rt, alloc, &mut counter, input, (Status::Failed, text))?);
+    assert!(rt; is_written(&rt, alloc, &mut counter, input, (Status::Failed, text))?);
     let mut stuck: BoxedSystem = Box::new(alloc, Stuck)?;
     let input = (COUNTER, "(case (prefix (inc)) (left) (right))");
     let text = "(run (prefix (inc)) (left) (right) (replies (0) () ()))\n1 unexplained far 0\n";
-    assert!(rt; is_told(&rt, alloc, &mut stuck, input, (Status::Failed, text))?);
+    assert!(rt; is_written(&rt, alloc, &mut stuck, input, (Status::Failed, text))?);
     Ok(())
 }
 
@@ -61,13 +61,13 @@ fn registries_and_queues_are_driven(rt: HostRuntime) -> Result<(), Fail> {
     );
     let text =
         "(run (prefix (new)) (left (close $1)) (right (new)) (replies (0) (true) (1)))\n1 explained LR\n";
-    assert!(rt; is_told(&rt, alloc, &mut registry, input, (Status::Accepted, text))?);
+    assert!(rt; is_written(&rt, alloc, &mut registry, input, (Status::Accepted, text))?);
     let input = (
         REGISTRY,
         "(case (prefix (new)) (left (close $1)) (right (close $1)))",
     );
     let text = "1 prefalse 3 merge LR\n";
-    assert!(rt; is_told(&rt, alloc, &mut registry, input, (Status::Failed, text))?);
+    assert!(rt; is_written(&rt, alloc, &mut registry, input, (Status::Failed, text))?);
     let mut queue: BoxedSystem = Box::new(alloc, Queue::new(rt, alloc))?;
     let input = (
         QUEUE,
@@ -75,7 +75,7 @@ fn registries_and_queues_are_driven(rt: HostRuntime) -> Result<(), Fail> {
     );
     let text =
         "(run (prefix (put 5) (put 6)) (left (take)) (right) (replies (true true) ((list 5)) ()))\n1 explained L\n";
-    assert!(rt; is_told(&rt, alloc, &mut queue, input, (Status::Accepted, text))?);
+    assert!(rt; is_written(&rt, alloc, &mut queue, input, (Status::Accepted, text))?);
     Ok(())
 }
 
@@ -86,7 +86,7 @@ fn callers_are_driven_at_once(rt: HostRuntime) -> Result<(), Fail> {
     let input = (MEETING, "(case (prefix) (left (meet 1)) (right (meet 2)))");
     let text =
         "(run (prefix) (left (meet 1)) (right (meet 2)) (replies () (true) (true)))\n1 explained LR\n";
-    assert!(rt; is_told(&rt, alloc, &mut meet, input, (Status::Accepted, text))?);
+    assert!(rt; is_written(&rt, alloc, &mut meet, input, (Status::Accepted, text))?);
     Ok(())
 }
 

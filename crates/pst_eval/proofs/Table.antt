@@ -1,10 +1,10 @@
 -- The functions of a well-typed model give values of their result types, and each callback a value of its type.
-use Rattle.std.proofs.Common.{◌≡◌, ◌≢◌, ◌==◌, ◌||◌, not, ℕ, zero, suc, Bool, true, false, List, [], ◌∷◌, ◌++◌, length, map, reverse, Option, Some, None, Ok, Err, Result, refl, sym, ap, ◌∙◌, subst, inl, inr, eq-eqb, append_assoc, append-nil, slice_get}
+use Rattle.std.proofs.Common.{◌≡◌, ◌≢◌, ◌==◌, ◌||◌, not, ℕ, Bool, true, false, List, [], ◌∷◌, ◌++◌, length, map, reverse, Option, Some, None, Ok, Err, Result, refl, sym, ap, ◌∙◌, subst, inl, inr, eq-eqb, append_assoc, append-nil}
 use Rattle.std.proofs.lemmas.Bool.{cases_Bool}
 use Rattle.std.proofs.lemmas.List.{reverse-append}
 use Rattle.std.specs.Str.{bytes_eq}
 use Rattle.pst_meaning.specs.Meaning.{Env, applied, called, frame, mean}
-use Rattle.pst_model.specs.Parts.{Name, state_of, opening_of, calls_of, operation_of, operations_of, parameters_of, types_of}
+use Rattle.pst_model.specs.Parts.{Name, state_of, opening_of, calls_of, operation_of, parameters_of, types_of}
 use Rattle.pst_model.specs.declared.expr.Expr.{Expr}
 use Rattle.pst_model.specs.declared.model.Fun.{Fun}
 use Rattle.pst_model.specs.declared.model.Item.{Item}
@@ -12,8 +12,9 @@ use Rattle.pst_model.specs.declared.model.Item.TheVariants as item
 use Rattle.pst_model.specs.declared.model.Op.{Op}
 use Rattle.pst_model.specs.declared.model.Source.{Source}
 use Rattle.pst_operators.specs.Outcome.{Outcome, Gives, Faults, Stuck, turn}
+use Rattle.pst_rules.proofs.Operations.{well_operation}
 use Rattle.pst_rules.specs.Rules.{Context, context_of, signature, Has, Typed}
-use Rattle.pst_rules.specs.WellTyped.{name_s, name_r, pre_context, next_context, post_context, WellOperation, WellItem, WellItems, WellModel}
+use Rattle.pst_rules.specs.WellTyped.{name_s, name_r, pre_context, next_context, post_context, WellItem, WellItems, WellModel}
 use Rattle.pst_value.specs.Fits.{fits}
 use Rattle.pst_value.specs.declared.fault.Fault.{Fault}
 use Rattle.pst_value.specs.declared.ty.Ty.{Ty}
@@ -51,16 +52,6 @@ pub all_well : (m : Source) → WellModel m → FunctionsWell m.items (reverse m
 all_well m w =
     let P : List Item → Type 0 = λ is. FunctionsWell m.items is in
     subst P (append-nil (reverse m.items)) (functions_well m.items w.state [] m.items w.well tt)
-
--- an operation among well-typed items
-pub well_operation : (items : List Item) (S : Ty) (earlier later : List Item) (n : ℕ) (o : Op) → WellItems items S earlier later → slice_get (operations_of later) n ≡ Some o → WellOperation items S o
-well_operation items S earlier [] n o w e = absurd (cc)
-well_operation items S earlier (item.Op p ∷ later) zero o w e = let q : p ≡ o = cc in let P : Op → Type 0 = λ k. WellOperation items S k in subst P q w.0
-well_operation items S earlier (item.Op p ∷ later) (suc n) o w e = well_operation items S (item.Op p ∷ earlier) later n o w.1 e
-well_operation items S earlier (item.Fun f ∷ later) n o w e = well_operation items S (item.Fun f ∷ earlier) later n o w.1 e
-well_operation items S earlier (item.State t ∷ later) n o w e = well_operation items S (item.State t ∷ earlier) later n o w.1 e
-well_operation items S earlier (item.Init t ∷ later) n o w e = well_operation items S (item.Init t ∷ earlier) later n o w.1 e
-well_operation items S earlier (item.Command t ∷ later) n o w e = well_operation items S (item.Command t ∷ earlier) later n o w.1 e
 
 -- the opening state and the calls among well-typed items
 pub well_opening : (items : List Item) (S : Ty) (earlier later : List Item) (e : Expr) → WellItems items S earlier later → opening_of later ≡ Some e → Typed items (reverse items) false (Has [] e S)
@@ -157,7 +148,7 @@ module _ (free vars : List Ty) where
   pre_by m op s args w h =
       let o = the_operation m op args h.arguments in
       by_path (λ v. FitIn m v ty.Bool) _ _ (ap (λ q. pre_in m q s args) o.1)
-      (names_by m false o.0.pre (pre_context w.state o.0) ty.Bool ((name_s, s) ∷ frame o.0.params args) plainly w (well_operation m.items w.state [] m.items op o.0 w.well o.1).pre
+      (names_by m false o.0.pre (pre_context w.state o.0) ty.Bool ((name_s, s) ∷ frame o.0.params args) plainly w (well_operation m op o.0 w o.1).pre
       (record { name = refl; here = state_from m w s h.state; outer = frame_of m o.0 op args o.1 h.arguments }))
 
   pub ref_of : (m : Source) (o : Op) (op : ℕ) (r : Value) → operation_of m.items op ≡ Some o → ref_fits m free vars op r ≡ true → FitIn m r (ty.Ref o.result)
@@ -169,7 +160,7 @@ module _ (free vars : List Ty) where
   next_by m op s args r w h =
       let o = the_operation m op args h.arguments in
       by_path (λ v. FitIn m v w.state) _ _ (ap (λ q. next_in m q s args r) o.1)
-      (names_by m false o.0.next (next_context w.state o.0) w.state ((name_r, r) ∷ (name_s, s) ∷ frame o.0.params args) plainly w (well_operation m.items w.state [] m.items op o.0 w.well o.1).next
+      (names_by m false o.0.next (next_context w.state o.0) w.state ((name_r, r) ∷ (name_s, s) ∷ frame o.0.params args) plainly w (well_operation m op o.0 w o.1).next
       (record { name = refl; here = ref_of m o.0 op r o.1 h.result; outer = record { name = refl; here = state_from m w s h.state; outer = frame_of m o.0 op args o.1 h.arguments } }))
 
 result_of : (vars : List Ty) (m : Source) (o : Op) (op : ℕ) (r : Value) → operation_of m.items op ≡ Some o → result_fits m [] vars op r ≡ true → Fit [] vars (parameters_of m.items) r o.result
@@ -181,7 +172,7 @@ unfolding post_of
 post_by vars m op s args r w h =
     let o = the_operation [] vars m op args h.arguments in
     by_path (λ v. Fit [] vars (parameters_of m.items) v ty.Bool) _ _ (ap (λ q. post_in m q s args r) o.1)
-    (names_by [] vars m true o.0.post (post_context w.state o.0) ty.Bool ((name_r, r) ∷ (name_s, s) ∷ frame o.0.params args) (λ e. refl) w (well_operation m.items w.state [] m.items op o.0 w.well o.1).post
+    (names_by [] vars m true o.0.post (post_context w.state o.0) ty.Bool ((name_r, r) ∷ (name_s, s) ∷ frame o.0.params args) (λ e. refl) w (well_operation m op o.0 w o.1).post
     (record { name = refl; here = result_of vars m o.0 op r o.1 h.result; outer = record { name = refl; here = state_from [] vars m w s h.state; outer = frame_of [] vars m o.0 op args o.1 h.arguments } }))
 
 pub by_not_stuck : {A : Type 0} (P : A → Type 0) (o : Outcome (A × ℕ)) → By P o → o ≢ Stuck

@@ -1,19 +1,19 @@
-//! How a system of one's own is tested: generates 100 cases of a model of the cache, drives each on the cache, and judges what it answered.
+//! How a system of one's own is tested: a campaign on a cache, whose report is printed.
 //!
-//! Prints `100 cases explained`, or the first run that is not explained and its verdict. With the word `racy` the cache has a race.
+//! With the word `racy` the cache has a race, and the report shows a counterexample.
 #![tactic(auto)]
 
+ghost use Rattle.pst_trial.specs.Settings.{AreInRange};
+
 mod cache;
-mod testing;
 
 use anyhow::bail;
 use cache::Cache;
-use pst_load::load;
-use pst_sexpr::write;
+use pst_cli::{Status, campaign_text};
 use pst_sink::Out;
 use pst_system::BoxedSystem;
+use pst_trial::Settings;
 use std::{env, io};
-use testing::test_cases;
 
 /// What a cache of the keys 0, 1 and 2 answers.
 const MODEL: &str = "(model cache (state (list int)) (init (list int))
@@ -27,25 +27,32 @@ const MODEL: &str = "(model cache (state (list int)) (init (list int))
   (op has ((k int)) bool (pre true) (next s) (post (= r (holds s k))))
   (op clear () bool (pre true) (next (list int)) (post r)))";
 
+/// 100 trials of cases with at most 12 commands, each driven up to five times.
+fn settings() -> Settings
+    ensures { AreInRange result }
+{
+    Settings {
+        seed: 7,
+        trials: 100,
+        commands: 12,
+        branches: 2,
+        suffix: 0,
+        repeats: 5,
+        limit: 1_000,
+    }
+}
+
 fn main(rt: HostRuntime) -> anyhow::Result<()> {
     let alloc = rt.alloc();
     let words: Vec<String> = env::args(&rt)?.collect(alloc)?;
     let is_racy = words.iter().any(|word| word.as_str() == "racy");
-    let typed = match load(alloc, MODEL.as_bytes())? {
-        Ok(file) => file.typed,
-        Err(refusal) => bail!("refused {refusal}"),
-    };
-    let mut cache: BoxedSystem = Box::new(alloc, Cache::new(rt, alloc, is_racy))?;
-    match test_cases(&rt, alloc, &typed, &mut cache)? {
-        Ok(explained) => println!(rt; "{explained} cases explained")?,
-        Err(found) => {
-            let mut out = Out::new(io::writer(&rt));
-            if write(&found.tree, &mut out).is_err() {
-                bail!("the run cannot be written");
-            }
-            let verdict = found.verdict.text(alloc)?;
-            println!(rt; "\n{verdict}")?;
-        }
+    let mut caches: Vec<BoxedSystem> = Vec::new(alloc);
+    for _ in 0..4 {
+        caches.push(Box::new(alloc, Cache::new(rt, alloc, is_racy))?)?;
     }
-    Ok(())
+    let mut out = Out::new(io::writer(&rt));
+    match campaign_text(&rt, alloc, MODEL.as_bytes(), settings(), caches, &mut out) {
+        Status::Accepted | Status::Failed => Ok(()),
+        Status::Refused | Status::Lost => bail!("the campaign did not end"),
+    }
 }

@@ -10,6 +10,3 @@ mod text;
 pub use boxed::Boxed;
 pub use items::Items;
 pub use text::Text;
-
-#[cfg(test)]
-mod tests;

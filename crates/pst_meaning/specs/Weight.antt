@@ -1,4 +1,5 @@
--- How many forms an expression has, and the functions that it may apply: by this the evaluation ends.
+-- How many forms an expression has, and the functions that it may apply: by this its evaluation ends, and the
+-- search for its type.
 use Rattle.std.specs.Prelude.{ℕ, ◌+◌, List, [], ◌∷◌}
 use Rattle.pst_model.specs.declared.expr.Clause.{Clause, Clause-F, fold-Clause}
 use Rattle.pst_model.specs.declared.expr.Expr.{Expr, Expr-F, fold-Expr}

@@ -1,6 +1,6 @@
 -- What is written for an expression is read as the expression.
-use Rattle.std.proofs.Common.{◌≡◌, ℕ, zero, suc, true, false, List, [], ◌∷◌, length, map, Option, Some, Ok, Err, refl, sym, ap, ◌∙◌, subst}
-use Rattle.std.specs.Prelude.{nat_le, codes, decimal}
+use Rattle.std.proofs.Common.{◌≡◌, ℕ, zero, suc, Bool, true, false, List, [], ◌∷◌, length, map, Option, Some, Ok, Err, refl, sym, ap, ◌∙◌, subst}
+use Rattle.std.specs.Prelude.{nat_le, if◌then◌else◌, codes, decimal}
 use Rattle.std.specs.Str.{bytes_eq}
 use Rattle.std.specs.Fmt.{signed_decimal}
 use Rattle.pst_sexpr.specs.declared.form.Form.{Form}
@@ -10,20 +10,19 @@ use Rattle.pst_model.specs.declared.expr.Expr.{Expr}
 use Rattle.pst_model.specs.declared.expr.Expr as expr
 use Rattle.pst_model.specs.declared.expr.Clause.{Clause}
 use Rattle.pst_model.specs.declared.expr.Clause as clause
-use Rattle.pst_syntax.specs.declared.fault.FaultKind.TheVariants.{OverLimit}
+use Rattle.pst_syntax.specs.declared.fault.FaultKind.TheVariants.{UnknownForm, OverLimit}
 use Rattle.pst_syntax.specs.declared.heads.Head.{Head}
 use Rattle.pst_syntax.specs.declared.heads.Head.TheVariants as head
 use Rattle.pst_syntax.specs.Heads.{head_of}
 use Rattle.pst_words.specs.Integers.{is_integer, value}
 use Rattle.pst_value.specs.Text.{is_i64}
 use Rattle.pst_syntax.specs.Places.{is_positive, natural}
-use Rattle.pst_syntax.specs.Names.{is_free}
+use Rattle.pst_syntax.specs.Names.{is_free, is_used_operation}
 use Rattle.pst_syntax.specs.Shape.{Shape, ClauseShape, Integer, Truth, Quoted, Used, Let, If, And, Or, Unary, Binary, Tuple, At, ListOf, For, Fold, Call, Apply, InEach, WhenTrue, shape_of, clause_shape, clause_node, clause_headed}
-use Rattle.pst_sexpr.specs.Parts.{word_of, node_of, and_then}
-use Rattle.pst_syntax.specs.Reading.{Read, ◌>>=◌, known, within, each, bound, bound_beside, item_at, are_few, ty_of, expr_of, expr_parts, clause_of, clause_parts}
+use Rattle.pst_sexpr.specs.Parts.{word_of, node_of, and_then, headed}
+use Rattle.pst_syntax.specs.Reading.{Read, ◌>>=◌, known, within, each, bound, bound_beside, used_operation, item_at, are_few, ty_of, expr_of, expr_parts, clause_of, clause_parts}
 use Rattle.pst_syntax.specs.Limits.{max_text, max_parts, ty_room}
 use Rattle.pst_print.specs.Printed.{ty_form, expr_form, clause_form}
-use Rattle.pst_print.specs.Words.{headed}
 use Rattle.pst_print.proofs.Alike.{Alike, none, more, itself, alike_node, words_alike, node_of_node, word_of_word}
 use Rattle.pst_print.proofs.Forms as form
 use Rattle.pst_print.proofs.Numbers.{spells_integer, spells_place, place_read}
@@ -114,6 +113,10 @@ record Written (t : Form → Read Ty) (e : Form → Read Expr) (s : Shape) (z : 
   lawful : Lawful shape
   reads : expr_parts t e shape ≡ Ok z
   alike : Alike (form_of s) (form_of shape)
+
+used_is : (b : Bool) (w v : List ℕ) → (if b then Ok w else Err UnknownForm) ≡ Ok v → w ≡ v
+used_is true w v k = cc
+used_is false w v k = absurd (cc)
 
 few_still : (n m : ℕ) → n ≡ m → nat_le m max_parts ≡ true → nat_le n max_parts ≡ true
 few_still n m e k = ap (λ x. nat_le x max_parts) e ∙ k
@@ -289,13 +292,17 @@ module _ (t : Form → Read Ty) (ht : (f : Form) (a : Ty) → t f ≡ Ok a → A
         alike = alike_node (more (itself _) (more (itself _) (more g1.alike (more (itself _) (more g2.alike (more g3.alike none))))));
       })
   parts_written (Call op es) z l k =
-      let u = behind (each e es) (λ es. Ok (expr.Call op es)) z k in
+      let p = behind (used_operation op) (λ op. each e es >>= (λ es. Ok (expr.Call op es))) z k in
+      let u = behind (each e es) (λ es. Ok (expr.Call p.0 es)) z p.2 in
+      let i : op ≡ p.0 = used_is (is_used_operation op) op p.0 p.1 in
       let j = each_again e expr_form h es u.0 u.1 in
       subst (Written t e (Call op es)) (same _ _ u.2) (record {
         shape = Call op (map expr_form u.0);
-        form = form.form_Call op u.0;
-        lawful = l;
-        reads = onward (each e (map expr_form u.0)) (λ es. Ok (expr.Call op es)) u.0 _ j.reads refl;
+        form = form.form_Call p.0 u.0 ∙ ap (λ y. headed (codes "call") (Word y ∷ map expr_form u.0)) (sym i);
+        lawful = tt;
+        reads =
+            onward (used_operation op) (λ op. each e (map expr_form u.0) >>= (λ es. Ok (expr.Call op es))) p.0 _ p.1
+            (onward (each e (map expr_form u.0)) (λ es. Ok (expr.Call p.0 es)) u.0 _ j.reads refl);
         alike = alike_node (more (itself _) (more (itself _) j.alike));
       })
   parts_written (Apply f es) z l k =

@@ -11,7 +11,8 @@ use Rattle.pst_model.specs.declared.expr.Expr as expr
 use Rattle.pst_model.specs.declared.expr.Expr.TheVariants as exprs
 use Rattle.pst_model.specs.declared.expr.Unary.{Unary}
 use Rattle.pst_print.specs.Printed.{ty_at, ty_form, clause_at, expr_at, expr_form, clause_form}
-use Rattle.pst_print.specs.Words.{unary_word, binary_word, truth_word, headed}
+use Rattle.pst_sexpr.specs.Parts.{headed}
+use Rattle.pst_print.specs.Words.{unary_word, binary_word, truth_word}
 use Rattle.pst_sexpr.specs.declared.form.Form.{Form}
 use Rattle.pst_sexpr.specs.declared.form.Form.TheVariants.{Word, Text, Node}
 use Rattle.pst_value.specs.declared.ty.Ty.{Ty, fold-roll-Ty}

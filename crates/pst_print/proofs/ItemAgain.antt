@@ -22,7 +22,7 @@ use Rattle.pst_syntax.specs.Reading.{◌>>=◌, known, within, once, declared, a
 use Rattle.pst_syntax.specs.Limits.{expr_room, ty_room}
 use Rattle.pst_syntax.specs.Items.{whole_ty, whole_expr, is_param, param_of, params_from, params_of, is_some, no_callbacks, callback_of, callbacks_from, all_callbacks, is_state, is_init, is_command, is_fun, is_op, is_fun_named, is_op_named, has_room, fun_of, op_parts, item_parts, item_of}
 use Rattle.pst_print.specs.Printed.{ty_form, expr_form, param_form, single, item_form, fun_word}
-use Rattle.pst_print.specs.Words.{headed}
+use Rattle.pst_sexpr.specs.Parts.{headed}
 use Rattle.pst_print.proofs.Alike.{Alike, none, more, itself, alike_node, ListAlike, first_sum, list_more, node_alike}
 use Rattle.pst_print.proofs.ItemShapes.{item_form_of, item_is, item_shaped, callback_form_of, callback_is, callback_shaped, param_is}
 use Rattle.pst_print.proofs.TyAgain.{behind, onward, knows, inside, once_is, okay, same, declared_is, Again, ty_is}

@@ -5,10 +5,9 @@ use Rattle.std.specs.Str.{bytes_eq}
 use Rattle.std.proofs.lemmas.Slice.Eq.{bytes_eq-Decides}
 use Rattle.pst_sexpr.specs.declared.form.Form.{Form}
 use Rattle.pst_sexpr.specs.declared.form.Form.TheVariants.{Word, Node}
-use Rattle.pst_sexpr.specs.Parts.{word_of, node_of, and_then, where_true}
+use Rattle.pst_sexpr.specs.Parts.{word_of, node_of, and_then, where_true, headed}
 use Rattle.pst_syntax.specs.ItemShape.{ItemShape, CallbackShape, StateItem, InitItem, CommandItem, FunItem, OpItem, Pre, Next, Post, single, as_fun, as_op, item_shape, item_node, item_headed, callback_shape, callback_node, callback_headed, param_shape, param_node, model_shape, model_node, as_model}
 use Rattle.pst_print.specs.Printed.{fun_word}
-use Rattle.pst_print.specs.Words.{headed}
 use Rattle.pst_print.proofs.Alike.{node_of_node, word_of_word}
 use Rattle.pst_print.proofs.Shapes.{word_is, node_is, made_some, where_some}
 

@@ -16,7 +16,7 @@ use Rattle.pst_syntax.specs.Items.{item_of, at_item, go_on, items_from, is_compl
 use Rattle.pst_syntax.specs.Limits.{max_trees}
 use Rattle.pst_syntax.proofs.Complete.{go_ok, at_ok}
 use Rattle.pst_print.specs.Printed.{item_form, source_form}
-use Rattle.pst_print.specs.Words.{headed}
+use Rattle.pst_sexpr.specs.Parts.{headed}
 use Rattle.pst_print.proofs.Alike.{Alike, AllAlike, none, more, itself, alike_node}
 use Rattle.pst_print.proofs.ItemShapes.{model_is, model_shaped}
 use Rattle.pst_print.proofs.TyAgain.{behind, onward, knows, inside, okay, same, declared_is}

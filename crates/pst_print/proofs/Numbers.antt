@@ -1,31 +1,16 @@
 -- The words of integers, and what they are read as.
-use Rattle.std.proofs.Common.{◌≡◌, ℕ, suc, ◌^◌, ◌<◌, ℤ, pos, negsuc, true, List, [], ◌∷◌, refl, ap, ◌∙◌, arith}
+use Rattle.std.proofs.Common.{◌≡◌, ℕ, suc, ◌^◌, ◌<◌, ℤ, pos, negsuc, true, List, ◌∷◌, ap, ◌∙◌, arith}
 use Rattle.std.specs.Prelude.{decimal}
-use Rattle.std.specs.List.{list_all}
 use Rattle.std.specs.Fmt.{signed_decimal}
-use Rattle.std.proofs.lemmas.Bool.Decides.{nat_tests}
 use Rattle.std.proofs.lemmas.Fmt.{digits_decimal, decimal_nonempty}
 use Rattle.pst_sexpr.specs.declared.form.Form.TheVariants.{Word}
-use Rattle.pst_sexpr.specs.Bytes.{is_word_byte}
-use Rattle.pst_sexpr.specs.Grammar.{IsWordBytes}
 use Rattle.pst_sexpr.specs.Lawful.{IsTree}
+use Rattle.pst_sexpr.proofs.Digits.{digits_are_word, minus_is_word}
 use Rattle.pst_sexpr.proofs.Made.{word_is_tree}
 use Rattle.pst_value.specs.Text.{is_i64}
-use Rattle.pst_words.specs.Integers.{is_digit, is_integer, value}
-use Rattle.pst_words.proofs.Numbers.{both_hold, both_from, digit_is, numerals, natural_word, negative_word, below}
+use Rattle.pst_words.specs.Integers.{is_integer, value}
+use Rattle.pst_words.proofs.Numbers.{both_from, numerals, natural_word, negative_word, below}
 use Rattle.pst_syntax.specs.Places.{is_positive, is_place, natural}
-
-word_byte : (c : ℕ) → is_digit c ≡ true → is_word_byte c ≡ true
-unfolding is_word_byte
-word_byte c e = let d = digit_is c e in grind (arith, nat_tests)
-
-digits_are_word : (ds : List ℕ) → list_all is_digit ds ≡ true → IsWordBytes ds
-digits_are_word [] e = tt
-digits_are_word (c ∷ cs) e = let p = both_hold (is_digit c) (list_all is_digit cs) e in (word_byte c p.0, digits_are_word cs p.1)
-
-minus_is_word : is_word_byte 45 ≡ true
-unfolding is_word_byte
-minus_is_word = refl
 
 -- ---- what is written for a number
 

@@ -13,13 +13,13 @@ use Rattle.pst_sexpr.specs.declared.form.Form.TheVariants.{Word, Text, Node, rol
 use Rattle.pst_syntax.specs.declared.heads.Head.{Head}
 use Rattle.pst_syntax.specs.declared.heads.Head.TheVariants as head
 use Rattle.pst_syntax.specs.Heads.{head_of, look_up, rows}
-use Rattle.pst_syntax.specs.Names.{is_used, is_used_operation}
+use Rattle.pst_syntax.specs.Names.{is_used}
 use Rattle.pst_words.specs.Integers.{is_integer}
 use Rattle.pst_syntax.specs.Places.{is_place}
 use Rattle.pst_syntax.specs.Shape.{Shape, Integer, Truth, Quoted, Used, Let, If, And, Or, Unary, Binary, Tuple, At, ListOf, For, Fold, Call, Apply, shape_of, shape_at, some_of, word_shape, node_shape, applied, headed}
 use Rattle.pst_sexpr.specs.Parts.{word_of, word_at, node_of, node_at, and_then, where_true}
 use Rattle.pst_print.specs.Words.{unary_word, binary_word, truth_word}
-use Rattle.pst_print.specs.Words as print
+use Rattle.pst_sexpr.specs.Parts as tree
 use Rattle.pst_print.proofs.Alike.{node_of_node, word_of_word}
 
 -- ---- head words
@@ -139,19 +139,19 @@ form_of (Integer w) = Word w
 form_of (Truth b) = Word (truth_word b)
 form_of (Quoted t) = Text t
 form_of (Used x) = Word x
-form_of (Let x e b) = print.headed (codes "let") (Word x ∷ e ∷ b ∷ [])
-form_of (If c a b) = print.headed (codes "if") (c ∷ a ∷ b ∷ [])
-form_of (And a b) = print.headed (codes "and") (a ∷ b ∷ [])
-form_of (Or a b) = print.headed (codes "or") (a ∷ b ∷ [])
-form_of (Unary operator a) = print.headed (unary_word operator) (a ∷ [])
-form_of (Binary operator a b) = print.headed (binary_word operator) (a ∷ b ∷ [])
-form_of (Tuple es) = print.headed (codes "tuple") es
-form_of (At e i) = print.headed (codes "at") (e ∷ Word i ∷ [])
-form_of (ListOf t es) = print.headed (codes "list") (t ∷ es)
-form_of (For cs b) = print.headed (codes "for") (Node cs ∷ b ∷ [])
-form_of (Fold x e acc i b) = print.headed (codes "fold") (Word x ∷ e ∷ Word acc ∷ i ∷ b ∷ [])
-form_of (Call op es) = print.headed (codes "call") (Word op ∷ es)
-form_of (Apply f es) = print.headed f es
+form_of (Let x e b) = tree.headed (codes "let") (Word x ∷ e ∷ b ∷ [])
+form_of (If c a b) = tree.headed (codes "if") (c ∷ a ∷ b ∷ [])
+form_of (And a b) = tree.headed (codes "and") (a ∷ b ∷ [])
+form_of (Or a b) = tree.headed (codes "or") (a ∷ b ∷ [])
+form_of (Unary operator a) = tree.headed (unary_word operator) (a ∷ [])
+form_of (Binary operator a b) = tree.headed (binary_word operator) (a ∷ b ∷ [])
+form_of (Tuple es) = tree.headed (codes "tuple") es
+form_of (At e i) = tree.headed (codes "at") (e ∷ Word i ∷ [])
+form_of (ListOf t es) = tree.headed (codes "list") (t ∷ es)
+form_of (For cs b) = tree.headed (codes "for") (Node cs ∷ b ∷ [])
+form_of (Fold x e acc i b) = tree.headed (codes "fold") (Word x ∷ e ∷ Word acc ∷ i ∷ b ∷ [])
+form_of (Call op es) = tree.headed (codes "call") (Word op ∷ es)
+form_of (Apply f es) = tree.headed f es
 
 -- what the table asks of the words and counts of a shape
 abbrev pub Lawful : Shape → Type 0
@@ -160,7 +160,6 @@ Lawful (Used x) = word_shape x ≡ Some (Used x)
 Lawful (Tuple es) = some_of es ≡ Some es
 Lawful (At e i) = is_place i ≡ true
 Lawful (For cs b) = some_of cs ≡ Some cs
-Lawful (Call op es) = is_used_operation op ≡ true
 Lawful (Apply f es) = (head_of f ≡ None) × (is_used f ≡ true)
 Lawful _ = Unit {0}
 
@@ -171,11 +170,11 @@ pub record Is (f : Form) (s : Shape) : Type 0 where
 is_same : (f : Form) (s t : Shape) → Some s ≡ Some t → Is f s → Is f t
 is_same f s t e i = let q : s ≡ t = cc in subst (Is f) q i
 
-headed_is : (h : Head) (parts : List Form) (s : Shape) → headed h parts ≡ Some s → Is (print.headed (spelled h) parts) s
+headed_is : (h : Head) (parts : List Form) (s : Shape) → headed h parts ≡ Some s → Is (tree.headed (spelled h) parts) s
 unfolding spelled
 headed_is head.Let (x ∷ e ∷ b ∷ []) s k =
     let p = made_some (word_of x) (λ x. Some (Let x e b)) s k in
-    is_same _ _ _ p.2 (record { form = ap (λ y. print.headed (codes "let") (y ∷ e ∷ b ∷ [])) (word_is x p.0 p.1); lawful = tt })
+    is_same _ _ _ p.2 (record { form = ap (λ y. tree.headed (codes "let") (y ∷ e ∷ b ∷ [])) (word_is x p.0 p.1); lawful = tt })
 headed_is head.If (c ∷ a ∷ b ∷ []) s k = is_same _ (If c a b) s k (record { form = refl; lawful = tt })
 headed_is head.And (a ∷ b ∷ []) s k = is_same _ (And a b) s k (record { form = refl; lawful = tt })
 headed_is head.Or (a ∷ b ∷ []) s k = is_same _ (Or a b) s k (record { form = refl; lawful = tt })
@@ -185,30 +184,29 @@ headed_is head.Tuple (t ∷ es) s k = is_same _ (Tuple (t ∷ es)) s k (record {
 headed_is head.At (e ∷ i ∷ []) s k =
     let p = made_some (word_of i) (λ i. where_true (is_place i) (At e i)) s k in
     let q = where_some (is_place p.0) (At e p.0) s p.2 in
-    is_same _ _ _ q.1 (record { form = ap (λ y. print.headed (codes "at") (e ∷ y ∷ [])) (word_is i p.0 p.1); lawful = q.0 })
+    is_same _ _ _ q.1 (record { form = ap (λ y. tree.headed (codes "at") (e ∷ y ∷ [])) (word_is i p.0 p.1); lawful = q.0 })
 headed_is head.List (t ∷ es) s k = is_same _ (ListOf t es) s k (record { form = refl; lawful = tt })
 headed_is head.For (cs ∷ b ∷ []) s k =
     let p = made_some (node_of cs) (λ cs. and_then (some_of cs) (λ cs. Some (For cs b))) s k in
     let q = made_some (some_of p.0) (λ cs. Some (For cs b)) s p.2 in
     let i = some_same p.0 q.0 q.1 in
-    is_same _ _ _ q.2 (record { form = ap (λ y. print.headed (codes "for") (y ∷ b ∷ [])) (node_is cs p.0 p.1 ∙ ap Node i); lawful = ap some_of (sym i) ∙ q.1 })
+    is_same _ _ _ q.2 (record { form = ap (λ y. tree.headed (codes "for") (y ∷ b ∷ [])) (node_is cs p.0 p.1 ∙ ap Node i); lawful = ap some_of (sym i) ∙ q.1 })
 headed_is head.Fold (x ∷ e ∷ acc ∷ i ∷ b ∷ []) s k =
     let p = made_some (word_of x) (λ x. and_then (word_of acc) (λ acc. Some (Fold x e acc i b))) s k in
     let q = made_some (word_of acc) (λ acc. Some (Fold p.0 e acc i b)) s p.2 in
     is_same _ _ _ q.2 (record {
-      form = ap (λ y. print.headed (codes "fold") (y ∷ e ∷ acc ∷ i ∷ b ∷ [])) (word_is x p.0 p.1) ∙ ap (λ y. print.headed (codes "fold") (Word p.0 ∷ e ∷ y ∷ i ∷ b ∷ [])) (word_is acc q.0 q.1);
+      form = ap (λ y. tree.headed (codes "fold") (y ∷ e ∷ acc ∷ i ∷ b ∷ [])) (word_is x p.0 p.1) ∙ ap (λ y. tree.headed (codes "fold") (Word p.0 ∷ e ∷ y ∷ i ∷ b ∷ [])) (word_is acc q.0 q.1);
       lawful = tt;
     })
 headed_is head.Call (op ∷ es) s k =
-    let p = made_some (word_of op) (λ op. where_true (is_used_operation op) (Call op es)) s k in
-    let q = where_some (is_used_operation p.0) (Call p.0 es) s p.2 in
-    is_same _ _ _ q.1 (record { form = ap (λ y. print.headed (codes "call") (y ∷ es)) (word_is op p.0 p.1); lawful = q.0 })
+    let p = made_some (word_of op) (λ op. Some (Call op es)) s k in
+    is_same _ _ _ p.2 (record { form = ap (λ y. tree.headed (codes "call") (y ∷ es)) (word_is op p.0 p.1); lawful = tt })
 headed_is _ _ s k = absurd (cc)
 
-applied_is : (o : Option Head) (w : List ℕ) (parts : List Form) (s : Shape) → head_of w ≡ o → applied o w parts ≡ Some s → Is (print.headed w parts) s
+applied_is : (o : Option Head) (w : List ℕ) (parts : List Form) (s : Shape) → head_of w ≡ o → applied o w parts ≡ Some s → Is (tree.headed w parts) s
 applied_is (Some h) w parts s e k =
     let i = headed_is h parts s k in
-    record { form = ap (λ v. print.headed v parts) (head_word w h e) ∙ i.form; lawful = i.lawful }
+    record { form = ap (λ v. tree.headed v parts) (head_word w h e) ∙ i.form; lawful = i.lawful }
 applied_is None w parts s e k =
     let q = where_some (is_used w) (Apply w parts) s k in
     is_same _ _ _ q.1 (record { form = refl; lawful = (e, q.0) })
@@ -258,13 +256,13 @@ shape_text : (w : List ℕ) → shape_of (Text w) ≡ Some (Quoted w)
 unfolding shape_of
 shape_text w = ap (λ f. shape_at (out-Form f)) (sym (rolls-Text w)) ∙ ap shape_at (out-roll-Form (Form-F.Text w))
 
-shape_node : (w : List ℕ) (parts : List Form) → shape_of (print.headed w parts) ≡ applied (head_of w) w parts
+shape_node : (w : List ℕ) (parts : List Form) → shape_of (tree.headed w parts) ≡ applied (head_of w) w parts
 unfolding shape_of
 shape_node w parts =
     ap (λ f. shape_at (out-Form f)) (sym (rolls-Node (Word w ∷ parts))) ∙ ap shape_at (out-roll-Form (Form-F.Node (Word w ∷ parts)))
     ∙ ap (λ o. and_then o (λ v. applied (head_of v) v parts)) (word_of_word w)
 
-at_head : (w : List ℕ) (h : Head) (parts : List Form) → head_of w ≡ Some h → shape_of (print.headed w parts) ≡ headed h parts
+at_head : (w : List ℕ) (h : Head) (parts : List Form) → head_of w ≡ Some h → shape_of (tree.headed w parts) ≡ headed h parts
 at_head w h parts e = shape_node w parts ∙ ap (λ o. applied o w parts) e
 
 integer_shape : (w : List ℕ) → is_integer w ≡ true → word_shape w ≡ Some (Integer w)
@@ -296,5 +294,5 @@ shaped (Fold x e acc i b) l =
     at_head (codes "fold") head.Fold (Word x ∷ e ∷ Word acc ∷ i ∷ b ∷ []) (head_spelled head.Fold)
     ∙ ap (λ o. and_then o (λ x. and_then (word_of (Word acc)) (λ acc. Some (Fold x e acc i b)))) (word_of_word x)
     ∙ ap (λ o. and_then o (λ acc. Some (Fold x e acc i b))) (word_of_word acc)
-shaped (Call op es) l = at_head (codes "call") head.Call (Word op ∷ es) (head_spelled head.Call) ∙ ap (λ o. and_then o (λ op. where_true (is_used_operation op) (Call op es))) (word_of_word op) ∙ ap (λ b. where_true b (Call op es)) l
+shaped (Call op es) l = at_head (codes "call") head.Call (Word op ∷ es) (head_spelled head.Call) ∙ ap (λ o. and_then o (λ op. Some (Call op es))) (word_of_word op)
 shaped (Apply f es) l = shape_node f es ∙ ap (λ o. applied o f es) l.0 ∙ ap (λ b. where_true b (Apply f es)) l.1

@@ -13,10 +13,9 @@ use Rattle.pst_syntax.specs.declared.heads.Head.TheVariants as head
 use Rattle.pst_syntax.specs.Heads.{head_of}
 use Rattle.pst_syntax.specs.Names.{is_short}
 use Rattle.pst_syntax.specs.Shape.{TyShape, IntType, BoolType, TextType, CallType, TupleType, ListType, RefType, ty_shape, ty_at, ty_node, ty_headed, some_of}
-use Rattle.pst_sexpr.specs.Parts.{word_of}
+use Rattle.pst_sexpr.specs.Parts.{word_of, headed}
 use Rattle.pst_syntax.specs.Reading.{Read, ◌>>=◌, known, within, once, lawful, each, declared, are_few, ty_of, ty_parts}
 use Rattle.pst_print.specs.Printed.{ty_form}
-use Rattle.pst_print.specs.Words.{headed}
 use Rattle.pst_print.proofs.Alike.{Alike, AllAlike, none, more, itself}
 use Rattle.pst_print.proofs.Forms.{type_Int, type_Bool, type_Text, type_Call, type_Tuple, type_List, type_Ref}
 use Rattle.pst_print.proofs.Shapes.{spelled, head_word, word_is, made_some}

@@ -10,7 +10,8 @@ use Rattle.pst_model.specs.declared.model.Item.TheVariants as item
 use Rattle.pst_model.specs.declared.model.Op.{Op}
 use Rattle.pst_model.specs.declared.model.Param.{Param}
 use Rattle.pst_model.specs.declared.model.Source.{Source}
-use Rattle.pst_print.specs.Words.{unary_word, binary_word, truth_word, headed}
+use Rattle.pst_sexpr.specs.Parts.{headed}
+use Rattle.pst_print.specs.Words.{unary_word, binary_word, truth_word}
 use Rattle.pst_sexpr.specs.declared.form.Form.{Form}
 use Rattle.pst_sexpr.specs.declared.form.Form.TheVariants.{Word, Text, Node}
 use Rattle.pst_value.specs.declared.ty.Ty.{Ty, fold-Ty}

@@ -1,11 +1,9 @@
 -- The words of a model's tree.
-use Rattle.std.specs.Prelude.{ℕ, Bool, true, false, List, ◌∷◌, codes}
+use Rattle.std.specs.Prelude.{ℕ, Bool, true, false, List, codes}
 use Rattle.pst_model.specs.declared.expr.Binary.{Binary}
 use Rattle.pst_model.specs.declared.expr.Binary.TheVariants.{Add, Sub, Mul, Div, Rem, Less, LessEqual, Equal, Same, Append, Nth, Range}
 use Rattle.pst_model.specs.declared.expr.Unary.{Unary}
 use Rattle.pst_model.specs.declared.expr.Unary.TheVariants.{Not, Len, Deref}
-use Rattle.pst_sexpr.specs.declared.form.Form.{Form}
-use Rattle.pst_sexpr.specs.declared.form.Form.TheVariants.{Word, Node}
 
 abbrev pub unary_word : Unary → List ℕ
 unary_word Not = codes "not"
@@ -29,7 +27,3 @@ binary_word Range = codes "range"
 abbrev pub truth_word : Bool → List ℕ
 truth_word true = codes "true"
 truth_word false = codes "false"
-
--- a node that is headed by the word
-abbrev pub headed : List ℕ → List Form → Form
-headed word parts = Node (Word word ∷ parts)

@@ -1,16 +1,18 @@
 //! Expressions as trees.
-ghost use Rattle.std.specs.Prelude.{◌≡◌, IfOk, map, decimal};
+ghost use Rattle.std.specs.Prelude.{◌≡◌, ◌∷◌, [], IfOk, map, codes, decimal};
 ghost use Rattle.std.specs.Fmt.{signed_decimal};
-ghost use Rattle.pst_print.specs.Printed.{clause_form, expr_form};
+ghost use Rattle.pst_print.specs.Printed.{clause_form, expr_form, ty_form};
 ghost use Rattle.pst_print.specs.Words.{truth_word};
+ghost use Rattle.pst_sexpr.specs.Parts.{headed};
 ghost use Rattle.pst_sexpr.specs.declared.form.Form.TheVariants.{Word};
 
-use crate::nodes::{before, headed, name, one, three, two, word};
+use crate::nodes::{before, name, three, two};
 use crate::types::ty_form;
 use crate::words::{binary_word, unary_word};
 use pst_items::{Items, Text};
 use pst_model::{Clause, Expr};
-use pst_sexpr::Form;
+use pst_sexpr::{Form, headed, list_of, word};
+use pst_value::Ty;
 use std::alloc::{AllocError, Global};
 
 fn integer(alloc: Global, number: i64) -> Result<Form, AllocError>
@@ -35,6 +37,72 @@ fn truth(alloc: Global, holds: bool) -> Result<Form, AllocError>
     }
 }
 
+/// A node of a word and a tree.
+fn of_one(alloc: Global, head: &str, first: Form) -> Result<Form, AllocError>
+    ensures { IfOk result (λ form. form ≡ headed head.now (first ∷ [])) }
+{
+    headed(alloc, head, list_of(alloc, first)?)
+}
+
+/// A node of a word and two trees.
+fn of_two(alloc: Global, head: &str, first: Form, second: Form) -> Result<Form, AllocError>
+    ensures { IfOk result (λ form. form ≡ headed head.now (first ∷ second ∷ [])) }
+{
+    headed(alloc, head, two(alloc, first, second)?)
+}
+
+fn let_form(alloc: Global, bound: &Text, value: Form, body: Form) -> Result<Form, AllocError>
+    ensures { IfOk result (λ form. form ≡ headed (codes "let") (Word bound.now ∷ value ∷ body ∷ [])) }
+{
+    let bound = name(alloc, bound)?;
+    headed(alloc, "let", three(alloc, bound, value, body)?)
+}
+
+fn if_form(alloc: Global, condition: Form, yes: Form, otherwise: Form) -> Result<Form, AllocError>
+    ensures { IfOk result (λ form. form ≡ headed (codes "if") (condition ∷ yes ∷ otherwise ∷ [])) }
+{
+    headed(alloc, "if", three(alloc, condition, yes, otherwise)?)
+}
+
+fn at_form(alloc: Global, tuple: Form, number: u64) -> Result<Form, AllocError>
+    ensures { IfOk result (λ form. form ≡ headed (codes "at") (tuple ∷ Word (decimal number) ∷ [])) }
+{
+    let place = place(alloc, number)?;
+    of_two(alloc, "at", tuple, place)
+}
+
+fn list_form(alloc: Global, ty: &Ty, items: Items<Form>) -> Result<Form, AllocError>
+    ensures { IfOk result (λ form. form ≡ headed (codes "list") (ty_form ty.now ∷ items)) }
+{
+    let ty = ty_form(alloc, ty)?;
+    headed(alloc, "list", before(alloc, ty, items)?)
+}
+
+/// A fold, by the names of an item and of what is built.
+fn fold_form(
+    alloc: Global,
+    names: (&Text, &Text),
+    items: Form,
+    first: Form,
+    body: Form,
+) -> Result<Form, AllocError>
+    ensures { IfOk result (λ form. form ≡ headed (codes "fold")
+        (Word names.entry.0.now ∷ items ∷ Word names.entry.1.now ∷ first ∷ body ∷ [])) }
+{
+    let bound = name(alloc, names.0)?;
+    let built = name(alloc, names.1)?;
+    let rest = three(alloc, built, first, body)?;
+    let parts = before(alloc, bound, before(alloc, items, rest)?)?;
+    headed(alloc, "fold", parts)
+}
+
+fn call_form(alloc: Global, operation: &Text, args: Items<Form>) -> Result<Form, AllocError>
+    ensures { IfOk result (λ form. form ≡ headed (codes "call") (Word operation.now ∷ args)) }
+{
+    let operation = name(alloc, operation)?;
+    headed(alloc, "call", before(alloc, operation, args)?)
+}
+
 /// The tree of an expression.
 #[cycle(expr_form)]
 #[tactic(auto, using(crate::proofs::Forms::expr_forms))]
@@ -47,68 +115,49 @@ pub fn expr_form(alloc: Global, expr: &Expr) -> Result<Form, AllocError>
         Expr::Text(text) => Ok(Form::Text(text.copy(alloc)?)),
         Expr::Name(bound) => name(alloc, bound),
         Expr::Let(bound, value, body) => {
-            let bound = name(alloc, bound)?;
             let value = expr_form(alloc, value.get())?;
-            let body = expr_form(alloc, body.get())?;
-            headed(alloc, "let", three(alloc, bound, value, body)?)
+            let_form(alloc, bound, value, expr_form(alloc, body.get())?)
         }
         Expr::If(condition, yes, otherwise) => {
             let condition = expr_form(alloc, condition.get())?;
             let yes = expr_form(alloc, yes.get())?;
-            let otherwise = expr_form(alloc, otherwise.get())?;
-            headed(alloc, "if", three(alloc, condition, yes, otherwise)?)
+            if_form(alloc, condition, yes, expr_form(alloc, otherwise.get())?)
         }
         Expr::And(first, second) => {
             let first = expr_form(alloc, first.get())?;
-            let second = expr_form(alloc, second.get())?;
-            headed(alloc, "and", two(alloc, first, second)?)
+            of_two(alloc, "and", first, expr_form(alloc, second.get())?)
         }
         Expr::Or(first, second) => {
             let first = expr_form(alloc, first.get())?;
-            let second = expr_form(alloc, second.get())?;
-            headed(alloc, "or", two(alloc, first, second)?)
+            of_two(alloc, "or", first, expr_form(alloc, second.get())?)
         }
         Expr::Unary(operator, operand) => {
-            let operand = expr_form(alloc, operand.get())?;
-            headed(alloc, unary_word(*operator), one(alloc, operand)?)
+            of_one(
+                alloc,
+                unary_word(*operator),
+                expr_form(alloc, operand.get())?,
+            )
         }
         Expr::Binary(operator, first, second) => {
             let first = expr_form(alloc, first.get())?;
             let second = expr_form(alloc, second.get())?;
-            headed(alloc, binary_word(*operator), two(alloc, first, second)?)
+            of_two(alloc, binary_word(*operator), first, second)
         }
         Expr::Tuple(parts) => headed(alloc, "tuple", each_expr(alloc, parts.as_slice())?),
-        Expr::At(tuple, number) => {
-            let tuple = expr_form(alloc, tuple.get())?;
-            headed(alloc, "at", two(alloc, tuple, place(alloc, *number)?)?)
-        }
-        Expr::List(ty, items) => {
-            let ty = ty_form(alloc, ty)?;
-            let items = each_expr(alloc, items.as_slice())?;
-            headed(alloc, "list", before(alloc, ty, items)?)
-        }
+        Expr::At(tuple, number) => at_form(alloc, expr_form(alloc, tuple.get())?, *number),
+        Expr::List(ty, items) => list_form(alloc, ty, each_expr(alloc, items.as_slice())?),
         Expr::For(clauses, body) => {
             let clauses = Form::Node(each_clause(alloc, clauses.as_slice())?);
-            let body = expr_form(alloc, body.get())?;
-            headed(alloc, "for", two(alloc, clauses, body)?)
+            of_two(alloc, "for", clauses, expr_form(alloc, body.get())?)
         }
         Expr::Fold(bound, items, built, first, body) => {
-            let bound = name(alloc, bound)?;
             let items = expr_form(alloc, items.get())?;
-            let built = name(alloc, built)?;
             let first = expr_form(alloc, first.get())?;
             let body = expr_form(alloc, body.get())?;
-            let rest = three(alloc, built, first, body)?;
-            headed(
-                alloc,
-                "fold",
-                before(alloc, bound, before(alloc, items, rest)?)?,
-            )
+            fold_form(alloc, (bound, built), items, first, body)
         }
         Expr::Call(operation, args) => {
-            let operation = name(alloc, operation)?;
-            let args = each_expr(alloc, args.as_slice())?;
-            headed(alloc, "call", before(alloc, operation, args)?)
+            call_form(alloc, operation, each_expr(alloc, args.as_slice())?)
         }
         Expr::Apply(function, args) => {
             headed(alloc, function.as_str(), each_expr(alloc, args.as_slice())?)
@@ -151,7 +200,7 @@ fn clause_form(alloc: Global, clause: &Clause) -> Result<Form, AllocError>
         }
         Clause::When(condition) => {
             let condition = expr_form(alloc, condition)?;
-            headed(alloc, "when", one(alloc, condition)?)
+            headed(alloc, "when", list_of(alloc, condition)?)
         }
     }
 }

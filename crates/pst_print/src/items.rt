@@ -3,11 +3,11 @@ ghost use Rattle.std.specs.Prelude.{◌≡◌, IfOk, map};
 ghost use Rattle.pst_print.specs.Printed as spec;
 
 use crate::expressions::expr_form;
-use crate::nodes::{before, headed, name, one, three, two};
+use crate::nodes::{before, name, three, two};
 use crate::types::ty_form;
 use pst_items::{Items, Text};
 use pst_model::{Expr, Fun, Item, Op, Param, Source};
-use pst_sexpr::Form;
+use pst_sexpr::{Form, headed, list_of};
 use pst_value::Ty;
 use std::alloc::{AllocError, Global};
 
@@ -46,7 +46,7 @@ fn signature(
 fn fun_form(alloc: Global, function: &Fun) -> Result<Form, AllocError>
     ensures { IfOk result (λ form. form ≡ spec.fun_form function.now) }
 {
-    let body = one(alloc, expr_form(alloc, &function.body)?)?;
+    let body = list_of(alloc, expr_form(alloc, &function.body)?)?;
     let params = function.params.as_slice();
     let parts = signature(alloc, &function.name, params, &function.result, body)?;
     if function.is_post {
@@ -60,7 +60,7 @@ fn fun_form(alloc: Global, function: &Fun) -> Result<Form, AllocError>
 fn single(alloc: Global, head: &str, expr: &Expr) -> Result<Form, AllocError>
     ensures { IfOk result (λ form. form ≡ spec.single head.now expr.now) }
 {
-    headed(alloc, head, one(alloc, expr_form(alloc, expr)?)?)
+    headed(alloc, head, list_of(alloc, expr_form(alloc, expr)?)?)
 }
 
 fn op_form(alloc: Global, operation: &Op) -> Result<Form, AllocError>
@@ -79,7 +79,7 @@ fn item_form(alloc: Global, item: &Item) -> Result<Form, AllocError>
     ensures { IfOk result (λ form. form ≡ spec.item_form item.now) }
 {
     match item {
-        Item::State(ty) => headed(alloc, "state", one(alloc, ty_form(alloc, ty)?)?),
+        Item::State(ty) => headed(alloc, "state", list_of(alloc, ty_form(alloc, ty)?)?),
         Item::Init(expr) => single(alloc, "init", expr),
         Item::Command(expr) => single(alloc, "command", expr),
         Item::Fun(function) => fun_form(alloc, function),
@@ -91,7 +91,7 @@ fn item_form(alloc: Global, item: &Item) -> Result<Form, AllocError>
 pub fn source_form(alloc: Global, source: &Source) -> Result<Form, AllocError>
     ensures { IfOk result (λ form. form ≡ spec.source_form source.now) }
 {
-    let mut forms = one(alloc, name(alloc, &source.name)?)?;
+    let mut forms = list_of(alloc, name(alloc, &source.name)?)?;
     for item in source.items.as_slice() {
         forms.push(item_form(alloc, item)?)?;
     }

@@ -1,18 +1,10 @@
 //! Trees of a few parts.
 ghost use Rattle.std.specs.Prelude.{◌≡◌, IfOk, [], ◌∷◌};
-ghost use Rattle.pst_print.specs.Words.{headed};
 ghost use Rattle.pst_sexpr.specs.declared.form.Form.TheVariants.{Word};
 
 use pst_items::{Items, Text};
-use pst_sexpr::Form;
+use pst_sexpr::{Form, list_of};
 use std::alloc::{AllocError, Global};
-
-/// A word.
-pub fn word(alloc: Global, text: &str) -> Result<Form, AllocError>
-    ensures { IfOk result (λ form. form ≡ Word text.now) }
-{
-    Ok(Form::Word(Text::from_string(String::from_str(alloc, text)?)))
-}
 
 /// A name as a word.
 pub fn name(alloc: Global, text: &Text) -> Result<Form, AllocError>
@@ -21,29 +13,11 @@ pub fn name(alloc: Global, text: &Text) -> Result<Form, AllocError>
     Ok(Form::Word(text.copy(alloc)?))
 }
 
-/// A node that is headed by the word.
-pub fn headed(alloc: Global, head: &str, parts: Items<Form>) -> Result<Form, AllocError>
-    ensures { IfOk result (λ form. form ≡ headed head.now parts) }
-{
-    let mut all = one(alloc, word(alloc, head)?)?;
-    all.append(parts)?;
-    Ok(Form::Node(all))
-}
-
-/// One tree.
-pub fn one(alloc: Global, first: Form) -> Result<Items<Form>, AllocError>
-    ensures { IfOk result (λ forms. forms ≡ first ∷ []) }
-{
-    let mut forms = Items::new(alloc);
-    forms.push(first)?;
-    Ok(forms)
-}
-
 /// Two trees.
 pub fn two(alloc: Global, first: Form, second: Form) -> Result<Items<Form>, AllocError>
     ensures { IfOk result (λ forms. forms ≡ first ∷ second ∷ []) }
 {
-    let mut forms = one(alloc, first)?;
+    let mut forms = list_of(alloc, first)?;
     forms.push(second)?;
     Ok(forms)
 }
@@ -66,7 +40,7 @@ pub fn three(
 pub fn before(alloc: Global, first: Form, rest: Items<Form>) -> Result<Items<Form>, AllocError>
     ensures { IfOk result (λ forms. forms ≡ first ∷ rest) }
 {
-    let mut forms = one(alloc, first)?;
+    let mut forms = list_of(alloc, first)?;
     forms.append(rest)?;
     Ok(forms)
 }

@@ -2,9 +2,8 @@
 ghost use Rattle.std.specs.Prelude.{◌≡◌, IfOk, map};
 ghost use Rattle.pst_print.specs.Printed.{ty_form};
 
-use crate::nodes::{headed, one, word};
 use pst_items::Items;
-use pst_sexpr::Form;
+use pst_sexpr::{Form, headed, list_of, word};
 use pst_value::Ty;
 use std::alloc::{AllocError, Global};
 
@@ -19,8 +18,8 @@ pub fn ty_form(alloc: Global, ty: &Ty) -> Result<Form, AllocError>
         Ty::Bool => word(alloc, "bool"),
         Ty::Text => word(alloc, "text"),
         Ty::Tuple(types) => headed(alloc, "tuple", each_ty(alloc, types.as_slice())?),
-        Ty::List(item) => headed(alloc, "list", one(alloc, ty_form(alloc, item.get())?)?),
-        Ty::Ref(item) => headed(alloc, "ref", one(alloc, ty_form(alloc, item.get())?)?),
+        Ty::List(item) => headed(alloc, "list", list_of(alloc, ty_form(alloc, item.get())?)?),
+        Ty::Ref(item) => headed(alloc, "ref", list_of(alloc, ty_form(alloc, item.get())?)?),
         Ty::Call => word(alloc, "call"),
     }
 }

@@ -16,7 +16,8 @@ use Rattle.pst_runs.specs.Items.{run as run_with, with_history, run_of, unless_f
 use Rattle.pst_runs.specs.Lawful.{IsLawful, AreLawful}
 use Rattle.pst_runs.specs.Reading.{readable_case, case_fault}
 use Rattle.pst_runs.specs.Replies.{◌>>=◌, then_more, or_number, listed, listed_at, answered, reply_word, or_value, reply_of, part_replies, branch_replies, history_of, branches_count, are_counted}
-use Rattle.pst_runs.specs.Values.{made, word_of, value_of}
+use Rattle.pst_runs.specs.Values.{value_of}
+use Rattle.pst_sexpr.specs.Parts.{and_then, word_of}
 use Rattle.pst_runs.specs.declared.fault.ItemFault.{ItemFault}
 use Rattle.pst_runs.specs.declared.fault.RunFaultKind.TheVariants.{NotAFit}
 use Rattle.pst_sexpr.specs.declared.form.Form.{Form}
@@ -77,7 +78,7 @@ module _ (m : Source) where
   answered_fits c v = chosen c v (fits_in m [] [] v (result_type m c)) refl
 
   either_fits : (c : Command) (word : Option Reply) (v : Option Value) (said : Reply) → ((r : Reply) → word ≡ Some r → reply_fits m c r ≡ true)
-      → or_value word (made v (λ v. Some (answered m c v))) ≡ Some said → reply_fits m c said ≡ true
+      → or_value word (and_then v (λ v. Some (answered m c v))) ≡ Some said → reply_fits m c said ≡ true
   either_fits c (Some r) v said p h = let e : r ≡ said = cc in let P : Reply → Type 0 = λ r. reply_fits m c r ≡ true in subst P e (p r refl)
   either_fits c None None said p h = absurd (cc)
   either_fits c None (Some v) said p h = let e : answered m c v ≡ said = cc in let P : Reply → Type 0 = λ r. reply_fits m c r ≡ true in subst P e (answered_fits c v)

@@ -1,5 +1,4 @@
 pub mod Behind
-pub mod Growing
 pub mod Last
 pub mod Lawful
 pub mod Limits

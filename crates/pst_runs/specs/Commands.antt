@@ -2,7 +2,8 @@
 use Rattle.std.specs.Prelude.{ℕ, Bool, true, false, if◌then◌else◌, List, [], ◌∷◌, map, Option, Some, None}
 use Rattle.pst_model.specs.Parts.{number_of}
 use Rattle.pst_model.specs.declared.model.Source.{Source}
-use Rattle.pst_runs.specs.Values.{made, each, word_of, node_of, value_of}
+use Rattle.pst_runs.specs.Values.{each, value_of}
+use Rattle.pst_sexpr.specs.Parts.{and_then, word_of, node_of}
 use Rattle.pst_runs.specs.declared.commands.Spelled.{Spelled}
 use Rattle.pst_runs.specs.declared.commands.Spelled.TheVariants.{Whole, Partial, Unknown}
 use Rattle.pst_sexpr.specs.declared.form.Form.{Form}
@@ -34,11 +35,11 @@ spelled (Some op) args =
 abbrev pub command_in : Source → List Form → Option Spelled
 command_in m [] = None
 command_in m (first ∷ args) =
-    made (word_of first) (λ name. Some (spelled (number_of m.items name) (arguments_of args)))
+    and_then (word_of first) (λ name. Some (spelled (number_of m.items name) (arguments_of args)))
 
 -- the name of an operation, and then arguments
 abbrev pub command_of : Source → Form → Option Spelled
-command_of m form = made (node_of form) (command_in m)
+command_of m form = and_then (node_of form) (command_in m)
 
 abbrev pub commands_of : Source → List Form → Option (List Spelled)
 commands_of m forms = each (command_of m) forms

@@ -4,7 +4,8 @@ use Rattle.std.specs.List.{list_all}
 use Rattle.std.specs.Str.{bytes_eq}
 use Rattle.pst_model.specs.declared.model.Source.{Source}
 use Rattle.pst_runs.specs.Commands.{commands_of}
-use Rattle.pst_runs.specs.Values.{made, each, word_of, node_of}
+use Rattle.pst_runs.specs.Values.{each}
+use Rattle.pst_sexpr.specs.Parts.{and_then, word_of, node_of}
 use Rattle.pst_runs.specs.declared.commands.Spelled.{Spelled}
 use Rattle.pst_runs.specs.declared.commands.SpelledCase.{SpelledCase}
 use Rattle.pst_sexpr.specs.declared.form.Form.{Form}
@@ -12,26 +13,26 @@ use Rattle.pst_sexpr.specs.declared.form.Form.{Form}
 abbrev pub section_in : List ℕ → List Form → Option (List Form)
 section_in name [] = None
 section_in name (first ∷ parts) =
-    made (word_of first) (λ word. if bytes_eq word name then Some parts else None)
+    and_then (word_of first) (λ word. if bytes_eq word name then Some parts else None)
 
 -- the parts of a node that is headed by the word
 abbrev pub section : List ℕ → Form → Option (List Form)
-section name form = made (node_of form) (section_in name)
+section name form = and_then (node_of form) (section_in name)
 
 -- the commands of a section
 abbrev pub section_commands : Source → List ℕ → Form → Option (List Spelled)
-section_commands m name form = made (section name form) (commands_of m)
+section_commands m name form = and_then (section name form) (commands_of m)
 
 -- ---- the branches
 
 -- `(left ..) (right ..)`
 abbrev pub two_branches : Source → (left right : Form) → Option (List (List Spelled))
 two_branches m left right =
-    made (section_commands m (codes "left") left) (λ l.
-    made (section_commands m (codes "right") right) (λ r. Some (l ∷ r ∷ [])))
+    and_then (section_commands m (codes "left") left) (λ l.
+    and_then (section_commands m (codes "right") right) (λ r. Some (l ∷ r ∷ [])))
 
 abbrev pub branch_of : Source → Form → Option (List Spelled)
-branch_of m form = made (node_of form) (commands_of m)
+branch_of m form = and_then (node_of form) (commands_of m)
 
 abbrev pub are_two_to_four : List Form → Bool
 are_two_to_four forms = nat_le 2 (length forms) && nat_le (length forms) 4
@@ -41,7 +42,7 @@ each_branch m forms = if are_two_to_four forms then each (branch_of m) forms els
 
 -- `(branches (..) (..) ..)`, two to four of them
 abbrev pub many_branches : Source → Form → Option (List (List Spelled))
-many_branches m form = made (section (codes "branches") form) (each_branch m)
+many_branches m form = and_then (section (codes "branches") form) (each_branch m)
 
 abbrev pub branches_of : Source → List Form → Option (List (List Spelled))
 branches_of m (left ∷ right ∷ []) = two_branches m left right
@@ -54,7 +55,7 @@ branches_of m _ = None
 abbrev pub front_and_last : List Form → Option (List Form × Form)
 front_and_last [] = None
 front_and_last (form ∷ []) = Some ([], form)
-front_and_last (form ∷ next ∷ more) = made (front_and_last (next ∷ more)) (λ p. Some (form ∷ p.0, p.1))
+front_and_last (form ∷ next ∷ more) = and_then (front_and_last (next ∷ more)) (λ p. Some (form ∷ p.0, p.1))
 
 -- the prefix and the branches of a case, and the commands of its suffix, where there is one
 pub record Sections : Type 0 where
@@ -81,9 +82,9 @@ suffix_of m (Some forms) = commands_of m forms
 abbrev pub case_in : Source → List Form → Option (List Form) → Option SpelledCase
 case_in m [] suffix = None
 case_in m (first ∷ others) suffix =
-    made (section_commands m (codes "prefix") first) (λ p.
-    made (branches_of m others) (λ bs.
-    made (suffix_of m suffix) (λ s. Some (record { prefix = p; branches = bs; suffix = s }))))
+    and_then (section_commands m (codes "prefix") first) (λ p.
+    and_then (branches_of m others) (λ bs.
+    and_then (suffix_of m suffix) (λ s. Some (record { prefix = p; branches = bs; suffix = s }))))
 
 -- `(prefix ..)`, the branches, and the suffix
 abbrev pub case_of : Source → Sections → Option SpelledCase
@@ -111,7 +112,7 @@ is_number_of_parts n sections c = n == number_of_parts sections.suffix c
 -- `(replies (..) (..) ..)`: a list for each part
 abbrev pub with_replies : Form → Sections → SpelledCase → Option Parts
 with_replies form sections c =
-    made (section (codes "replies") form) (λ lists.
+    and_then (section (codes "replies") form) (λ lists.
     if is_number_of_parts (length lists) sections c && list_all (λ list. is_node (node_of list)) lists
     then Some (record { read = c; replies = Some lists }) else None)
 
@@ -121,22 +122,22 @@ without_replies c = Some (record { read = c; replies = None })
 -- ---- the item
 
 abbrev pub case_parts : Source → List Form → Option Parts
-case_parts m parts = made (case_of m (sections_of parts)) without_replies
+case_parts m parts = and_then (case_of m (sections_of parts)) without_replies
 
 abbrev pub run_sections : Source → Form → Sections → Option Parts
-run_sections m replies sections = made (case_of m sections) (with_replies replies sections)
+run_sections m replies sections = and_then (case_of m sections) (with_replies replies sections)
 
 abbrev pub run_parts : Source → List Form → Option Parts
-run_parts m parts = made (front_and_last parts) (λ p. run_sections m p.1 (sections_of p.0))
+run_parts m parts = and_then (front_and_last parts) (λ p. run_sections m p.1 (sections_of p.0))
 
 abbrev pub item_in : Source → List Form → Option Parts
 item_in m [] = None
-item_in m (first ∷ parts) = made (word_of first) (λ head.
+item_in m (first ∷ parts) = and_then (word_of first) (λ head.
     if bytes_eq head (codes "case") then case_parts m parts
     else if bytes_eq head (codes "run") then run_parts m parts
     else None)
 
--- THE TABLE OF ITEMS: `(case (prefix ..) (left ..) (right ..))` and `(case (prefix ..) (branches (..) (..) ..))`, each
--- with `(suffix ..)` as its last part or without it; and `(run .. (replies (..) (..) ..))`
+-- THE TABLE OF ITEMS: `(case (prefix ..) (left ..) (right ..))` and `(case (prefix ..) (branches (..) (..)
+-- ..))`, each with `(suffix ..)` as its last part or without it; and `(run .. (replies (..) (..) ..))`
 unfoldable pub parts_of : Source → Form → Option Parts
-parts_of m form = made (node_of form) (item_in m)
+parts_of m form = and_then (node_of form) (item_in m)

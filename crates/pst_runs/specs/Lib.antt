@@ -8,6 +8,5 @@ pub mod Commands
 pub mod Reading
 pub mod Replies
 pub mod Values
-pub mod Integers
 -- what the contracts within the crate cite
 pub mod Shown

@@ -1,7 +1,6 @@
 -- The first fault of the commands of a case as they are spelled.
-use Rattle.std.specs.Prelude.{◌==◌, ◌&&◌, ◌||◌, not, ◌+◌, ℕ, nat_le, nat_lt, Bool, true, false, if◌then◌else◌, List, [], ◌∷◌, map, length, Option, Some, None}
-use Rattle.std.specs.List.{list_all}
-use Rattle.pst_case.specs.Shape.{joined, or_else, at_command, shape_fault}
+use Rattle.std.specs.Prelude.{◌==◌, ◌&&◌, ◌||◌, ◌+◌, ℕ, nat_lt, Bool, true, false, if◌then◌else◌, List, [], ◌∷◌, map, length, Option, Some, None}
+use Rattle.pst_case.specs.Shape.{joined, are_over_limit, or_else, at_command, shape_fault}
 use Rattle.pst_case.specs.declared.case.Case.{Case}
 use Rattle.pst_case.specs.declared.case.Command.{Command}
 use Rattle.pst_case.specs.declared.fault.CaseFault.{CaseFault}
@@ -59,14 +58,9 @@ case_unread c =
 
 -- ---- the first fault
 
--- the limits of a case, as `pst_case` has them: its commands are counted whether they can be read or not
+-- the limits of a case: its commands are counted whether they can be read or not
 abbrev pub over_limit : SpelledCase → Bool
-over_limit c =
-    not (nat_le (length c.prefix) 64)
-    || not (list_all (λ b. nat_le (length b) 8) c.branches)
-    || not (nat_le (length (joined c.branches)) 16)
-    || not (nat_le 2 (length c.branches) && nat_le (length c.branches) 4)
-    || not (nat_le (length c.suffix) 8)
+over_limit c = are_over_limit c.prefix c.branches c.suffix
 
 abbrev pub is_unknown : CaseFaultKind → Bool
 is_unknown UnknownOp = true
@@ -76,8 +70,8 @@ is_unknown CrossVar = false
 is_unknown OverLimit = false
 is_unknown NoMemory = false
 
--- the fault of the lower number; at one command UnknownOp comes before the faults of the shape, and these before
--- the BadArgument of an argument that spells no value
+-- the fault of the lower number; at one command UnknownOp comes before the faults of the shape, and these
+-- before the BadArgument of an argument that spells no value
 abbrev pub comes_before : (unread shape : CaseFault) → Bool
 comes_before unread shape =
     nat_lt unread.command shape.command || (unread.command == shape.command && is_unknown unread.kind)

@@ -9,7 +9,8 @@ use Rattle.pst_case.specs.declared.history.Reply.{Reply}
 use Rattle.pst_case.specs.declared.history.Reply.TheVariants as reply
 use Rattle.pst_model.specs.declared.model.Source.{Source}
 use Rattle.pst_rules.specs.Fitting.{fits_in}
-use Rattle.pst_runs.specs.Values.{made, word_of, node_of, value_of}
+use Rattle.pst_runs.specs.Values.{value_of}
+use Rattle.pst_sexpr.specs.Parts.{and_then, word_of, node_of}
 use Rattle.pst_sexpr.specs.declared.form.Form.{Form}
 use Rattle.pst_value.specs.declared.value.Value.{Value}
 
@@ -34,7 +35,7 @@ or_value None other = other
 -- the reply to a command that a tree spells: a word for a reply, or a value without a variable
 unfoldable pub reply_of : Source → Command → Form → Option Reply
 reply_of m c form =
-    or_value (reply_word (word_of form)) (made (value_of false form) (λ v. Some (answered m c v)))
+    or_value (reply_word (word_of form)) (and_then (value_of false form) (λ v. Some (answered m c v)))
 
 -- ---- lists of replies
 
@@ -55,8 +56,8 @@ abbrev pub or_number : {A : Type 0} → ℕ → Option A → Result A ℕ
 or_number number None = Err number
 or_number number (Some a) = Ok a
 
--- the replies to commands, the first of which has the number; or the number of the first command whose tree spells
--- no reply
+-- the replies to commands, the first of which has the number; or the number of the first command whose tree
+-- spells no reply
 abbrev pub part_replies : Source → ℕ → List Command → List Form → Result (List Reply) ℕ
 part_replies m number [] forms = Ok []
 part_replies m number (c ∷ cs) [] = Ok []

@@ -1,40 +1,18 @@
 -- The values that trees spell.
 use Rattle.std.specs.Prelude.{◌==◌, ◌&&◌, ℕ, zero, suc, ℤ, nat_le, Bool, true, false, if◌then◌else◌, List, [], ◌∷◌, length, Option, Some, None, codes}
 use Rattle.std.specs.Str.{bytes_eq}
-use Rattle.pst_runs.specs.Integers.{are_digits, magnitude, integer_of}
+use Rattle.pst_sexpr.specs.Parts.{and_then, word_of}
 use Rattle.pst_sexpr.specs.Reading.{max_levels}
 use Rattle.pst_sexpr.specs.declared.form.Form.{Form, out-Form}
 use Rattle.pst_sexpr.specs.declared.form.Form.TheOpen.{Form-F}
 use Rattle.pst_value.specs.declared.value.Value.{Value}
 use Rattle.pst_value.specs.declared.value.Value as value
+use Rattle.pst_words.specs.Integers.{are_digits, magnitude, integer_of}
 
--- what is made of it, where it is there
-abbrev pub made : {A B : Type 0} → Option A → (A → Option B) → Option B
-made None f = None
-made (Some a) f = f a
-
--- all from left to right, where each is made
+-- all from left to right, where each is there
 abbrev pub each : {A B : Type 0} → (A → Option B) → List A → Option (List B)
 each f [] = Some []
-each f (a ∷ more) = made (f a) (λ b. made (each f more) (λ bs. Some (b ∷ bs)))
-
-abbrev pub word_at : Form-F Form → Option (List ℕ)
-word_at (Form-F.Word word) = Some word
-word_at (Form-F.Text text) = None
-word_at (Form-F.Node parts) = None
-
--- the bytes of a word
-abbrev pub word_of : Form → Option (List ℕ)
-word_of form = word_at (out-Form form)
-
-abbrev pub node_at : Form-F Form → Option (List Form)
-node_at (Form-F.Word word) = None
-node_at (Form-F.Text text) = None
-node_at (Form-F.Node parts) = Some parts
-
--- the trees of a node
-abbrev pub node_of : Form → Option (List Form)
-node_of form = node_at (out-Form form)
+each f (a ∷ more) = and_then (f a) (λ b. and_then (each f more) (λ bs. Some (b ∷ bs)))
 
 -- the number that one to four digits spell
 abbrev pub number_in : List ℕ → Option ℕ
@@ -44,7 +22,7 @@ number_in digits = if nat_le (length digits) 4 && are_digits digits then Some (m
 abbrev pub variable_of : Bool → List ℕ → Option Value
 variable_of symbolic [] = None
 variable_of symbolic (byte ∷ digits) =
-    if symbolic && (byte == 36) then made (number_in digits) (λ number. Some (value.Var number)) else None
+    if symbolic && (byte == 36) then and_then (number_in digits) (λ number. Some (value.Var number)) else None
 
 abbrev pub integer_or : Option ℤ → Option Value → Option Value
 integer_or (Some number) other = Some (value.Int number)
@@ -60,14 +38,14 @@ word_value symbolic word =
 -- what a node is that is headed by the word
 abbrev pub tuple_or_list : (Form → Option Value) → List ℕ → List Form → Option Value
 tuple_or_list v head parts =
-    if bytes_eq head (codes "tuple") then made (each v parts) (λ vs. Some (value.Tuple vs))
-    else if bytes_eq head (codes "list") then made (each v parts) (λ vs. Some (value.List vs))
+    if bytes_eq head (codes "tuple") then and_then (each v parts) (λ vs. Some (value.Tuple vs))
+    else if bytes_eq head (codes "list") then and_then (each v parts) (λ vs. Some (value.List vs))
     else None
 
 -- a tuple or a list
 abbrev pub node_value : (Form → Option Value) → List Form → Option Value
 node_value v [] = None
-node_value v (first ∷ parts) = made (word_of first) (λ head. tuple_or_list v head parts)
+node_value v (first ∷ parts) = and_then (word_of first) (λ head. tuple_or_list v head parts)
 
 abbrev pub value_at : Bool → (Form → Option Value) → Form-F Form → Option Value
 value_at symbolic v (Form-F.Word word) = word_value symbolic word

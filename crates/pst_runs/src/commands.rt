@@ -3,12 +3,12 @@ ghost use Rattle.std.specs.Prelude.{◌≡◌, ◌++◌, IfOk, map, option_copie
 ghost use Rattle.pst_model.specs.Parts.{number_of};
 ghost use Rattle.pst_runs.specs.Commands as spec;
 
-use crate::values::{node_of, value_of, word_of};
+use crate::values::value_of;
 use pst_case::Command;
 use pst_items::{Items, Text};
 use pst_model::number_of;
 use pst_rules::Typed;
-use pst_sexpr::Form;
+use pst_sexpr::{Form, node_of, word_of};
 use pst_value::Value;
 use std::alloc::{AllocError, Global};
 

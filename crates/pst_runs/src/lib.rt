@@ -2,9 +2,7 @@
 #![tactic(auto)]
 
 mod commands;
-mod counts;
 mod fault;
-mod integers;
 mod parts;
 mod reader;
 mod reading;

@@ -3,13 +3,12 @@ ghost use Rattle.std.specs.Prelude.{◌≡◌, ◌++◌, IfOk, MatchOption, leng
 ghost use Rattle.std.specs.List.{list_all};
 ghost use Rattle.pst_runs.specs.Forms as spec;
 ghost use Rattle.pst_runs.specs.Shown.{shown_option, shown_sections};
-ghost use Rattle.pst_runs.specs.Values as values;
+ghost use Rattle.pst_sexpr.specs.Parts.{node_of};
 
 use crate::commands::{Spelled, SpelledCase, commands_of};
-use crate::values::{node_of, word_of};
 use pst_items::Items;
 use pst_rules::Typed;
-use pst_sexpr::Form;
+use pst_sexpr::{Form, node_of, word_of};
 use std::alloc::{AllocError, Global};
 
 /// A case as it is spelled, and its lists of replies, if it has them.
@@ -198,7 +197,7 @@ fn case_of(
 }
 
 fn is_node(form: &Form) -> bool
-    ensures { result ≡ spec.is_node (values.node_of form.now) }
+    ensures { result ≡ spec.is_node (node_of form.now) }
 {
     node_of(form).is_some()
 }
@@ -214,7 +213,7 @@ fn is_number_of_parts(lists: usize, sections: &Sections<'_>, case: &SpelledCase)
 }
 
 fn are_nodes(forms: &[Form]) -> bool
-    ensures { result ≡ list_all (λ form. spec.is_node (values.node_of form)) forms.now }
+    ensures { result ≡ list_all (λ form. spec.is_node (node_of form)) forms.now }
 {
     forms.iter().all(|form| is_node(form))
 }

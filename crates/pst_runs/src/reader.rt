@@ -68,9 +68,9 @@ fn item_of(alloc: Global, typed: &Typed, form: &Form) -> Result<Result<Run, Item
 
 /// Reads the runs that trees spell: `case` items without a history, and `run` items with one.
 ///
-/// The fault is that of the first refused item, numbered from 1. Each item is judged in order: its form, its limits, its
-/// commands by their numbers, the counts of its replies, and each reply. The kind is `NoMemory` where memory was
-/// refused.
+/// The fault is that of the first refused item, numbered from 1. Each item is judged in order: its form, its
+/// limits, its commands by their numbers, the counts of its replies, and each reply. The kind is `NoMemory`
+/// where memory was refused.
 #[tactic(auto, using(crate::proofs::Behind::behind))]
 pub fn read_runs(alloc: Global, typed: &Typed, trees: &[Tree]) -> Result<Vec<Run>, RunFault>
     ensures read { IfOk result (λ runs. spec.runs_of typed.now trees.now ≡ Ok runs.items) }

@@ -1,14 +1,11 @@
 //! The first fault of the commands of a case as they are spelled.
-ghost use Rattle.std.specs.Prelude.{◌≡◌, ◌<◌, ◌+◌, ◌^◌, false, IfOk, IfErr, None, Some, length, map, nat_le, ◌&&◌, MatchResult};
-ghost use Rattle.std.specs.List.{list_all};
+ghost use Rattle.std.specs.Prelude.{◌≡◌, ◌<◌, ◌+◌, ◌^◌, false, IfOk, IfErr, None, Some, length, map, MatchResult};
 ghost use Rattle.pst_case.specs.Shape.{joined};
 ghost use Rattle.pst_runs.specs.Reading as spec;
 
 use crate::commands::{Spelled, SpelledCase};
-use crate::counts::joined_len;
 use pst_case::{
-    Case, CaseFault, CaseFaultKind, Command, MAX_BRANCH, MAX_PREFIX, MAX_SUFFIX, MAX_TOGETHER,
-    Shaped, shape,
+    Case, CaseFault, CaseFaultKind, Command, Shaped, are_over_limit, joined_len, shape,
 };
 use pst_items::Items;
 use pst_rules::Typed;
@@ -113,48 +110,14 @@ fn case_unread(case: &SpelledCase) -> Option<CaseFault>
     part_unread(prefix + joined_len(branches) + 1, case.suffix.as_slice())
 }
 
-/// Whether the commands of all branches are at most so many.
-fn are_within(branches: &[Items<Spelled>], room: usize) -> bool
-    ensures { result ≡ nat_le (length (joined branches.now)) room }
-{
-    let Some((branch, branches)) = branches.split_first() else {
-        return true;
-    };
-    if branch.len() > room {
-        return false;
-    }
-    are_within(branches, room - branch.len())
-}
-
-fn are_short(branches: &[Items<Spelled>]) -> bool
-    ensures { result ≡ list_all (λ b. nat_le (length b) 8) branches.now }
-{
-    branches.iter().all(|branch| branch.len() <= MAX_BRANCH)
-}
-
-fn are_two_to_four(branches: &[Items<Spelled>]) -> bool
-    ensures { result ≡ (nat_le 2 (length branches.now) && nat_le (length branches.now) 4) }
-{
-    2 <= branches.len() && branches.len() <= 4
-}
-
 fn is_over_limit(case: &SpelledCase) -> bool
     ensures { result ≡ spec.over_limit case.now }
 {
-    let branches = case.branches.as_slice();
-    if case.prefix.len() > MAX_PREFIX {
-        return true;
-    }
-    if !are_short(branches) {
-        return true;
-    }
-    if !are_two_to_four(branches) {
-        return true;
-    }
-    if !are_within(branches, MAX_TOGETHER) {
-        return true;
-    }
-    case.suffix.len() > MAX_SUFFIX
+    are_over_limit(
+        case.prefix.as_slice(),
+        case.branches.as_slice(),
+        case.suffix.as_slice(),
+    )
 }
 
 /// Whether the command that cannot be read whole is refused before the fault of the shape.

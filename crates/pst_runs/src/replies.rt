@@ -2,14 +2,13 @@
 ghost use Rattle.std.specs.Prelude.{◌≡◌, ◌<◌, ◌+◌, ◌^◌, ◌++◌, IfOk, length, option_copied};
 ghost use Rattle.pst_case.specs.Shape.{before_suffix, joined};
 ghost use Rattle.pst_runs.specs.Replies as spec;
-ghost use Rattle.pst_runs.specs.Values as values;
+ghost use Rattle.pst_sexpr.specs.Parts.{word_of};
 
-use crate::counts::joined_len;
-use crate::values::{node_of, value_of, word_of};
-use pst_case::{Case, Command, History, Reply};
+use crate::values::value_of;
+use pst_case::{Case, Command, History, Reply, joined_len};
 use pst_items::Items;
 use pst_rules::Typed;
-use pst_sexpr::Form;
+use pst_sexpr::{Form, node_of, word_of};
 use pst_value::Value;
 use std::alloc::{AllocError, Global};
 
@@ -34,7 +33,7 @@ fn listed_at(lists: &[Form], number: usize) -> &[Form]
 }
 
 fn reply_word(form: &Form) -> Option<Reply>
-    ensures { result ≡ spec.reply_word (values.word_of form.now) }
+    ensures { result ≡ spec.reply_word (word_of form.now) }
 {
     let word = word_of(form)?;
     if word.as_str() == "misfit" {
@@ -104,8 +103,8 @@ fn replies_from(
     replies_from(alloc, typed, number + 1, read, commands, forms)
 }
 
-/// The replies of a part whose first command has the number, or the number of the first command whose tree spells
-/// no reply.
+/// The replies of a part whose first command has the number, or the number of the first command whose tree
+/// spells no reply.
 #[tactic(auto, using(crate::proofs::Behind::behind))]
 fn part_replies(
     alloc: Global,

@@ -1,35 +1,15 @@
 //! The values that trees spell.
-ghost use Rattle.std.specs.Prelude.{◌≡◌, ◌++◌, IfOk, option_copied, Some};
+ghost use Rattle.std.specs.Prelude.{◌≡◌, IfOk};
 ghost use Rattle.pst_runs.specs.Values as spec;
 
-use crate::integers::{are_digits, integer_of, magnitude};
 use pst_items::{Items, Text};
-use pst_sexpr::{Form, MAX_LEVELS};
+use pst_sexpr::{Form, MAX_LEVELS, word_of};
 use pst_value::Value;
+use pst_words::{are_digits, integer_of, magnitude_of};
 use std::alloc::{AllocError, Global};
 
 /// The most digits of a variable.
 const MAX_DIGITS: usize = 4;
-
-/// The word that a tree is.
-pub fn word_of(form: &Form) -> Option<&Text>
-    ensures { option_copied result ≡ spec.word_of form.now }
-{
-    match form {
-        Form::Word(word) => Some(word),
-        Form::Text(_) | Form::Node(_) => None,
-    }
-}
-
-/// The trees of the node that a tree is.
-pub fn node_of(form: &Form) -> Option<&[Form]>
-    ensures { option_copied result ≡ spec.node_of form.now }
-{
-    match form {
-        Form::Node(parts) => Some(parts.as_slice()),
-        Form::Text(_) | Form::Word(_) => None,
-    }
-}
 
 /// The number of a variable, by its digits.
 #[tactic(auto, using(crate::proofs::Small::small))]
@@ -39,7 +19,7 @@ fn number_of(digits: &[u8]) -> Option<u32>
     if digits.len() > MAX_DIGITS || !are_digits(digits) {
         return None;
     }
-    u32::try_from(magnitude(digits)?).ok()
+    u32::try_from(magnitude_of(digits)?).ok()
 }
 
 fn variable_of(word: &Text, symbolic: bool) -> Option<Value>

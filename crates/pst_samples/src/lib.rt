@@ -21,6 +21,3 @@ pub use queue::{Queue, ROOM};
 pub use racy::Racy;
 pub use registry::Registry;
 pub use stuck::Stuck;
-
-#[cfg(test)]
-mod tests;

@@ -1,7 +1,8 @@
--- The parts of a tree.
-use Rattle.std.specs.Prelude.{ℕ, Bool, true, false, List, Option, Some, None}
+-- The parts of a tree, and the node of its parts.
+use Rattle.std.specs.Prelude.{ℕ, Bool, true, false, List, ◌∷◌, Option, Some, None}
 use Rattle.pst_sexpr.specs.declared.form.Form.{Form, out-Form}
 use Rattle.pst_sexpr.specs.declared.form.Form.TheOpen.{Form-F}
+use Rattle.pst_sexpr.specs.declared.form.Form.TheVariants.{Word, Node}
 
 abbrev pub word_at : Form-F Form → Option (List ℕ)
 word_at (Form-F.Word word) = Some word
@@ -20,6 +21,10 @@ node_at (Form-F.Node parts) = Some parts
 -- the trees of a node
 abbrev pub node_of : Form → Option (List Form)
 node_of form = node_at (out-Form form)
+
+-- a node of a word and then other trees
+abbrev pub headed : List ℕ → List Form → Form
+headed word parts = Node (Word word ∷ parts)
 
 -- what a function gives for what stands there, if something does
 abbrev pub and_then : {A B : Type 0} → Option A → (A → Option B) → Option B

@@ -6,8 +6,9 @@ use Rattle.std.specs.Str.{bytes_eq}
 use Rattle.pst_eval.proofs.Fitting.{Fit, FitAll, Agrees, frame_agrees}
 use Rattle.pst_eval.proofs.Operating.{turn_by}
 use Rattle.pst_eval.proofs.Sound.{sound}
-use Rattle.pst_eval.proofs.Table.{FunctionsWell, functions_well, functions_fit, all_well, well_operation, well_opening, well_calls, marked, state_from, frame_of, ref_of, the_operation, pre_by, by_not_stuck}
+use Rattle.pst_eval.proofs.Table.{FunctionsWell, functions_well, functions_fit, all_well, well_opening, well_calls, marked, state_from, frame_of, ref_of, the_operation, pre_by, by_not_stuck}
 use Rattle.pst_eval.specs.Callbacks.{max_turns, at_names, of_expr, init_of, command_of, pre_in, pre_of, next_in, next_of, PreFits, NextFits}
+use Rattle.pst_rules.proofs.Operations.{well_operation}
 use Rattle.pst_rules.specs.Fitting.{is_state}
 use Rattle.pst_meaning.specs.Meaning.{Env, called, frame}
 use Rattle.pst_model.specs.Parts.{operation_of, parameters_of, types_of}
@@ -120,7 +121,7 @@ module _ (rs : List (Option Value)) where
         → pre_in m (Some o) (S s) (map S args) ≡ substituted_outcome rs (pre_in m (Some o) s args)
     pre_in-commutes m op o s args w e h =
         ap (λ env. at_names m o.pre ((name_s, S s) ∷ env)) (frame_commutes o.params args)
-        ∙ names_commute m o.pre (pre_context w.state o) ty.Bool ((name_s, s) ∷ frame o.params args) w (well_operation m.items w.state [] m.items op o w.well e).pre
+        ∙ names_commute m o.pre (pre_context w.state o) ty.Bool ((name_s, s) ∷ frame o.params args) w (well_operation m op o w e).pre
         (record { name = refl; here = state_from free vars m w s h.state; outer = frame_of free vars m o op args e h.arguments })
 
     pub pre_commutes : (m : Source) (op : ℕ) (s : Value) (args : List Value) → WellModel m → PreFits m op s args free vars → pre_of m op (S s) (map S args) ≡ pre_of m op s args
@@ -134,7 +135,7 @@ module _ (rs : List (Option Value)) where
         → next_in m (Some o) (S s) (map S args) (S r) ≡ substituted_outcome rs (next_in m (Some o) s args r)
     next_in-commutes m op o s args r w e h =
         ap (λ env. at_names m o.next ((name_r, S r) ∷ (name_s, S s) ∷ env)) (frame_commutes o.params args)
-        ∙ names_commute m o.next (next_context w.state o) w.state ((name_r, r) ∷ (name_s, s) ∷ frame o.params args) w (well_operation m.items w.state [] m.items op o w.well e).next
+        ∙ names_commute m o.next (next_context w.state o) w.state ((name_r, r) ∷ (name_s, s) ∷ frame o.params args) w (well_operation m op o w e).next
         (record { name = refl; here = ref_of free vars m o op r e h.result; outer = record { name = refl; here = state_from free vars m w s h.state; outer = frame_of free vars m o op args e h.arguments } })
 
     pub next_commutes : (m : Source) (op : ℕ) (s : Value) (args : List Value) (r : Value) → WellModel m → NextFits m op s args r free vars

@@ -1,18 +1,18 @@
 -- The refusal is the first fault.
 use Rattle.std.proofs.Common.{◌≡◌, ℕ, zero, suc, Bool, true, false, List, [], ◌∷◌, ◌++◌, length, map, Option, Some, None, Ok, Err, refl, sym, ap, ◌∙◌, append_assoc}
-use Rattle.std.specs.Prelude.{nat_le}
+use Rattle.std.specs.Prelude.{nat_le, if◌then◌else◌}
 use Rattle.std.specs.Str.{bytes_eq}
 use Rattle.pst_sexpr.specs.declared.form.Form.{Form}
 use Rattle.pst_syntax.specs.declared.fault.FaultKind.{FaultKind}
-use Rattle.pst_syntax.specs.declared.fault.FaultKind.TheVariants.{OverLimit}
+use Rattle.pst_syntax.specs.declared.fault.FaultKind.TheVariants.{UnknownForm, OverLimit}
 use Rattle.pst_value.specs.declared.ty.Ty.{Ty}
 use Rattle.pst_model.specs.declared.expr.Expr.{Expr}
 use Rattle.pst_model.specs.declared.expr.Expr as expr
-use Rattle.pst_syntax.specs.Names.{is_free, is_short}
+use Rattle.pst_syntax.specs.Names.{is_free, is_short, is_used_operation}
 use Rattle.pst_words.specs.Integers.{value}
 use Rattle.pst_value.specs.Text.{is_i64}
 use Rattle.pst_syntax.specs.Shape.{Shape, TyShape, ClauseShape, Integer, Truth, Quoted, Used, Let, If, And, Or, Unary, Binary, Tuple, At, ListOf, For, Fold, Call, Apply, IntType, BoolType, TextType, CallType, TupleType, ListType, RefType, InEach, WhenTrue, shape_of, ty_shape, clause_shape}
-use Rattle.pst_syntax.specs.Reading.{Read, ◌>>=◌, known, within, each, declared, bound, bound_beside, int_of, text_of, item_at, ty_of, expr_of, clause_of, ty_parts, expr_parts, clause_parts, are_few}
+use Rattle.pst_syntax.specs.Reading.{Read, ◌>>=◌, known, within, each, declared, bound, bound_beside, used_operation, int_of, text_of, item_at, ty_of, expr_of, clause_of, ty_parts, expr_parts, clause_parts, are_few}
 use Rattle.pst_syntax.specs.Limits.{max_text, ty_room}
 use Rattle.pst_syntax.specs.Faults.{Part, Declared, Place, OfType, Expression, Clause, parts, fits, ty_fits, name_faults, place_faults, unless, faults_of, all_faults, part_faults, clause_faults, none, ty_faults, expr_faults, first, refusal}
 use Rattle.pst_syntax.specs.Faults as faults
@@ -101,6 +101,10 @@ place_same e word = limited (is_i64 (value word)) (Ok _) [] refl
 text_same : (text : List ℕ) → Same (text_of text) (unless (nat_le (length text) max_text) OverLimit [])
 text_same text = limited (nat_le (length text) max_text) (Ok _) [] refl
 
+used_same : (b : Bool) (word : List ℕ) → Same (if b then Ok word else Err UnknownForm) (unless b UnknownForm [])
+used_same true word = refl
+used_same false word = refl
+
 -- two expressions, and then nothing
 two : (e : Form → Read Expr) (ks : Form → List FaultKind) → ((f : Form) → Same (e f) (ks f)) → (a b : Form) (make : Expr → Expr → Expr)
     → Same (e a >>= (λ a. e b >>= (λ b. Ok (make a b)))) (ks a ++ (ks b ++ []))
@@ -132,7 +136,9 @@ expr_parts_same t tks ht e ks h (Fold x a acc i b) =
     onward (e a) _ (ks a) _ (h a) (λ a.
     onward (bound_beside x acc) _ (name_faults (is_free acc) (bytes_eq x acc) acc) _ (declared_same (is_free acc) (bytes_eq x acc) acc) (λ acc.
     two e ks h i b (λ i b. expr.Fold y a acc i b))))
-expr_parts_same t tks ht e ks h (Call op es) = done (each e es) _ _ (each_same e (part_faults (clause_faults ks) tks ks) Expression h es)
+expr_parts_same t tks ht e ks h (Call op es) =
+    onward (used_operation op) _ (unless (is_used_operation op) UnknownForm []) _ (used_same (is_used_operation op) op)
+    (λ op. done (each e es) _ _ (each_same e (part_faults (clause_faults ks) tks ks) Expression h es))
 expr_parts_same t tks ht e ks h (Apply f es) = done (each e es) _ _ (each_same e (part_faults (clause_faults ks) tks ks) Expression h es)
 
 pub expr_same : (room : ℕ) (f : Form) → Same (expr_of room f) (expr_faults room f)

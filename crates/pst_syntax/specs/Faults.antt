@@ -5,7 +5,7 @@ use Rattle.std.specs.Str.{bytes_eq}
 use Rattle.pst_sexpr.specs.declared.form.Form.{Form}
 use Rattle.pst_syntax.specs.declared.fault.FaultKind.{FaultKind}
 use Rattle.pst_syntax.specs.declared.fault.FaultKind.TheVariants.{UnknownForm, BadName, DoubleName, OverLimit}
-use Rattle.pst_syntax.specs.Names.{is_free, is_short}
+use Rattle.pst_syntax.specs.Names.{is_free, is_short, is_used_operation}
 use Rattle.pst_words.specs.Integers.{value}
 use Rattle.pst_value.specs.Text.{is_i64}
 use Rattle.pst_syntax.specs.Shape.{Shape, TyShape, ClauseShape, Integer, Truth, Quoted, Used, Let, If, And, Or, Unary, Binary, Tuple, At, ListOf, For, Fold, Call, Apply, IntType, BoolType, TextType, CallType, TupleType, ListType, RefType, InEach, WhenTrue, shape_of, ty_shape, clause_shape}
@@ -18,6 +18,8 @@ pub data Part : Type 0 where
   Declared : Bool → Bool → List ℕ → Part
   -- the place of an item
   Place : List ℕ → Part
+  -- the name of an operation where it is used
+  Operation : List ℕ → Part
   OfType : Form → Part
   Expression : Form → Part
   Clause : Form → Part
@@ -44,7 +46,7 @@ parts (ListOf t es) = OfType t ∷ map Expression es
 parts (For cs b) = map Clause cs ++ Expression b ∷ []
 parts (Fold x e acc i b) =
     Bound x ∷ Expression e ∷ Declared (is_free acc) (bytes_eq x acc) acc ∷ Expression i ∷ Expression b ∷ []
-parts (Call op es) = map Expression es
+parts (Call op es) = Operation op ∷ map Expression es
 parts (Apply f es) = map Expression es
 
 abbrev pub ty_parts : TyShape → List Part
@@ -101,6 +103,7 @@ abbrev pub part_faults : (Form → List FaultKind) → (Form → List FaultKind)
     List FaultKind
 part_faults c t e (Declared is_lawful is_taken word) = name_faults is_lawful is_taken word
 part_faults c t e (Place word) = place_faults word
+part_faults c t e (Operation word) = unless (is_used_operation word) UnknownForm []
 part_faults c t e (OfType form) = t form
 part_faults c t e (Expression form) = e form
 part_faults c t e (Clause form) = c form

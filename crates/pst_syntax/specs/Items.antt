@@ -85,6 +85,10 @@ all_callbacks callbacks =
     there callbacks.pre >>= (λ pre. there callbacks.next >>= (λ next. there callbacks.post >>= (λ post.
     Ok (record { pre = pre; next = next; post = post }))))
 
+-- the callbacks that trees spell, none missing
+abbrev pub whole_callbacks : List Form → Read AllCallbacks
+whole_callbacks forms = callbacks_from no_callbacks forms >>= all_callbacks
+
 -- ---- items
 
 abbrev pub is_state : Item → Bool
@@ -129,7 +133,7 @@ abbrev pub op_parts : List Item → List ℕ → List Form → Form → List For
 op_parts seen x ps t callbacks =
     declared (is_name x) (list_any (is_op_named x) seen) x
     >>= (λ x. params_of ps >>= (λ ps. whole_ty t >>= (λ t.
-    callbacks_from no_callbacks callbacks >>= all_callbacks >>= (λ all.
+    whole_callbacks callbacks >>= (λ all.
     Ok (record { name = x; params = ps; result = t; pre = all.pre; next = all.next; post = all.post })))))
 
 -- an item after others

@@ -1,5 +1,5 @@
 -- Reading expressions, types and clauses: each tree before its parts, the parts from left to right.
-use Rattle.std.specs.Prelude.{ℕ, zero, suc, nat_le, Bool, true, false, List, [], ◌∷◌, length, Option, Some, None, Result, Ok, Err, ◌≡◌, ◌⊎◌}
+use Rattle.std.specs.Prelude.{ℕ, zero, suc, nat_le, Bool, true, false, if◌then◌else◌, List, [], ◌∷◌, length, Option, Some, None, Result, Ok, Err, ◌≡◌, ◌⊎◌}
 use Rattle.std.specs.Str.{bytes_eq}
 use Rattle.pst_sexpr.specs.declared.form.Form.{Form}
 use Rattle.pst_value.specs.declared.ty.Ty.{Ty}
@@ -10,7 +10,7 @@ use Rattle.pst_model.specs.declared.expr.Clause.{Clause}
 use Rattle.pst_model.specs.declared.expr.Clause as clause
 use Rattle.pst_syntax.specs.declared.fault.FaultKind.{FaultKind}
 use Rattle.pst_syntax.specs.declared.fault.FaultKind.TheVariants.{UnknownForm, BadName, DoubleName, OverLimit, NoMemory}
-use Rattle.pst_syntax.specs.Names.{is_free, is_short}
+use Rattle.pst_syntax.specs.Names.{is_free, is_short, is_used_operation}
 use Rattle.pst_words.specs.Integers.{value}
 use Rattle.pst_value.specs.Text.{is_i64}
 use Rattle.pst_syntax.specs.Places.{natural}
@@ -62,6 +62,10 @@ bound word = declared (is_free word) false word
 -- a bound name that stands beside another one
 abbrev pub bound_beside : List ℕ → List ℕ → Read (List ℕ)
 bound_beside other word = declared (is_free word) (bytes_eq other word) word
+
+-- the name of an operation where it is used
+abbrev pub used_operation : List ℕ → Read (List ℕ)
+used_operation word = if is_used_operation word then Ok word else Err UnknownForm
 
 -- an integer of 64 bits
 abbrev pub int_of : List ℕ → Read Expr
@@ -121,7 +125,7 @@ expr_parts t e (For cs b) =
 expr_parts t e (Fold x a acc i b) =
     bound x >>= (λ y. e a
     >>= (λ a. bound_beside x acc >>= (λ acc. e i >>= (λ i. e b >>= (λ b. Ok (expr.Fold y a acc i b))))))
-expr_parts t e (Call op es) = each e es >>= (λ es. Ok (expr.Call op es))
+expr_parts t e (Call op es) = used_operation op >>= (λ op. each e es >>= (λ es. Ok (expr.Call op es)))
 expr_parts t e (Apply f es) = each e es >>= (λ es. Ok (expr.Apply f es))
 
 -- an expression with so many levels of room; a type in it starts anew

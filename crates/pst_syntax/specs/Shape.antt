@@ -9,7 +9,7 @@ use Rattle.pst_model.specs.declared.expr.Binary.{Binary as BinaryOp}
 use Rattle.pst_syntax.specs.declared.heads.Head.{Head}
 use Rattle.pst_syntax.specs.declared.heads.Head.TheVariants as head
 use Rattle.pst_syntax.specs.Heads.{head_of}
-use Rattle.pst_syntax.specs.Names.{is_used, is_used_operation}
+use Rattle.pst_syntax.specs.Names.{is_used}
 use Rattle.pst_syntax.specs.Places.{is_place}
 use Rattle.pst_words.specs.Integers.{is_integer}
 
@@ -59,7 +59,7 @@ headed head.List (t ∷ es) = Some (ListOf t es)
 headed head.For (cs ∷ b ∷ []) = and_then (node_of cs) (λ cs. and_then (some_of cs) (λ cs. Some (For cs b)))
 headed head.Fold (x ∷ e ∷ acc ∷ i ∷ b ∷ []) =
     and_then (word_of x) (λ x. and_then (word_of acc) (λ acc. Some (Fold x e acc i b)))
-headed head.Call (op ∷ es) = and_then (word_of op) (λ op. where_true (is_used_operation op) (Call op es))
+headed head.Call (op ∷ es) = and_then (word_of op) (λ op. Some (Call op es))
 headed _ _ = None
 
 -- another word applies a function

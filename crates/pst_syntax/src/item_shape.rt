@@ -91,26 +91,38 @@ fn op_shape(parts: &[Form]) -> Option<ItemShape<'_>>
     }))
 }
 
+fn state_shape(parts: &[Form]) -> Option<ItemShape<'_>>
+    ensures { shown_item_option result ≡ spec.single parts.now spec.StateItem }
+{
+    let [ty] = parts else { return None };
+    Some(ItemShape::State(ty))
+}
+
+fn init_shape(parts: &[Form]) -> Option<ItemShape<'_>>
+    ensures { shown_item_option result ≡ spec.single parts.now spec.InitItem }
+{
+    let [value] = parts else { return None };
+    Some(ItemShape::Init(value))
+}
+
+fn command_shape(parts: &[Form]) -> Option<ItemShape<'_>>
+    ensures { shown_item_option result ≡ spec.single parts.now spec.CommandItem }
+{
+    let [calls] = parts else { return None };
+    Some(ItemShape::Command(calls))
+}
+
 fn item_headed<'a>(word: &str, parts: &'a [Form]) -> Option<ItemShape<'a>>
     ensures { shown_item_option result ≡ spec.item_headed word.now parts.now }
 {
-    if word == "state" {
-        let [ty] = parts else { return None };
-        Some(ItemShape::State(ty))
-    } else if word == "init" {
-        let [value] = parts else { return None };
-        Some(ItemShape::Init(value))
-    } else if word == "command" {
-        let [calls] = parts else { return None };
-        Some(ItemShape::Command(calls))
-    } else if word == "fun" {
-        fun_shape(false, parts)
-    } else if word == "postfun" {
-        fun_shape(true, parts)
-    } else if word == "op" {
-        op_shape(parts)
-    } else {
-        None
+    match word {
+        "state" => state_shape(parts),
+        "init" => init_shape(parts),
+        "command" => command_shape(parts),
+        "fun" => fun_shape(false, parts),
+        "postfun" => fun_shape(true, parts),
+        "op" => op_shape(parts),
+        _ => None,
     }
 }
 

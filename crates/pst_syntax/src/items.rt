@@ -3,7 +3,7 @@
 ghost use Rattle.std.specs.Prelude.{◌≡◌};
 ghost use Rattle.std.specs.List.{list_any, count_by};
 ghost use Rattle.pst_syntax.specs.Items as spec;
-ghost use Rattle.pst_syntax.specs.ItemShape.{callback_shape};
+ghost use Rattle.pst_syntax.specs.ItemShape.{callback_shape, param_shape};
 ghost use Rattle.pst_syntax.specs.Reading.{Gives, known, once};
 ghost use Rattle.pst_syntax.specs.declared.fault.FaultKind.TheVariants.{Missing};
 ghost use Rattle.std.specs.Option.{ok_or};
@@ -54,6 +54,16 @@ fn param_of(alloc: Global, params: &[Param], shape: &ParamShape<'_>) -> Result<P
     Ok(Param { name, ty })
 }
 
+/// The parameter that a tree spells, behind others.
+fn known_param(alloc: Global, params: &[Param], form: &Form) -> Result<Param, FaultKind>
+    ensures { Gives result (known (param_shape form.now) (spec.param_of params.now)) }
+{
+    match param_shape(form) {
+        Some(shape) => param_of(alloc, params, &shape),
+        None => Err(FaultKind::UnknownForm),
+    }
+}
+
 fn params_of(alloc: Global, forms: &[Form]) -> Result<Items<Param>, FaultKind>
     ensures { Gives result (spec.params_of forms.now) }
 {
@@ -62,10 +72,7 @@ fn params_of(alloc: Global, forms: &[Form]) -> Result<Items<Param>, FaultKind>
     }
     let mut params = Items::new(alloc);
     for form in forms {
-        let Some(shape) = param_shape(form) else {
-            return Err(FaultKind::UnknownForm);
-        };
-        params.push(param_of(alloc, params.as_slice(), &shape)?)?;
+        params.push(known_param(alloc, params.as_slice(), form)?)?;
     }
     Ok(params)
 }
@@ -155,6 +162,13 @@ fn all_callbacks(callbacks: Callbacks) -> Option<AllCallbacks>
         next: next.into_inner(),
         post: post.into_inner(),
     })
+}
+
+/// The callbacks that trees spell, of which none is missing.
+fn whole_callbacks(alloc: Global, forms: &[Form]) -> Result<AllCallbacks, FaultKind>
+    ensures { Gives result (spec.whole_callbacks forms.now) }
+{
+    all_callbacks(callbacks_of(alloc, forms)?).ok_or(FaultKind::Missing)
 }
 
 /// Whether some item gives the type of the state: `(state ..)`.
@@ -258,8 +272,7 @@ fn op_parts(alloc: Global, seen: &[Item], shape: &OpShape<'_>) -> Result<Op, Fau
     let name = declared(alloc, is_name(shape.name), is_taken, shape.name)?;
     let params = params_of(alloc, shape.params)?;
     let result = whole_ty(alloc, shape.result)?;
-    let callbacks = all_callbacks(callbacks_of(alloc, shape.callbacks)?);
-    let AllCallbacks { pre, next, post } = callbacks.ok_or(FaultKind::Missing)?;
+    let AllCallbacks { pre, next, post } = whole_callbacks(alloc, shape.callbacks)?;
     Ok(Op {
         name,
         params,

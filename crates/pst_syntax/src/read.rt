@@ -1,16 +1,18 @@
 //! Reading expressions, types and clauses.
 
 ghost use Rattle.std.specs.Option.{ok_or};
-ghost use Rattle.std.specs.Prelude.{◌≡◌, ◌-◌, ◌<◌};
+ghost use Rattle.std.specs.Prelude.{◌≡◌, ◌-◌, ◌<◌, Ok};
+ghost use Rattle.pst_model.specs.declared.expr.Expr as expr;
 ghost use Rattle.pst_syntax.specs.declared.fault.FaultKind.TheVariants.{OverLimit};
 ghost use Rattle.pst_syntax.specs.Limits.{ty_room};
 ghost use Rattle.pst_syntax.specs.Reading as spec;
 ghost use Rattle.pst_syntax.specs.Reading.{Gives};
+ghost use Rattle.pst_syntax.specs.Shape.{Fold, For, If, Let, ListOf};
 ghost use Rattle.pst_syntax.specs.Shown.{shown, shown_ty, shown_clause};
 
 use crate::fault::FaultKind;
 use crate::limits::{MAX_PARTS, MAX_TY_LEVELS};
-use crate::names::{declared, is_free};
+use crate::names::{declared, is_free, is_used_operation};
 use crate::shape::{Shape, shape_of};
 use crate::ty_shape::{ClauseShape, TyShape, clause_shape, ty_shape};
 use pst_items::{Boxed, Items, Text};
@@ -32,6 +34,16 @@ fn bound_beside(alloc: Global, other: &Text, name: &Text) -> Result<Text, FaultK
     ensures { Gives result (spec.bound_beside other.now name.now) }
 {
     declared(alloc, is_free(name), other.as_str() == name.as_str(), name)
+}
+
+/// The name of an operation where it is used.
+fn used_operation(alloc: Global, name: &Text) -> Result<Text, FaultKind>
+    ensures { Gives result (spec.used_operation name.now) }
+{
+    if !is_used_operation(name) {
+        return Err(FaultKind::UnknownForm);
+    }
+    Ok(name.copy(alloc)?)
 }
 
 /// An integer, where it has at most 64 bits.
@@ -56,6 +68,13 @@ fn item_at(tuple: Boxed<Expr>, place: &Text) -> Option<Expr>
 {
     let place = value_of(place)?;
     Some(Expr::At(tuple, place.max(0) as u64))
+}
+
+/// An application of a function.
+fn application(alloc: Global, function: &Text, arguments: Items<Expr>) -> Result<Expr, FaultKind>
+    ensures { Gives result (Ok (expr.Apply function.now arguments)) }
+{
+    Ok(Expr::Apply(function.copy(alloc)?, arguments))
 }
 
 /// A type, with so many levels of room.
@@ -129,16 +148,8 @@ fn expr_parts(alloc: Global, shape: &Shape<'_>, room: usize) -> Result<Expr, Fau
         Shape::Truth(truth) => Ok(Expr::Bool(*truth)),
         Shape::Quoted(bytes) => text(alloc, bytes),
         Shape::Used(name) => Ok(Expr::Name(name.copy(alloc)?)),
-        Shape::Let(name, value, body) => {
-            let name = bound(alloc, name)?;
-            let value = boxed(alloc, value, room)?;
-            Ok(Expr::Let(name, value, boxed(alloc, body, room)?))
-        }
-        Shape::If(test, yes, no) => {
-            let test = boxed(alloc, test, room)?;
-            let yes = boxed(alloc, yes, room)?;
-            Ok(Expr::If(test, yes, boxed(alloc, no, room)?))
-        }
+        Shape::Let(name, value, body) => let_in(alloc, name, value, body, room),
+        Shape::If(test, yes, no) => choice(alloc, test, yes, no, room),
         Shape::And(a, b) => {
             let a = boxed(alloc, a, room)?;
             Ok(Expr::And(a, boxed(alloc, b, room)?))
@@ -161,31 +172,17 @@ fn expr_parts(alloc: Global, shape: &Shape<'_>, room: usize) -> Result<Expr, Fau
         Shape::At(tuple, place) => {
             item_at(boxed(alloc, tuple, room)?, place).ok_or(FaultKind::OverLimit)
         }
-        Shape::List(item, items) => {
-            let item = ty(alloc, item, MAX_TY_LEVELS)?;
-            Ok(Expr::List(item, exprs(alloc, items, room)?))
-        }
-        Shape::For(parts, body) => {
-            if parts.len() > MAX_PARTS {
-                return Err(FaultKind::OverLimit);
-            }
-            let clauses = clauses(alloc, parts, room)?;
-            Ok(Expr::For(clauses, boxed(alloc, body, room)?))
-        }
+        Shape::List(item, items) => list(alloc, item, items, room),
+        Shape::For(parts, body) => comprehension(alloc, parts, body, room),
         Shape::Fold(name, list, built, first, body) => {
-            let new_name = bound(alloc, name)?;
-            let list = boxed(alloc, list, room)?;
-            let built = bound_beside(alloc, name, built)?;
-            let first = boxed(alloc, first, room)?;
-            Ok(Expr::Fold(new_name, list, built, first, boxed(alloc, body, room)?))
+            fold(alloc, name, list, built, first, body, room)
         }
         Shape::Call(operation, arguments) => {
-            let arguments = exprs(alloc, arguments, room)?;
-            Ok(Expr::Call(operation.copy(alloc)?, arguments))
+            let operation = used_operation(alloc, operation)?;
+            Ok(Expr::Call(operation, exprs(alloc, arguments, room)?))
         }
         Shape::Apply(function, arguments) => {
-            let arguments = exprs(alloc, arguments, room)?;
-            Ok(Expr::Apply(function.copy(alloc)?, arguments))
+            application(alloc, function, exprs(alloc, arguments, room)?)
         }
     }
 }
@@ -195,6 +192,79 @@ fn boxed(alloc: Global, form: &Form, room: usize) -> Result<Boxed<Expr>, FaultKi
     ensures { Gives result (spec.expr_of room form.now) }
 {
     Ok(Boxed::new(alloc, expr(alloc, form, room)?)?)
+}
+
+/// A list of items of a type.
+#[cycle(expr)]
+fn list(alloc: Global, item: &Form, items: &[Form], room: usize) -> Result<Expr, FaultKind>
+    ensures { Gives result
+        (spec.expr_parts (spec.ty_of ty_room) (spec.expr_of room) (ListOf item.now items.now)) }
+{
+    let item = ty(alloc, item, MAX_TY_LEVELS)?;
+    Ok(Expr::List(item, exprs(alloc, items, room)?))
+}
+
+/// A body that sees a value under a name.
+#[cycle(expr)]
+fn let_in(
+    alloc: Global,
+    name: &Text,
+    value: &Form,
+    body: &Form,
+    room: usize,
+) -> Result<Expr, FaultKind>
+    ensures { Gives result
+        (spec.expr_parts (spec.ty_of ty_room) (spec.expr_of room) (Let name.now value.now body.now)) }
+{
+    let name = bound(alloc, name)?;
+    let value = boxed(alloc, value, room)?;
+    Ok(Expr::Let(name, value, boxed(alloc, body, room)?))
+}
+
+/// One of two expressions, by a test.
+#[cycle(expr)]
+fn choice(alloc: Global, test: &Form, yes: &Form, no: &Form, room: usize) -> Result<Expr, FaultKind>
+    ensures { Gives result
+        (spec.expr_parts (spec.ty_of ty_room) (spec.expr_of room) (If test.now yes.now no.now)) }
+{
+    let test = boxed(alloc, test, room)?;
+    let yes = boxed(alloc, yes, room)?;
+    Ok(Expr::If(test, yes, boxed(alloc, no, room)?))
+}
+
+/// A comprehension.
+#[cycle(expr)]
+fn comprehension(alloc: Global, parts: &[Form], body: &Form, room: usize) -> Result<Expr, FaultKind>
+    ensures { Gives result
+        (spec.expr_parts (spec.ty_of ty_room) (spec.expr_of room) (For parts.now body.now)) }
+{
+    if parts.len() > MAX_PARTS {
+        return Err(FaultKind::OverLimit);
+    }
+    let clauses = clauses(alloc, parts, room)?;
+    Ok(Expr::For(clauses, boxed(alloc, body, room)?))
+}
+
+/// A fold over a list.
+#[cycle(expr)]
+fn fold(
+    alloc: Global,
+    name: &Text,
+    list: &Form,
+    built: &Text,
+    first: &Form,
+    body: &Form,
+    room: usize,
+) -> Result<Expr, FaultKind>
+    ensures { Gives result
+        (spec.expr_parts (spec.ty_of ty_room) (spec.expr_of room)
+        (Fold name.now list.now built.now first.now body.now)) }
+{
+    let new_name = bound(alloc, name)?;
+    let list = boxed(alloc, list, room)?;
+    let built = bound_beside(alloc, name, built)?;
+    let first = boxed(alloc, first, room)?;
+    Ok(Expr::Fold(new_name, list, built, first, boxed(alloc, body, room)?))
 }
 
 #[cycle(expr)]

@@ -1,14 +1,14 @@
 //! What a tree is as an expression, one level deep.
 
-ghost use Rattle.std.specs.Prelude.{◌≡◌, option_copied};
-ghost use Rattle.pst_syntax.specs.Places.{is_place};
-ghost use Rattle.pst_syntax.specs.Names.{is_used_operation};
+ghost use Rattle.std.specs.Prelude.{◌≡◌, ◌∷◌, [], option_copied};
 ghost use Rattle.pst_sexpr.specs.Parts.{where_true};
+ghost use Rattle.pst_syntax.specs.Places.{is_place};
+ghost use Rattle.pst_syntax.specs.declared.heads.Head.TheVariants as head;
 ghost use Rattle.pst_syntax.specs.Shape as spec;
 ghost use Rattle.pst_syntax.specs.Shown.{shown_option};
 
 use crate::heads::{Head, head_of};
-use crate::names::{is_used, is_used_operation};
+use crate::names::is_used;
 use crate::place::is_place;
 use pst_items::Text;
 use pst_model as model;
@@ -65,9 +65,16 @@ fn word_shape(word: &Text) -> Option<Shape<'_>>
     None
 }
 
-fn at_shape<'a>(tuple: &'a Form, place: &'a Text) -> Option<Shape<'a>>
-    ensures { shown_option result ≡ where_true (is_place place.now) (spec.At tuple.now place.now) }
+fn let_shape<'a>(name: &'a Form, value: &'a Form, body: &'a Form) -> Option<Shape<'a>>
+    ensures { shown_option result ≡ spec.headed head.Let (name.now ∷ value.now ∷ body.now ∷ []) }
 {
+    Some(Shape::Let(word_of(name)?, value, body))
+}
+
+fn at_shape<'a>(tuple: &'a Form, place: &'a Form) -> Option<Shape<'a>>
+    ensures { shown_option result ≡ spec.headed head.At (tuple.now ∷ place.now ∷ []) }
+{
+    let place = word_of(place)?;
     if is_place(place) {
         Some(Shape::At(tuple, place))
     } else {
@@ -75,39 +82,40 @@ fn at_shape<'a>(tuple: &'a Form, place: &'a Text) -> Option<Shape<'a>>
     }
 }
 
-fn call_shape<'a>(operation: &'a Text, arguments: &'a [Form]) -> Option<Shape<'a>>
-    ensures { shown_option result ≡
-        where_true (is_used_operation operation.now) (spec.Call operation.now arguments.now) }
+fn for_shape<'a>(clauses: &'a Form, body: &'a Form) -> Option<Shape<'a>>
+    ensures { shown_option result ≡ spec.headed head.For (clauses.now ∷ body.now ∷ []) }
 {
-    if is_used_operation(operation) {
-        Some(Shape::Call(operation, arguments))
-    } else {
-        None
-    }
+    Some(Shape::For(some_of(node_of(clauses)?)?, body))
+}
+
+fn fold_shape(parts: &[Form]) -> Option<Shape<'_>>
+    ensures { shown_option result ≡ spec.headed head.Fold parts.now }
+{
+    let [name, list, built, first, body] = parts else {
+        return None;
+    };
+    let name = word_of(name)?;
+    Some(Shape::Fold(name, list, word_of(built)?, first, body))
 }
 
 fn headed(head: Head, parts: &[Form]) -> Option<Shape<'_>>
     ensures { shown_option result ≡ spec.headed head parts.now }
 {
     match (head, parts) {
-        (Head::Let, [name, value, body]) => Some(Shape::Let(word_of(name)?, value, body)),
+        (Head::Let, [name, value, body]) => let_shape(name, value, body),
         (Head::If, [test, yes, no]) => Some(Shape::If(test, yes, no)),
         (Head::And, [a, b]) => Some(Shape::And(a, b)),
         (Head::Or, [a, b]) => Some(Shape::Or(a, b)),
         (Head::Unary(operator), [a]) => Some(Shape::Unary(operator, a)),
         (Head::Binary(operator), [a, b]) => Some(Shape::Binary(operator, a, b)),
         (Head::Tuple, items) => Some(Shape::Tuple(some_of(items)?)),
-        (Head::At, [tuple, place]) => at_shape(tuple, word_of(place)?),
+        (Head::At, [tuple, place]) => at_shape(tuple, place),
         (Head::List, [ty, items @ ..]) => Some(Shape::List(ty, items)),
-        (Head::For, [clauses, body]) => Some(Shape::For(some_of(node_of(clauses)?)?, body)),
-        (Head::Fold, [name, list, built, first, body]) => Some(Shape::Fold(
-            word_of(name)?,
-            list,
-            word_of(built)?,
-            first,
-            body,
-        )),
-        (Head::Call, [operation, arguments @ ..]) => call_shape(word_of(operation)?, arguments),
+        (Head::For, [clauses, body]) => for_shape(clauses, body),
+        (Head::Fold, parts) => fold_shape(parts),
+        (Head::Call, [operation, arguments @ ..]) => {
+            Some(Shape::Call(word_of(operation)?, arguments))
+        }
         _ => None,
     }
 }

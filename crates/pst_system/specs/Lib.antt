@@ -1,2 +1,3 @@
+-- what the public contracts cite
 pub mod FaultName
 pub mod Kept

@@ -1,4 +1,4 @@
-//! What is told of a text, in words.
+//! The answers of the crates below for a text, in words.
 
 use pst_case::{Run, shape};
 use pst_cli::{Status, check_text, judge_text};
@@ -7,7 +7,7 @@ use pst_judge::verdict;
 use pst_load::load;
 use pst_rules::Typed;
 use pst_runs::read_runs;
-use pst_sexpr::read;
+use pst_sexpr::{Tree, read};
 use pst_sink::Out;
 use pst_syntax::read_model;
 use pst_value::Value;
@@ -29,7 +29,7 @@ pub enum Question {
 }
 
 /// The number of trees that the bytes spell, or the first fault.
-pub fn trees_told(alloc: Global, bytes: &[u8]) -> Result<String, AllocError> {
+pub fn trees_answer(alloc: Global, bytes: &[u8]) -> Result<String, AllocError> {
     match read(alloc, bytes) {
         Ok(trees) => {
             let count = trees.len();
@@ -39,18 +39,22 @@ pub fn trees_told(alloc: Global, bytes: &[u8]) -> Result<String, AllocError> {
     }
 }
 
-fn form_told(alloc: Global, text: &str) -> Result<String, AllocError> {
+fn model_answer(alloc: Global, trees: &[Tree]) -> Result<String, AllocError> {
+    match read_model(alloc, trees) {
+        Ok(_) => String::from_str(alloc, "read"),
+        Err(fault) => format!(in alloc; "{fault}"),
+    }
+}
+
+fn form_answer(alloc: Global, text: &str) -> Result<String, AllocError> {
     match read(alloc, text.as_bytes()) {
-        Ok(trees) => match read_model(alloc, trees.as_slice()) {
-            Ok(_) => String::from_str(alloc, "read"),
-            Err(fault) => format!(in alloc; "{fault}"),
-        },
+        Ok(trees) => model_answer(alloc, trees.as_slice()),
         Err(fault) => format!(in alloc; "{fault}"),
     }
 }
 
 /// A status, and the lines that were written, with `, ` between them.
-fn output_told(alloc: Global, status: Status, sink: Out<Vec<u8>>) -> Result<String, AllocError> {
+fn output_answer(alloc: Global, status: Status, sink: Out<Vec<u8>>) -> Result<String, AllocError> {
     let status = status.code();
     let written = sink.into_inner();
     match std::str::from_utf8(written.as_slice()) {
@@ -64,17 +68,17 @@ fn output_told(alloc: Global, status: Status, sink: Out<Vec<u8>>) -> Result<Stri
 }
 
 /// What `pst check` answers for the bytes: its status and its line.
-pub fn check_told(alloc: Global, bytes: &[u8]) -> Result<String, AllocError> {
+pub fn check_answer(alloc: Global, bytes: &[u8]) -> Result<String, AllocError> {
     let mut sink = Out::new(Vec::new(alloc));
     let status = check_text(alloc, bytes, &mut sink);
-    output_told(alloc, status, sink)
+    output_answer(alloc, status, sink)
 }
 
 /// What `pst judge` answers for the bytes: its status and its lines.
-pub fn judge_told(alloc: Global, bytes: &[u8]) -> Result<String, AllocError> {
+pub fn judge_answer(alloc: Global, bytes: &[u8]) -> Result<String, AllocError> {
     let mut sink = Out::new(Vec::new(alloc));
     let status = judge_text(alloc, bytes, &mut sink);
-    output_told(alloc, status, sink)
+    output_answer(alloc, status, sink)
 }
 
 /// The well-typed model that a text begins with.
@@ -83,7 +87,7 @@ pub fn typed_of(alloc: Global, text: &str) -> Option<Typed> {
     Some(file.typed)
 }
 
-fn opening_told(alloc: Global, text: &str) -> Result<String, AllocError> {
+fn opening_answer(alloc: Global, text: &str) -> Result<String, AllocError> {
     let Some(typed) = typed_of(alloc, text) else {
         return String::from_str(alloc, "no model");
     };
@@ -95,7 +99,7 @@ fn opening_told(alloc: Global, text: &str) -> Result<String, AllocError> {
 }
 
 /// The verdict on a run, `case` for a case.
-fn verdict_told(alloc: Global, typed: &Typed, run: Run) -> Result<String, AllocError> {
+fn verdict_answer(alloc: Global, typed: &Typed, run: Run) -> Result<String, AllocError> {
     let Run { shaped, history } = run;
     let Some(history) = history else {
         return String::from_str(alloc, "case");
@@ -110,18 +114,18 @@ fn verdict_told(alloc: Global, typed: &Typed, run: Run) -> Result<String, AllocE
 }
 
 /// The verdicts, one after another.
-fn verdicts_told(alloc: Global, typed: &Typed, runs: Vec<Run>) -> Result<String, AllocError> {
+fn verdicts_answer(alloc: Global, typed: &Typed, runs: Vec<Run>) -> Result<String, AllocError> {
     let mut verdicts = String::new(alloc);
     for run in runs {
         if !verdicts.is_empty() {
             verdicts.push_str(", ")?;
         }
-        verdicts.push_str(verdict_told(alloc, typed, run)?.as_str())?;
+        verdicts.push_str(verdict_answer(alloc, typed, run)?.as_str())?;
     }
     Ok(verdicts)
 }
 
-fn runs_told(alloc: Global, text: &str) -> Result<String, AllocError> {
+fn runs_answer(alloc: Global, text: &str) -> Result<String, AllocError> {
     let Some(typed) = typed_of(alloc, text) else {
         return String::from_str(alloc, "no model");
     };
@@ -132,7 +136,7 @@ fn runs_told(alloc: Global, text: &str) -> Result<String, AllocError> {
         return String::from_str(alloc, "no trees");
     };
     match read_runs(alloc, &typed, items) {
-        Ok(runs) => verdicts_told(alloc, &typed, runs),
+        Ok(runs) => verdicts_answer(alloc, &typed, runs),
         Err(fault) => {
             let run = fault.run;
             let command = fault.command;
@@ -142,13 +146,13 @@ fn runs_told(alloc: Global, text: &str) -> Result<String, AllocError> {
     }
 }
 
-/// What is told of a text.
-pub fn told(alloc: Global, question: Question, text: &str) -> Result<String, AllocError> {
+/// The answer to a question about a text.
+pub fn answer_to(alloc: Global, question: Question, text: &str) -> Result<String, AllocError> {
     match question {
-        Question::Form => form_told(alloc, text),
-        Question::Check => check_told(alloc, text.as_bytes()),
-        Question::Opening => opening_told(alloc, text),
-        Question::Runs => runs_told(alloc, text),
-        Question::Judge => judge_told(alloc, text.as_bytes()),
+        Question::Form => form_answer(alloc, text),
+        Question::Check => check_answer(alloc, text.as_bytes()),
+        Question::Opening => opening_answer(alloc, text),
+        Question::Runs => runs_answer(alloc, text),
+        Question::Judge => judge_answer(alloc, text.as_bytes()),
     }
 }

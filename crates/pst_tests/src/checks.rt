@@ -2,7 +2,7 @@
 
 use crate::answers::Question;
 use crate::models::{COUNTER, DIVIDING, MEETING, ONE, REGISTRY, TOP};
-use crate::rows::{Frame, misses, others};
+use crate::rows::{Frame, misses_of_all, others, others_of_all};
 use std::test::Fail;
 
 /// Whole files.
@@ -25,29 +25,27 @@ const LINES: &str = "(model m (state int) (state int)) => 2 refused model Double
 
 #[test]
 fn files_are_refused(rt: HostRuntime) -> Result<(), Fail> {
-    let alloc = rt.alloc();
-    assert_eq!(rt; misses(alloc, &FILES, LINES)?.as_str(), "");
-    assert_eq!(rt;
-        others(alloc, &FILES, "", "2 refused model Missing item 0")?.as_str(),
-        ""
-    );
+    let tables = [
+        (FILES, LINES),
+        (FILES, " => 2 refused model Missing item 0"),
+    ];
+    let misses = misses_of_all(rt.alloc(), &tables)?;
+    assert_eq!(rt; misses.as_str(), "");
     Ok(())
 }
 
 #[test]
 fn models_are_accepted(rt: HostRuntime) -> Result<(), Fail> {
-    let alloc = rt.alloc();
-    let models: [(&str, &str); 6] = [
-        (COUNTER, "0 ok counter"),
-        (DIVIDING, "0 ok v"),
-        (TOP, "0 ok top"),
-        (REGISTRY, "0 ok registry"),
-        (ONE, "0 ok one"),
-        (MEETING, "0 ok meet"),
+    let tables = [
+        (FILES, COUNTER, "0 ok counter"),
+        (FILES, DIVIDING, "0 ok v"),
+        (FILES, TOP, "0 ok top"),
+        (FILES, REGISTRY, "0 ok registry"),
+        (FILES, ONE, "0 ok one"),
+        (FILES, MEETING, "0 ok meet"),
     ];
-    for (model, line) in models {
-        assert_eq!(rt; others(alloc, &FILES, model, line)?.as_str(), "");
-    }
+    let misses = others_of_all(rt.alloc(), &tables)?;
+    assert_eq!(rt; misses.as_str(), "");
     Ok(())
 }
 

@@ -1,6 +1,6 @@
 //! Files that are cut, too deep or too large.
 
-use crate::answers::{check_told, trees_told};
+use crate::answers::{check_answer, trees_answer};
 use crate::models::COUNTER;
 use std::alloc::{AllocError, Global};
 use std::test::Fail;
@@ -23,7 +23,7 @@ fn innermost_open(bytes: &[u8]) -> Option<usize> {
     None
 }
 
-/// What is to be told of the trees of a beginning of a file, which ends in brackets or behind so many whole trees.
+/// The answer that is wanted for a beginning of a file, which ends in brackets or behind so many whole trees.
 fn wanted(alloc: Global, bytes: &[u8], whole: usize) -> Result<String, AllocError> {
     match innermost_open(bytes) {
         Some(place) => format!(in alloc; "UnclosedNode at {place}"),
@@ -31,14 +31,14 @@ fn wanted(alloc: Global, bytes: &[u8], whole: usize) -> Result<String, AllocErro
     }
 }
 
-/// The beginnings of a file of which something else is told: their lengths.
+/// The beginnings of a file that have another answer: their lengths.
 fn misses_of_cuts(alloc: Global, bytes: &[u8], model: usize) -> Result<String, AllocError> {
     let mut misses = String::new(alloc);
     for length in 0..bytes.len() {
         let cut = &bytes[..length];
         let whole = if length < model { 0 } else { 1 };
         let want = wanted(alloc, cut, whole)?;
-        if trees_told(alloc, cut)?.as_str() != want.as_str() {
+        if trees_answer(alloc, cut)?.as_str() != want.as_str() {
             let miss = format!(in alloc; "{length} ")?;
             misses.push_str(miss.as_str())?;
         }
@@ -53,14 +53,14 @@ fn cut_at_each_byte(rt: HostRuntime) -> Result<(), Fail> {
     let file = format!(in alloc; "{COUNTER} {run}")?;
     let misses = misses_of_cuts(alloc, file.as_bytes(), COUNTER.len())?;
     assert_eq!(rt; misses.as_str(), "");
-    assert_eq!(rt; trees_told(alloc, file.as_bytes())?.as_str(), "2 trees");
+    assert_eq!(rt; trees_answer(alloc, file.as_bytes())?.as_str(), "2 trees");
     Ok(())
 }
 
 /// So many opening brackets.
 fn opened(alloc: Global, count: usize) -> Result<String, AllocError> {
     let bytes = vec![in alloc; b'('; count]?;
-    trees_told(alloc, bytes.as_slice())
+    trees_answer(alloc, bytes.as_slice())
 }
 
 #[test]
@@ -75,7 +75,7 @@ fn too_deep(rt: HostRuntime) -> Result<(), Fail> {
 fn filled(alloc: Global, length: usize) -> Result<String, AllocError> {
     let mut bytes = Vec::from_slice(alloc, COUNTER.as_bytes())?;
     bytes.resize(length, b' ')?;
-    check_told(alloc, bytes.as_slice())
+    check_answer(alloc, bytes.as_slice())
 }
 
 #[test]
@@ -107,7 +107,7 @@ fn first_faults(rt: HostRuntime) -> Result<(), Fail> {
         ("(\"a\"\")\"", "UnclosedNode at 0"),
     ];
     for (text, want) in rows {
-        let answer = trees_told(alloc, text.as_bytes())?;
+        let answer = trees_answer(alloc, text.as_bytes())?;
         assert_eq!(rt; answer.as_str(), want);
     }
     Ok(())

@@ -1,7 +1,7 @@
 //! The forms of expressions, and their refusals.
 
 use crate::answers::Question;
-use crate::rows::{Frame, others};
+use crate::rows::{Frame, others_of_all};
 use std::test::Fail;
 
 /// Models by their opening expression, item 2.
@@ -142,40 +142,20 @@ const OVER_LIMIT: &str = "9223372036854775808;
   (for ((when X) (when 1) (when 1) (when 1) (when 1) (when 1) (when 1) (when 1) (when 1)) 1);
   (fold a 1 b 99999999999999999999 X)";
 
-#[test]
-fn expressions_are_read(rt: HostRuntime) -> Result<(), Fail> {
-    let alloc = rt.alloc();
-    assert_eq!(rt; others(alloc, &EXPRESSIONS, READ, "read")?.as_str(), "");
-    Ok(())
-}
+/// A name that is bound twice.
+const BOUND_TWICE: &str = "(fold a 1 a X 1)";
 
 #[test]
-fn unknown_forms_are_refused(rt: HostRuntime) -> Result<(), Fail> {
-    let alloc = rt.alloc();
-    let refusal = "UnknownForm item 2";
-    assert_eq!(rt; others(alloc, &EXPRESSIONS, UNKNOWN, refusal)?.as_str(), "");
-    assert_eq!(rt;
-        others(alloc, &EXPRESSIONS, WRONG_PARTS, refusal)?.as_str(),
-        ""
-    );
-    Ok(())
-}
-
-#[test]
-fn names_and_limits_are_kept(rt: HostRuntime) -> Result<(), Fail> {
-    let alloc = rt.alloc();
-    let twice = "(fold a 1 a X 1)";
-    assert_eq!(rt;
-        others(alloc, &EXPRESSIONS, BADLY_NAMED, "BadName item 2")?.as_str(),
-        ""
-    );
-    assert_eq!(rt;
-        others(alloc, &EXPRESSIONS, twice, "DoubleName item 2")?.as_str(),
-        ""
-    );
-    assert_eq!(rt;
-        others(alloc, &EXPRESSIONS, OVER_LIMIT, "OverLimit item 2")?.as_str(),
-        ""
-    );
+fn forms_of_expressions(rt: HostRuntime) -> Result<(), Fail> {
+    let tables = [
+        (EXPRESSIONS, READ, "read"),
+        (EXPRESSIONS, UNKNOWN, "UnknownForm item 2"),
+        (EXPRESSIONS, WRONG_PARTS, "UnknownForm item 2"),
+        (EXPRESSIONS, BADLY_NAMED, "BadName item 2"),
+        (EXPRESSIONS, BOUND_TWICE, "DoubleName item 2"),
+        (EXPRESSIONS, OVER_LIMIT, "OverLimit item 2"),
+    ];
+    let misses = others_of_all(rt.alloc(), &tables)?;
+    assert_eq!(rt; misses.as_str(), "");
     Ok(())
 }

@@ -1,7 +1,7 @@
 //! The forms of types, items and models, and their refusals.
 
 use crate::answers::Question;
-use crate::rows::{Frame, misses, others};
+use crate::rows::{Frame, misses_of_all, others_of_all};
 use std::test::Fail;
 
 /// Models by the type of their state, item 1.
@@ -124,26 +124,23 @@ const MODEL_ROWS: &str = "model => UnknownForm item 0;
   (model m (init 9223372036854775808) (state)) => OverLimit item 1";
 
 #[test]
-fn types_and_items(rt: HostRuntime) -> Result<(), Fail> {
-    let alloc = rt.alloc();
-    assert_eq!(rt; misses(alloc, &TYPES, TYPE_ROWS)?.as_str(), "");
-    assert_eq!(rt; misses(alloc, &ITEMS, ITEM_ROWS)?.as_str(), "");
-    assert_eq!(rt; others(alloc, &ITEMS, "", "read")?.as_str(), "");
+fn forms_and_refusals(rt: HostRuntime) -> Result<(), Fail> {
+    let tables = [
+        (TYPES, TYPE_ROWS),
+        (ITEMS, ITEM_ROWS),
+        (ITEMS, FUNCTION_ROWS),
+        (ITEMS, OPERATION_ROWS),
+        (FILES, MODEL_ROWS),
+    ];
+    let misses = misses_of_all(rt.alloc(), &tables)?;
+    assert_eq!(rt; misses.as_str(), "");
     Ok(())
 }
 
 #[test]
-fn functions_and_operations(rt: HostRuntime) -> Result<(), Fail> {
-    let alloc = rt.alloc();
-    assert_eq!(rt; misses(alloc, &ITEMS, FUNCTION_ROWS)?.as_str(), "");
-    assert_eq!(rt; misses(alloc, &ITEMS, OPERATION_ROWS)?.as_str(), "");
-    Ok(())
-}
-
-#[test]
-fn models(rt: HostRuntime) -> Result<(), Fail> {
-    let alloc = rt.alloc();
-    assert_eq!(rt; misses(alloc, &FILES, MODEL_ROWS)?.as_str(), "");
-    assert_eq!(rt; others(alloc, &FILES, "", "Missing item 0")?.as_str(), "");
+fn forms_of_nothing(rt: HostRuntime) -> Result<(), Fail> {
+    let tables = [(ITEMS, "", "read"), (FILES, "", "Missing item 0")];
+    let misses = others_of_all(rt.alloc(), &tables)?;
+    assert_eq!(rt; misses.as_str(), "");
     Ok(())
 }

@@ -10,12 +10,14 @@ use pst_sexpr::read;
 use std::alloc::Global;
 use std::test::Fail;
 
-/// A row: a model, the numbers of commands and branches, the words, the case and the number of words drawn.
+/// A row: a model, the numbers of commands, branches and suffix commands, the words, the case and the number
+/// of words drawn.
 #[derive(Clone, Copy)]
 struct Row<'a> {
     model: &'a str,
     commands: u32,
     branches: u32,
+    suffix: u32,
     words: &'a [u64],
     case: &'a str,
     drawn: usize,
@@ -24,6 +26,9 @@ struct Row<'a> {
 /// Whether the case of a row is generated, and as many words are drawn.
 fn is_generated(alloc: Global, row: &Row<'_>) -> Option<bool> {
     if row.commands == 0 || row.commands > 64 || row.branches == 0 || row.branches > 4 {
+        return None;
+    }
+    if row.suffix > 8 {
         return None;
     }
     let typed = typed_of(alloc, row.model)?;
@@ -41,7 +46,7 @@ fn is_generated(alloc: Global, row: &Row<'_>) -> Option<bool> {
         &mut words,
         row.commands,
         row.branches,
-        0,
+        row.suffix,
     )
     .ok()?;
     let valid = answer.ok()?;
@@ -62,11 +67,12 @@ const FEW: &str = "(model few (state int) (init 0)
 #[test]
 fn cases_are_generated(rt: HostRuntime) -> Result<(), Fail> {
     let alloc = rt.alloc();
-    let rows: [Row; 9] = [
+    let rows: [Row; 13] = [
         Row {
             model: COUNTER,
             commands: 4,
             branches: 2,
+            suffix: 0,
             words: &[0, 1, 0, 1, 6],
             case: "(case (prefix) (left (inc) (get)) (right (get) (inc)))",
             drawn: 5,
@@ -75,6 +81,7 @@ fn cases_are_generated(rt: HostRuntime) -> Result<(), Fail> {
             model: REGISTRY,
             commands: 2,
             branches: 2,
+            suffix: 0,
             words: &[0, 1, 1],
             case: "(case (prefix (new)) (left) (right (close $1)))",
             drawn: 3,
@@ -83,6 +90,7 @@ fn cases_are_generated(rt: HostRuntime) -> Result<(), Fail> {
             model: NO_CALLS,
             commands: 5,
             branches: 2,
+            suffix: 0,
             words: &[9],
             case: "(case (prefix) (left) (right))",
             drawn: 1,
@@ -91,6 +99,7 @@ fn cases_are_generated(rt: HostRuntime) -> Result<(), Fail> {
             model: COUNTER,
             commands: 4,
             branches: 4,
+            suffix: 0,
             words: &[0, 1, 0, 1, 27],
             case: "(case (prefix) (branches ((get)) ((inc)) ((get)) ((inc))))",
             drawn: 5,
@@ -99,6 +108,7 @@ fn cases_are_generated(rt: HostRuntime) -> Result<(), Fail> {
             model: COUNTER,
             commands: 4,
             branches: 3,
+            suffix: 0,
             words: &[0, 1, 0, 1, 27],
             case: "(case (prefix) (branches ((inc) (get)) ((inc)) ((get))))",
             drawn: 5,
@@ -107,6 +117,7 @@ fn cases_are_generated(rt: HostRuntime) -> Result<(), Fail> {
             model: COUNTER,
             commands: 4,
             branches: 1,
+            suffix: 0,
             words: &[0, 1, 0, 1, 27],
             case: "(case (prefix (inc) (get) (inc) (get)) (left) (right))",
             drawn: 5,
@@ -115,6 +126,7 @@ fn cases_are_generated(rt: HostRuntime) -> Result<(), Fail> {
             model: FEW,
             commands: 3,
             branches: 1,
+            suffix: 0,
             words: &[3, 5, 4],
             case: "(case (prefix (once) (a) (a)) (left) (right))",
             drawn: 4,
@@ -123,6 +135,7 @@ fn cases_are_generated(rt: HostRuntime) -> Result<(), Fail> {
             model: REGISTRY,
             commands: 4,
             branches: 2,
+            suffix: 0,
             words: &[0, 0, 0, 2, 5],
             case: "(case (prefix) (left (new) (close $1)) (right (new) (new)))",
             drawn: 5,
@@ -131,8 +144,45 @@ fn cases_are_generated(rt: HostRuntime) -> Result<(), Fail> {
             model: REGISTRY,
             commands: 3,
             branches: 2,
+            suffix: 0,
             words: &[0, 0, 2, 2],
             case: "(case (prefix (new) (new)) (left (close $2)) (right))",
+            drawn: 4,
+        },
+        Row {
+            model: COUNTER,
+            commands: 4,
+            branches: 2,
+            suffix: 1,
+            words: &[0, 1, 0, 1, 6],
+            case: "(case (prefix) (left (inc)) (right (get) (inc)) (suffix (get)))",
+            drawn: 5,
+        },
+        Row {
+            model: COUNTER,
+            commands: 4,
+            branches: 2,
+            suffix: 8,
+            words: &[0, 1, 0, 1, 6],
+            case: "(case (prefix) (left) (right) (suffix (inc) (get) (inc) (get)))",
+            drawn: 5,
+        },
+        Row {
+            model: COUNTER,
+            commands: 4,
+            branches: 1,
+            suffix: 1,
+            words: &[0, 1, 0, 1, 6],
+            case: "(case (prefix (inc) (get) (inc)) (left) (right) (suffix (get)))",
+            drawn: 5,
+        },
+        Row {
+            model: REGISTRY,
+            commands: 3,
+            branches: 2,
+            suffix: 1,
+            words: &[0, 0, 2, 2],
+            case: "(case (prefix) (left (new)) (right (new)) (suffix (close $2)))",
             drawn: 4,
         },
     ];
@@ -144,7 +194,7 @@ fn cases_are_generated(rt: HostRuntime) -> Result<(), Fail> {
 }
 
 /// The command, the callback and the fault that is answered in place of a case.
-fn fault_told(
+fn fault_answer(
     alloc: Global,
     model: &str,
     words: &mut Words<'_>,
@@ -162,7 +212,7 @@ fn a_fault_ends_the_script(rt: HostRuntime) -> Result<(), Fail> {
         words: &[0],
         drawn: 0,
     };
-    assert!(rt; fault_told(alloc, TOP, &mut words) == Some((1, "next", "Overflow")));
+    assert!(rt; fault_answer(alloc, TOP, &mut words) == Some((1, "next", "Overflow")));
     assert_eq!(rt; words.drawn, 1);
     Ok(())
 }

@@ -2,7 +2,7 @@
 
 use crate::answers::Question;
 use crate::models::{DIVIDING, TOP};
-use crate::rows::{Frame, misses};
+use crate::rows::{Frame, misses_of_all};
 use std::test::Fail;
 
 /// A counter whose `add` answers only `true`: a lost update shows only in a later `get`.
@@ -74,10 +74,13 @@ const GREATEST_ROWS: &str =
 
 #[test]
 fn suffixes_are_judged(rt: HostRuntime) -> Result<(), Fail> {
-    let alloc = rt.alloc();
-    assert_eq!(rt; misses(alloc, &SILENT, SILENT_ROWS)?.as_str(), "");
-    assert_eq!(rt; misses(alloc, &SETTING, SETTING_ROWS)?.as_str(), "");
-    assert_eq!(rt; misses(alloc, &GATE, GATE_ROWS)?.as_str(), "");
-    assert_eq!(rt; misses(alloc, &GREATEST, GREATEST_ROWS)?.as_str(), "");
+    let tables = [
+        (SILENT, SILENT_ROWS),
+        (SETTING, SETTING_ROWS),
+        (GATE, GATE_ROWS),
+        (GREATEST, GREATEST_ROWS),
+    ];
+    let misses = misses_of_all(rt.alloc(), &tables)?;
+    assert_eq!(rt; misses.as_str(), "");
     Ok(())
 }

@@ -1,10 +1,12 @@
-//! Tests of the crates below over texts: a row is a short text and what is to be told of it.
+//! Tests of the crates below over texts: a row is a short text and the answer that is wanted.
 #![tactic(auto)]
 
 #[cfg(test)]
 mod answers;
 #[cfg(test)]
 mod checks;
+#[cfg(test)]
+mod collections;
 #[cfg(test)]
 mod copies;
 #[cfg(test)]

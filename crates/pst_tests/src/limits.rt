@@ -1,7 +1,7 @@
 //! The limits of models, each at its last lawful value and one past it.
 
 use crate::answers::Question;
-use crate::rows::{Frame, misses, others};
+use crate::rows::{Frame, misses_of_all, others};
 use std::alloc::{AllocError, Global};
 use std::test::Fail;
 
@@ -49,7 +49,7 @@ fn nested(alloc: Global, head: &str, around: usize, text: &str) -> Result<String
     format!(in alloc; "{open}{text}{close}")
 }
 
-/// The texts inside so many nodes of which something else is told than what is wanted.
+/// The texts inside so many nodes that have another answer than the wanted one.
 fn others_inside(
     alloc: Global,
     frame: &Frame,
@@ -206,6 +206,8 @@ const SMALL: &str = "(fun abcdefghabcdefghabcdefghabcdefgh () int 1) => 0 ok m;
 
 #[test]
 fn small_limits(rt: HostRuntime) -> Result<(), Fail> {
-    assert_eq!(rt; misses(rt.alloc(), &ITEMS, SMALL)?.as_str(), "");
+    let tables = [(ITEMS, SMALL)];
+    let misses = misses_of_all(rt.alloc(), &tables)?;
+    assert_eq!(rt; misses.as_str(), "");
     Ok(())
 }

@@ -1,8 +1,8 @@
 //! The lines of `pst judge`.
 
-use crate::answers::{Question, judge_told};
+use crate::answers::{Question, judge_answer};
 use crate::models::{COUNTER, DIVIDING, REGISTRY, TOP};
-use crate::rows::{Frame, misses};
+use crate::rows::{Frame, misses_of_all};
 use std::alloc::{AllocError, Global};
 use std::test::Fail;
 
@@ -38,14 +38,6 @@ const BRANCHED: &str =
   (case (prefix) (branches ((get)) ((get)) ((get)) ((get)) ((get)))) => 2 refused run 1 command 0 BadForm;
   (case (prefix) (branches ((get) (get) (get) (get) (get) (get)) ((get) (get) (get) (get) (get) (get)) ((get) (get) (get) (get) (get) (get)))) => 2 refused run 1 command 0 OverLimit";
 
-#[test]
-fn counters_are_judged(rt: HostRuntime) -> Result<(), Fail> {
-    let alloc = rt.alloc();
-    assert_eq!(rt; misses(alloc, &COUNTING, COUNTED)?.as_str(), "");
-    assert_eq!(rt; misses(alloc, &COUNTING, BRANCHED)?.as_str(), "");
-    Ok(())
-}
-
 /// Items of the quotient.
 const QUOTIENTS: Frame = Frame {
     question: Question::Judge,
@@ -69,14 +61,6 @@ const GROWN: &str =
     "(run (prefix (up)) (left) (right) (replies (0) () ())) => 1 1 fault 1 next Overflow;
   (case (prefix) (left (up)) (right)) => 1 1 casefault 1 next Overflow merge L";
 
-#[test]
-fn faults_are_judged(rt: HostRuntime) -> Result<(), Fail> {
-    let alloc = rt.alloc();
-    assert_eq!(rt; misses(alloc, &QUOTIENTS, DIVIDED)?.as_str(), "");
-    assert_eq!(rt; misses(alloc, &GREATEST, GROWN)?.as_str(), "");
-    Ok(())
-}
-
 /// Items of the registry.
 const HANDLES: Frame = Frame {
     question: Question::Judge,
@@ -93,12 +77,6 @@ const HANDLED: &str =
   (run (prefix (new) (read $1)) (left) (right) (replies (7 7) () ())) => 0 1 explained -;
   (run (prefix (new) (read $1)) (left) (right) (replies (7 8) () ())) => 1 1 unexplained far 1";
 
-#[test]
-fn handles_are_judged(rt: HostRuntime) -> Result<(), Fail> {
-    assert_eq!(rt; misses(rt.alloc(), &HANDLES, HANDLED)?.as_str(), "");
-    Ok(())
-}
-
 /// Models by their opening expression, each with the empty case.
 const OPENINGS: Frame = Frame {
     question: Question::Judge,
@@ -113,8 +91,23 @@ const OPENED: &str =
   (len (for ((in y (range 0 2)) (in x (range 0 32769))) (if (and (= y 1) (= x 32768)) (div 1 0) x))) => 1 1 casefault 0 init TooLong merge -";
 
 #[test]
+fn items_are_judged(rt: HostRuntime) -> Result<(), Fail> {
+    let tables = [
+        (COUNTING, COUNTED),
+        (COUNTING, BRANCHED),
+        (QUOTIENTS, DIVIDED),
+        (GREATEST, GROWN),
+        (HANDLES, HANDLED),
+    ];
+    let misses = misses_of_all(rt.alloc(), &tables)?;
+    assert_eq!(rt; misses.as_str(), "");
+    Ok(())
+}
+
+#[test]
 fn openings_are_judged(rt: HostRuntime) -> Result<(), Fail> {
-    assert_eq!(rt; misses(rt.alloc(), &OPENINGS, OPENED)?.as_str(), "");
+    let misses = misses_of_all(rt.alloc(), &[(OPENINGS, OPENED)])?;
+    assert_eq!(rt; misses.as_str(), "");
     Ok(())
 }
 
@@ -128,7 +121,7 @@ fn many_runs(alloc: Global, pairs: usize) -> Result<String, AllocError> {
     Ok(text)
 }
 
-/// What is told of so many pairs.
+/// The lines for so many pairs.
 fn many_verdicts(alloc: Global, pairs: usize) -> Result<String, AllocError> {
     let mut text = String::from_str(alloc, "1 ")?;
     for pair in 0..pairs {
@@ -147,8 +140,8 @@ fn many_verdicts(alloc: Global, pairs: usize) -> Result<String, AllocError> {
 fn three_thousand_runs_are_judged(rt: HostRuntime) -> Result<(), Fail> {
     let alloc = rt.alloc();
     let text = many_runs(alloc, 1500)?;
-    let told = judge_told(alloc, text.as_bytes())?;
+    let answer = judge_answer(alloc, text.as_bytes())?;
     let wanted = many_verdicts(alloc, 1500)?;
-    assert!(rt; told.as_str() == wanted.as_str(), "other lines");
+    assert!(rt; answer.as_str() == wanted.as_str(), "other lines");
     Ok(())
 }

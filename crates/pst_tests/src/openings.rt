@@ -1,7 +1,7 @@
 //! The opening state: what expressions mean, and the turns that they take.
 
 use crate::answers::Question;
-use crate::rows::{Frame, misses};
+use crate::rows::{Frame, misses_of_all};
 use std::test::Fail;
 
 /// Models over an integer by their opening expression.
@@ -50,14 +50,6 @@ const NUMBERS: &str = "(- 5 7) => -2 1000000;
   (let t \"abcdefgh\" (len (fold x (range 0 13) a t (++ a a)))) => 65536 999987;
   (let t \"abcdefgh\" (len (fold x (range 0 14) a t (++ a a)))) => TooLong";
 
-#[test]
-fn expressions_mean(rt: HostRuntime) -> Result<(), Fail> {
-    let alloc = rt.alloc();
-    assert_eq!(rt; misses(alloc, &INTEGERS, FORMS)?.as_str(), "");
-    assert_eq!(rt; misses(alloc, &INTEGERS, NUMBERS)?.as_str(), "");
-    Ok(())
-}
-
 /// An integer is an optional `-` and digits.
 const INTEGER_ROWS: &str = "0 => 0 1000000;
   -0 => 0 1000000;
@@ -67,12 +59,6 @@ const INTEGER_ROWS: &str = "0 => 0 1000000;
   -9223372036854775808 => -9223372036854775808 1000000;
   -00000000000000000000000009223372036854775808 => -9223372036854775808 1000000";
 
-#[test]
-fn integers_are_read(rt: HostRuntime) -> Result<(), Fail> {
-    assert_eq!(rt; misses(rt.alloc(), &INTEGERS, INTEGER_ROWS)?.as_str(), "");
-    Ok(())
-}
-
 /// A million turns and one more; and a comprehension whose body faults at the item that would be one too many.
 const TURNS: &str = "(len (for ((in x (range 0 1000)) (in y (range 0 999)) (when false)) 0)) => 0 0;
   (len (for ((in x (range 0 1001)) (in y (range 0 999)) (when false)) 0)) => Turns;
@@ -80,7 +66,14 @@ const TURNS: &str = "(len (for ((in x (range 0 1000)) (in y (range 0 999)) (when
   (len (for ((in y (range 0 2)) (in x (range 0 32769))) (if (and (= y 1) (= x 32768)) (div 1 0) x))) => TooLong";
 
 #[test]
-fn turns_run_out(rt: HostRuntime) -> Result<(), Fail> {
-    assert_eq!(rt; misses(rt.alloc(), &INTEGERS, TURNS)?.as_str(), "");
+fn expressions_mean(rt: HostRuntime) -> Result<(), Fail> {
+    let tables = [
+        (INTEGERS, FORMS),
+        (INTEGERS, NUMBERS),
+        (INTEGERS, INTEGER_ROWS),
+        (INTEGERS, TURNS),
+    ];
+    let misses = misses_of_all(rt.alloc(), &tables)?;
+    assert_eq!(rt; misses.as_str(), "");
     Ok(())
 }

@@ -10,7 +10,7 @@ use std::alloc::{AllocError, Global};
 use std::test::Fail;
 
 /// The operation of a number: its name, its parameters' names and types, its result type.
-fn operation_told(alloc: Global, typed: &Typed, number: u32) -> Result<String, AllocError> {
+fn operation_answer(alloc: Global, typed: &Typed, number: u32) -> Result<String, AllocError> {
     let Some(name) = operation_name(typed, number) else {
         return String::from_str(alloc, "none");
     };
@@ -37,13 +37,13 @@ fn operations_of_the_registry(rt: HostRuntime) -> Result<(), Fail> {
         (3, "none"),
     ];
     for (number, want) in rows {
-        assert_eq!(rt; operation_told(alloc, &typed, number)?.as_str(), want);
+        assert_eq!(rt; operation_answer(alloc, &typed, number)?.as_str(), want);
     }
     Ok(())
 }
 
 /// How many calls are listed in the opening state, and the turns left.
-fn calls_told(alloc: Global, typed: &Typed) -> Result<String, AllocError> {
+fn calls_answer(alloc: Global, typed: &Typed) -> Result<String, AllocError> {
     let plain = Plain::new(typed);
     let (state, _) = match plain.init(alloc)? {
         Ok(opening) => opening,
@@ -64,6 +64,6 @@ fn calls_told(alloc: Global, typed: &Typed) -> Result<String, AllocError> {
 fn calls_of_the_counter(rt: HostRuntime) -> Result<(), Fail> {
     let alloc = rt.alloc();
     let typed = typed_of(alloc, COUNTER).ok_or("no model")?;
-    assert_eq!(rt; calls_told(alloc, &typed)?.as_str(), "2 1000000");
+    assert_eq!(rt; calls_answer(alloc, &typed)?.as_str(), "2 1000000");
     Ok(())
 }

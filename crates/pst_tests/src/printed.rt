@@ -56,7 +56,7 @@ fn models_are_printed_tidily(rt: HostRuntime) -> Result<(), Fail> {
         (op f ((x int)) int (post (= r x)) (pre true) (next (let y -0 (+ s y)))))";
     let wanted =
         "(model m (command (list call)) (init (at (tuple -7 \"a\\\"\") 1)) (state int) (op f ((x int)) int (pre true) (next (let y 0 (+ s y))) (post (= r x))))";
-    let told = printed(alloc, text).ok_or("no model")?;
-    assert_eq!(rt; told.as_str(), wanted);
+    let answer = printed(alloc, text).ok_or("no model")?;
+    assert_eq!(rt; answer.as_str(), wanted);
     Ok(())
 }

@@ -2,7 +2,7 @@
 
 use crate::answers::Question;
 use crate::models::{COUNTER, REGISTRY};
-use crate::rows::{Frame, misses};
+use crate::rows::{Frame, misses_of_all};
 use std::test::Fail;
 
 /// Items of the counter.
@@ -39,15 +39,6 @@ const BRANCH_ROWS: &str =
   (case (prefix) (branches ((get) (get) (get) (get) (get) (get)) ((get) (get) (get) (get) (get) (get)) ((get) (get) (get) (get) (get) (get)))) => 1 0 OverLimit;
   (case (prefix) (branches ((get) (get) (get) (get) (get) (get)) ((get) (get) (get) (get) (get)) ((get) (get) (get) (get) (get)))) => case;
   (run (prefix) (branches ((get)) ((get)) ((get))) (replies () (0) (0))) => 1 0 BadForm";
-
-#[test]
-fn items_without_variables(rt: HostRuntime) -> Result<(), Fail> {
-    let alloc = rt.alloc();
-    assert_eq!(rt; misses(alloc, &COUNTER_ITEMS, COUNTER_ROWS)?.as_str(), "");
-    assert_eq!(rt; misses(alloc, &COUNTER_ITEMS, REPLY_ROWS)?.as_str(), "");
-    assert_eq!(rt; misses(alloc, &COUNTER_ITEMS, BRANCH_ROWS)?.as_str(), "");
-    Ok(())
-}
 
 /// Each kind of fault that needs no variable, in the prefix and in each branch of both forms.
 const PLACE_ROWS: &str = "(case (prefix (zap)) (left) (right)) => 1 1 UnknownOp;
@@ -96,18 +87,6 @@ const FORM_ROWS: &str = "x => 1 0 BadForm;
   (run (prefix) (left) (right) (replies () () x)) => 1 0 BadForm;
   (run (prefix) (branches () () ()) (replies () () ())) => 1 0 BadForm";
 
-#[test]
-fn faults_at_each_place(rt: HostRuntime) -> Result<(), Fail> {
-    let alloc = rt.alloc();
-    assert_eq!(rt; misses(alloc, &COUNTER_ITEMS, PLACE_ROWS)?.as_str(), "");
-    assert_eq!(rt;
-        misses(alloc, &COUNTER_ITEMS, REPLY_PLACE_ROWS)?.as_str(),
-        ""
-    );
-    assert_eq!(rt; misses(alloc, &COUNTER_ITEMS, FORM_ROWS)?.as_str(), "");
-    Ok(())
-}
-
 /// Items of the registry.
 const REGISTRY_ITEMS: Frame = Frame {
     question: Question::Runs,
@@ -123,15 +102,6 @@ const VARIABLE_ROWS: &str = "(case (prefix (new)) (left (new)) (right (close $2)
   (case (prefix (new) (close 1)) (left) (right)) => 1 2 BadArgument;
   (case (prefix (new)) (branches ((new)) () ((close $2)))) => 1 3 CrossVar;
   (case (prefix (new)) (left (close $1)) (right (close $1))) => case";
-
-#[test]
-fn items_with_variables(rt: HostRuntime) -> Result<(), Fail> {
-    assert_eq!(rt;
-        misses(rt.alloc(), &REGISTRY_ITEMS, VARIABLE_ROWS)?.as_str(),
-        ""
-    );
-    Ok(())
-}
 
 /// Each kind of fault of variables and arguments, in the prefix and in each branch of both forms.
 const VARIABLE_PLACE_ROWS: &str =
@@ -152,10 +122,18 @@ const VARIABLE_PLACE_ROWS: &str =
   (case (prefix (new) (close $1)) (left (close $2)) (right)) => 1 3 BadArgument";
 
 #[test]
-fn variable_faults_at_each_place(rt: HostRuntime) -> Result<(), Fail> {
-    assert_eq!(rt;
-        misses(rt.alloc(), &REGISTRY_ITEMS, VARIABLE_PLACE_ROWS)?.as_str(),
-        ""
-    );
+fn items_are_refused(rt: HostRuntime) -> Result<(), Fail> {
+    let tables = [
+        (COUNTER_ITEMS, COUNTER_ROWS),
+        (COUNTER_ITEMS, REPLY_ROWS),
+        (COUNTER_ITEMS, BRANCH_ROWS),
+        (COUNTER_ITEMS, PLACE_ROWS),
+        (COUNTER_ITEMS, REPLY_PLACE_ROWS),
+        (COUNTER_ITEMS, FORM_ROWS),
+        (REGISTRY_ITEMS, VARIABLE_ROWS),
+        (REGISTRY_ITEMS, VARIABLE_PLACE_ROWS),
+    ];
+    let misses = misses_of_all(rt.alloc(), &tables)?;
+    assert_eq!(rt; misses.as_str(), "");
     Ok(())
 }

@@ -2,7 +2,7 @@
 
 use crate::answers::Question;
 use crate::models::{COUNTER, REGISTRY};
-use crate::rows::{Frame, misses};
+use crate::rows::{Frame, misses_of_all};
 use std::test::Fail;
 
 /// Items of the counter.
@@ -57,15 +57,6 @@ const REPLY_ROWS: &str =
   (run (prefix) (left) (right) (suffix) (replies () () ())) => 1 0 BadForm;
   (run (prefix) (left) (right) (suffix) (replies () () () (0))) => 1 0 NotAFit;
   (run (prefix) (left) (right) (replies () () () ())) => 1 0 BadForm";
-
-#[test]
-fn suffixes_without_variables(rt: HostRuntime) -> Result<(), Fail> {
-    let alloc = rt.alloc();
-    assert_eq!(rt; misses(alloc, &COUNTER_ITEMS, PLACE_ROWS)?.as_str(), "");
-    assert_eq!(rt; misses(alloc, &COUNTER_ITEMS, COMMAND_ROWS)?.as_str(), "");
-    assert_eq!(rt; misses(alloc, &COUNTER_ITEMS, REPLY_ROWS)?.as_str(), "");
-    Ok(())
-}
 
 /// Items of the registry.
 const REGISTRY_ITEMS: Frame = Frame {
@@ -122,10 +113,16 @@ const UNREAD_ROWS: &str = "(case (prefix (new x)) (left) (right)) => 1 1 BadArgu
   (case (prefix (zap $9)) (left (new) (new) (new) (new) (new) (new) (new) (new) (zap)) (right)) => 1 0 OverLimit";
 
 #[test]
-fn suffixes_with_variables(rt: HostRuntime) -> Result<(), Fail> {
-    let alloc = rt.alloc();
-    assert_eq!(rt; misses(alloc, &REGISTRY_ITEMS, VARIABLE_ROWS)?.as_str(), "");
-    assert_eq!(rt; misses(alloc, &KEY_ITEMS, TWO_BRANCH_ROWS)?.as_str(), "");
-    assert_eq!(rt; misses(alloc, &KEY_ITEMS, UNREAD_ROWS)?.as_str(), "");
+fn suffixes_are_read(rt: HostRuntime) -> Result<(), Fail> {
+    let tables = [
+        (COUNTER_ITEMS, PLACE_ROWS),
+        (COUNTER_ITEMS, COMMAND_ROWS),
+        (COUNTER_ITEMS, REPLY_ROWS),
+        (REGISTRY_ITEMS, VARIABLE_ROWS),
+        (KEY_ITEMS, TWO_BRANCH_ROWS),
+        (KEY_ITEMS, UNREAD_ROWS),
+    ];
+    let misses = misses_of_all(rt.alloc(), &tables)?;
+    assert_eq!(rt; misses.as_str(), "");
     Ok(())
 }

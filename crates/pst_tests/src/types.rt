@@ -1,7 +1,7 @@
 //! The typing rules, by models that keep them and models that do not.
 
 use crate::answers::Question;
-use crate::rows::{Frame, others};
+use crate::rows::{Frame, others_of_all};
 use std::test::Fail;
 
 /// Models by their state and their opening state, items 2 and 3.
@@ -131,47 +131,21 @@ const ILL_AT_3: &str = "(state int) (init 0) (command 1);
   (command (list call)) (state int) (init true) (fun f () int true);
   (command (list call)) (init (f)) (fun f () int true) (state int)";
 
-#[test]
-fn rules_of_expressions(rt: HostRuntime) -> Result<(), Fail> {
-    let alloc = rt.alloc();
-    assert_eq!(rt;
-        others(alloc, &OPENINGS, OPENINGS_WELL, "0 ok m")?.as_str(),
-        ""
-    );
-    let refused = "2 refused type item 3";
-    assert_eq!(rt;
-        others(alloc, &OPENINGS, OPENINGS_ILL, refused)?.as_str(),
-        ""
-    );
-    Ok(())
-}
+/// A state of calls.
+const CALLS: &str = "(state (list call)) (init (list call)) (command (list call))";
 
 #[test]
-fn rules_of_items(rt: HostRuntime) -> Result<(), Fail> {
-    let alloc = rt.alloc();
-    assert_eq!(rt; others(alloc, &ITEMS, ITEMS_WELL, "0 ok m")?.as_str(), "");
-    assert_eq!(rt;
-        others(alloc, &ITEMS, ILL_AT_4, "2 refused type item 4")?.as_str(),
-        ""
-    );
-    assert_eq!(rt;
-        others(alloc, &ITEMS, ILL_AT_5, "2 refused type item 5")?.as_str(),
-        ""
-    );
-    Ok(())
-}
-
-#[test]
-fn rules_of_models(rt: HostRuntime) -> Result<(), Fail> {
-    let alloc = rt.alloc();
-    assert_eq!(rt;
-        others(alloc, &MODELS, ILL_AT_3, "2 refused type item 3")?.as_str(),
-        ""
-    );
-    let calls = "(state (list call)) (init (list call)) (command (list call))";
-    assert_eq!(rt;
-        others(alloc, &MODELS, calls, "2 refused type item 1")?.as_str(),
-        ""
-    );
+fn rules_of_types(rt: HostRuntime) -> Result<(), Fail> {
+    let tables = [
+        (OPENINGS, OPENINGS_WELL, "0 ok m"),
+        (OPENINGS, OPENINGS_ILL, "2 refused type item 3"),
+        (ITEMS, ITEMS_WELL, "0 ok m"),
+        (ITEMS, ILL_AT_4, "2 refused type item 4"),
+        (ITEMS, ILL_AT_5, "2 refused type item 5"),
+        (MODELS, ILL_AT_3, "2 refused type item 3"),
+        (MODELS, CALLS, "2 refused type item 1"),
+    ];
+    let misses = others_of_all(rt.alloc(), &tables)?;
+    assert_eq!(rt; misses.as_str(), "");
     Ok(())
 }

@@ -11,7 +11,7 @@ use std::alloc::Global;
 use std::test::Fail;
 
 /// The name of the reason that a case is not valid, and `valid` where it is, and its copy and the case that it gives back are equal to it.
-fn validity_told(alloc: Global, model: &str, item: &str) -> Option<&'static str> {
+fn validity_answer(alloc: Global, model: &str, item: &str) -> Option<&'static str> {
     let typed = typed_of(alloc, model)?;
     let trees = read(alloc, item.as_bytes()).ok()?;
     let mut runs = read_runs(alloc, &typed, trees.as_slice()).ok()?;
@@ -50,7 +50,10 @@ fn cases_are_valid_or_not(rt: HostRuntime) -> Result<(), Fail> {
         (TOP, "(case (prefix (up)) (left) (right))", "CallbackFault"),
     ];
     for (model, item, wanted) in rows {
-        assert!(rt; validity_told(alloc, model, item) == Some(wanted), "{item}");
+        assert!(rt;
+            validity_answer(alloc, model, item) == Some(wanted),
+            "{item}"
+        );
     }
     Ok(())
 }

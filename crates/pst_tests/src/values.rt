@@ -3,7 +3,7 @@
 use crate::answers::Question;
 use crate::limits::repeated;
 use crate::models::KINDS;
-use crate::rows::{Frame, misses, others};
+use crate::rows::{Frame, misses_of_all, others, others_of_all};
 use pst_value::Value;
 use std::test::Fail;
 
@@ -35,14 +35,6 @@ const MISFITS: &str = "(run (prefix (number)) (left) (right) (replies (true) () 
   (run (prefix (numbers)) (left) (right) (replies ((list 1 \"a\")) () ()));
   (run (prefix (numbers)) (left) (right) (replies ((tuple 1)) () ()))";
 
-#[test]
-fn replies_fit(rt: HostRuntime) -> Result<(), Fail> {
-    let alloc = rt.alloc();
-    assert_eq!(rt; others(alloc, &ITEMS, FITTING, "explained -")?.as_str(), "");
-    assert_eq!(rt; others(alloc, &ITEMS, MISFITS, "broken 1")?.as_str(), "");
-    Ok(())
-}
-
 /// Arguments of the parameters' types, and of others.
 const ARGUMENTS: &str =
     "(case (prefix (number) (keep \"a\" (tuple 1 true) $1)) (left) (right)) => case;
@@ -56,8 +48,21 @@ const ARGUMENTS: &str =
   (case (prefix (number) (keep \"a\" (tuple $2 x) $1)) (left) (right)) => 1 2 BadArgument";
 
 #[test]
+fn replies_fit(rt: HostRuntime) -> Result<(), Fail> {
+    let tables = [
+        (ITEMS, FITTING, "explained -"),
+        (ITEMS, MISFITS, "broken 1"),
+    ];
+    let misses = others_of_all(rt.alloc(), &tables)?;
+    assert_eq!(rt; misses.as_str(), "");
+    Ok(())
+}
+
+#[test]
 fn arguments_fit(rt: HostRuntime) -> Result<(), Fail> {
-    assert_eq!(rt; misses(rt.alloc(), &ITEMS, ARGUMENTS)?.as_str(), "");
+    let tables = [(ITEMS, ARGUMENTS)];
+    let misses = misses_of_all(rt.alloc(), &tables)?;
+    assert_eq!(rt; misses.as_str(), "");
     Ok(())
 }
 

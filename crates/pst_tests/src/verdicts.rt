@@ -2,7 +2,7 @@
 
 use crate::answers::Question;
 use crate::models::{COUNTER, DIVIDING, REGISTRY, TOP};
-use crate::rows::{Frame, misses};
+use crate::rows::{Frame, misses_of_all};
 use std::test::Fail;
 
 /// Runs of the counter.
@@ -22,29 +22,11 @@ const TWO_BRANCHES: &str = "(run (prefix) (left) (right) (replies () () ())) => 
   (run (prefix (inc)) (left (get)) (right (inc)) (replies (1) (failed) (misfit))) => broken 2;
   (run (prefix) (left) (right (get)) (replies () () (0))) (run (prefix) (left (get)) (right) (replies () (1) ())) => explained R, unexplained far 0";
 
-#[test]
-fn runs_of_two_branches(rt: HostRuntime) -> Result<(), Fail> {
-    assert_eq!(rt;
-        misses(rt.alloc(), &COUNTER_RUNS, TWO_BRANCHES)?.as_str(),
-        ""
-    );
-    Ok(())
-}
-
 const MORE_BRANCHES: &str =
     "(run (prefix) (branches ((inc)) ((inc)) ((inc))) (replies () (3) (1) (2))) => explained RSL;
   (run (prefix) (branches ((inc)) ((inc)) ((inc))) (replies () (1) (1) (2))) => unexplained far 2;
   (run (prefix) (branches ((inc)) ((inc))) (replies () (2) (1))) => explained RL;
   (run (prefix (inc)) (branches ((inc)) () ((get)) ((inc) (get))) (replies (1) (3) () (2) (2 3))) => explained TSLT";
-
-#[test]
-fn runs_of_more_branches(rt: HostRuntime) -> Result<(), Fail> {
-    assert_eq!(rt;
-        misses(rt.alloc(), &COUNTER_RUNS, MORE_BRANCHES)?.as_str(),
-        ""
-    );
-    Ok(())
-}
 
 /// Two branches of eight and four of four, with 12,870 and 63,063,000 merges.
 const MANY_MERGES: &str = "(run (prefix)
@@ -53,15 +35,6 @@ const MANY_MERGES: &str = "(run (prefix)
     (replies () (0 0 0 0 0 0 0 0) (0 0 0 0 0 0 0 1))) => unexplained far 15;
   (run (prefix) (branches ((get) (get) (get) (get)) ((get) (get) (get) (get)) ((get) (get) (get) (get)) ((get) (get) (get) (get)))
     (replies () (0 0 0 0) (0 0 0 0) (0 0 0 0) (0 0 0 1))) => unexplained far 15";
-
-#[test]
-fn runs_of_many_merges(rt: HostRuntime) -> Result<(), Fail> {
-    assert_eq!(rt;
-        misses(rt.alloc(), &COUNTER_RUNS, MANY_MERGES)?.as_str(),
-        ""
-    );
-    Ok(())
-}
 
 /// Runs of the quotient.
 const DIVIDING_RUNS: Frame = Frame {
@@ -86,14 +59,6 @@ const TOP_RUNS: Frame = Frame {
 const GROWING: &str =
     "(run (prefix (up)) (left) (right) (replies (0) () ())) => fault 1 next Overflow";
 
-#[test]
-fn runs_that_fault(rt: HostRuntime) -> Result<(), Fail> {
-    let alloc = rt.alloc();
-    assert_eq!(rt; misses(alloc, &DIVIDING_RUNS, QUOTIENTS)?.as_str(), "");
-    assert_eq!(rt; misses(alloc, &TOP_RUNS, GROWING)?.as_str(), "");
-    Ok(())
-}
-
 /// Runs of a model whose opening expression faults.
 const FAULTY_OPENINGS: Frame = Frame {
     question: Question::Runs,
@@ -104,15 +69,6 @@ const FAULTY_OPENINGS: Frame = Frame {
 const WITHOUT_OPENING: &str =
     "(run (prefix (get)) (left) (right) (replies (0) () ())) => fault 0 init DivZero;
   (run (prefix (get)) (left) (right) (replies (failed) () ())) => broken 1";
-
-#[test]
-fn runs_without_an_opening(rt: HostRuntime) -> Result<(), Fail> {
-    assert_eq!(rt;
-        misses(rt.alloc(), &FAULTY_OPENINGS, WITHOUT_OPENING)?.as_str(),
-        ""
-    );
-    Ok(())
-}
 
 /// Runs of the registry.
 const REGISTRY_RUNS: Frame = Frame {
@@ -127,7 +83,17 @@ const HANDLES: &str =
   (run (prefix (new)) (left (close $1)) (right (new)) (replies (0) (true) (1))) => explained LR";
 
 #[test]
-fn runs_with_variables(rt: HostRuntime) -> Result<(), Fail> {
-    assert_eq!(rt; misses(rt.alloc(), &REGISTRY_RUNS, HANDLES)?.as_str(), "");
+fn verdicts_on_runs(rt: HostRuntime) -> Result<(), Fail> {
+    let tables = [
+        (COUNTER_RUNS, TWO_BRANCHES),
+        (COUNTER_RUNS, MORE_BRANCHES),
+        (COUNTER_RUNS, MANY_MERGES),
+        (DIVIDING_RUNS, QUOTIENTS),
+        (TOP_RUNS, GROWING),
+        (FAULTY_OPENINGS, WITHOUT_OPENING),
+        (REGISTRY_RUNS, HANDLES),
+    ];
+    let misses = misses_of_all(rt.alloc(), &tables)?;
+    assert_eq!(rt; misses.as_str(), "");
     Ok(())
 }

@@ -55,8 +55,9 @@ const VALUES: [(&str, &str, &str); 4] = [
     ),
 ];
 
-/// Two branches are written as `left` and `right`, three and four as `branches`; each item has a line.
-const FORMS: [(&str, &str, &str); 6] = [
+/// Two branches are written as `left` and `right`, three and four as `branches`, and a suffix where it has
+/// commands; each item has a line.
+const FORMS: [(&str, &str, &str); 9] = [
     (COUNTER, "", ""),
     (
         COUNTER,
@@ -82,6 +83,21 @@ const FORMS: [(&str, &str, &str); 6] = [
         COUNTER,
         " (case (prefix) (left) (right)) ; none\n(run(prefix)(left(inc))(right)(replies()(1)()))(case (prefix (get)) (left) (right))",
         "(case (prefix) (left) (right))\n(run (prefix) (left (inc)) (right) (replies () (1) ()))\n(case (prefix (get)) (left) (right))\n",
+    ),
+    (
+        COUNTER,
+        "(case (prefix) (branches ((inc)) ()) (suffix))(case (prefix) (left) (right (inc)) (suffix (get)))",
+        "(case (prefix) (left (inc)) (right))\n(case (prefix) (left) (right (inc)) (suffix (get)))\n",
+    ),
+    (
+        COUNTER,
+        "(run (prefix) (left (inc)) (right) (suffix) (replies () (1) () ()))",
+        "(run (prefix) (left (inc)) (right) (replies () (1) ()))\n",
+    ),
+    (
+        COUNTER,
+        "(run (prefix) (branches () ((inc)) ()) (suffix (get) (inc)) (replies () () (01) () (true not-run)))",
+        "(run (prefix) (branches () ((inc)) ()) (suffix (get) (inc)) (replies () () (1) () (misfit not-run)))\n",
     ),
 ];
 

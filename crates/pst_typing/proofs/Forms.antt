@@ -5,11 +5,11 @@ use Rattle.std.proofs.lemmas.List.{length-map}
 use Rattle.pst_model.specs.Parts.{Name}
 use Rattle.pst_model.specs.declared.expr.Clause.{Clause, Clause-F, In, When, fold-roll-Clause}
 use Rattle.pst_model.specs.declared.expr.Clause.TheVariants.{rolls-In, rolls-When}
-use Rattle.pst_model.specs.declared.expr.Expr.{Expr, Expr-F, For, List as ListOf, fold-roll-Expr}
-use Rattle.pst_model.specs.declared.expr.Expr.TheVariants.{rolls-For, rolls-List}
+use Rattle.pst_model.specs.declared.expr.Expr.{Expr, Expr-F, Fold, For, List as ListOf, fold-roll-Expr}
+use Rattle.pst_model.specs.declared.expr.Expr.TheVariants.{rolls-Fold, rolls-For, rolls-List}
 use Rattle.pst_model.specs.declared.model.Item.{Item}
 use Rattle.pst_rules.specs.Rules.{Context}
-use Rattle.pst_typing.specs.Decision.{◌>>=◌, where_true, Finds, Part, all_have, built_type, type_at, part_at, type_of, part_of}
+use Rattle.pst_typing.specs.Decision.{◌>>=◌, where_true, Finds, Part, all_have, built_type, fold_type, type_at, part_at, type_of, part_of}
 use Rattle.pst_typing.specs.Answers.{FindsNone}
 use Rattle.pst_typing.specs.declared.refusal.Refusal.{Refusal}
 use Rattle.pst_typing.proofs.Steps.{none_then, none_at}
@@ -23,6 +23,10 @@ module _ (items earlier : List Item) (post : Bool) where
 
   pub part_when : (e : Expr) → part_of items earlier post (When e) ≡ Clause-F.When (type_of items earlier post e)
   part_when e = ap (part_of items earlier post) (sym (rolls-When e)) ∙ fold-roll-Clause Part Finds part_at (type_at items earlier post) (Clause-F.When e)
+
+  pub type_fold : (x : Name) (e : Expr) (acc : Name) (i b : Expr) (G : Context)
+      → type_of items earlier post (Fold x e acc i b) G ≡ fold_type x (type_of items earlier post e) acc (type_of items earlier post i) (type_of items earlier post b) G
+  type_fold x e acc i b G = ap (λ e. type_of items earlier post e G) (sym (rolls-Fold x e acc i b)) ∙ ap (λ f. f G) (fold-roll-Expr Part Finds part_at (type_at items earlier post) (Expr-F.Fold x e acc i b))
 
   type_for : (cs : List Clause) (b : Expr) (G : Context)
       → type_of items earlier post (For cs b) G ≡ (built_type (map (part_of items earlier post) cs) (type_of items earlier post b) G >>= (λ T. Some (ty.List T)))

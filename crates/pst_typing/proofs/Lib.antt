@@ -7,7 +7,6 @@ pub mod Ill
 pub mod Judging
 pub mod Operating
 pub mod Steps
-pub mod Weight
 pub mod WellItems
 pub mod Whole
 pub mod OneIll

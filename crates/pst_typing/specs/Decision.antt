@@ -146,6 +146,38 @@ built_type (Clause-F.When e ∷ cs) body G = where_true (is_ty (e G) ty.Bool) (b
 abbrev pub operation_called : List Item → Name → Option Op
 operation_called items x = number_of items x >>= (λ n. where_true (nat_lt n (2 ^ 32)) (operation_of items n))
 
+-- a body that sees a value's name
+abbrev pub let_type : Name → Finds → Finds → Finds
+let_type x e b G = e G >>= (λ S. b ((x, S) ∷ G))
+
+-- a test, and two of one type
+abbrev pub if_type : Finds → Finds → Finds → Finds
+if_type c a b G = where_true (is_ty (c G) ty.Bool) (a G >>= (λ T. where_true (is_ty (b G) T) (Some T)))
+
+-- two tests
+abbrev pub both_type : Finds → Finds → Finds
+both_type a b G = where_true (is_ty (a G) ty.Bool && is_ty (b G) ty.Bool) (Some ty.Bool)
+
+-- an operator of two operands
+abbrev pub operation_type : (post : Bool) → Binary → Finds → Finds → Finds
+operation_type post op a b G = a G >>= (λ R. b G >>= binary_type post op R)
+
+-- what is built of a list's items
+abbrev pub fold_type : Name → Finds → Name → Finds → Finds → Finds
+fold_type x e acc i b G =
+    e G >>= item_type >>= (λ S. i G >>= (λ T. where_true (is_ty (b ((acc, T) ∷ (x, S) ∷ G)) T) (Some T)))
+
+-- a call of an operation of the items
+abbrev pub call_type : List Item → Name → List Finds → Finds
+call_type items x es G =
+    operation_called items x >>= (λ o. where_true (each_has es G (types_of o.params)) (Some ty.Call))
+
+-- an application of a function of the earlier items
+abbrev pub apply_type : (earlier : List Item) (post : Bool) → Name → List Finds → Finds
+apply_type earlier post f es G =
+    signature earlier f >>= (λ g.
+    where_true ((post || not g.is_post) && each_has es G (types_of g.params)) (Some g.result))
+
 -- one form, in a mode, by the operations of the items and by the functions of the earlier ones, given the
 -- last first
 abbrev pub type_at : (items earlier : List Item) (post : Bool) → Expr-F Part Finds → Finds
@@ -153,27 +185,20 @@ type_at items earlier post (Expr-F.Int n) G = where_true (is_i64 n) (Some ty.Int
 type_at items earlier post (Expr-F.Bool b) G = Some ty.Bool
 type_at items earlier post (Expr-F.Text t) G = where_true (is_text t) (Some ty.Text)
 type_at items earlier post (Expr-F.Name x) G = type_named G x
-type_at items earlier post (Expr-F.Let x e b) G = e G >>= (λ S. b ((x, S) ∷ G))
-type_at items earlier post (Expr-F.If c a b) G =
-    where_true (is_ty (c G) ty.Bool) (a G >>= (λ T. where_true (is_ty (b G) T) (Some T)))
-type_at items earlier post (Expr-F.And a b) G =
-    where_true (is_ty (a G) ty.Bool && is_ty (b G) ty.Bool) (Some ty.Bool)
-type_at items earlier post (Expr-F.Or a b) G =
-    where_true (is_ty (a G) ty.Bool && is_ty (b G) ty.Bool) (Some ty.Bool)
+type_at items earlier post (Expr-F.Let x e b) G = let_type x e b G
+type_at items earlier post (Expr-F.If c a b) G = if_type c a b G
+type_at items earlier post (Expr-F.And a b) G = both_type a b G
+type_at items earlier post (Expr-F.Or a b) G = both_type a b G
 type_at items earlier post (Expr-F.Unary op e) G = e G >>= unary_type post op
-type_at items earlier post (Expr-F.Binary op a b) G = a G >>= (λ R. b G >>= binary_type post op R)
+type_at items earlier post (Expr-F.Binary op a b) G = operation_type post op a b G
 type_at items earlier post (Expr-F.Tuple es) G = all_types es G >>= (λ Ts. Some (ty.Tuple Ts))
 type_at items earlier post (Expr-F.At e place) G = e G >>= (λ T. part_type T place)
 type_at items earlier post (Expr-F.List T es) G =
     where_true (nat_le (length es) limit && all_have es G T) (Some (ty.List T))
 type_at items earlier post (Expr-F.For cs b) G = built_type cs b G >>= (λ T. Some (ty.List T))
-type_at items earlier post (Expr-F.Fold x e acc i b) G =
-    e G >>= item_type >>= (λ S. i G >>= (λ T. where_true (is_ty (b ((acc, T) ∷ (x, S) ∷ G)) T) (Some T)))
-type_at items earlier post (Expr-F.Call x es) G =
-    operation_called items x >>= (λ o. where_true (each_has es G (types_of o.params)) (Some ty.Call))
-type_at items earlier post (Expr-F.Apply f es) G =
-    signature earlier f >>= (λ g.
-    where_true ((post || not g.is_post) && each_has es G (types_of g.params)) (Some g.result))
+type_at items earlier post (Expr-F.Fold x e acc i b) G = fold_type x e acc i b G
+type_at items earlier post (Expr-F.Call x es) G = call_type items x es G
+type_at items earlier post (Expr-F.Apply f es) G = apply_type earlier post f es G
 
 abbrev pub part_at : Clause-F Part Finds → Part
 part_at (Clause-F.In x e) = Clause-F.In x e

@@ -1,9 +1,12 @@
-pub mod Answers
+-- what the public contracts cite
 pub mod Checked
-pub mod Decision
 pub mod FaultName
 pub mod Items
 pub mod Laws
-pub mod Least
 pub mod Operations
 pub mod Scope
+-- what these are made of
+pub mod Decision
+pub mod Least
+-- what the contracts within the crate cite
+pub mod Answers

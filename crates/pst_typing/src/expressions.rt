@@ -1,5 +1,5 @@
 //! The type of an expression.
-ghost use Rattle.std.specs.Prelude.{◌≡◌, [], ◌∷◌, Some, map, IfOk, MatchOption};
+ghost use Rattle.std.specs.Prelude.{◌≡◌, [], ◌∷◌, Some, map, reverse, IfOk, MatchOption};
 ghost use Rattle.pst_model.specs.Parts.{types_of};
 ghost use Rattle.pst_typing.specs.Answers.{Answers, Passes};
 ghost use Rattle.pst_typing.specs.Decision as spec;
@@ -13,8 +13,8 @@ use crate::operators::{binary_type, int_type, item_type, part_type, text_type, u
 use crate::refusal::Refusal;
 use crate::scope::{Scope, function_called, operation_called, type_of_name};
 use crate::types::copy_type;
-use pst_items::{Boxed, Items};
-use pst_model::{Clause, Expr, Param};
+use pst_items::{Boxed, Items, Text};
+use pst_model::{Binary, Clause, Expr, Param};
 use pst_value::{LIMIT, Ty};
 use std::alloc::{AllocError, Global};
 
@@ -43,35 +43,19 @@ fn find_type(expr: &Expr, context: &Context<'_>, scope: &Scope<'_>) -> Result<Ty
         Expr::Text(text) => text_type(text.as_bytes()).ok_or(Refusal::Ill),
         Expr::Name(name) => find_name(context.alloc, scope, name.as_bytes()),
         Expr::Let(name, bound, body) => {
-            let ty = find_type(bound.get(), context, scope)?;
-            let inner = Scope::With(name.as_bytes(), &ty, &*scope);
-            find_type(body.get(), context, &inner)
+            find_let(name.as_bytes(), bound.get(), body.get(), context, scope)
         }
         Expr::If(test, then, other) => {
-            expect_type(test.get(), &Ty::Bool, context, scope)?;
-            let ty = find_type(then.get(), context, scope)?;
-            expect_type(other.get(), &ty, context, scope)?;
-            Ok(ty)
+            find_if(test.get(), then.get(), other.get(), context, scope)
         }
-        Expr::And(first, second) => {
-            expect_type(first.get(), &Ty::Bool, context, scope)?;
-            expect_type(second.get(), &Ty::Bool, context, scope)?;
-            Ok(Ty::Bool)
-        }
-        Expr::Or(first, second) => {
-            expect_type(first.get(), &Ty::Bool, context, scope)?;
-            expect_type(second.get(), &Ty::Bool, context, scope)?;
-            Ok(Ty::Bool)
-        }
+        Expr::And(first, second) => find_both(first.get(), second.get(), context, scope),
+        Expr::Or(first, second) => find_both(first.get(), second.get(), context, scope),
         Expr::Unary(operator, operand) => {
             let ty = find_type(operand.get(), context, scope)?;
             unary_type(context.is_post, *operator, ty).ok_or(Refusal::Ill)
         }
         Expr::Binary(operator, first, second) => {
-            let left = find_type(first.get(), context, scope)?;
-            let right = find_type(second.get(), context, scope)?;
-            let ty = binary_type(context.alloc, context.is_post, *operator, left, &right)?;
-            ty.ok_or(Refusal::Ill)
+            find_operation(*operator, first.get(), second.get(), context, scope)
         }
         Expr::Tuple(exprs) => Ok(Ty::Tuple(find_all(exprs.as_slice(), context, scope)?)),
         Expr::At(tuple, place) => {
@@ -90,37 +74,158 @@ fn find_type(expr: &Expr, context: &Context<'_>, scope: &Scope<'_>) -> Result<Ty
             list_of(context.alloc, ty)
         }
         Expr::Fold(name, list, acc, first, body) => {
-            let list = find_type(list.get(), context, scope)?;
-            let item = item_type(list).ok_or(Refusal::Ill)?;
-            let built = find_type(first.get(), context, scope)?;
-            let outer = Scope::With(name.as_bytes(), &item, &*scope);
-            let inner = Scope::With(acc.as_bytes(), &built, &outer);
-            expect_type(body.get(), &built, context, &inner)?;
-            Ok(built)
+            find_fold(name, list, acc, first, body, context, scope)
         }
-        Expr::Call(name, exprs) => {
-            let Some(operation) = operation_called(context.items, name.as_bytes()) else {
-                return Err(Refusal::Ill);
-            };
-            expect_each(
-                exprs.as_slice(),
-                operation.params.as_slice(),
-                context,
-                scope,
-            )?;
-            Ok(Ty::Call)
-        }
+        Expr::Call(name, exprs) => find_call(name.as_bytes(), exprs.as_slice(), context, scope),
         Expr::Apply(name, exprs) => {
-            let Some(function) = function_called(context.earlier, name.as_bytes()) else {
-                return Err(Refusal::Ill);
-            };
-            if function.is_post && !context.is_post {
-                return Err(Refusal::Ill);
-            }
-            expect_each(exprs.as_slice(), function.params.as_slice(), context, scope)?;
-            Ok(copy_type(context.alloc, &function.result)?)
+            find_applied(name.as_bytes(), exprs.as_slice(), context, scope)
         }
     }
+}
+
+/// The type of a body that sees a value under a name.
+#[cycle(find)]
+fn find_let(
+    name: &[u8],
+    bound: &Expr,
+    body: &Expr,
+    context: &Context<'_>,
+    scope: &Scope<'_>,
+) -> Result<Ty, Refusal>
+    ensures { Answers
+        (spec.let_type name.now (type_in context.now bound.now) (type_in context.now body.now)
+        (names_of scope.now))
+        result }
+{
+    let ty = find_type(bound, context, scope)?;
+    let inner = Scope::With(&*name, &ty, &*scope);
+    find_type(body, context, &inner)
+}
+
+/// The type of two expressions, one of which a test picks.
+#[cycle(find)]
+fn find_if(
+    test: &Expr,
+    then: &Expr,
+    other: &Expr,
+    context: &Context<'_>,
+    scope: &Scope<'_>,
+) -> Result<Ty, Refusal>
+    ensures { Answers
+        (spec.if_type (type_in context.now test.now) (type_in context.now then.now)
+        (type_in context.now other.now) (names_of scope.now))
+        result }
+{
+    expect_type(test, &Ty::Bool, context, scope)?;
+    let ty = find_type(then, context, scope)?;
+    expect_type(other, &ty, context, scope)?;
+    Ok(ty)
+}
+
+/// `bool`, where both expressions have it.
+#[cycle(find)]
+fn find_both(
+    first: &Expr,
+    second: &Expr,
+    context: &Context<'_>,
+    scope: &Scope<'_>,
+) -> Result<Ty, Refusal>
+    ensures { Answers
+        (spec.both_type (type_in context.now first.now) (type_in context.now second.now)
+        (names_of scope.now))
+        result }
+{
+    expect_type(first, &Ty::Bool, context, scope)?;
+    expect_type(second, &Ty::Bool, context, scope)?;
+    Ok(Ty::Bool)
+}
+
+/// The type that an operator of two operands gives.
+#[cycle(find)]
+fn find_operation(
+    operator: Binary,
+    first: &Expr,
+    second: &Expr,
+    context: &Context<'_>,
+    scope: &Scope<'_>,
+) -> Result<Ty, Refusal>
+    ensures { Answers
+        (spec.operation_type context.now.is_post operator (type_in context.now first.now)
+        (type_in context.now second.now) (names_of scope.now))
+        result }
+{
+    let left = find_type(first, context, scope)?;
+    let right = find_type(second, context, scope)?;
+    let ty = binary_type(context.alloc, context.is_post, operator, left, &right)?;
+    ty.ok_or(Refusal::Ill)
+}
+
+/// The type of what is built of a list's items.
+#[cycle(find)]
+fn find_fold(
+    name: &Text,
+    list: &Boxed<Expr>,
+    acc: &Text,
+    first: &Boxed<Expr>,
+    body: &Boxed<Expr>,
+    context: &Context<'_>,
+    scope: &Scope<'_>,
+) -> Result<Ty, Refusal>
+    ensures { Answers
+        (spec.fold_type name.now (type_in context.now list.now) acc.now
+        (type_in context.now first.now) (type_in context.now body.now) (names_of scope.now))
+        result }
+{
+    let list = find_type(list.get(), context, scope)?;
+    let item = item_type(list).ok_or(Refusal::Ill)?;
+    let built = find_type(first.get(), context, scope)?;
+    let outer = Scope::With(name.as_bytes(), &item, &*scope);
+    let inner = Scope::With(acc.as_bytes(), &built, &outer);
+    expect_type(body.get(), &built, context, &inner)?;
+    Ok(built)
+}
+
+/// `call`, where the operation of the name takes such arguments.
+#[cycle(find)]
+fn find_call(
+    name: &[u8],
+    exprs: &[Expr],
+    context: &Context<'_>,
+    scope: &Scope<'_>,
+) -> Result<Ty, Refusal>
+    ensures { Answers
+        (spec.call_type context.now.items.now name.now (map (type_in context.now) exprs.now)
+        (names_of scope.now))
+        result }
+{
+    let Some(operation) = operation_called(context.items, name) else {
+        return Err(Refusal::Ill);
+    };
+    expect_each(exprs, operation.params.as_slice(), context, scope)?;
+    Ok(Ty::Call)
+}
+
+/// The type of the result of the function of the name, where it takes such arguments.
+#[cycle(find)]
+fn find_applied(
+    name: &[u8],
+    exprs: &[Expr],
+    context: &Context<'_>,
+    scope: &Scope<'_>,
+) -> Result<Ty, Refusal>
+    ensures { Answers
+        (spec.apply_type (reverse context.now.earlier.now) context.now.is_post name.now
+        (map (type_in context.now) exprs.now) (names_of scope.now))
+        result }
+{
+    let Some(function) = function_called(context.earlier, name) else {
+        return Err(Refusal::Ill);
+    };
+    if function.is_post && !context.is_post {
+        return Err(Refusal::Ill);
+    }
+    expect_each(exprs, function.params.as_slice(), context, scope)?;
+    Ok(copy_type(context.alloc, &function.result)?)
 }
 
 /// Passes where the expression has the type.

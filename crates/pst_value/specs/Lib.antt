@@ -1,7 +1,9 @@
-pub mod Equality
+-- what the public contracts cite
 pub mod FaultName
 pub mod Fits
 pub mod Holds
 pub mod Laws
 pub mod Subst
 pub mod Text
+-- what these are made of
+pub mod Equality

@@ -16,13 +16,14 @@ use Rattle.pst_runs.specs.Commands as commands
 use Rattle.pst_runs.specs.Forms as reading
 use Rattle.pst_runs.specs.declared.commands.Spelled.{Spelled}
 use Rattle.pst_runs.specs.declared.commands.SpelledCase.{SpelledCase}
-use Rattle.pst_runs.specs.Values.{made, each}
+use Rattle.pst_runs.specs.Values.{each}
+use Rattle.pst_sexpr.specs.Parts.{and_then, headed}
 use Rattle.pst_sexpr.specs.Bytes.{is_word_byte}
 use Rattle.pst_sexpr.specs.declared.form.Form.TheVariants.{Word}
 use Rattle.pst_sexpr.specs.declared.form.Form.{Form}
 use Rattle.pst_write.proofs.CommandAgain.{whole_part, node_is, word_is, none_either, EachCommand, EachBranch, part_again, branches_again, part_read, branches_read, branches_sized}
 use Rattle.pst_write.proofs.Sized.{Sized, AllSized, wider, none_sized, more_sized, last_sized, headed_sized}
-use Rattle.pst_write.specs.Written.{headed, section_form, command_form, branch_form, branches_forms, suffix_forms, case_forms}
+use Rattle.pst_write.specs.Written.{section_form, command_form, branch_form, branches_forms, suffix_forms, case_forms}
 
 -- ---- the limits of a case
 
@@ -87,20 +88,20 @@ whole_case c = record { prefix = whole_part c.prefix; branches = map whole_part 
 
 pub section_read : (name : List ℕ) (forms : List Form) → bytes_eq name name ≡ true → reading.section name (headed name forms) ≡ Some forms
 section_read name forms e =
-    ap (λ o. made o (reading.section_in name)) (node_is (Word name ∷ forms))
-    ∙ ap (λ o. made o (λ word. if bytes_eq word name then Some forms else None)) (word_is name)
+    ap (λ o. and_then o (reading.section_in name)) (node_is (Word name ∷ forms))
+    ∙ ap (λ o. and_then o (λ word. if bytes_eq word name then Some forms else None)) (word_is name)
     ∙ ap (λ b. if b then Some forms else None) e
 
 -- another section
 section_other : (name other : List ℕ) (forms : List Form) → bytes_eq other name ≡ false → reading.section name (headed other forms) ≡ None
 section_other name other forms e =
-    ap (λ o. made o (reading.section_in name)) (node_is (Word other ∷ forms))
-    ∙ ap (λ o. made o (λ word. if bytes_eq word name then Some forms else None)) (word_is other)
+    ap (λ o. and_then o (reading.section_in name)) (node_is (Word other ∷ forms))
+    ∙ ap (λ o. and_then o (λ word. if bytes_eq word name then Some forms else None)) (word_is other)
     ∙ ap (λ b. if b then Some forms else None) e
 
 module _ (m : Source) where
   commands_read : (name : List ℕ) (cs : List Command) → bytes_eq name name ≡ true → EachCommand m cs → reading.section_commands m name (section_form m name cs) ≡ Some (whole_part cs)
-  commands_read name cs e h = ap (λ o. made o (commands.commands_of m)) (section_read name (map (command_form m) cs) e) ∙ (part_read m cs h).reads
+  commands_read name cs e h = ap (λ o. and_then o (commands.commands_of m)) (section_read name (map (command_form m) cs) e) ∙ (part_read m cs h).reads
 
   -- ---- the branches
 
@@ -108,15 +109,15 @@ module _ (m : Source) where
       → reading.two_branches m (section_form m (codes "left") l) (section_form m (codes "right") r) ≡ Some (whole_part l ∷ whole_part r ∷ [])
   two_read l r hl hr =
       let right = reading.section_commands m (codes "right") (section_form m (codes "right") r) in
-      ap (λ o. made o (λ l. made right (λ r. Some (l ∷ r ∷ [])))) (commands_read (codes "left") l refl hl)
-      ∙ ap (λ o. made o (λ r. Some (whole_part l ∷ r ∷ []))) (commands_read (codes "right") r refl hr)
+      ap (λ o. and_then o (λ l. and_then right (λ r. Some (l ∷ r ∷ [])))) (commands_read (codes "left") l refl hl)
+      ∙ ap (λ o. and_then o (λ r. Some (whole_part l ∷ r ∷ []))) (commands_read (codes "right") r refl hr)
 
   many_read : (bs : List (List Command)) → EachBranch m bs → (nat_le 2 (length bs) && nat_le (length bs) 4) ≡ true
       → reading.many_branches m (headed (codes "branches") (map (branch_form m) bs)) ≡ Some (map whole_part bs)
   many_read bs hbs n =
       let forms = map (branch_form m) bs in
       let all = each (reading.branch_of m) forms in
-      ap (λ o. made o (reading.each_branch m)) (section_read (codes "branches") forms refl)
+      ap (λ o. and_then o (reading.each_branch m)) (section_read (codes "branches") forms refl)
       ∙ ap (λ n. if nat_le 2 n && nat_le n 4 then all else None) (length-map bs (branch_form m))
       ∙ ap (λ b. if b then all else None) n
       ∙ branches_read m bs hbs
@@ -175,22 +176,22 @@ module _ (m : Source) where
       let case : List Spelled → List (List Spelled) → List Spelled → Option SpelledCase = λ p bs s. Some (record { prefix = p; branches = bs; suffix = s }) in
       let branches = reading.branches_of m (branches_forms m c.branches) in
       let suffix = reading.suffix_of m (suffix_trees c.suffix) in
-      ap (λ o. made o (λ p. made branches (λ bs. made suffix (case p bs)))) (commands_read (codes "prefix") c.prefix refl a.prefix)
-      ∙ ap (λ o. made o (λ bs. made suffix (case (whole_part c.prefix) bs))) (branches_again_read c.branches a.branches a.count)
-      ∙ ap (λ o. made o (case (whole_part c.prefix) (map whole_part c.branches))) (suffix_read c.suffix a.suffix)
+      ap (λ o. and_then o (λ p. and_then branches (λ bs. and_then suffix (case p bs)))) (commands_read (codes "prefix") c.prefix refl a.prefix)
+      ∙ ap (λ o. and_then o (λ bs. and_then suffix (case (whole_part c.prefix) bs))) (branches_again_read c.branches a.branches a.count)
+      ∙ ap (λ o. and_then o (case (whole_part c.prefix) (map whole_part c.branches))) (suffix_read c.suffix a.suffix)
 
   -- a case without replies
   pub case_read : (c : Case) → CaseAgain m c → reading.case_parts m (case_forms m c) ≡ reading.without_replies (whole_case c)
   case_read c a =
-      ap (λ s. made (reading.case_of m s) reading.without_replies) (sections_read c)
-      ∙ ap (λ o. made o reading.without_replies) (case_is c a)
+      ap (λ s. and_then (reading.case_of m s) reading.without_replies) (sections_read c)
+      ∙ ap (λ o. and_then o reading.without_replies) (case_is c a)
 
   -- a case with replies
   pub run_read : (c : Case) (replies : Form) → CaseAgain m c → reading.run_parts m (case_forms m c ++ replies ∷ []) ≡ reading.with_replies replies (sections c) (whole_case c)
   run_read c replies a =
-      ap (λ o. made o (λ p. reading.run_sections m p.1 (reading.sections_of p.0))) (last_behind (case_forms m c) replies)
+      ap (λ o. and_then o (λ p. reading.run_sections m p.1 (reading.sections_of p.0))) (last_behind (case_forms m c) replies)
       ∙ ap (reading.run_sections m replies) (sections_read c)
-      ∙ ap (λ o. made o (reading.with_replies replies (sections c))) (case_is c a)
+      ∙ ap (λ o. and_then o (reading.with_replies replies (sections c))) (case_is c a)
 
   -- ---- sizes
 

@@ -12,19 +12,19 @@ use Rattle.pst_rules.specs.Fitting.{args_fit, args_fit_in}
 use Rattle.pst_model.specs.Levels as ty_levels
 use Rattle.pst_model.specs.Names.{is_between, is_name_byte, is_name}
 use Rattle.pst_model.specs.Operations.{HasOperations, max_levels as max_ty_levels}
-use Rattle.pst_model.specs.Parts.{number_of, operation_of, operations_of, parameters_of, types_of}
-use Rattle.pst_model.specs.declared.model.Item.TheVariants as item
-use Rattle.pst_model.specs.declared.model.Item.{Item}
+use Rattle.pst_model.specs.Parts.{number_of, operation_of, parameters_of, types_of}
 use Rattle.pst_model.specs.declared.model.Op.{Op}
 use Rattle.pst_model.specs.declared.model.Param.{Param}
 use Rattle.pst_model.specs.declared.model.Source.{Source}
+use Rattle.pst_rules.proofs.Operations.{well_operation}
 use Rattle.pst_rules.specs.Kinds.{holds_call}
-use Rattle.pst_rules.specs.WellTyped.{WellOperation, WellItems, WellModel}
+use Rattle.pst_rules.specs.WellTyped.{WellModel}
 use Rattle.pst_runs.specs.Commands.{present, are_present, arguments_of, spelled, command_in, command_of, commands_of}
 use Rattle.pst_runs.specs.Forms.{branch_of}
 use Rattle.pst_runs.specs.declared.commands.Spelled.{Spelled}
 use Rattle.pst_runs.specs.declared.commands.Spelled.TheVariants.{Whole, Partial}
-use Rattle.pst_runs.specs.Values.{made, each, word_of, word_at, node_of, node_at, value_in}
+use Rattle.pst_runs.specs.Values.{each, value_in}
+use Rattle.pst_sexpr.specs.Parts.{and_then, word_of, word_at, node_of, node_at}
 use Rattle.pst_sexpr.proofs.Made.{word_is_tree}
 use Rattle.pst_sexpr.specs.Bytes.{is_word_byte}
 use Rattle.pst_sexpr.specs.Grammar.{IsWordBytes}
@@ -37,7 +37,7 @@ use Rattle.pst_value.specs.Fits.{is_ty, fits, fit_each}
 use Rattle.pst_value.specs.Subst.{numbered}
 use Rattle.pst_value.specs.declared.ty.Ty.{Ty}
 use Rattle.pst_value.specs.declared.value.Value.{Value}
-use Rattle.pst_write.proofs.Numbers.{both_hold}
+use Rattle.pst_words.proofs.Numbers.{both_hold}
 use Rattle.pst_write.proofs.Sized.{Sized, AllSized, all_wider, none_sized, more_sized, word_sized, node_sized}
 use Rattle.pst_write.proofs.ValueAgain.{EachAgain, each_again}
 use Rattle.pst_write.specs.Written.{value_form, name_in, name_of, command_form, branch_form}
@@ -53,9 +53,9 @@ word_is word = ap word_at (outs-Word word)
 some_is : {A : Type 0} (a b : A) → Some a ≡ Some b → a ≡ b
 some_is a b e = cc
 
-made_some : {A B : Type 0} (o : Option A) (f : A → Option B) (b : B) → made o f ≡ Some b → (a : A) × (o ≡ Some a) × (f a ≡ Some b)
-made_some None f b e = absurd (cc)
-made_some (Some a) f b e = (a, refl, e)
+and_then_some : {A B : Type 0} (o : Option A) (f : A → Option B) (b : B) → and_then o f ≡ Some b → (a : A) × (o ≡ Some a) × (f a ≡ Some b)
+and_then_some None f b e = absurd (cc)
+and_then_some (Some a) f b e = (a, refl, e)
 
 -- ---- names
 
@@ -78,18 +78,6 @@ name_is_tree (b ∷ bytes) e =
     word_is_tree (b ∷ bytes) (omega arith) (first_byte b p.0, name_bytes bytes p.1)
 
 -- ---- operations
-
-well_operation : (items : List Item) (S : Ty) (earlier later : List Item) (n : ℕ) (o : Op) → WellItems items S earlier later → slice_get (operations_of later) n ≡ Some o → WellOperation items S o
-well_operation items S earlier [] n o w e = absurd (cc)
-well_operation items S earlier (item.Op p ∷ later) zero o w e = let q : p ≡ o = cc in let P : Op → Type 0 = λ k. WellOperation items S k in subst P q w.0
-well_operation items S earlier (item.Op p ∷ later) (suc n) o w e = well_operation items S (item.Op p ∷ earlier) later n o w.1 e
-well_operation items S earlier (item.Fun f ∷ later) n o w e = well_operation items S (item.Fun f ∷ earlier) later n o w.1 e
-well_operation items S earlier (item.State t ∷ later) n o w e = well_operation items S (item.State t ∷ earlier) later n o w.1 e
-well_operation items S earlier (item.Init t ∷ later) n o w e = well_operation items S (item.Init t ∷ earlier) later n o w.1 e
-well_operation items S earlier (item.Command t ∷ later) n o w e = well_operation items S (item.Command t ∷ earlier) later n o w.1 e
-
-pub well : (m : Source) (n : ℕ) (o : Op) → (w : WellModel m) → operation_of m.items n ≡ Some o → WellOperation m.items w.state o
-well m n o w e = well_operation m.items w.state [] m.items n o w.well e
 
 shallow : (n : ℕ) → nat_le n max_ty_levels ≡ true → n ≤ 16
 shallow n e = grind (arith, nat_tests)
@@ -156,8 +144,8 @@ one_read f form forms v vs e h =
 arguments_read : (f : Form → Option Value) (forms : List Form) (vs : List Value) → each f forms ≡ Some vs → ArgumentsRead f forms vs
 arguments_read f [] vs e = record { all = refl; values = some_is [] vs e }
 arguments_read f (form ∷ forms) vs e =
-    let p = made_some (f form) (λ b. made (each f forms) (λ bs. Some (b ∷ bs))) vs e in
-    let q = made_some (each f forms) (λ bs. Some (p.0 ∷ bs)) vs p.2 in
+    let p = and_then_some (f form) (λ b. and_then (each f forms) (λ bs. Some (b ∷ bs))) vs e in
+    let q = and_then_some (each f forms) (λ bs. Some (p.0 ∷ bs)) vs p.2 in
     let all = one_read f form forms p.0 q.0 p.1 (arguments_read f forms q.0 q.1) in
     subst (ArgumentsRead f (form ∷ forms)) (some_is (p.0 ∷ q.0) vs q.2) all
 
@@ -195,7 +183,7 @@ module _ (m : Source) (model : WellModel m) (has : HasOperations m.items) where
   arguments_again vars c o few is fit closed =
       let ts = types_of o.params in
       let low = parameters_shallow o.params (has c.op o is).parameters in
-      let calls : list_any (λ held. held) (map holds_call ts) ≡ false = list_any-map holds_call ts ∙ (well m c.op o model is).parameters in
+      let calls : list_any (λ held. held) (map holds_call ts) ≡ false = list_any-map holds_call ts ∙ (well_operation m c.op o model is).parameters in
       let fit_in : fit_each (map (fits vars vars (parameters_of m.items)) c.args) ts ≡ true = ap (λ q. args_fit_in m vars vars q c.args) (sym is) ∙ fit in (
         ty_levels.greatest (map ty_levels.levels ts),
         low,
@@ -222,8 +210,8 @@ module _ (m : Source) (model : WellModel m) (has : HasOperations m.items) where
         known = is;
         sized = node_sized (more_sized (word_sized 16 name lawful) (all_wider 16 again.sized low)) (omega arith);
         reads =
-            ap (λ q. made q (command_in m)) (node_is (Word name ∷ forms))
-            ∙ ap (λ q. made q (λ name. Some (spelled (number_of m.items name) values))) (word_is name)
+            ap (λ q. and_then q (command_in m)) (node_is (Word name ∷ forms))
+            ∙ ap (λ q. and_then q (λ name. Some (spelled (number_of m.items name) values))) (word_is name)
             ∙ ap (λ q. Some (spelled q values)) (number_is c o is)
             ∙ ap (λ b. Some (if b then Whole (command c.op (present values)) else Partial (command c.op (present values)))) args.all
             ∙ ap (λ vs. Some (Whole (command c.op vs))) args.values;
@@ -260,17 +248,17 @@ module _ (m : Source) where
       let rest = part_read cs h.1 in
       record {
         sized = more_sized h.0.sized rest.sized;
-        reads = ap (λ o. made o (λ b. made (each (command_of m) (map (command_form m) cs)) (λ bs. Some (b ∷ bs)))) h.0.reads ∙ ap (λ o. made o (λ bs. Some (Whole c ∷ bs))) rest.reads;
+        reads = ap (λ o. and_then o (λ b. and_then (each (command_of m) (map (command_form m) cs)) (λ bs. Some (b ∷ bs)))) h.0.reads ∙ ap (λ o. and_then o (λ bs. Some (Whole c ∷ bs))) rest.reads;
       }
 
   branch_read : (cs : List Command) → EachCommand m cs → branch_of m (branch_form m cs) ≡ Some (whole_part cs)
-  branch_read cs h = ap (λ o. made o (commands_of m)) (node_is (map (command_form m) cs)) ∙ (part_read cs h).reads
+  branch_read cs h = ap (λ o. and_then o (commands_of m)) (node_is (map (command_form m) cs)) ∙ (part_read cs h).reads
 
   pub branches_read : (bs : List (List Command)) → EachBranch m bs → each (branch_of m) (map (branch_form m) bs) ≡ Some (map whole_part bs)
   branches_read [] h = refl
   branches_read (b ∷ bs) h =
-      ap (λ o. made o (λ b. made (each (branch_of m) (map (branch_form m) bs)) (λ bs. Some (b ∷ bs)))) (branch_read b h.0)
-      ∙ ap (λ o. made o (λ bs. Some (whole_part b ∷ bs))) (branches_read bs h.1)
+      ap (λ o. and_then o (λ b. and_then (each (branch_of m) (map (branch_form m) bs)) (λ bs. Some (b ∷ bs)))) (branch_read b h.0)
+      ∙ ap (λ o. and_then o (λ bs. Some (whole_part b ∷ bs))) (branches_read bs h.1)
 
   pub branches_sized : (bs : List (List Command)) → EachBranch m bs → AllSized 18 (map (branch_form m) bs)
   branches_sized [] h = none_sized 18

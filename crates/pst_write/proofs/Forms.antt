@@ -6,7 +6,8 @@ use Rattle.pst_sexpr.specs.declared.form.Form.TheVariants.{Word, Text as TextFor
 use Rattle.pst_sexpr.specs.declared.form.Form.{Form}
 use Rattle.pst_value.proofs.Forms.{fold-Int, fold-Truth, fold-Text, fold-Tuple, fold-ListOf, fold-Var, fold-Ref, fold-Call}
 use Rattle.pst_value.specs.declared.value.Value.{Value, Int, Text, Tuple, List as ListOf, Var, Ref, Call, Bool as Truth}
-use Rattle.pst_write.specs.Written.{headed, truth_word, value_at, value_form}
+use Rattle.pst_sexpr.specs.Parts.{headed}
+use Rattle.pst_write.specs.Written.{truth_word, value_at, value_form}
 
 pub form_Int : (n : ℤ) → value_form (Int n) ≡ Word (signed_decimal n)
 unfolding value_form

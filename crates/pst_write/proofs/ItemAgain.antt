@@ -15,7 +15,7 @@ use Rattle.pst_runs.specs.Items.{run as run_with, with_history, run_of, unless_f
 use Rattle.pst_runs.specs.Lawful.{IsLawful}
 use Rattle.pst_runs.specs.Reading.{readable_case}
 use Rattle.pst_runs.specs.Replies.{◌>>=◌, then_more, history_of}
-use Rattle.pst_runs.specs.Values.{made}
+use Rattle.pst_sexpr.specs.Parts.{and_then}
 use Rattle.pst_runs.specs.declared.fault.RunFaultKind.TheVariants.{NotAFit}
 use Rattle.pst_sexpr.specs.Bytes.{is_word_byte}
 use Rattle.pst_sexpr.specs.Lawful.{IsTree, AreTrees}
@@ -26,7 +26,7 @@ use Rattle.pst_write.proofs.CommandAgain.{node_is, word_is}
 use Rattle.pst_write.proofs.ReplyAgain.{lists_of, history_sized, lists_read, history_counted, history_read}
 use Rattle.pst_write.proofs.Sized.{wider, last_sized, headed_sized}
 use Rattle.pst_write.proofs.WholeAgain.{readable_is, no_fault}
-use Rattle.pst_write.specs.Reading.{AreRead}
+use Rattle.pst_write.specs.Reading.{IsRead, AreRead}
 use Rattle.pst_write.specs.Written.{case_forms, replies_form, item_form, run_form, run_forms}
 
 -- the tree of an item has a spelling, and is read as the run
@@ -42,16 +42,16 @@ module _ (m : Source) (model : WellModel m) (has : HasOperations m.items) where
   unfolding parts_of
   case_parts_read c a =
       let forms = case_forms m c in
-      ap (λ o. made o (item_in m)) (node_is (Word (codes "case") ∷ forms))
-      ∙ ap (λ o. made o (λ head. if bytes_eq head (codes "case") then case_parts m forms else if bytes_eq head (codes "run") then run_parts m forms else None)) (word_is (codes "case"))
+      ap (λ o. and_then o (item_in m)) (node_is (Word (codes "case") ∷ forms))
+      ∙ ap (λ o. and_then o (λ head. if bytes_eq head (codes "case") then case_parts m forms else if bytes_eq head (codes "run") then run_parts m forms else None)) (word_is (codes "case"))
       ∙ case_read m c a
 
   run_parts_read : (c : Case) (h : History) → CaseAgain m c → matches m c h ≡ true → parts_of m (item_form m c (Some h)) ≡ Some (parts c (Some (lists_of h)))
   unfolding parts_of
   run_parts_read c h a e =
       let forms = case_forms m c ++ replies_form h ∷ [] in
-      ap (λ o. made o (item_in m)) (node_is (Word (codes "run") ∷ forms))
-      ∙ ap (λ o. made o (λ head. if bytes_eq head (codes "case") then case_parts m forms else if bytes_eq head (codes "run") then run_parts m forms else None)) (word_is (codes "run"))
+      ap (λ o. and_then o (item_in m)) (node_is (Word (codes "run") ∷ forms))
+      ∙ ap (λ o. and_then o (λ head. if bytes_eq head (codes "case") then case_parts m forms else if bytes_eq head (codes "run") then run_parts m forms else None)) (word_is (codes "run"))
       ∙ run_read m c (replies_form h) a
       ∙ lists_read m model has c h e
 
@@ -108,24 +108,21 @@ module _ (m : Source) where
   runs_lawful [] h = tt
   runs_lawful (run ∷ runs) h = (h.0.lawful, runs_lawful runs h.1)
 
--- ---- a form that is the tree of the run
+-- ---- what the types of the model and of the case keep
 
-module _ (m n : Source) (c : Case) (run : Run) (form : Form) (is : form ≡ item_form n c run.history) (same : n ≡ m) (case : c ≡ run.shaped.case)
-    (shape : IsShaped run.shaped.model run.shaped.case) (model : WellModel n) (has : HasOperations n.items) (h : IsLawful m run) where
-  form_is : form ≡ run_form m run
-  form_is = is ∙ ap (λ n. item_form n c run.history) same ∙ ap (λ c. item_form m c run.history) case
+pub lawful_is_read : (m n : Source) (run : Run) → n ≡ m → IsShaped run.shaped.model run.shaped.case → WellModel n → HasOperations n.items
+    → IsLawful m run → IsRead m run
+lawful_is_read m n run same shape model has h =
+    let P : Source → Type 0 = λ m. HasOperations m.items in
+    let well : WellModel m = subst WellModel same model in
+    let operations : HasOperations m.items = subst P same has in
+    let shaped : IsShaped m run.shaped.case = subst (λ m. IsShaped m run.shaped.case) h.model shape in
+    record {
+      lawful = written_lawful m well operations run h shaped;
+      read = written_read m well operations run h shaped;
+    }
 
-  known : WellModel m
-  known = subst WellModel same model
-
-  operations : HasOperations m.items
-  operations = let P : Source → Type 0 = λ m. HasOperations m.items in subst P same has
-
-  shaped : IsShaped m run.shaped.case
-  shaped = subst (λ m. IsShaped m run.shaped.case) h.model shape
-
-  pub form_lawful : IsTree form
-  form_lawful = subst IsTree (sym form_is) (written_lawful m known operations run h shaped)
-
-  pub form_read : item_of m form ≡ Ok run
-  form_read = ap (item_of m) form_is ∙ written_read m known operations run h shaped
+-- a form that is the tree of the run
+pub form_is : (m n : Source) (c : Case) (run : Run) {form : Form} → form ≡ item_form n c run.history → n ≡ m → c ≡ run.shaped.case
+    → form ≡ run_form m run
+form_is m n c run is same case = is ∙ ap (λ n. item_form n c run.history) same ∙ ap (λ c. item_form m c run.history) case

@@ -11,6 +11,7 @@ use Rattle.pst_case.specs.declared.case.Command.{Command}
 use Rattle.pst_case.specs.declared.history.History.{History}
 use Rattle.pst_case.specs.declared.history.Reply.TheVariants as reply
 use Rattle.pst_case.specs.declared.history.Reply.{Reply}
+use Rattle.pst_rules.proofs.Operations.{well_operation}
 use Rattle.pst_rules.specs.Fitting.{fits_in}
 use Rattle.pst_model.specs.Levels as ty_levels
 use Rattle.pst_model.specs.Operations.{HasOperations}
@@ -19,7 +20,8 @@ use Rattle.pst_model.specs.declared.model.Source.{Source}
 use Rattle.pst_rules.specs.WellTyped.{WellModel}
 use Rattle.pst_runs.specs.Forms.{Parts, is_node, number_of_parts, with_replies}
 use Rattle.pst_runs.specs.Replies.{◌>>=◌, then_more, or_number, listed, listed_in, listed_at, answered, reply_word, or_value, reply_of, part_replies, branch_replies, history_of, branches_count, are_counted}
-use Rattle.pst_runs.specs.Values.{made, node_of, value_of}
+use Rattle.pst_runs.specs.Values.{value_of}
+use Rattle.pst_sexpr.specs.Parts.{and_then, node_of}
 use Rattle.pst_sexpr.specs.Bytes.{is_word_byte}
 use Rattle.pst_sexpr.specs.Reading.{max_levels}
 use Rattle.pst_sexpr.specs.declared.form.Form.TheVariants.{Word}
@@ -27,8 +29,8 @@ use Rattle.pst_sexpr.specs.declared.form.Form.{Form}
 use Rattle.pst_value.specs.Fits.{fits}
 use Rattle.pst_value.specs.declared.value.Value.{Value}
 use Rattle.pst_write.proofs.CaseAgain.{CaseAgain, whole_case, section_read, sections, suffix_trees}
-use Rattle.pst_write.proofs.CommandAgain.{whole_part, node_is, word_is, well, room_is, CommandAgain, EachCommand, EachBranch}
-use Rattle.pst_write.proofs.Numbers.{both_hold, both_from}
+use Rattle.pst_write.proofs.CommandAgain.{whole_part, node_is, word_is, room_is, CommandAgain, EachCommand, EachBranch}
+use Rattle.pst_words.proofs.Numbers.{both_hold, both_from}
 use Rattle.pst_write.proofs.Sized.{Sized, AllSized, wider, none_sized, more_sized, letters_sized, node_sized, headed_sized}
 use Rattle.pst_write.proofs.ValueAgain.{FormAgain, reply_again}
 use Rattle.pst_write.specs.Written.{value_form, reply_form, list_form, suffix_lists, replies_form}
@@ -48,7 +50,7 @@ record ReplyAgain (m : Source) (c : Command) (r : Reply) : Type 0 where
   reads : reply_of m c (reply_form r) ≡ Some r
 
 abbrev answer : Source → Command → Option Value → Option Reply
-answer m c o = made o (λ v. Some (answered m c v))
+answer m c o = and_then o (λ v. Some (answered m c v))
 
 module _ (m : Source) (model : WellModel m) (has : HasOperations m.items) where
   value_read : (c : Command) (v : Value) (depth : ℕ) → depth ≤ 16 → FormAgain false depth v (value_form v) → fits_in m [] [] v (result_type m c) ≡ true → ReplyAgain m c (reply.Value v)
@@ -67,7 +69,7 @@ module _ (m : Source) (model : WellModel m) (has : HasOperations m.items) where
   reply_read c (reply.Value v) a e =
       let o = a.operation in
       let low = room_is o.result (has c.op o a.known).result in
-      let call = holds_ref-call o.result (well m c.op o model a.known).result in
+      let call = holds_ref-call o.result (well_operation m c.op o model a.known).result in
       let fit : fits [] [] (parameters_of m.items) v o.result ≡ true = ap (λ q. fits_in m [] [] v (type_in q)) (sym a.known) ∙ e in
       value_read c v (ty_levels.levels o.result) low (reply_again (parameters_of m.items) v o.result (omega arith) call fit) e
   reply_read c reply.Misfit a e = record {
@@ -238,7 +240,7 @@ module _ (m : Source) (model : WellModel m) (has : HasOperations m.items) where
       let n : length lists ≡ number = omega arith in
       let nodes : AreNodes lists =
       both_from _ _ (ap is_node (node_is (map reply_form h.prefix))) (all_nodes h.branches (suffix_lists h.suffix) (suffix_nodes h.suffix)) in
-      ap (λ o. made o (λ lists. if (length lists == number) && list_all (λ list. is_node (node_of list)) lists then Some (parts c (Some lists)) else None)) (section_read (codes "replies") lists refl)
+      ap (λ o. and_then o (λ lists. if (length lists == number) && list_all (λ list. is_node (node_of list)) lists then Some (parts c (Some lists)) else None)) (section_read (codes "replies") lists refl)
       ∙ ap (λ b. if b then Some (parts c (Some lists)) else None) (both_from _ _ (eq-eqb _ _ n) nodes)
 
   -- the list of the suffix

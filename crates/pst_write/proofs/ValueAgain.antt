@@ -12,7 +12,8 @@ use Rattle.pst_model.specs.Levels as ty_levels
 use Rattle.pst_rules.specs.Kinds.{holds_call, holds_call_at}
 use Rattle.pst_runs.proofs.Rooms.{value_word, value_text, value_node}
 use Rattle.pst_runs.specs.Replies.{reply_word}
-use Rattle.pst_runs.specs.Values.{made, each, word_of, word_at, word_value, tuple_or_list, value_in}
+use Rattle.pst_runs.specs.Values.{each, word_value, tuple_or_list, value_in}
+use Rattle.pst_sexpr.specs.Parts.{and_then, word_of, word_at}
 use Rattle.pst_sexpr.specs.Bytes.{is_word_byte, is_text_byte, is_escaped_byte}
 use Rattle.pst_sexpr.specs.Lawful.{IsTextBytes}
 use Rattle.pst_sexpr.specs.declared.form.Form.TheVariants.{Word, Node, outs-Word, outs-Text, outs-Node}
@@ -26,8 +27,9 @@ use Rattle.pst_value.specs.declared.ty.Ty.TheOpen.{Ty-F}
 use Rattle.pst_value.specs.declared.ty.Ty.{Ty, out-Ty, roll-out-Ty, map-Ty, fold-roll-Ty}
 use Rattle.pst_value.specs.declared.value.Value.TheOpen.{Value-F}
 use Rattle.pst_value.specs.declared.value.Value.{Value, Int, Text, Tuple, List as ListOf, Var, Bool as Truth}
+use Rattle.pst_words.proofs.Numbers.{both_hold, both_from}
 use Rattle.pst_write.proofs.Forms.{form_Int, form_Truth, form_Text, form_Tuple, form_ListOf, form_Var}
-use Rattle.pst_write.proofs.Numbers.{both_hold, both_from, IsEarly, early_apart, spells_integer, integer_read, variable_read, variable_is_tree}
+use Rattle.pst_write.proofs.Numbers.{IsEarly, early_apart, spells_integer, integer_read, variable_read, variable_is_tree}
 use Rattle.pst_write.proofs.Sized.{Sized, AllSized, wider, all_wider, none_sized, more_sized, word_sized, text_sized, letters_sized, headed_sized}
 use Rattle.pst_write.specs.Written.{truth_word, value_form}
 
@@ -116,16 +118,16 @@ module _ (symbolic : Bool) where
       let forms = map value_form vs in
       let inner = value_in symbolic (room - 1) in
       value_node symbolic room (Word (codes "tuple") ∷ forms) (some_room (suc depth) room h)
-      ∙ ap (λ x. made (word_at x) (λ head. tuple_or_list inner head forms)) (outs-Word (codes "tuple"))
-      ∙ ap (λ o. made o (λ vs. Some (Tuple vs))) (a.reads (room - 1) (omega arith))
+      ∙ ap (λ x. and_then (word_at x) (λ head. tuple_or_list inner head forms)) (outs-Word (codes "tuple"))
+      ∙ ap (λ o. and_then o (λ vs. Some (Tuple vs))) (a.reads (room - 1) (omega arith))
 
   list_read : (depth room : ℕ) (vs : List Value) → EachAgain symbolic depth vs → suc depth < room → value_in symbolic room (Node (Word (codes "list") ∷ map value_form vs)) ≡ Some (ListOf vs)
   list_read depth room vs a h =
       let forms = map value_form vs in
       let inner = value_in symbolic (room - 1) in
       value_node symbolic room (Word (codes "list") ∷ forms) (some_room (suc depth) room h)
-      ∙ ap (λ x. made (word_at x) (λ head. tuple_or_list inner head forms)) (outs-Word (codes "list"))
-      ∙ ap (λ o. made o (λ vs. Some (ListOf vs))) (a.reads (room - 1) (omega arith))
+      ∙ ap (λ x. and_then (word_at x) (λ head. tuple_or_list inner head forms)) (outs-Word (codes "list"))
+      ∙ ap (λ o. and_then o (λ vs. Some (ListOf vs))) (a.reads (room - 1) (omega arith))
 
   tuple_again : (depth : ℕ) (vs : List Value) → depth < 99 → EachAgain symbolic depth vs → FormAgain symbolic (suc depth) (Tuple vs) (value_form (Tuple vs))
   unfolding is_word_byte
@@ -163,8 +165,8 @@ module _ (symbolic : Bool) where
       record {
         sized = more_sized (wider depth a.sized h) (all_wider depth all.sized k);
         reads = λ room r.
-            ap (λ o. made o (λ b. made (each (value_in symbolic room) (map value_form vs)) (λ bs. Some (b ∷ bs)))) (a.reads room (omega arith))
-            ∙ ap (λ o. made o (λ bs. Some (v ∷ bs))) (all.reads room (omega arith));
+            ap (λ o. and_then o (λ b. and_then (each (value_in symbolic room) (map value_form vs)) (λ bs. Some (b ∷ bs)))) (a.reads room (omega arith))
+            ∙ ap (λ o. and_then o (λ bs. Some (v ∷ bs))) (all.reads room (omega arith));
       }
 
 -- ---- texts

@@ -1,5 +1,5 @@
--- The tree that is written for a run: integers and variables in their shortest form, two branches as `left` and
--- `right`.
+-- The tree that is written for a run: integers and variables in their shortest form, two branches as `left`
+-- and `right`.
 use Rattle.std.specs.Prelude.{ℕ, Bool, true, false, List, [], ◌∷◌, ◌++◌, map, Option, Some, None, codes, decimal}
 use Rattle.std.specs.Fmt.{signed_decimal}
 use Rattle.pst_case.specs.declared.case.Case.{Case}
@@ -11,14 +11,11 @@ use Rattle.pst_case.specs.declared.history.Run.{Run}
 use Rattle.pst_model.specs.Parts.{operation_of}
 use Rattle.pst_model.specs.declared.model.Op.{Op}
 use Rattle.pst_model.specs.declared.model.Source.{Source}
+use Rattle.pst_sexpr.specs.Parts.{headed}
 use Rattle.pst_sexpr.specs.declared.form.Form.{Form}
 use Rattle.pst_sexpr.specs.declared.form.Form.TheVariants.{Word, Text, Node}
 use Rattle.pst_value.specs.declared.value.Value.{Value, fold-Value}
 use Rattle.pst_value.specs.declared.value.Value.TheOpen.{Value-F}
-
--- a node that is headed by the word
-abbrev pub headed : List ℕ → List Form → Form
-headed word parts = Node (Word word ∷ parts)
 
 -- ---- values
 

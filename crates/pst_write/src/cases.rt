@@ -2,12 +2,11 @@
 ghost use Rattle.std.specs.Prelude.{◌≡◌, IfOk, map};
 ghost use Rattle.pst_write.specs.Written as spec;
 
-use crate::nodes::{headed, one};
 use crate::values::each_value;
 use pst_case::{Case, Command};
 use pst_items::Items;
 use pst_model::{Source, operation_of};
-use pst_sexpr::Form;
+use pst_sexpr::{Form, headed, list_of};
 use std::alloc::{AllocError, Global};
 
 fn command_form(alloc: Global, model: &Source, command: &Command) -> Result<Form, AllocError>
@@ -72,11 +71,11 @@ fn branches_forms(
         [left, right] => {
             let left = section_form(alloc, model, "left", left.as_slice())?;
             let right = section_form(alloc, model, "right", right.as_slice())?;
-            let mut forms = one(alloc, left)?;
+            let mut forms = list_of(alloc, left)?;
             forms.push(right)?;
             Ok(forms)
         }
-        _ => one(
+        _ => list_of(
             alloc,
             headed(alloc, "branches", each_branch(alloc, model, branches)?)?,
         ),
@@ -88,7 +87,7 @@ pub fn case_forms(alloc: Global, model: &Source, case: &Case) -> Result<Items<Fo
     ensures { IfOk result (λ forms. forms ≡ spec.case_forms model.now case.now) }
 {
     let prefix = section_form(alloc, model, "prefix", case.prefix.as_slice())?;
-    let mut forms = one(alloc, prefix)?;
+    let mut forms = list_of(alloc, prefix)?;
     forms.append(branches_forms(alloc, model, case.branches.as_slice())?)?;
     if !case.suffix.is_empty() {
         forms.push(section_form(alloc, model, "suffix", case.suffix.as_slice())?)?;

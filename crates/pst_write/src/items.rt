@@ -3,15 +3,15 @@ ghost use Rattle.std.specs.Prelude.{◌≡◌, IfOk, Ok};
 ghost use Rattle.pst_runs.specs.Items.{item_of};
 ghost use Rattle.pst_runs.specs.Lawful.{IsLawful};
 ghost use Rattle.pst_sexpr.specs.Lawful.{IsTree};
+ghost use Rattle.pst_write.specs.Reading.{IsRead};
 ghost use Rattle.pst_write.specs.Written as spec;
 
 use crate::cases::case_forms;
-use crate::nodes::headed;
 use crate::replies::replies_form;
 use pst_case::{Case, History, Run};
 use pst_model::Source;
 use pst_rules::Typed;
-use pst_sexpr::{Form, Tree};
+use pst_sexpr::{Form, Tree, headed};
 use std::alloc::{AllocError, Global};
 
 fn item_form(
@@ -32,10 +32,21 @@ fn item_form(
     }
 }
 
+/// A lawful run is read from its tree. This takes no memory: it only learns what the types of the model and
+/// of the case keep.
+pub fn is_read(typed: &Typed, run: &Run)
+    requires { IsLawful typed.now run.now }
+    ensures { IsRead typed.now run.now }
+{
+    let _model = typed.source();
+    let _case = run.shaped.case();
+}
+
 /// The tree of a run: a `case` where it has no history, and else a `run`. It is read as an equal run.
 ///
-/// Two branches are written as `left` and `right`, three or four as `branches`; a suffix of no commands is not
-/// written. The run must be one of the model, and its history must match. `AllocError` where memory is refused.
+/// Two branches are written as `left` and `right`, three or four as `branches`; a suffix of no commands is
+/// not written. The run must be one of the model, and its history must match. `AllocError` where memory is
+/// refused.
 pub fn run_tree(alloc: Global, typed: &Typed, run: &Run) -> Result<Tree, AllocError>
     requires { IsLawful typed.now run.now }
     // What is written of the run.
@@ -45,6 +56,7 @@ pub fn run_tree(alloc: Global, typed: &Typed, run: &Run) -> Result<Tree, AllocEr
     // It is read as the run.
     ensures read { IfOk result (λ tree. item_of typed.now tree ≡ Ok run.now) }
 {
+    is_read(typed, run);
     let form = item_form(alloc, typed.source(), run.shaped.case(), &run.history)?;
     Ok(Tree::new(form))
 }

@@ -6,7 +6,6 @@
 mod cases;
 mod fault;
 mod items;
-mod nodes;
 mod replies;
 mod values;
 mod writer;

@@ -2,11 +2,10 @@
 ghost use Rattle.std.specs.Prelude.{◌≡◌, IfOk, map};
 ghost use Rattle.pst_write.specs.Written as spec;
 
-use crate::nodes::{headed, one, word};
 use crate::values::value_form;
 use pst_case::{History, Reply};
 use pst_items::Items;
-use pst_sexpr::Form;
+use pst_sexpr::{Form, headed, list_of, word};
 use std::alloc::{AllocError, Global};
 
 fn reply_form(alloc: Global, reply: &Reply) -> Result<Form, AllocError>
@@ -46,7 +45,7 @@ fn each_list(alloc: Global, branches: &[Items<Reply>]) -> Result<Items<Form>, Al
 pub fn replies_form(alloc: Global, history: &History) -> Result<Form, AllocError>
     ensures { IfOk result (λ form. form ≡ spec.replies_form history.now) }
 {
-    let mut lists = one(alloc, list_form(alloc, history.prefix.as_slice())?)?;
+    let mut lists = list_of(alloc, list_form(alloc, history.prefix.as_slice())?)?;
     lists.append(each_list(alloc, history.branches.as_slice())?)?;
     if !history.suffix.is_empty() {
         lists.push(list_form(alloc, history.suffix.as_slice())?)?;

@@ -4,9 +4,8 @@ ghost use Rattle.std.specs.Fmt.{signed_decimal};
 ghost use Rattle.pst_sexpr.specs.declared.form.Form.TheVariants.{Word};
 ghost use Rattle.pst_write.specs.Written.{truth_word, value_form};
 
-use crate::nodes::{headed, word};
 use pst_items::{Items, Text};
-use pst_sexpr::Form;
+use pst_sexpr::{Form, headed, word};
 use pst_value::Value;
 use std::alloc::{AllocError, Global};
 

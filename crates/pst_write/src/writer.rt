@@ -5,22 +5,32 @@ ghost use Rattle.pst_runs.specs.Lawful.{AreLawful};
 ghost use Rattle.pst_sexpr.specs.Reading.{Spells};
 ghost use Rattle.pst_sink.specs.Writing.{Writes};
 ghost use Rattle.pst_write.specs.Lines.{line_of, lines_of, WritesLines};
-ghost use Rattle.pst_write.specs.Reading.{AreRead};
 ghost use Rattle.pst_write.specs.Written.{run_forms};
 
 use crate::fault::WriteFault;
-use crate::items::run_tree;
+use crate::items::{is_read, run_tree};
 use pst_case::Run;
 use pst_rules::Typed;
 use pst_sexpr::{Tree, write};
 use pst_sink::{Sink, WriteFailed, put_all};
 use std::alloc::{AllocError, Global};
 
+/// The lines of lawful runs spell their trees, and these are read as the runs. This takes no memory: it only
+/// learns what `is_read` says of each run.
+fn are_read(typed: &Typed, runs: &[Run])
+    requires { AreLawful typed.now runs.now }
+    ensures spelled { Spells (lines_of (run_forms typed.now runs.now)) (run_forms typed.now runs.now) }
+    ensures read { runs_of typed.now (run_forms typed.now runs.now) ≡ Ok runs.now }
+{
+    for run in runs {
+        is_read(typed, run);
+    }
+}
+
 /// The tree of each run.
 fn run_trees(alloc: Global, typed: &Typed, runs: &[Run]) -> Result<Vec<Tree>, AllocError>
     requires { AreLawful typed.now runs.now }
-    ensures trees { IfOk result (λ trees. trees.items ≡ run_forms typed.now runs.now) }
-    ensures read { IfOk result (λ _. AreRead typed.now runs.now) }
+    ensures { IfOk result (λ trees. trees.items ≡ run_forms typed.now runs.now) }
 {
     let mut trees = Vec::new(alloc);
     for run in runs {
@@ -51,11 +61,11 @@ fn write_lines<W: Sink>(trees: &[Tree], writer: &mut W) -> Result<(), WriteFaile
     Ok(())
 }
 
-/// Writes each run as one tree, in its one spelling, with a line end after it. What is written is read as equal runs,
-/// where it is no more than a file may have (`MAX_BYTES`).
+/// Writes each run as one tree, in its one spelling, with a line end after it. What is written is read as
+/// equal runs, where it is no more than a file may have (`MAX_BYTES`).
 ///
-/// Each run must be one of the model, its history must match, and the writer must not have failed. All trees are made
-/// before the first is written.
+/// Each run must be one of the model, its history must match, and the writer must not have failed. All trees
+/// are made before the first is written.
 /// `WriteFailed`: the writer has failed, and a beginning of the lines went out.
 /// `NoMemory`: memory was refused; nothing went out, and the writer has not failed.
 pub fn write_runs<W: Sink>(
@@ -70,11 +80,11 @@ pub fn write_runs<W: Sink>(
     ensures written { WritesLines (W.taken writer.old) (W.taken writer.new) (W.broken writer.new) result
         (run_forms typed.now runs.now) }
     // The lines are read as these trees, and as nothing else.
-    ensures spelled { IfOk result (λ _.
-        Spells (lines_of (run_forms typed.now runs.now)) (run_forms typed.now runs.now)) }
+    ensures spelled { Spells (lines_of (run_forms typed.now runs.now)) (run_forms typed.now runs.now) }
     // The trees are read as the runs.
-    ensures read { IfOk result (λ _. runs_of typed.now (run_forms typed.now runs.now) ≡ Ok runs.now) }
+    ensures read { runs_of typed.now (run_forms typed.now runs.now) ≡ Ok runs.now }
 {
+    are_read(typed, runs);
     let trees = run_trees(alloc, typed, runs)?;
     write_lines(trees.as_slice(), writer)?;
     Ok(())

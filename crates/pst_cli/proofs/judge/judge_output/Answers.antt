@@ -6,7 +6,6 @@ use Rattle.pst_cli.specs.Output.{AreJudged, IsJudgeOutput, item_lines, status_of
 use Rattle.pst_cli.specs.declared.output.Output.{Output}
 use Rattle.pst_cli.specs.declared.status.Status.TheVariants.{Refused}
 use Rattle.pst_load.specs.Loading.{items_of}
-use Rattle.pst_model.specs.declared.model.Source.{Source}
 use Rattle.pst_runs.specs.Items.{runs_of}
 use Rattle.pst_cli.proofs.judge.judge_output.Goals as goal
 
@@ -20,25 +19,24 @@ returns-in-Err c =
 
 pub returns-in-Ok-2 : goal.returns-in-Ok-2
 returns-in-Ok-2 c =
-    let m = c.in-Ok.file.typed in
+    let m = c.in-Ok.file.compiled in
     let trees = c.in-Ok.file.trees.items in
     let runs = c.in-Ok-2.runs.items in
     let all = c.in_ok-all-in-Ok-2.all.items in
-    let items : items_of trees ≡ c.items_of.result.now = ap items_of (sym c.as_slice.ensures.value) ∙ sym c.items_of.ensures in
-    let read : runs_of m c.items_of.result.now ≡ Ok runs = rw c.in-Ok-2.is at c.in_ok-runs.ensures.runs in
-    let OfModel : Source → Type 0 = λ s. AreJudged s c.as_slice-in-Ok-2.result.now all in
+    let items : items_of trees ≡ c.items_of-items.result.now = ap items_of (sym c.as_slice.ensures.value) ∙ sym c.items_of-items.ensures in
+    let read : runs_of m c.items_of-items.result.now ≡ Ok runs = rw (c.typed.ensures, c.in-Ok-2.is) at c.in_ok-runs.ensures.runs in
     let OfRuns : List Run → Type 0 = λ rs. AreJudged m rs all in
     judged m trees runs all (rw c.in-Ok.is at c.in_ok-file.ensures) (ap (runs_of m) items ∙ read)
-    (subst OfRuns c.as_slice-in-Ok-2.ensures.value (subst OfModel c.new.ensures c.in_ok-all-in-Ok-2.ensures))
-    (c.new-in-Ok-2.ensures.text ∙ c.in_ok-text-in-Ok-2.ensures ∙ ap (item_lines 1) c.as_slice-in-Ok-2-2.ensures.value)
-    (c.new-in-Ok-2.ensures.status ∙ c.status_of.ensures ∙ ap status_of c.as_slice-in-Ok-2-3.ensures.value)
+    (subst OfRuns c.as_slice-in-Ok-2.ensures.value c.in_ok-all-in-Ok-2.ensures)
+    (c.new.ensures.text ∙ c.in_ok-text-in-Ok-2.ensures ∙ ap (item_lines 1) c.as_slice-in-Ok-2-2.ensures.value)
+    (c.new.ensures.status ∙ c.status_of.ensures ∙ ap status_of c.as_slice-in-Ok-2-3.ensures.value)
 
 pub returns : goal.returns
 returns c =
-    let m = c.in-Ok.file.typed in
+    let m = c.in-Ok.file.compiled in
     let trees = c.in-Ok.file.trees.items in
-    let items : items_of trees ≡ c.items_of.result.now = ap items_of (sym c.as_slice.ensures.value) ∙ sym c.items_of.ensures in
-    let read : runs_of m c.items_of.result.now ≡ Err c.in-Err-2.fault = rw c.in-Err-2.is at c.in_ok-runs.ensures.runs in
+    let items : items_of trees ≡ c.items_of-items.result.now = ap items_of (sym c.as_slice.ensures.value) ∙ sym c.items_of-items.ensures in
+    let read : runs_of m c.items_of-items.result.now ≡ Err c.in-Err-2.fault = rw (c.typed.ensures, c.in-Err-2.is) at c.in_ok-runs.ensures.runs in
     let HasText : Output → Type 0 = λ o. o.text.items ≡ run_line c.in-Err-2.fault in
     let IsRefused : Output → Type 0 = λ o. o.status ≡ Refused in
     let IsSo : Output → Type 0 = λ o. IsJudgeOutput c.args.input.now o.text.items o.status in

@@ -10,12 +10,12 @@ use Rattle.pst_cli.proofs.run.item_reports.Goals as goal
 
 pub item_report-requires : goal.item_report-requires
 item_report-requires g c =
-    let l = lawful_here c.args.typed.now c.args.runs.now c.loop-index.index c.index-runs-index.result c.loop-index-test.true c.index-runs-index.is c.requires in
+    let l = lawful_here c.args.compiled.now c.args.runs.now c.loop-index.index c.index-runs-index.result c.loop-index-test.true c.index-runs-index.is c.requires in
     record { model = l.model }
 
 pub loop-index-preserved : goal.loop-index-preserved
 loop-index-preserved g c =
-    let m = c.args.typed.now in
+    let m = c.args.compiled.now in
     let runs = c.args.runs.now in
     let i = c.loop-index.index in
     let s = (g.dyn-1.0.entry c.args.system.now.vtable).1 in
@@ -39,5 +39,5 @@ loop-index-preserved g c =
 pub returns-clause-reported : goal.returns-clause-reported
 returns-clause-reported g c =
     let s = (g.dyn-1.0.entry c.args.system.now.vtable).1 in
-    all_reported c.args.typed.now (s.answers c.args.system.now.value) (s.fails c.args.system.now.value) (s.reset_fails c.args.system.now.value)
+    all_reported c.args.compiled.now (s.answers c.args.system.now.value) (s.fails c.args.system.now.value) (s.reset_fails c.args.system.now.value)
     c.args.runs.now 1 c.loop-index.index Accepted c.loop-index.status c.loop-index.text.items c.loop-index-test.false c.loop-index.invariant.completes

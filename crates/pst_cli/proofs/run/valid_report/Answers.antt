@@ -7,7 +7,7 @@ use Rattle.pst_cli.proofs.run.valid_report.Goals as goal
 
 pub returns-in-Ok-clause-reported : goal.returns-in-Ok-clause-reported
 returns-in-Ok-clause-reported g c =
-    driven_report c.args.typed.now _ _ _ c.args.number c.args.valid c.in-Ok.history c.requires.model c.into_shaped.ensures.validity c.in-Ok.ensures.matches c.in-Ok.ensures.driven
+    driven_report c.args.compiled.now _ _ _ c.args.number c.args.valid c.in-Ok.history c.requires.model c.into_shaped.ensures.validity (rw c.typed.ensures at c.in-Ok.ensures.matches) (rw c.typed.ensures at c.in-Ok.ensures.driven)
     c.run_report.result (rw c.into_shaped.ensures.same at c.run_report.ensures)
 
 pub returns-in_ok-line-in-Err-clause-reported : goal.returns-in_ok-line-in-Err-clause-reported

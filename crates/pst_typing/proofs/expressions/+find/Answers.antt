@@ -2,9 +2,9 @@ use Rattle.std.proofs.Common.{◌≤◌, length, map, reverse, sym, ap, ◌∙�
 use Rattle.std.proofs.lemmas.List.{length-map}
 use Rattle.std.proofs.lemmas.Result.{err_from_is_err_and}
 use Rattle.pst_typing.specs.Scope.{names_of, type_in}
-use Rattle.pst_typing.proofs.Forms.{for_none, for_found, list_found}
+use Rattle.pst_typing.proofs.Forms.{type_fold, for_none, for_found, list_found}
 use Rattle.pst_typing.proofs.Steps.{all_goes, all_fails, each_apart, each_goes, each_fails, types_go, types_stop}
-use Rattle.pst_typing.proofs.Weight.{item_weight}
+use Rattle.pst_meaning.proofs.Weights.{item_weight}
 use Rattle.pst_typing.proofs.expressions.+find.Goals as goal
 
 pub expect_all-expect_type-requires : goal.expect_all-expect_type-requires
@@ -71,3 +71,9 @@ find_type-returns-in_ok-ty-in-For t c =
     let d = c.args.context.now in
     rw (c.in-For.is, for_found d.items.now (reverse d.earlier.now) d.is_post c.in-For.clauses c.in-For.body (names_of c.args.scope.now) _ (rw (c.as_slice-in-For.ensures, c.get-in-For.ensures) at c.in_ok-ty-in-For.ensures))
     c.list_of-in-For.ensures
+
+pub find_type-returns-in-Fold : goal.find_type-returns-in-Fold
+find_type-returns-in-Fold t c =
+    let d = c.args.context.now in
+    rw (c.in-Fold.is, type_fold d.items.now (reverse d.earlier.now) d.is_post c.in-Fold.name c.in-Fold.list c.in-Fold.acc c.in-Fold.first c.in-Fold.body (names_of c.args.scope.now))
+    c.find_fold.ensures

@@ -1,10 +1,6 @@
 use Rattle.std.proofs.Common.{◌≡◌, take}
-use Rattle.pst_write.specs.Reading.{AreRead}
 use Rattle.pst_write.specs.Written.{run_forms}
 use Rattle.pst_write.proofs.writer.run_trees.Given as goal
 
 abbrev pub invariant-loop-run : goal.invariant-loop-run
-invariant-loop-run l = record {
-  trees : l.trees.items ≡ run_forms l.typed (take l.run-index l.runs);
-  read : AreRead l.typed (take l.run-index l.runs);
-}
+invariant-loop-run l = l.trees.items ≡ run_forms l.typed (take l.run-index l.runs)

@@ -1,0 +1,82 @@
+//! Plans, as what workers run.
+ghost use Rattle.std.specs.Prelude.{◌≡◌, ◌<◌, IfOk, IfErr};
+ghost use Rattle.std.specs.Arc.{arc_value};
+ghost use Rattle.pst_campaign.specs.Entries.{MayGive, cause_of};
+ghost use Rattle.pst_ledger.specs.declared.entry.Entry.TheVariants.{Done, Lost};
+ghost use Rattle.pst_system.specs.Kept.{AreKept};
+
+use crate::runner::TrialRunner;
+use pst_ledger::Cause;
+use pst_system::{BoxedSystem, System};
+use pst_trial::{Plan, Record, TrialFault, trial};
+use std::alloc::Global;
+use std::sync::{Arc, Wait};
+use std::thread::Threads;
+
+/// The cause that has the name of a trial's fault.
+fn cause_of(fault: TrialFault) -> Cause
+    ensures { result ≡ cause_of fault }
+{
+    match fault {
+        TrialFault::ResetFailed => Cause::ResetFailed,
+        TrialFault::NoThread => Cause::NoThread,
+        TrialFault::NoMemory => Cause::NoMemory,
+    }
+}
+
+/// Runs the trial of a number, with its fault as a cause.
+#[tactic(auto, using(crate::specs::Moving::gives_loss))]
+fn run_trial<H: Threads + Wait>(
+    rt: &H,
+    alloc: Global,
+    plan: &Arc<Plan>,
+    number: u64,
+    system: &mut BoxedSystem,
+) -> Result<Record, Cause>
+    requires below { number < (arc_value plan.now).settings.trials }
+    ensures number { IfOk result (λ r. r.number ≡ number) }
+    ensures record_given { IfOk result (λ r. MayGive (answers system.old) (fails system.old)
+        (reset_fails system.old) (arc_value plan.now) number (Done r)) }
+    ensures loss_given { IfErr result (λ c. MayGive (answers system.old) (fails system.old)
+        (reset_fails system.old) (arc_value plan.now) number (Lost c)) }
+    ensures kept { AreKept (answers system.new) (answers system.old) (fails system.new) (fails system.old)
+        (reset_fails system.new) (reset_fails system.old) }
+{
+    match trial(rt, alloc, plan, number, system) {
+        Ok(record) => Ok(record),
+        Err(fault) => Err(cause_of(fault)),
+    }
+}
+
+impl TrialRunner<Record, BoxedSystem> for Arc<Plan> {
+    ghost use Rattle.std.specs.Arc.{arc_value};
+    ghost use Rattle.pst_campaign.specs.Moving.{gives_before};
+    ghost use Rattle.pst_campaign.specs.Entries.{MayGive};
+    ghost use Rattle.pst_system.specs.Kept.{AreKept};
+    ghost use Rattle.pst_trial.specs.Steadiness.{kept_same, kept_on};
+
+    ghost trials = { λ p. (arc_value p).settings.trials };
+
+    ghost may_give = { λ p s k e. MayGive ((System-box s).answers s.value) ((System-box s).fails s.value)
+        ((System-box s).reset_fails s.value) (arc_value p) k e };
+
+    ghost keeps = { λ s t. AreKept ((System-box t).answers t.value) ((System-box s).answers s.value)
+        ((System-box t).fails t.value) ((System-box s).fails s.value)
+        ((System-box t).reset_fails t.value) ((System-box s).reset_fails s.value) };
+
+    fn run<H: Threads + Wait + Sync>(
+        &self,
+        rt: &H,
+        alloc: Global,
+        number: u64,
+        system: &mut BoxedSystem,
+    ) -> Result<Record, Cause> {
+        run_trial(rt, alloc, self, number, system)
+    }
+
+    ghost keeps_refl = { λ s. kept_same _ _ _ };
+
+    ghost keeps_trans = { λ s t u p q. kept_on q p };
+
+    ghost moves = { λ p s t kept k e. gives_before kept (arc_value p) k e };
+}

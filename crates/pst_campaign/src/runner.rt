@@ -1,0 +1,48 @@
+//! What a worker does for a number.
+ghost use Rattle.std.specs.Prelude.{◌≡◌, ◌<◌, ℕ, IfOk, IfErr};
+ghost use Rattle.pst_ledger.specs.declared.entry.Entry.{Entry};
+ghost use Rattle.pst_ledger.specs.declared.entry.Entry.TheVariants.{Done, Lost};
+
+use pst_ledger::{Cause, Numbered};
+use std::alloc::Global;
+use std::sync::Wait;
+use std::thread::Threads;
+
+/// What runs trials on systems, such as a plan.
+pub(crate) trait TrialRunner<R: Numbered, S> {
+    ghost use Rattle.std.specs.Prelude.{ℕ};
+    ghost use Rattle.pst_ledger.specs.declared.entry.Entry.{Entry};
+
+    /// The number of trials.
+    ghost trials: { Self → ℕ };
+
+    /// The entries that the trial of a number may come to on a system.
+    ghost may_give: { Self → S → ℕ → Entry R → Type 0 };
+
+    /// What a trial leaves of a system as it was, as a relation of the system before and after it.
+    ghost keeps: { S → S → Type 0 };
+
+    /// Runs the trial of a number on a system: the record of that number, or why there is none.
+    fn run<H: Threads + Wait + Sync>(
+        &self,
+        rt: &H,
+        alloc: Global,
+        number: u64,
+        system: &mut S,
+    ) -> Result<R, Cause>
+        requires below { number < trials self.now }
+        ensures number { IfOk result (λ r. R.number_of r ≡ number) }
+        ensures record_given { IfOk result (λ r. may_give self.now system.old number (Done r)) }
+        ensures loss_given { IfErr result (λ c. may_give self.now system.old number (Lost c)) }
+        ensures keeps { keeps system.old system.new };
+
+    /// A system that does not change keeps everything.
+    ghost keeps_refl: { (s : S) → keeps s s };
+
+    /// Two trials in a row keep what each of them keeps.
+    ghost keeps_trans: { (s t u : S) → keeps s t → keeps t u → keeps s u };
+
+    /// What a kept system may give, it might have given before.
+    ghost moves: { (p : Self) (s t : S) → keeps s t
+        → (k : ℕ) (e : Entry R) → may_give p t k e → may_give p s k e };
+}

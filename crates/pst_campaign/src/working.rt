@@ -1,0 +1,92 @@
+//! One worker.
+ghost use Rattle.std.specs.Prelude.{◌≡◌, true, None};
+ghost use Rattle.std.specs.Arc.{arc_value};
+ghost use Rattle.pst_campaign.specs.Entries.{MayGive};
+ghost use Rattle.pst_campaign.specs.Workers.{IsFresh, IsWorked};
+ghost use Rattle.pst_campaign.specs.Working.{Adds};
+ghost use Rattle.pst_system.specs.Kept.{AreKept};
+
+use crate::runner::TrialRunner;
+use pst_ledger::{Ledger, Numbered, Seat};
+use pst_system::{BoxedSystem, System};
+use pst_trial::{Plan, Record, may_share_records};
+use std::alloc::Global;
+use std::sync::{Arc, Wait};
+use std::thread::Threads;
+
+/// Claims numbers until there is none left, runs the trial of each, and deposits its record or gives the number up.
+pub(crate) fn work_with<R: Numbered, S: Drop, P: TrialRunner<R, S>, H: Threads + Wait + Sync>(
+    rt: &H,
+    alloc: Global,
+    plan: &P,
+    ledger: &Ledger<R>,
+    seat: &mut Seat<R>,
+    system: &mut S,
+)
+    requires own { seat.old.table ≡ ledger.now.table }
+    requires idle { seat.old.held ≡ None }
+    requires trials { ledger.now.table.slots ≡ P.trials plan.now }
+    ensures place { seat.new.table ≡ seat.old.table }
+    ensures marked { seat.new.marked ≡ true }
+    ensures rests { seat.new.held ≡ None }
+    ensures ends { Adds (P.may_give plan.now system.old) seat.old.ends seat.new.ends }
+    ensures keeps { P.keeps system.old system.new }
+{
+    for _ in rt.forever() {
+        let Some(number) = ledger.claim(seat) else {
+            return;
+        };
+        match plan.run(rt, alloc, number, system) {
+            Ok(record) => {
+                let _ = ledger.deposit(seat, record);
+            }
+            Err(cause) => {
+                let _ = ledger.lose(seat, number, cause);
+            }
+        }
+    }
+    unreachable!()
+}
+
+/// The same with a fresh seat and a system of its own, for a thread, which hands the seat back.
+pub(crate) fn work_alone<R: Numbered, S: Drop, P: TrialRunner<R, S>, H: Threads + Wait + Sync>(
+    rt: &H,
+    alloc: Global,
+    plan: &P,
+    ledger: &Ledger<R>,
+    mut seat: Seat<R>,
+    mut system: S,
+) -> Seat<R>
+    requires fresh { IsFresh ledger.now.table seat }
+    requires trials { ledger.now.table.slots ≡ P.trials plan.now }
+    ensures { IsWorked (P.may_give plan.now system) ledger.now.table result }
+{
+    work_with(rt, alloc, plan, ledger, &mut seat, &mut system);
+    seat
+}
+
+/// Works at a seat of a ledger until the seat is answered `None`: claims a number, runs its trial of the plan on the system,
+/// and deposits the record. A number whose trial has a fault is given up for the cause of that name. The call waits for as
+/// long as the calls of the system do.
+pub fn work<H: Threads + Wait + Sync>(
+    rt: &H,
+    alloc: Global,
+    plan: &Arc<Plan>,
+    ledger: &Ledger<Record>,
+    seat: &mut Seat<Record>,
+    system: &mut BoxedSystem,
+)
+    requires own { seat.old.table ≡ ledger.now.table }
+    requires idle { seat.old.held ≡ None }
+    requires trials { ledger.now.table.slots ≡ (arc_value plan.now).settings.trials }
+    ensures place { seat.new.table ≡ seat.old.table }
+    ensures marked { seat.new.marked ≡ true }
+    ensures rests { seat.new.held ≡ None }
+    ensures ends { Adds
+        (MayGive (answers system.old) (fails system.old) (reset_fails system.old) (arc_value plan.now))
+        seat.old.ends seat.new.ends }
+    ensures kept { AreKept (answers system.new) (answers system.old) (fails system.new) (fails system.old) (reset_fails system.new) (reset_fails system.old) }
+{
+    may_share_records();
+    work_with(rt, alloc, plan, ledger, seat, system)
+}

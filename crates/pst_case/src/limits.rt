@@ -1,0 +1,74 @@
+//! The limits of a case.
+ghost use Rattle.std.specs.Prelude.{◌≡◌, ◌<◌, ◌^◌, ◌&&◌, length, nat_le};
+ghost use Rattle.std.specs.List.{list_all};
+ghost use Rattle.pst_case.specs.Shape as spec;
+
+use pst_items::Items;
+
+/// The most commands of the prefix.
+pub const MAX_PREFIX: usize = 64;
+
+/// The most commands of a branch.
+pub const MAX_BRANCH: usize = 8;
+
+/// The most commands of all branches together.
+pub const MAX_TOGETHER: usize = 16;
+
+/// The most commands of the suffix.
+pub const MAX_SUFFIX: usize = 8;
+
+/// Whether the commands of all branches are at most so many.
+fn are_within<C>(branches: &[Items<C>], room: usize) -> bool
+    ensures { result ≡ nat_le (length (spec.joined branches.now)) room }
+{
+    let Some((branch, branches)) = branches.split_first() else {
+        return true;
+    };
+    if branch.len() > room {
+        return false;
+    }
+    are_within(branches, room - branch.len())
+}
+
+fn are_short<C>(branches: &[Items<C>]) -> bool
+    ensures { result ≡ list_all (λ b. nat_le (length b) 8) branches.now }
+{
+    branches.iter().all(|branch| branch.len() <= MAX_BRANCH)
+}
+
+fn are_two_to_four<C>(branches: &[Items<C>]) -> bool
+    ensures { result ≡ (nat_le 2 (length branches.now) && nat_le (length branches.now) 4) }
+{
+    2 <= branches.len() && branches.len() <= 4
+}
+
+/// Whether a case of these commands is over a limit: `MAX_PREFIX`, `MAX_BRANCH`, `MAX_TOGETHER`,
+/// `MAX_SUFFIX`, or another number of branches than two to four.
+pub fn are_over_limit<C>(prefix: &[C], branches: &[Items<C>], suffix: &[C]) -> bool
+    ensures { result ≡ spec.are_over_limit prefix.now branches.now suffix.now }
+{
+    if prefix.len() > MAX_PREFIX {
+        return true;
+    }
+    if !are_short(branches) {
+        return true;
+    }
+    if !are_two_to_four(branches) {
+        return true;
+    }
+    if !are_within(branches, MAX_TOGETHER) {
+        return true;
+    }
+    suffix.len() > MAX_SUFFIX
+}
+
+/// How many commands the branches have together.
+pub fn joined_len<C>(branches: &[Items<C>]) -> u32
+    requires { length (spec.joined branches.now) < 2 ^ 32 }
+    ensures { result ≡ length (spec.joined branches.now) }
+{
+    let Some((branch, branches)) = branches.split_first() else {
+        return 0;
+    };
+    branch.len() as u32 + joined_len(branches)
+}

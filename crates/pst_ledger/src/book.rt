@@ -1,0 +1,184 @@
+//! The ledger of one thread.
+ghost use Rattle.std.specs.Prelude.{◌≡◌, ◌≤◌, ◌<◌, length, map, replicate, false, slice_get, Some, MatchOption, MatchResult, IfOk, IfErr, [], vec_len, vec_capacity};
+ghost use Rattle.pst_ledger.specs.Core.{claim, finish, after, claim_answer, accepted, refused, opening_core, HoldsNone, shown};
+ghost use Rattle.pst_ledger.specs.declared.entry.Entry.{Entry};
+ghost use Rattle.pst_ledger.specs.declared.entry.Entry.TheVariants.{Done, Lost};
+ghost use Rattle.pst_ledger.specs.declared.spot.Spot.TheVariants.{Free, Holder};
+
+use crate::closed::Closed;
+use crate::entry::{Cause, Entry, Numbered};
+use crate::fault::LedgerFault;
+use crate::spot::Spot;
+use std::alloc::{AllocError, Global};
+use std::marker::Model;
+
+/// The ledger of one thread. Its seats are the numbers from 0 on.
+#[derive(Drop)]
+pub struct Book<R: Numbered> {
+    spots: Vec<Spot<R>>,
+    /// The least free number, or the number of trials where none is free.
+    next: usize,
+    marks: Vec<bool>,
+    /// Room for the entries when the book is closed.
+    room: Vec<Entry<R>>,
+}
+
+impl<R: Numbered> Model for Book<R> {
+    ghost use Rattle.std.specs.Prelude.{◌≡◌, ◌≤◌, [], vec_len, vec_capacity};
+    ghost use Rattle.pst_ledger.specs.Core.{Core, FreeFrom};
+
+    ghost Value = { Core R };
+
+    ghost view = { λ b. record { spots = b.spots.items; marks = b.marks.items } };
+
+    ghost invariant = { λ b. FreeFrom b.next b.spots.items × (b.room.items ≡ [])
+        × (vec_len b.spots ≤ vec_capacity b.room) };
+}
+
+/// So many numbers, each of them free.
+fn free_spots<R: Numbered>(alloc: Global, trials: u64) -> Result<Vec<Spot<R>>, AllocError>
+    ensures { IfOk result (λ v. v.items ≡ replicate trials Free) }
+{
+    let mut spots = Vec::with_capacity(alloc, trials as usize)?;
+    for _ in 0..trials {
+        spots.push_reserved(Spot::Free);
+    }
+    Ok(spots)
+}
+
+/// So many seats, none of them marked.
+fn unmarked(alloc: Global, seats: u64) -> Result<Vec<bool>, AllocError>
+    ensures { IfOk result (λ v. v.items ≡ replicate seats false) }
+{
+    let mut marks = Vec::with_capacity(alloc, seats as usize)?;
+    for _ in 0..seats {
+        marks.push_reserved(false);
+    }
+    Ok(marks)
+}
+
+/// Moves the entries that the spots show into an empty list that has room for them.
+fn show<R: Numbered>(spots: Vec<Spot<R>>, mut room: Vec<Entry<R>>) -> Vec<Entry<R>>
+    requires { (room.items ≡ []) × (vec_len spots ≤ vec_capacity room) }
+    ensures { result.items ≡ map shown spots.items }
+{
+    for spot in spots {
+        room.push_reserved(spot.into_entry());
+    }
+    room
+}
+
+impl<R: Numbered> Book<R> {
+    /// A book of so many trials and seats in which every number is free. It reserves all that later calls
+    /// need.
+    ///
+    /// `AllocError` where memory is refused.
+    pub fn open(alloc: Global, trials: u64, seats: u64) -> Result<Book<R>, AllocError>
+        requires trials { trials ≤ 100000 }
+        requires seats { (1 ≤ seats) × (seats ≤ 16) }
+        ensures { IfOk result (λ book. book ≡ opening_core trials seats) }
+    {
+        let room = Vec::with_capacity(alloc, trials as usize)?;
+        let spots = free_spots(alloc, trials)?;
+        let marks = unmarked(alloc, seats)?;
+        Ok(Book {
+            spots,
+            next: 0,
+            marks,
+            room,
+        })
+    }
+
+    /// Gives the least free number to the seat, which holds it from then on. Where no number is free the seat
+    /// is marked, and gets `None`.
+    pub fn claim(&mut self, seat: u64) -> Option<u64>
+        requires known { seat < length self.old.marks }
+        requires idle { HoldsNone seat self.old.spots }
+        ensures { after self.old (claim seat) ≡ (self.new, claim_answer result) }
+    {
+        let number = self.next;
+        if number < self.spots.len() {
+            self.spots[number] = Spot::Holder(seat);
+            self.next = number + 1;
+            Some(number as u64)
+        } else {
+            self.marks[seat as usize] = true;
+            None
+        }
+    }
+
+    /// Why the seat may not end the number, if it may not.
+    fn refusal(&self, seat: u64, number: u64) -> Option<LedgerFault>
+        ensures { MatchOption result
+            (slice_get self.now.spots number ≡ Some (Holder seat))
+            (λ f. (e : Entry R) → after self.now (finish seat number e) ≡ (self.now, refused f)) }
+    {
+        match self.spots.get(number as usize) {
+            Some(Spot::Holder(owner)) if *owner == seat => None,
+            Some(Spot::Ended(owner, _)) if *owner == seat => Some(LedgerFault::Twice),
+            _ => Some(LedgerFault::NotYours),
+        }
+    }
+
+    /// Ends the number that the seat holds.
+    fn finish(&mut self, seat: u64, number: u64, entry: Entry<R>)
+        requires { slice_get self.old.spots number ≡ Some (Holder seat) }
+        ensures { after self.old (finish seat number entry) ≡ (self.new, accepted) }
+    {
+        self.spots[number as usize] = Spot::Ended(seat, entry);
+    }
+
+    /// Ends the number of the record, which the seat holds, with the record.
+    ///
+    /// `NotYours` where the seat never drew the number, and `Twice` where it has ended it; the record is
+    /// handed back.
+    pub fn deposit(&mut self, seat: u64, record: R) -> Result<(), (R, LedgerFault)>
+        ensures handed_back { IfErr result (λ e. e.0 ≡ «record») }
+        ensures answer { MatchResult result
+            (λ _. after self.old (finish seat (R.number_of «record») (Done «record»))
+            ≡ (self.new, accepted))
+            (λ e. after self.old (finish seat (R.number_of «record») (Done «record»))
+            ≡ (self.new, refused e.1)) }
+    {
+        let number = record.number();
+        match self.refusal(seat, number) {
+            None => {
+                self.finish(seat, number, Entry::Done(record));
+                Ok(())
+            }
+            Some(fault) => Err((record, fault)),
+        }
+    }
+
+    /// Ends the number, which the seat holds, with no record.
+    ///
+    /// `NotYours` where the seat never drew the number, and `Twice` where it has ended it.
+    pub fn lose(&mut self, seat: u64, number: u64, cause: Cause) -> Result<(), LedgerFault>
+        ensures { MatchResult result
+            (λ _. after self.old (finish seat number (Lost cause)) ≡ (self.new, accepted))
+            (λ f. after self.old (finish seat number (Lost cause)) ≡ (self.new, refused f)) }
+    {
+        match self.refusal(seat, number) {
+            None => {
+                self.finish(seat, number, Entry::Lost(cause));
+                Ok(())
+            }
+            Some(fault) => Err(fault),
+        }
+    }
+
+    /// What became of each number. It takes no memory.
+    pub fn close(self) -> Closed<R>
+        ensures { result ≡ map shown self.spots }
+    {
+        let Book {
+            spots,
+            next: _,
+            marks: _,
+            room,
+        } = self;
+        Closed {
+            entries: show(spots, room),
+        }
+    }
+}

@@ -1,0 +1,10 @@
+-- what the public contracts cite
+pub mod FaultName
+pub mod InOrder
+pub mod Kinds
+pub mod Least
+pub mod Status
+pub mod Text
+pub mod Written
+-- what the contracts within the crate cite
+pub mod Matching

@@ -1,0 +1,17 @@
+-- Failures whose runs may be written.
+use Rattle.std.specs.Prelude.{◌≡◌, true}
+use Rattle.pst_case.specs.Matches.{matches}
+use Rattle.pst_model.specs.declared.model.Source.{Source}
+use Rattle.pst_report.specs.Kinds.{own_failure}
+use Rattle.pst_shrink.specs.declared.shrunk.Shrunk.{Shrunk}
+use Rattle.pst_shrink.specs.declared.shrunk.Taken.{Taken}
+use Rattle.pst_trial.specs.declared.run.JudgedRun.{JudgedRun}
+
+-- the history matches the case
+abbrev pub IsMatching : Source → Taken JudgedRun → Type 0
+IsMatching m t = matches m t.case t.history.history ≡ true
+
+-- the first and the last history match their cases
+pub record AreMatching (m : Source) (s : Shrunk JudgedRun) : Type 0 where
+  pub first : IsMatching m (own_failure s)
+  pub last : IsMatching m s.last

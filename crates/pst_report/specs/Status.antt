@@ -1,0 +1,21 @@
+-- How a campaign ended.
+use Rattle.std.specs.Prelude.{Bool, not, if◌then◌else◌, ◌||◌, List}
+use Rattle.std.specs.List.{list_any}
+use Rattle.pst_ledger.specs.declared.entry.Entry.{Entry}
+use Rattle.pst_report.specs.Kinds.{kind_of, is_same}
+use Rattle.pst_report.specs.declared.kind.EntryKind.TheVariants as kind
+use Rattle.pst_report.specs.declared.status.CampaignStatus.{CampaignStatus}
+use Rattle.pst_report.specs.declared.status.CampaignStatus.TheVariants.{Passed, Failed, Incomplete}
+use Rattle.pst_trial.specs.RecordView.{RecordView}
+
+-- lost, held or undrawn
+abbrev pub is_missing : Entry RecordView → Bool
+is_missing e = is_same (kind_of e) kind.Lost || is_same (kind_of e) kind.Undrawn
+
+abbrev pub is_failed : Entry RecordView → Bool
+is_failed e = not (is_same (kind_of e) kind.Passed)
+
+-- Incomplete where a number is lost, held or undrawn; else Failed where a trial did not pass; else Passed
+abbrev pub campaign_status : List (Entry RecordView) → CampaignStatus
+campaign_status entries =
+    if list_any is_missing entries then Incomplete else if list_any is_failed entries then Failed else Passed

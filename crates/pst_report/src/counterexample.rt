@@ -1,0 +1,119 @@
+//! The lines of the least failure.
+ghost use Rattle.std.specs.Prelude.{◌≡◌, IfOk, string_bytes};
+ghost use Rattle.pst_report.specs.Matching.{AreMatching, IsMatching};
+ghost use Rattle.pst_report.specs.Text as spec;
+
+use crate::kind::own_failure;
+use pst_case::{Run, shape};
+use pst_rules::Typed;
+use pst_shrink::{Ending, Shrunk, Taken};
+use pst_sink::Out;
+use pst_trial::JudgedRun;
+use pst_write::write_runs;
+use std::alloc::{AllocError, Global};
+
+/// The case with the history that it broke with.
+fn run_of(alloc: Global, typed: &Typed, taken: &Taken<JudgedRun>) -> Result<Run, AllocError>
+    ensures { IfOk result (λ run. run ≡ spec.run_of typed.now taken.now) }
+{
+    let case = taken.case.copy(alloc)?;
+    let history = taken.history.history.copy(alloc)?;
+    match shape(alloc, typed, case) {
+        Ok(shaped) => Ok(Run {
+            shaped,
+            history: Some(history),
+        }),
+        Err(_) => Err(AllocError),
+    }
+}
+
+/// The case and its history as a tree, and a line end.
+fn run_line(alloc: Global, typed: &Typed, taken: &Taken<JudgedRun>) -> Result<Vec<u8>, AllocError>
+    requires { IsMatching typed.now taken.now }
+    ensures { IfOk result (λ line. line.items ≡ spec.run_line typed.now taken.now) }
+{
+    let runs = [run_of(alloc, typed, taken)?];
+    let mut out = Out::new(Vec::new(alloc));
+    match write_runs(alloc, typed, &runs, &mut out) {
+        Ok(()) => Ok(out.into_inner()),
+        Err(_) => Err(AllocError),
+    }
+}
+
+/// `least NUMBER VERDICT`.
+fn least_line(alloc: Global, number: usize, taken: &Taken<JudgedRun>) -> Result<String, AllocError>
+    ensures { IfOk result (λ line. string_bytes line ≡ spec.least_line number taken.now) }
+{
+    let verdict = &taken.history.verdict;
+    format!(in alloc; "least {number} {verdict}\n")
+}
+
+/// `minimal` or `stopped`.
+fn ending_name(ending: Ending) -> &'static str
+    ensures { result.now ≡ spec.ending_name ending }
+{
+    match ending {
+        Ending::Minimal => "minimal",
+        Ending::Stopped => "stopped",
+    }
+}
+
+/// `steps N minimal` or `steps N stopped`.
+fn steps_line(alloc: Global, shrunk: &Shrunk<JudgedRun>) -> Result<String, AllocError>
+    ensures { IfOk result (λ line. string_bytes line ≡ spec.steps_line shrunk.now) }
+{
+    let steps = shrunk.before.len();
+    let ending = ending_name(shrunk.ending);
+    format!(in alloc; "steps {steps} {ending}\n")
+}
+
+/// The verdict on the last run.
+fn last_line(alloc: Global, taken: &Taken<JudgedRun>) -> Result<String, AllocError>
+    ensures { IfOk result (λ line. string_bytes line ≡ spec.last_line taken.now) }
+{
+    let verdict = &taken.history.verdict;
+    format!(in alloc; "{verdict}\n")
+}
+
+/// The number, the verdict and the run of the trial itself.
+fn own_lines(
+    alloc: Global,
+    typed: &Typed,
+    number: usize,
+    taken: &Taken<JudgedRun>,
+) -> Result<Vec<u8>, AllocError>
+    requires { IsMatching typed.now taken.now }
+    ensures { IfOk result (λ lines. lines.items ≡ spec.own_lines typed.now number taken.now) }
+{
+    let mut lines = least_line(alloc, number, taken)?.into_bytes();
+    lines.extend_from_slice(b"from ")?;
+    lines.extend_from_slice(run_line(alloc, typed, taken)?.as_slice())?;
+    Ok(lines)
+}
+
+/// The last run, and its verdict.
+fn last_lines(alloc: Global, typed: &Typed, taken: &Taken<JudgedRun>) -> Result<Vec<u8>, AllocError>
+    requires { IsMatching typed.now taken.now }
+    ensures { IfOk result (λ lines. lines.items ≡ spec.last_lines typed.now taken.now) }
+{
+    let mut lines = Vec::from_slice(alloc, b"to ")?;
+    lines.extend_from_slice(run_line(alloc, typed, taken)?.as_slice())?;
+    lines.extend_from_slice(last_line(alloc, taken)?.as_bytes())?;
+    Ok(lines)
+}
+
+/// The lines of a number whose trial failed.
+pub fn failure_lines(
+    alloc: Global,
+    typed: &Typed,
+    number: usize,
+    shrunk: &Shrunk<JudgedRun>,
+) -> Result<Vec<u8>, AllocError>
+    requires { AreMatching typed.now shrunk.now }
+    ensures { IfOk result (λ lines. lines.items ≡ spec.failure_lines typed.now number shrunk.now) }
+{
+    let mut lines = own_lines(alloc, typed, number, own_failure(shrunk))?;
+    lines.extend_from_slice(steps_line(alloc, shrunk)?.as_bytes())?;
+    lines.extend_from_slice(last_lines(alloc, typed, &shrunk.last)?.as_slice())?;
+    Ok(lines)
+}

@@ -1,0 +1,80 @@
+//! The lines that count the numbers of a campaign.
+ghost use Rattle.std.specs.Prelude.{◌≡◌, IfOk, string_bytes};
+ghost use Rattle.pst_report.specs.Least.{least_fault};
+ghost use Rattle.pst_report.specs.Text as spec;
+
+use crate::kind::{EntryKind, count_of};
+use crate::least::least_fault;
+use crate::losses::losses;
+use pst_ledger::Entry;
+use pst_trial::Record;
+use std::alloc::{AllocError, Global};
+
+/// The word of a kind, how many numbers ended so, and a line end.
+fn count_line(
+    alloc: Global,
+    word: &str,
+    kind: EntryKind,
+    entries: &[Entry<Record>],
+) -> Result<String, AllocError>
+    ensures { IfOk result (λ line. string_bytes line ≡ spec.count_line word.now kind entries.now) }
+{
+    let count = count_of(kind, entries);
+    format!(in alloc; "{word} {count}\n")
+}
+
+/// `genfault-first NUMBER COMMAND CALLBACK KIND`, where generating a case faulted.
+fn first_fault_line(alloc: Global, entries: &[Entry<Record>]) -> Result<String, AllocError>
+    ensures { IfOk result (λ line. string_bytes line ≡ spec.first_fault_line (least_fault 0 entries.now)) }
+{
+    match least_fault(entries) {
+        Some((number, place)) => {
+            let command = place.command;
+            let callback = place.callback.name();
+            let fault = place.fault.name();
+            format!(in alloc; "genfault-first {number} {command} {callback} {fault}\n")
+        }
+        None => Ok(String::new(alloc)),
+    }
+}
+
+/// How many numbers were lost, and each of them with its cause.
+fn lost_line(alloc: Global, entries: &[Entry<Record>]) -> Result<String, AllocError>
+    ensures { IfOk result (λ line. string_bytes line ≡ spec.lost_line entries.now) }
+{
+    let count = count_of(EntryKind::Lost, entries);
+    let losses = losses(alloc, entries)?;
+    let losses = losses.as_str();
+    format!(in alloc; "lost {count}{losses}\n")
+}
+
+/// The lines of the trials that failed, and of those that passed.
+fn judged_lines(alloc: Global, entries: &[Entry<Record>]) -> Result<String, AllocError>
+    ensures { IfOk result (λ lines. string_bytes lines ≡ spec.judged_lines entries.now) }
+{
+    let mut lines = count_line(alloc, "passed", EntryKind::Passed, entries)?;
+    lines.push_str(count_line(alloc, "unexplained", EntryKind::Unexplained, entries)?.as_str())?;
+    lines.push_str(count_line(alloc, "faulted", EntryKind::Faulted, entries)?.as_str())?;
+    lines.push_str(count_line(alloc, "broken", EntryKind::Broken, entries)?.as_str())?;
+    Ok(lines)
+}
+
+/// The lines of the numbers for which there is no run.
+fn missing_lines(alloc: Global, entries: &[Entry<Record>]) -> Result<String, AllocError>
+    ensures { IfOk result (λ lines. string_bytes lines ≡ spec.missing_lines entries.now) }
+{
+    let mut lines = count_line(alloc, "genfault", EntryKind::GenFaulted, entries)?;
+    lines.push_str(first_fault_line(alloc, entries)?.as_str())?;
+    lines.push_str(lost_line(alloc, entries)?.as_str())?;
+    lines.push_str(count_line(alloc, "undrawn", EntryKind::Undrawn, entries)?.as_str())?;
+    Ok(lines)
+}
+
+/// The lines that count the numbers.
+pub fn count_lines(alloc: Global, entries: &[Entry<Record>]) -> Result<String, AllocError>
+    ensures { IfOk result (λ lines. string_bytes lines ≡ spec.count_lines entries.now) }
+{
+    let mut lines = judged_lines(alloc, entries)?;
+    lines.push_str(missing_lines(alloc, entries)?.as_str())?;
+    Ok(lines)
+}

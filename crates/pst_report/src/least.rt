@@ -1,0 +1,66 @@
+//! The least numbers of two kinds.
+ghost use Rattle.std.specs.Prelude.{◌≡◌, MatchOption, IfSome, None, Some};
+ghost use Rattle.pst_report.specs.InOrder.{AreOf};
+ghost use Rattle.pst_report.specs.Least as spec;
+ghost use Rattle.pst_report.specs.Matching.{AreMatching};
+
+use pst_eval::Place;
+use pst_ledger::Entry;
+use pst_shrink::Shrunk;
+use pst_trial::{JudgedRun, Plan, Record, TrialOutcome};
+
+/// Where generating the case of a trial faulted, if it did.
+fn fault_of(done: &Record) -> Option<Place>
+    ensures { result ≡ spec.fault_in done.now.outcome }
+{
+    match done.outcome() {
+        TrialOutcome::GenFaulted(place) => Some(*place),
+        TrialOutcome::Passed { .. } | TrialOutcome::Failed { .. } => None,
+    }
+}
+
+/// How the case of a trial was shrunk, if the trial failed.
+fn failure_of(done: &Record) -> Option<&Shrunk<JudgedRun>>
+    ensures failure { MatchOption result (spec.failure_in done.now.outcome ≡ None)
+        (λ s. spec.failure_in done.now.outcome ≡ Some s.now) }
+    ensures matching { IfSome result (λ s. AreMatching done.now.plan.model s.now) }
+{
+    match done.outcome() {
+        TrialOutcome::Failed { shrunk, .. } => Some(shrunk),
+        TrialOutcome::GenFaulted(_) | TrialOutcome::Passed { .. } => None,
+    }
+}
+
+/// The least number for which generating a case faulted, and where.
+pub fn least_fault(entries: &[Entry<Record>]) -> Option<(usize, Place)>
+    ensures { result ≡ spec.least_fault 0 entries.now }
+{
+    for (number, entry) in entries.iter().enumerate() {
+        if let Entry::Done(record) = entry
+            && let Some(place) = fault_of(record)
+        {
+            return Some((number, place));
+        }
+    }
+    None
+}
+
+/// The least number whose trial failed, and how its case was shrunk.
+pub fn least_failure<'a>(
+    plan: &Plan,
+    entries: &'a [Entry<Record>],
+) -> Option<(usize, &'a Shrunk<JudgedRun>)>
+    requires { AreOf plan.now 0 entries.now }
+    ensures least { MatchOption result (spec.least_failure 0 entries.now ≡ None)
+        (λ f. spec.least_failure 0 entries.now ≡ Some (f.0, f.1.now)) }
+    ensures matching { IfSome result (λ f. AreMatching plan.now.model f.1.now) }
+{
+    for (number, entry) in entries.iter().enumerate() {
+        if let Entry::Done(record) = entry
+            && let Some(shrunk) = failure_of(record)
+        {
+            return Some((number, shrunk));
+        }
+    }
+    None
+}

@@ -1,0 +1,19 @@
+//! The report of a campaign: a text that the plan and the list of what came of each number determine.
+//!
+//! `specs/Text.antt` has the text, line by line. It knows nothing of the order in which the trials ended.
+#![tactic(auto)]
+
+mod counterexample;
+mod counts;
+mod fault;
+mod head;
+mod kind;
+mod least;
+mod losses;
+mod status;
+mod writer;
+
+pub use fault::ReportFault;
+pub use kind::EntryKind;
+pub use status::{CampaignStatus, campaign_status};
+pub use writer::report;

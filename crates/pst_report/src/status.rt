@@ -1,0 +1,58 @@
+//! How a campaign ended.
+ghost use Rattle.std.specs.Prelude.{◌≡◌};
+ghost use Rattle.std.specs.List.{list_any};
+ghost use Rattle.pst_report.specs.Status as spec;
+
+use crate::kind::{EntryKind, kind_of};
+use pst_ledger::{Closed, Entry};
+use pst_trial::Record;
+
+/// How a campaign ended.
+#[derive(Clone, Copy, Debug, PartialEq, Eq, Drop)]
+pub enum CampaignStatus {
+    /// Every trial passed.
+    Passed,
+    /// Each trial was run to its end, and one did not pass: it failed, or no case was generated for it.
+    Failed,
+    /// Some number is lost, held or undrawn.
+    Incomplete,
+}
+
+fn is_missing(entry: &Entry<Record>) -> bool
+    ensures { result ≡ spec.is_missing entry.now }
+{
+    let kind = kind_of(entry);
+    kind.is_same(EntryKind::Lost) || kind.is_same(EntryKind::Undrawn)
+}
+
+fn is_failed(entry: &Entry<Record>) -> bool
+    ensures { result ≡ spec.is_failed entry.now }
+{
+    !kind_of(entry).is_same(EntryKind::Passed)
+}
+
+fn any_missing(entries: &[Entry<Record>]) -> bool
+    ensures { result ≡ list_any spec.is_missing entries.now }
+{
+    entries.iter().any(|entry| is_missing(entry))
+}
+
+fn any_failed(entries: &[Entry<Record>]) -> bool
+    ensures { result ≡ list_any spec.is_failed entries.now }
+{
+    entries.iter().any(|entry| is_failed(entry))
+}
+
+/// How a campaign ended: `Incomplete` goes before `Failed`, and that before `Passed`.
+pub fn campaign_status(closed: &Closed<Record>) -> CampaignStatus
+    ensures { result ≡ spec.campaign_status closed.now }
+{
+    let entries = closed.entries();
+    if any_missing(entries) {
+        CampaignStatus::Incomplete
+    } else if any_failed(entries) {
+        CampaignStatus::Failed
+    } else {
+        CampaignStatus::Passed
+    }
+}

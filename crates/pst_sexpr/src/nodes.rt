@@ -1,0 +1,34 @@
+//! Words and nodes that are made of their parts.
+
+ghost use Rattle.std.specs.Prelude.{◌≡◌, IfOk, [], ◌∷◌};
+ghost use Rattle.pst_sexpr.specs.Parts.{headed};
+ghost use Rattle.pst_sexpr.specs.declared.form.Form.TheVariants.{Word};
+
+use crate::form::Form;
+use pst_items::{Items, Text};
+use std::alloc::{AllocError, Global};
+
+/// A word of these bytes. `AllocError` where memory is refused.
+pub fn word(alloc: Global, text: &str) -> Result<Form, AllocError>
+    ensures { IfOk result (λ form. form ≡ Word text.now) }
+{
+    Ok(Form::Word(Text::from_string(String::from_str(alloc, text)?)))
+}
+
+/// A list of one tree. `AllocError` where memory is refused.
+pub fn list_of(alloc: Global, first: Form) -> Result<Items<Form>, AllocError>
+    ensures { IfOk result (λ forms. forms ≡ first ∷ []) }
+{
+    let mut forms = Items::new(alloc);
+    forms.push(first)?;
+    Ok(forms)
+}
+
+/// A node of a word and then other trees. `AllocError` where memory is refused.
+pub fn headed(alloc: Global, head: &str, parts: Items<Form>) -> Result<Form, AllocError>
+    ensures { IfOk result (λ form. form ≡ headed head.now parts) }
+{
+    let mut all = list_of(alloc, word(alloc, head)?)?;
+    all.append(parts)?;
+    Ok(Form::Node(all))
+}

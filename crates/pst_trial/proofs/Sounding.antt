@@ -1,0 +1,66 @@
+-- What a case came to makes its trial sound, also by a relation of histories that admits more.
+use Rattle.std.proofs.Common.{◌≡◌, ℕ, ◌+◌, ◌<◌, ◌≤◌, ◌^◌, true, length, List, [], ◌∷◌, ◌++◌, sym, subst, arith, Ok}
+use Rattle.pst_case.specs.OfModel.{OfModel}
+use Rattle.pst_case.specs.Shape.{joined}
+use Rattle.pst_case.specs.declared.case.Case.{Case}
+use Rattle.pst_case.specs.declared.history.History.{History}
+use Rattle.pst_model.specs.declared.model.Source.{Source}
+use Rattle.pst_shrink.proofs.Moving.{shrunk_moves}
+use Rattle.pst_shrink.specs.Weight.{weight}
+use Rattle.pst_shrink.specs.declared.attempt.Outcome.TheVariants.{Held, Broke}
+use Rattle.pst_shrink.specs.declared.shrunk.Shrunk.{Shrunk}
+use Rattle.pst_trial.specs.Moving.{answer_moves}
+use Rattle.pst_trial.specs.Driving.{Histories}
+use Rattle.pst_trial.specs.JudgedRuns.{is_explained, IsJudgedRun, AreExplained, IsAnswer}
+use Rattle.pst_trial.specs.PlanView.{PlanView}
+use Rattle.pst_trial.specs.Sound.{IsTrialCase, IsFailure, IsTried, IsSoundBy, IsSound}
+use Rattle.pst_trial.specs.declared.outcome.TrialOutcome.{TrialOutcome}
+use Rattle.pst_trial.specs.declared.outcome.TrialOutcome.TheVariants.{GenFaulted, Passed, Failed}
+use Rattle.pst_trial.specs.declared.run.JudgedRun.{JudgedRun}
+
+-- one explained run more
+pub explained_more : (D : Histories) (m : Source) (c : Case) (rs : List JudgedRun) (r : JudgedRun)
+    → AreExplained D m c rs → IsJudgedRun D m c r → is_explained r.verdict ≡ true
+    → AreExplained D m c (rs ++ r ∷ [])
+explained_more D m c [] r all judged e = (judged, e, tt)
+explained_more D m c (x ∷ rs) r all judged e = (all.0, all.1, explained_more D m c rs r all.2 judged e)
+
+-- a case within the limits weighs little
+pub room : (c : Case) → length c.prefix ≤ 64 → length (joined c.branches) ≤ 16 → length c.suffix ≤ 8
+    → weight c + 1 < 2 ^ 32
+room c p b s = omega (arith, p, b, s)
+
+module _ (may_drive : Histories) (p : PlanView) (k : ℕ) where
+  pub tried_sound : (c : Case) (o : TrialOutcome)
+      → IsTrialCase p k (Ok c) → IsTried may_drive p c o → IsSoundBy may_drive p k o
+  tried_sound c (GenFaulted place) generated h = absurd h
+  tried_sound c (Passed d rs) generated h = (
+    subst (λ (x : Case). IsTrialCase p k (Ok x)) (sym h.0) generated,
+    subst (λ (x : Case). IsAnswer may_drive p.model p.settings.repeats x (Held rs)) (sym h.0) h.1,
+  )
+  tried_sound c (Failed earlier s) generated h = (c, generated, h)
+
+module _ (D E : Histories) (to : (v : OfModel) (h : History) → D v h → E v h) (p : PlanView) where
+  pub failure_moves : (c : Case) (earlier : List JudgedRun) (s : Shrunk JudgedRun)
+      → IsFailure D p c earlier s → IsFailure E p c earlier s
+  failure_moves c earlier s f = record {
+    run = f.run;
+    broke = answer_moves D E to p.model p.settings.repeats c (Broke earlier f.run) f.broke;
+    driven = f.driven;
+    shrunk = shrunk_moves _ _ (λ d o. answer_moves D E to p.model p.settings.repeats d o) _ _ _ _ _ f.shrunk;
+  }
+
+  pub tried_moves : (c : Case) (o : TrialOutcome) → IsTried D p c o → IsTried E p c o
+  tried_moves c (GenFaulted place) h = h
+  tried_moves c (Passed d rs) h = (h.0, answer_moves D E to p.model p.settings.repeats c (Held rs) h.1)
+  tried_moves c (Failed earlier s) h = failure_moves c earlier s h
+
+  pub sound_moves : (k : ℕ) (o : TrialOutcome) → IsSoundBy D p k o → IsSoundBy E p k o
+  sound_moves k (GenFaulted place) h = h
+  sound_moves k (Passed c rs) h = (h.0, answer_moves D E to p.model p.settings.repeats c (Held rs) h.1)
+  sound_moves k (Failed earlier s) h = (h.0, h.1, failure_moves h.0 earlier s h.2)
+
+-- without a word of the histories that may be recorded
+pub sound_alone : (D : Histories) (p : PlanView) (k : ℕ) (o : TrialOutcome)
+    → IsSoundBy D p k o → IsSound p k o
+sound_alone D p k o h = sound_moves D _ (λ v h d. tt) p k o h

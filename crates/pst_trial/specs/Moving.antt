@@ -1,0 +1,63 @@
+-- What is known of judged runs by one relation of histories is known by each that it implies.
+use Rattle.std.proofs.Common.{◌≡◌, ℕ, List, [], ◌∷◌, inl, inr}
+use Rattle.pst_case.specs.OfModel.{OfModel}
+use Rattle.pst_case.specs.declared.case.Case.{Case}
+use Rattle.pst_case.specs.declared.history.History.{History}
+use Rattle.pst_driver.specs.declared.fault.DriveFault.{DriveFault}
+use Rattle.pst_model.specs.declared.model.Source.{Source}
+use Rattle.pst_shrink.specs.Outcomes.{IsKept}
+use Rattle.pst_shrink.specs.declared.attempt.Outcome.{Outcome}
+use Rattle.pst_shrink.specs.declared.attempt.Outcome.TheVariants.{NotValid, Held, Broke}
+use Rattle.pst_trial.specs.Driving.{Histories, Faults, IsSteady}
+use Rattle.pst_trial.specs.JudgedRuns.{IsJudgedRun, AreExplained, IsAnswer, MayFail}
+use Rattle.pst_trial.specs.PlanView.{PlanView}
+use Rattle.pst_trial.specs.declared.run.JudgedRun.{JudgedRun}
+
+module _ (D E : Histories) (to : (v : OfModel) (h : History) → D v h → E v h) (m : Source) where
+  pub run_moves : (c : Case) (r : JudgedRun) → IsJudgedRun D m c r → IsJudgedRun E m c r
+  run_moves c r j = record { matching = j.matching; judged = j.judged; driven = to _ r.history j.driven }
+
+  pub explained_moves : (c : Case) (rs : List JudgedRun) → AreExplained D m c rs → AreExplained E m c rs
+  explained_moves c [] all = tt
+  explained_moves c (r ∷ rs) all = (run_moves c r all.0, all.1, explained_moves c rs all.2)
+
+  pub answer_moves : (n : ℕ) (c : Case) (o : Outcome JudgedRun) → IsAnswer D m n c o → IsAnswer E m n c o
+  answer_moves n c NotValid a = a
+  answer_moves n c (Held rs) a = (a.0, explained_moves c rs a.1, a.2)
+  answer_moves n c (Broke rs r) a = (a.0, explained_moves c rs a.1, a.2, run_moves c r a.3, a.4)
+
+pub fault_moves : (P Q : Faults) → ((v : OfModel) (f : DriveFault) → P v f → Q v f) → (f : DriveFault)
+    → MayFail P f → MayFail Q f
+fault_moves P Q to f (inl h) = inl (h.0, to h.0 f h.1)
+fault_moves P Q to f (inr h) = inr h
+
+module _ {D E : Histories} {P Q : Faults} (steady : IsSteady E D Q P) where
+  pub answer_before : (m : Source) (n : ℕ) (c : Case) (o : Outcome JudgedRun)
+      → IsAnswer E m n c o → IsAnswer D m n c o
+  answer_before m = answer_moves E D (λ v h. (steady.driving v h).0) m
+
+  pub answer_after : (m : Source) (n : ℕ) (c : Case) (o : Outcome JudgedRun)
+      → IsAnswer D m n c o → IsAnswer E m n c o
+  answer_after m = answer_moves D E (λ v h. (steady.driving v h).1) m
+
+  kept_same : (p : PlanView)
+      → IsKept
+      (IsAnswer D p.model p.settings.repeats) (IsAnswer E p.model p.settings.repeats)
+      (MayFail P) (MayFail Q)
+  kept_same p = record {
+    answers = λ c o. (
+      answer_before p.model p.settings.repeats c o,
+      answer_after p.model p.settings.repeats c o,
+    );
+    fails = λ f. (
+      fault_moves Q P (λ v e. (steady.failing v e).0) f,
+      fault_moves P Q (λ v e. (steady.failing v e).1) f,
+    );
+  }
+
+  -- a driver that is steady answers of the same plan as before
+  pub kept_by : (p q : PlanView) → q ≡ p
+      → IsKept
+      (IsAnswer D p.model p.settings.repeats) (IsAnswer E q.model q.settings.repeats)
+      (MayFail P) (MayFail Q)
+  kept_by p q same = rw same (kept_same p)

@@ -1,0 +1,47 @@
+//! What drives the cases of a trial.
+ghost use Rattle.std.specs.Prelude.{◌≡◌, true, IfOk, IfErr};
+ghost use Rattle.pst_case.specs.Matches.{matches};
+
+use pst_case::History;
+use pst_driver::DriveFault;
+use pst_judge::Valid;
+use pst_rules::Typed;
+use std::alloc::Global;
+
+/// What drives valid cases and records their histories, such as threads on a system.
+///
+/// Each implementation names the histories and the faults that it may answer. Nothing else is known of them,
+/// but that a history matches its case.
+pub trait Driver {
+    ghost use Rattle.pst_case.specs.OfModel.{OfModel};
+    ghost use Rattle.pst_case.specs.declared.history.History.{History};
+    ghost use Rattle.pst_driver.specs.declared.fault.DriveFault.{DriveFault};
+    ghost use Rattle.pst_trial.specs.Driving.{IsSteady};
+
+    /// The histories that it may record of a case.
+    ghost may_drive: { Self → OfModel → History → Type 0 };
+
+    /// The faults that it may answer in place of a history.
+    ghost may_fail: { Self → OfModel → DriveFault → Type 0 };
+
+    /// What a drive leaves as it was, as a relation of the value before and the value after.
+    ghost keeps: { Self → Self → Type 0 };
+
+    /// Drives a valid case of the model: the history that it recorded, or why the case was not driven.
+    fn drive(&mut self, alloc: Global, typed: &Typed, valid: &Valid) -> Result<History, DriveFault>
+        requires model { valid.now.model ≡ typed.now }
+        ensures matches { IfOk result (λ h. matches typed.now valid.now.case h ≡ true) }
+        ensures driven { IfOk result (λ h. may_drive self.old valid.now h) }
+        ensures fault { IfErr result (λ f. may_fail self.old valid.now f) }
+        ensures keeps { keeps self.old self.new };
+
+    /// A value that does not change keeps everything.
+    ghost keeps_refl: { (a : Self) → keeps a a };
+
+    /// Two drives in a row keep what each of them keeps.
+    ghost keeps_trans: { (a b c : Self) → keeps a b → keeps b c → keeps a c };
+
+    /// What it may record and answer stays, as long as that is kept.
+    ghost steady: { (a b : Self) → keeps a b
+        → IsSteady (may_drive b) (may_drive a) (may_fail b) (may_fail a) };
+}

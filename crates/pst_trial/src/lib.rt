@@ -1,0 +1,31 @@
+//! Trials: each generates a case of a plan, drives it on a system, judges what was recorded, and shrinks the
+//! case where a history is not explained.
+//!
+//! A trial answers a `Record`, which is sound by its data alone: the case is the one that is generated from
+//! the plan's seed and the trial's number, each verdict is that of its history, and each case that was taken
+//! while it was shrunk is a valid candidate of the one before.
+#![tactic(auto)]
+
+mod attempts;
+mod driver;
+mod outcome;
+mod plan;
+mod record;
+mod run;
+mod settings;
+mod sharing;
+mod threads;
+mod trials;
+
+pub use driver::Driver;
+pub use outcome::TrialOutcome;
+pub use plan::Plan;
+pub use pst_driver::DriveFault as TrialFault;
+pub use record::Record;
+pub use run::JudgedRun;
+pub use settings::{
+    MAX_BRANCHES, MAX_COMMANDS, MAX_LIMIT, MAX_REPEATS, MAX_SUFFIX, MAX_TRIALS, Settings,
+};
+pub use sharing::may_share_records;
+pub use threads::{ThreadDriver, trial};
+pub use trials::trial_by;

@@ -1,0 +1,28 @@
+//! What a trial came to.
+use crate::run::JudgedRun;
+use pst_case::Case;
+use pst_eval::Place;
+use pst_items::Items;
+use pst_shrink::Shrunk;
+
+/// What a trial came to.
+#[derive(Debug, Drop)]
+pub enum TrialOutcome {
+    /// No case was generated, since a callback faults at this place.
+    GenFaulted(Place),
+    /// The case was driven as often as the settings say, and each history is explained.
+    Passed {
+        /// The case of the trial.
+        case: Case,
+        /// Its runs, in order.
+        runs: Items<JudgedRun>,
+    },
+    /// A history of the case is not explained, and the case was shrunk.
+    Failed {
+        /// The runs before that one, in order. Each is explained.
+        earlier: Items<JudgedRun>,
+        /// How the case was shrunk. The first case is the one of the trial, with the run that is not
+        /// explained.
+        shrunk: Shrunk<JudgedRun>,
+    },
+}

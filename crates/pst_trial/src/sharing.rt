@@ -1,0 +1,86 @@
+//! What threads may send and share. These functions do nothing: their contracts say it of the types of plans and
+//! records, each by those of its parts.
+ghost use Rattle.std.specs.Thread.{IsSend, IsSync};
+ghost use Rattle.pst_case.specs.contracts.case.Case.{the_row as case_row};
+ghost use Rattle.pst_eval.specs.contracts.place.Place.{the_row as place_row};
+ghost use Rattle.pst_items.specs.contracts.items.Items.{the_row as items_row};
+ghost use Rattle.pst_shrink.specs.contracts.shrunk.Shrunk.{the_row as shrunk_row};
+ghost use Rattle.pst_trial.specs.contracts.run.JudgedRun.{the_row as run_row};
+ghost use Rattle.pst_trial.specs.contracts.outcome.TrialOutcome.{the_row as outcome_row};
+ghost use Rattle.pst_trial.specs.contracts.plan.Plan.{the_row as plan_row};
+ghost use Rattle.pst_trial.specs.contracts.record.Record.{the_row as record_row};
+
+use crate::plan::Plan;
+use crate::run::JudgedRun;
+use pst_case::Case;
+use pst_compile::Compiled;
+use pst_eval::Place;
+use pst_items::Items;
+use pst_machine::Code;
+use pst_rules::Typed;
+use pst_shrink::Shrunk;
+
+/// What is `Send` may be sent to a thread.
+fn may_send<T: Send>()
+    ensures { IsSend T.row }
+{}
+
+/// What is `Sync` may be shared by threads.
+fn may_share<T: Sync>()
+    ensures { IsSync T.row }
+{}
+
+/// Plans may be sent to threads, and shared by them.
+fn may_share_plans()
+    ensures sent { IsSend plan_row }
+    ensures shared { IsSync plan_row }
+{
+    may_send::<Typed>();
+    may_share::<Typed>();
+    may_send::<Code>();
+    may_share::<Code>();
+    may_send::<Compiled>();
+    may_share::<Compiled>();
+    may_send::<Plan>();
+    may_share::<Plan>()
+}
+
+/// The parts of outcomes may be sent to threads, and shared by them.
+fn may_share_parts()
+    ensures place_sent { IsSend place_row }
+    ensures place_shared { IsSync place_row }
+    ensures case_sent { IsSend case_row }
+    ensures case_shared { IsSync case_row }
+    ensures runs_sent { IsSend (items_row run_row) }
+    ensures runs_shared { IsSync (items_row run_row) }
+    ensures shrunk_sent { IsSend (shrunk_row run_row) }
+    ensures shrunk_shared { IsSync (shrunk_row run_row) }
+{
+    may_send::<Place>();
+    may_share::<Place>();
+    may_send::<Case>();
+    may_share::<Case>();
+    may_send::<Items<JudgedRun>>();
+    may_share::<Items<JudgedRun>>();
+    may_send::<Shrunk<JudgedRun>>();
+    may_share::<Shrunk<JudgedRun>>()
+}
+
+/// Outcomes of trials may be sent to threads, and shared by them.
+fn may_share_outcomes()
+    ensures sent { IsSend outcome_row }
+    ensures shared { IsSync outcome_row }
+{
+    may_share_parts()
+}
+
+/// A law: records may be sent to threads, and shared by them, and so may plans. The function does nothing.
+pub fn may_share_records()
+    ensures plan_sent { IsSend plan_row }
+    ensures plan_shared { IsSync plan_row }
+    ensures sent { IsSend record_row }
+    ensures shared { IsSync record_row }
+{
+    may_share_plans();
+    may_share_outcomes()
+}

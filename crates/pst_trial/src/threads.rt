@@ -1,0 +1,96 @@
+//! Trials on a system, with a thread for each branch.
+ghost use Rattle.std.specs.Prelude.{◌≡◌, IfOk, IfErr};
+ghost use Rattle.std.specs.Arc.{arc_value};
+ghost use Rattle.pst_driver.specs.Driven.{IsDriven, IsDriveFault};
+ghost use Rattle.pst_system.specs.Kept.{AreKept};
+ghost use Rattle.pst_trial.specs.JudgedRuns.{MayFail};
+ghost use Rattle.pst_trial.specs.Sound.{IsSoundBy};
+
+use crate::TrialFault;
+use crate::driver::Driver;
+use crate::plan::Plan;
+use crate::record::Record;
+use crate::trials::trial_by;
+use pst_case::History;
+use pst_driver::{DriveFault, run};
+use pst_judge::Valid;
+use pst_rules::Typed;
+use pst_system::{BoxedSystem, System};
+use std::alloc::Global;
+use std::sync::{Arc, Wait};
+use std::thread::Threads;
+
+/// Drives cases on a system, with a thread for each branch. A drive waits for as long as the calls of the
+/// system do.
+#[derive(Drop)]
+pub struct ThreadDriver<'a, R: Threads + Wait> {
+    /// The handle that starts the threads and waits for them.
+    pub rt: &'a R,
+    /// The system, which each drive resets first.
+    pub system: &'a mut BoxedSystem,
+}
+
+impl<'a, R: Threads + Wait> Driver for ThreadDriver<'a, R> {
+    ghost use Rattle.std.specs.Prelude.{◌≡◌};
+    ghost use Rattle.std.proofs.Common.{refl, ◌∙◌};
+    ghost use Rattle.pst_driver.specs.Driven.{IsDriven, IsDriveFault};
+    ghost use Rattle.pst_system.specs.Kept.{AreKept};
+    ghost use Rattle.pst_trial.specs.Steadiness.{kept_same, kept_on, steady_of};
+
+    ghost may_drive = { λ d v h. IsDriven v.model
+        ((System-box d.system.now).answers d.system.now.value)
+        ((System-box d.system.now).fails d.system.now.value) v.case h };
+
+    ghost may_fail = { λ d v f. IsDriveFault
+        ((System-box d.system.now).reset_fails d.system.now.value) v.case f };
+
+    ghost keeps = { λ a b. (b.system.ghost_name ≡ a.system.ghost_name) × AreKept
+        ((System-box b.system.now).answers b.system.now.value)
+        ((System-box a.system.now).answers a.system.now.value)
+        ((System-box b.system.now).fails b.system.now.value)
+        ((System-box a.system.now).fails a.system.now.value)
+        ((System-box b.system.now).reset_fails b.system.now.value)
+        ((System-box a.system.now).reset_fails a.system.now.value) };
+
+    fn drive(
+        &mut self,
+        alloc: Global,
+        typed: &Typed,
+        valid: &Valid,
+    ) -> Result<History, DriveFault> {
+        run(self.rt, alloc, typed, self.system, valid)
+    }
+
+    ghost keeps_refl = { λ a. (refl, kept_same _ _ _) };
+
+    ghost keeps_trans = { λ a b c p q. (q.0 ∙ p.0, kept_on q.1 p.1) };
+
+    ghost steady = { λ a b p. steady_of p.1 };
+}
+
+/// A trial of a plan on a system, with a thread for each branch: generates the case of the trial's number,
+/// drives it while its histories are explained, as often as the settings say, and shrinks it where one is
+/// not. The record holds the plan shared.
+///
+/// The fault is that of the drive that failed, also while a case is shrunk, and then there is no record:
+/// `ResetFailed` where the system refused a reset; `NoThread` where a thread could not be started; `NoMemory`
+/// where memory is refused. The call waits for as long as the calls of the system do.
+pub fn trial<R: Threads + Wait>(
+    rt: &R,
+    alloc: Global,
+    plan: &Arc<Plan>,
+    number: u64,
+    system: &mut BoxedSystem,
+) -> Result<Record, TrialFault>
+    ensures plan { IfOk result (λ r. r.plan ≡ arc_value plan.now) }
+    ensures number { IfOk result (λ r. r.number ≡ number) }
+    ensures driven { IfOk result (λ r. IsSoundBy
+        (λ v h. IsDriven v.model (answers system.old) (fails system.old) v.case h)
+        (arc_value plan.now) number r.outcome) }
+    ensures fault { IfErr result (MayFail (λ v f. IsDriveFault (reset_fails system.old) v.case f)) }
+    ensures kept { AreKept (answers system.new) (answers system.old)
+        (fails system.new) (fails system.old)
+        (reset_fails system.new) (reset_fails system.old) }
+{
+    trial_by(alloc, plan, number, &mut ThreadDriver { rt, system })
+}

@@ -1,0 +1,134 @@
+//! Trials by any driver.
+ghost use Rattle.std.specs.Prelude.{◌≡◌, ◌+◌, ◌^◌, ◌<◌, IfOk, IfErr};
+ghost use Rattle.std.specs.Arc.{arc_value};
+ghost use Rattle.pst_shrink.specs.Weight.{weight};
+ghost use Rattle.pst_shrink.specs.declared.attempt.Outcome.TheVariants.{Broke};
+ghost use Rattle.pst_trial.specs.JudgedRuns.{IsAnswer, MayFail};
+ghost use Rattle.pst_trial.specs.Sound.{IsSoundBy, IsTried};
+
+use crate::TrialFault;
+use crate::attempts::{Attempts, drive_repeatedly};
+use crate::driver::Driver;
+use crate::outcome::TrialOutcome;
+use crate::plan::Plan;
+use crate::record::Record;
+use crate::run::JudgedRun;
+use pst_case::Case;
+use pst_driver::DriveFault;
+use pst_gen::generate;
+use pst_items::Items;
+use pst_judge::Valid;
+use pst_shrink::{Outcome, ShrinkFault, shrink};
+use rand_pcg::Pcg64;
+use std::alloc::Global;
+use std::sync::Arc;
+
+/// Shrinks a case that has a run that is not explained.
+fn shrunk_case<D: Driver>(
+    alloc: Global,
+    plan: &Plan,
+    driver: &mut D,
+    case: Case,
+    earlier: Items<JudgedRun>,
+    run: JudgedRun,
+) -> Result<TrialOutcome, DriveFault>
+    requires room { weight case + 1 < 2 ^ 32 }
+    requires broke { IsAnswer (D.may_drive driver.old) plan.now.model plan.now.settings.repeats case
+        (Broke earlier run) }
+    ensures tried { IfOk result (IsTried (D.may_drive driver.old) plan.now case) }
+    ensures fault { IfErr result (MayFail (D.may_fail driver.old)) }
+    ensures keeps { D.keeps driver.old driver.new }
+{
+    let limit = plan.settings().limit;
+    let mut attempts = Attempts {
+        alloc,
+        plan,
+        driver,
+        driven: 0,
+    };
+    match shrink(alloc, case, run, limit, &mut attempts) {
+        Ok(shrunk) => Ok(TrialOutcome::Failed { earlier, shrunk }),
+        Err(ShrinkFault::Attempt(fault)) => Err(fault),
+        Err(ShrinkFault::NoMemory) => Err(DriveFault::NoMemory),
+    }
+}
+
+/// Drives a valid case, and shrinks it where a run is not explained.
+fn tried_case<D: Driver>(
+    alloc: Global,
+    plan: &Plan,
+    driver: &mut D,
+    valid: Valid,
+) -> Result<TrialOutcome, DriveFault>
+    requires model { valid.model ≡ plan.now.model }
+    ensures tried { IfOk result (IsTried (D.may_drive driver.old) plan.now valid.case) }
+    ensures fault { IfErr result (MayFail (D.may_fail driver.old)) }
+    ensures keeps { D.keeps driver.old driver.new }
+{
+    let _case = valid.shaped().case();
+    let outcome = match drive_repeatedly(alloc, plan, driver, &valid) {
+        Ok(outcome) => outcome,
+        Err(fault) => return Err(fault),
+    };
+    let case = valid.into_shaped().into_case();
+    match outcome {
+        Outcome::Held(runs) => Ok(TrialOutcome::Passed { case, runs }),
+        Outcome::Broke(earlier, run) => shrunk_case(alloc, plan, driver, case, earlier, run),
+        Outcome::NotValid => unreachable!(),
+    }
+}
+
+/// What the trial of a number comes to: the case of its words is generated, driven, judged, and shrunk where
+/// a run is not explained.
+fn outcome_of<D: Driver>(
+    alloc: Global,
+    plan: &Plan,
+    number: u64,
+    driver: &mut D,
+) -> Result<TrialOutcome, DriveFault>
+    ensures sound { IfOk result (IsSoundBy (D.may_drive driver.old) plan.now number) }
+    ensures fault { IfErr result (MayFail (D.may_fail driver.old)) }
+    ensures keeps { D.keeps driver.old driver.new }
+{
+    let settings = plan.settings();
+    let mut words = Pcg64::new(settings.seed as u128, number as u128);
+    let generated = generate(
+        plan.compiled(),
+        alloc,
+        plan.typed(),
+        &mut words,
+        settings.commands,
+        settings.branches,
+        settings.suffix,
+    )?;
+    match generated {
+        Ok(valid) => tried_case(alloc, plan, driver, valid),
+        Err(place) => Ok(TrialOutcome::GenFaulted(place)),
+    }
+}
+
+/// A trial of a plan by its number: generates the case of the number's random words, drives it as often as
+/// the settings say while its histories are explained, and shrinks it where one is not. The record holds the
+/// plan shared.
+///
+/// The fault is that of the drive that failed, also while a case is shrunk, or `NoMemory`, and then there is
+/// no record.
+pub fn trial_by<D: Driver>(
+    alloc: Global,
+    plan: &Arc<Plan>,
+    number: u64,
+    driver: &mut D,
+) -> Result<Record, TrialFault>
+    ensures plan { IfOk result (λ r. r.plan ≡ arc_value plan.now) }
+    ensures number { IfOk result (λ r. r.number ≡ number) }
+    ensures driven { IfOk result
+        (λ r. IsSoundBy (D.may_drive driver.old) (arc_value plan.now) number r.outcome) }
+    ensures fault { IfErr result (MayFail (D.may_fail driver.old)) }
+    ensures keeps { D.keeps driver.old driver.new }
+{
+    let shared = Arc::try_clone(plan)?;
+    match outcome_of(alloc, plan, number, driver) {
+        Ok(outcome) => Ok(Record::new(shared, number, outcome)),
+        Err(fault) => Err(fault),
+    }
+}

@@ -1,0 +1,88 @@
+//! Trials that pass, that generate no case, and that a reset ends.
+
+use crate::plans::{COUNTER, ONE, TOP, one_command, plan_of};
+use crate::systems::Resets;
+use pst_eval::Callback;
+use pst_samples::Counter;
+use pst_system::BoxedSystem;
+use pst_trial::{Settings, TrialFault, TrialOutcome, trial};
+use std::alloc::Global;
+use std::sync::Wait;
+use std::test::Fail;
+use std::thread::Threads;
+
+/// The commands of the suffix and the runs of a trial of the counter, where it passes.
+fn passed<R: Threads + Wait>(
+    rt: &R,
+    alloc: Global,
+    settings: Settings,
+    system: &mut BoxedSystem,
+) -> Option<(usize, usize)> {
+    let plan = plan_of(alloc, COUNTER, settings)?;
+    let record = trial(rt, alloc, &plan, 3, system).ok()?;
+    match record.outcome() {
+        TrialOutcome::Passed { case, runs } => Some((case.suffix.len(), runs.len())),
+        TrialOutcome::GenFaulted(_) | TrialOutcome::Failed { .. } => None,
+    }
+}
+
+#[test]
+fn a_counter_passes(rt: HostRuntime) -> Result<(), Fail> {
+    let alloc = rt.alloc();
+    let mut counter: BoxedSystem = Box::new(alloc, Counter::new(rt))?;
+    let settings = Settings {
+        suffix: 2,
+        ..Settings::default()
+    };
+    assert!(rt; passed(&rt, alloc, settings, &mut counter) == Some((2, 5)));
+    Ok(())
+}
+
+/// The number of the trial and of the command where a callback of the model faults, where no case is
+/// generated.
+fn faulted<R: Threads + Wait>(
+    rt: &R,
+    alloc: Global,
+    model: &str,
+    number: u64,
+    system: &mut BoxedSystem,
+) -> Option<(u64, u32, Callback)> {
+    let plan = plan_of(alloc, model, Settings::default())?;
+    let record = trial(rt, alloc, &plan, number, system).ok()?;
+    match record.outcome() {
+        TrialOutcome::GenFaulted(place) => Some((record.number(), place.command, place.callback)),
+        TrialOutcome::Passed { .. } | TrialOutcome::Failed { .. } => None,
+    }
+}
+
+#[test]
+fn a_callback_faults(rt: HostRuntime) -> Result<(), Fail> {
+    let alloc = rt.alloc();
+    let mut system: BoxedSystem = Box::new(alloc, Resets::new(0))?;
+    assert!(rt; faulted(&rt, alloc, TOP, 7, &mut system) == Some((7, 1, Callback::Next)));
+    Ok(())
+}
+
+/// The fault of trial 0 of a counter without `get`, where there is one.
+fn fault<R: Threads + Wait>(
+    rt: &R,
+    alloc: Global,
+    settings: Settings,
+    system: &mut BoxedSystem,
+) -> Option<TrialFault> {
+    let plan = plan_of(alloc, ONE, settings)?;
+    trial(rt, alloc, &plan, 0, system).err()
+}
+
+#[test]
+fn a_refused_reset_ends_a_trial(rt: HostRuntime) -> Result<(), Fail> {
+    let alloc = rt.alloc();
+    let mut no_reset: BoxedSystem = Box::new(alloc, Resets::new(0))?;
+    let settings = Settings::default();
+    assert!(rt; fault(&rt, alloc, settings, &mut no_reset) == Some(TrialFault::ResetFailed));
+    // the second reset is that of the first shrink candidate
+    let mut second_reset: BoxedSystem = Box::new(alloc, Resets::new(1))?;
+    let settings = one_command();
+    assert!(rt; fault(&rt, alloc, settings, &mut second_reset) == Some(TrialFault::ResetFailed));
+    Ok(())
+}
