@@ -26,6 +26,8 @@ weight_at (Expr-F.At e n) = e + 1
 weight_at (Expr-F.List type es) = total es + 1
 weight_at (Expr-F.For clauses b) = total clauses + b + 1
 weight_at (Expr-F.Fold x e acc i b) = e + i + b + 1
+weight_at (Expr-F.Map k t) = 1
+weight_at (Expr-F.Put m k v) = m + k + v + 1
 weight_at (Expr-F.Call x es) = total es + 1
 weight_at (Expr-F.Apply f es) = total es + 1
 

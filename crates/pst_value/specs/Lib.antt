@@ -2,6 +2,7 @@
 pub mod FaultName
 pub mod Fits
 pub mod Holds
+pub mod Keys
 pub mod Laws
 pub mod Subst
 pub mod Text
