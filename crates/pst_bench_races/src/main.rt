@@ -48,13 +48,8 @@ fn increase(alloc: Global) -> Result<RealCall, AllocError> {
     })
 }
 
-/// In how many drives of the case behind a model no interleaving explains the replies.
-fn count<R: Threads + Wait>(
-    rt: &R,
-    alloc: Global,
-    system: &mut BoxedSystem,
-    text: &str,
-) -> anyhow::Result<u32> {
+/// In how many drives of the case behind a model no interleaving explains the replies of a counter.
+fn count<R: Threads + Wait>(rt: &R, alloc: Global, text: &str) -> anyhow::Result<u32> {
     let file = match load(alloc, text.as_bytes())? {
         Ok(file) => file,
         Err(refusal) => bail!("refused {refusal}"),
@@ -68,20 +63,17 @@ fn count<R: Threads + Wait>(
     let Ok(valid) = valid(&Plain::new(&file.typed), alloc, run.shaped) else {
         bail!("the case is not valid");
     };
-    count_unexplained(rt, alloc, &file.typed, system, &valid)
+    let mut system: BoxedSystem = Box::new(alloc, Lossy::new())?;
+    count_unexplained(rt, alloc, &file.typed, &mut system, &valid)
 }
 
 /// Prints the counts.
-fn measure<R: Threads + Wait + Print>(
-    rt: &R,
-    alloc: Global,
-    system: &mut BoxedSystem,
-) -> anyhow::Result<()> {
-    let seen = count(rt, alloc, system, INC)?;
+fn measure<R: Threads + Wait + Print>(rt: &R, alloc: Global) -> anyhow::Result<()> {
+    let seen = count(rt, alloc, INC)?;
     println!(rt; "{seen} of {DRIVES} unexplained: two `inc` that answer the new number")?;
-    let seen = count(rt, alloc, system, ADD)?;
+    let seen = count(rt, alloc, ADD)?;
     println!(rt; "{seen} of {DRIVES} unexplained: two `add` that answer true")?;
-    let seen = count(rt, alloc, system, ADD_AND_READ)?;
+    let seen = count(rt, alloc, ADD_AND_READ)?;
     println!(rt; "{seen} of {DRIVES} unexplained: two `add` and a read behind both branches")?;
     Ok(())
 }
@@ -90,8 +82,7 @@ fn main(rt: HostRuntime) -> anyhow::Result<()> {
     let alloc = rt.alloc();
     let words: Vec<String> = env::args(&rt)?.collect(alloc)?;
     if words.iter().any(|word| word.as_str() == "run") {
-        let mut boxed: BoxedSystem = Box::new(alloc, Lossy::new())?;
-        measure(&rt, alloc, &mut boxed)?;
+        measure(&rt, alloc)?;
         let lost = count_in_threads(&rt, &mut Lossy::new(), &increase(alloc)?);
         println!(rt; "{lost} of {DRIVES} lost where two threads call `inc` at once")?;
     }
