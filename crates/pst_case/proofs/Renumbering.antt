@@ -1,8 +1,9 @@
 -- `renumbered` at each form of a value.
 use Rattle.std.proofs.Common.{◌≡◌, ℕ, ℤ, Bool, List, map}
 use Rattle.pst_case.specs.Renumber.{renumbered, renumbered_level}
-use Rattle.pst_value.proofs.Forms.{fold-Int, fold-Truth, fold-Text, fold-Tuple, fold-ListOf, fold-Var, fold-Ref, fold-Call}
-use Rattle.pst_value.specs.declared.value.Value.{Value, Int, Text, Tuple, List as ListOf, Var, Ref, Call, Bool as Truth}
+use Rattle.pst_value.proofs.Forms.{fold-Int, fold-Truth, fold-Text, fold-Tuple, fold-ListOf, fold-MapOf, fold-Var, fold-Ref, fold-Call}
+use Rattle.pst_value.specs.declared.key.Key.{Key}
+use Rattle.pst_value.specs.declared.value.Value.{Value, Int, Text, Tuple, List as ListOf, Map as MapOf, Var, Ref, Call, Bool as Truth}
 
 module _ (f : ℕ → ℕ) where
   pub renumbered-Int : (k : ℤ) → renumbered f (Int k) ≡ Int k
@@ -25,6 +26,10 @@ module _ (f : ℕ → ℕ) where
   unfolding renumbered
   renumbered-ListOf xs = fold-ListOf Value (renumbered_level f) xs
 
+  pub renumbered-MapOf : (ks : List Key) (xs : List Value) → renumbered f (MapOf ks xs) ≡ MapOf ks (map (renumbered f) xs)
+  unfolding renumbered
+  renumbered-MapOf ks xs = fold-MapOf Value (renumbered_level f) ks xs
+
   pub renumbered-Var : (n : ℕ) → renumbered f (Var n) ≡ Var (f n)
   unfolding renumbered
   renumbered-Var n = fold-Var Value (renumbered_level f) n
@@ -37,4 +42,4 @@ module _ (f : ℕ → ℕ) where
   unfolding renumbered
   renumbered-Call op xs = fold-Call Value (renumbered_level f) op xs
 
-pub ruleset renumbering = (renumbered-Int, renumbered-Truth, renumbered-Text, renumbered-Tuple, renumbered-ListOf, renumbered-Var, renumbered-Ref, renumbered-Call)
+pub ruleset renumbering = (renumbered-Int, renumbered-Truth, renumbered-Text, renumbered-Tuple, renumbered-ListOf, renumbered-MapOf, renumbered-Var, renumbered-Ref, renumbered-Call)

@@ -2,11 +2,11 @@
 use Rattle.std.proofs.Common.{◌≡◌, ℕ, List, [], ◌∷◌, map, refl, ap, ◌∙◌}
 use Rattle.std.specs.List.{AllByRecursion}
 use Rattle.pst_case.specs.declared.case.Command.{Command}
-use Rattle.pst_case.proofs.Renumbering.{renumbered-Int, renumbered-Truth, renumbered-Text, renumbered-Tuple, renumbered-ListOf, renumbered-Var, renumbered-Ref, renumbered-Call}
+use Rattle.pst_case.proofs.Renumbering.{renumbered-Int, renumbered-Truth, renumbered-Text, renumbered-Tuple, renumbered-ListOf, renumbered-MapOf, renumbered-Var, renumbered-Ref, renumbered-Call}
 use Rattle.pst_case.specs.Laws.{NumbersThatStay}
 use Rattle.pst_case.specs.Renumber.{renumbered, renumbered_command}
 use Rattle.pst_value.proofs.Forms.{value_induction}
-use Rattle.pst_value.specs.declared.value.Value.{Value, Tuple, List as ListOf, Var, Ref, Call}
+use Rattle.pst_value.specs.declared.value.Value.{Value, Tuple, List as ListOf, Map as MapOf, Var, Ref, Call}
 
 module _ (f : ℕ → ℕ) (same : (n : ℕ) → f n ≡ n) where
   abbrev Stays : Value → Type 0
@@ -23,6 +23,7 @@ module _ (f : ℕ → ℕ) (same : (n : ℕ) → f n ≡ n) where
     text = renumbered-Text f;
     tuple = λ xs h. renumbered-Tuple f xs ∙ ap Tuple (all_stay xs h);
     items = λ xs h. renumbered-ListOf f xs ∙ ap ListOf (all_stay xs h);
+    maps = λ ks xs h. renumbered-MapOf f ks xs ∙ ap (MapOf ks) (all_stay xs h);
     var = λ n. renumbered-Var f n ∙ ap Var (same n);
     ref = λ n v h. renumbered-Ref f n v ∙ ap (λ k. Ref k (renumbered f v)) (same n) ∙ ap (λ w. Ref n w) h;
     call = λ op xs h. renumbered-Call f op xs ∙ ap (λ ys. Call op ys) (all_stay xs h);

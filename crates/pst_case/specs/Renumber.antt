@@ -2,7 +2,7 @@
 use Rattle.std.specs.Prelude.{ℕ, List, map, Option, Some, None}
 use Rattle.pst_case.specs.declared.case.Command.{Command}
 use Rattle.pst_value.specs.Subst.{numbered}
-use Rattle.pst_value.specs.declared.value.Value.{Value, fold-Value, Int, Bool, Text, Tuple, List as ListOf, Var, Ref, Call}
+use Rattle.pst_value.specs.declared.value.Value.{Value, fold-Value, Int, Bool, Text, Tuple, List as ListOf, Map as MapOf, Var, Ref, Call}
 use Rattle.pst_value.specs.declared.value.Value.TheOpen.{Value-F}
 
 abbrev pub or_the_same : ℕ → Option ℕ → ℕ
@@ -20,6 +20,7 @@ renumbered_level f (Value-F.Bool b) = Bool b
 renumbered_level f (Value-F.Text t) = Text t
 renumbered_level f (Value-F.Tuple items) = Tuple items
 renumbered_level f (Value-F.List items) = ListOf items
+renumbered_level f (Value-F.Map keys values) = MapOf keys values
 renumbered_level f (Value-F.Var n) = Var (f n)
 renumbered_level f (Value-F.Ref n v) = Ref (f n) v
 renumbered_level f (Value-F.Call op args) = Call op args

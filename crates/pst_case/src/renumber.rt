@@ -4,7 +4,7 @@ ghost use Rattle.pst_case.specs.Renumber.{new_number, renumbered, renumbered_com
 
 use crate::case::Command;
 use pst_items::{Boxed, Items};
-use pst_value::Value;
+use pst_value::{Value, copy_keys};
 use std::alloc::{AllocError, Global};
 
 /// The new number of a command.
@@ -33,6 +33,10 @@ pub fn renumber_value(alloc: Global, value: &Value, numbers: &[u32]) -> Result<V
         Value::Text(text) => Ok(Value::Text(text.copy(alloc)?)),
         Value::Tuple(items) => Ok(Value::Tuple(renumber_values(alloc, items.as_slice(), numbers)?)),
         Value::List(items) => Ok(Value::List(renumber_values(alloc, items.as_slice(), numbers)?)),
+        Value::Map(keys, values) => Ok(Value::Map(
+            copy_keys(keys.as_slice(), alloc)?,
+            renumber_values(alloc, values.as_slice(), numbers)?,
+        )),
         Value::Var(n) => Ok(Value::Var(new_number(numbers, *n))),
         Value::Ref(n, value) => Ok(Value::Ref(
             new_number(numbers, *n),

@@ -1,5 +1,5 @@
 -- Each callback of a well-typed model runs, and gives a value of its type.
-use Rattle.std.proofs.Common.{◌≡◌, ◌≢◌, ℕ, Bool, true, false, List, [], ◌∷◌, Option, Some, None, Result, Ok, Err, sym, ap, ◌∙◌, subst}
+use Rattle.std.proofs.Common.{◌≡◌, ◌≢◌, ℕ, true, List, [], ◌∷◌, Some, Result, Ok, Err, sym, ap, subst}
 use Rattle.std.specs.Prelude.{IfOk}
 use Rattle.std.specs.declared.alloc.AllocError.{AllocError}
 use Rattle.pst_meaning.specs.Meaning.{frame}
@@ -7,7 +7,7 @@ use Rattle.pst_model.specs.Parts.{opening_of, calls_of, operation_of, parameters
 use Rattle.pst_model.specs.declared.expr.Expr.{Expr}
 use Rattle.pst_model.specs.declared.model.Op.{Op}
 use Rattle.pst_model.specs.declared.model.Source.{Source}
-use Rattle.pst_operators.specs.Outcome.{Outcome, Gives, Faults, Stuck}
+use Rattle.pst_operators.specs.Outcome.{Outcome, Stuck}
 use Rattle.pst_rules.specs.WellTyped.{name_s, name_r, WellModel}
 use Rattle.pst_value.specs.Fits.{fits}
 use Rattle.pst_value.specs.declared.fault.Fault.{Fault}
@@ -18,7 +18,6 @@ use Rattle.pst_eval.specs.Callbacks.{at_names, of_expr, init_of, command_of, pre
 use Rattle.pst_rules.specs.Fitting.{is_state}
 use Rattle.pst_eval.proofs.Fitting.{Fit, fit_bool}
 use Rattle.pst_eval.proofs.Forms.{bool_form}
-use Rattle.pst_eval.proofs.Operating.{By}
 use Rattle.pst_eval.proofs.Table.{init_by, command_by, pre_by, next_by, post_by, by_not_stuck, given_by, state_given}
 
 abbrev pub Answer : Type 0

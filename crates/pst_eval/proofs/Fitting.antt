@@ -1,5 +1,5 @@
 -- Lists of values that fit, and environments that agree with a context.
-use Rattle.std.proofs.Common.{◌≡◌, ◌==◌, ◌<◌, ◌≤◌, ◌+◌, ◌^◌, ℕ, zero, suc, ℤ, pos, negsuc, ◌+ℤ◌, Bool, true, false, ◌&&◌, List, [], ◌∷◌, ◌++◌, length, map, Option, Some, None, refl, sym, ap, ◌∙◌, subst, inl, inr, arith, slice_get}
+use Rattle.std.proofs.Common.{◌≡◌, ◌+◌, ℕ, zero, suc, ℤ, Bool, true, false, ◌&&◌, List, [], ◌∷◌, ◌++◌, length, map, Some, refl, ap, ◌∙◌, subst, inl, inr, arith, slice_get}
 use Rattle.std.specs.Prelude.{nat_lt, nat_le}
 use Rattle.std.specs.List.{list_all}
 use Rattle.std.specs.Str.{bytes_eq}
@@ -9,16 +9,15 @@ use Rattle.std.proofs.lemmas.Bool.Decides.{nat_tests}
 use Rattle.pst_model.specs.Parts.{Name, types_of}
 use Rattle.pst_model.specs.declared.model.Param.{Param}
 use Rattle.pst_operators.specs.Operators.{int, bool, text, list, tuple, call}
-use Rattle.pst_operators.specs.Outcome.{Outcome, Gives, Faults, Stuck}
+use Rattle.pst_operators.specs.Outcome.{Gives}
 use Rattle.pst_meaning.specs.Meaning.{Env, looked_up, frame}
 use Rattle.pst_rules.specs.Rules.{Context, context_of, type_named}
 use Rattle.pst_value.specs.Fits.{fit_each, fit_params, fits, fits_level}
 use Rattle.pst_value.specs.Subst.{numbered}
-use Rattle.pst_value.specs.Text.{is_i64, is_text, is_printable, limit}
+use Rattle.pst_value.specs.Text.{is_i64, is_text, limit}
 use Rattle.pst_value.specs.declared.ty.Ty.{Ty}
-use Rattle.pst_value.specs.declared.ty.Ty.TheOpen.{Ty-F}
 use Rattle.pst_value.specs.declared.ty.Ty.TheVariants as ty
-use Rattle.pst_value.specs.declared.value.Value.{Value, roll-Value}
+use Rattle.pst_value.specs.declared.value.Value.{Value}
 use Rattle.pst_value.specs.declared.value.Value.TheOpen.{Value-F}
 use Rattle.pst_rules.proofs.Rolled.{fits-roll}
 

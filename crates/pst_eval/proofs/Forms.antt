@@ -1,17 +1,25 @@
 -- The form of a value that fits a type.
-use Rattle.std.proofs.Common.{◌≡◌, ℕ, zero, suc, ℤ, Bool, true, false, ◌&&◌, nat_le, length, Option, Some, None, List, [], ◌∷◌, map, refl, sym, ap, ◌∙◌}
+use Rattle.std.proofs.Common.{◌≡◌, ℕ, zero, suc, ℤ, Bool, true, ◌&&◌, nat_le, length, Some, List, [], map, refl, sym, ap, ◌∙◌}
 use Rattle.std.specs.List.{list_all}
 use Rattle.std.proofs.lemmas.List.{length-map}
-use Rattle.pst_items.proofs.Exact.{both_first, both_second}
-use Rattle.pst_value.specs.declared.value.Value.{Value, roll-Value, out-Value, roll-out-Value, fold-roll-Value, map-Value}
+use Rattle.pst_items.proofs.Exact.{both_second}
+use Rattle.pst_value.specs.declared.value.Value.{Value, roll-Value, out-Value, roll-out-Value, map-Value}
 use Rattle.pst_value.specs.declared.value.Value.TheOpen.{Value-F}
 use Rattle.pst_value.specs.declared.value.Value.TheVariants as value
 use Rattle.pst_value.specs.declared.ty.Ty.{Ty, out-Ty}
 use Rattle.pst_value.specs.declared.ty.Ty.TheOpen.{Ty-F}
 use Rattle.pst_value.specs.declared.ty.Ty.TheVariants as ty
-use Rattle.pst_value.specs.Fits.{fit_each, fits_level, fits_step, fits}
+use Rattle.pst_value.specs.Fits.{fit_each, fits_level, fits}
+use Rattle.pst_value.specs.Keys.{is_key, are_keys}
 use Rattle.pst_value.specs.Text.{is_i64, is_text, limit}
+use Rattle.pst_value.specs.declared.key.Key.{Key}
+use Rattle.pst_value.specs.declared.key.Key.TheVariants as key
+use Rattle.pst_value.specs.declared.key.KeyTy.{KeyTy}
+use Rattle.pst_value.specs.declared.key.KeyTy.TheVariants as kind
+use Rattle.pst_value.proofs.Typing.{list_all-map}
 use Rattle.pst_rules.proofs.Rolled.{fits-roll}
+use Rattle.pst_rules.specs.Rules.{key_type}
+use Rattle.pst_operators.specs.Maps.{map_of, value_of}
 use Rattle.pst_operators.specs.Operators.{int, bool, text, list, tuple, number_at, number_of}
 
 module _ (free vars : List Ty) (ops : List (List Ty)) where
@@ -30,6 +38,7 @@ module _ (free vars : List Ty) (ops : List (List Ty)) where
   bool_at (Value-F.Text t) h = absurd (cc)
   bool_at (Value-F.Tuple vs) h = absurd (cc)
   bool_at (Value-F.List vs) h = absurd (cc)
+  bool_at (Value-F.Map ks vs) h = absurd (cc)
   bool_at (Value-F.Var n) h = absurd (cc)
   bool_at (Value-F.Ref n v) h = absurd (cc)
   bool_at (Value-F.Call n vs) h = absurd (cc)
@@ -40,6 +49,7 @@ module _ (free vars : List Ty) (ops : List (List Ty)) where
   int_at (Value-F.Text t) h = absurd (cc)
   int_at (Value-F.Tuple vs) h = absurd (cc)
   int_at (Value-F.List vs) h = absurd (cc)
+  int_at (Value-F.Map ks vs) h = absurd (cc)
   int_at (Value-F.Var n) h = absurd (cc)
   int_at (Value-F.Ref n v) h = absurd (cc)
   int_at (Value-F.Call n vs) h = absurd (cc)
@@ -50,6 +60,7 @@ module _ (free vars : List Ty) (ops : List (List Ty)) where
   text_at (Value-F.Text t) h = (t, refl, h)
   text_at (Value-F.Tuple vs) h = absurd (cc)
   text_at (Value-F.List vs) h = absurd (cc)
+  text_at (Value-F.Map ks vs) h = absurd (cc)
   text_at (Value-F.Var n) h = absurd (cc)
   text_at (Value-F.Ref n v) h = absurd (cc)
   text_at (Value-F.Call n vs) h = absurd (cc)
@@ -60,6 +71,7 @@ module _ (free vars : List Ty) (ops : List (List Ty)) where
   list_at (Value-F.Text t) s h = absurd (cc)
   list_at (Value-F.Tuple vs) s h = absurd (cc)
   list_at (Value-F.List vs) s h = (vs, refl, h)
+  list_at (Value-F.Map ks vs) s h = absurd (cc)
   list_at (Value-F.Var n) s h = absurd (cc)
   list_at (Value-F.Ref n v) s h = absurd (cc)
   list_at (Value-F.Call n vs) s h = absurd (cc)
@@ -70,9 +82,23 @@ module _ (free vars : List Ty) (ops : List (List Ty)) where
   tuple_at (Value-F.Text t) ts h = absurd (cc)
   tuple_at (Value-F.Tuple vs) ts h = (vs, refl, h)
   tuple_at (Value-F.List vs) ts h = absurd (cc)
+  tuple_at (Value-F.Map ks vs) ts h = absurd (cc)
   tuple_at (Value-F.Var n) ts h = absurd (cc)
   tuple_at (Value-F.Ref n v) ts h = absurd (cc)
   tuple_at (Value-F.Call n vs) ts h = absurd (cc)
+
+  map_at : (d : Value-F Value) (k : KeyTy) (s : Ty) → fits_level free vars ops (Level d) (Ty-F.Map k s) ≡ true
+      → (ks : List Key) × (vs : List Value) × (d ≡ Value-F.Map ks vs)
+      × (fits_level free vars ops (Level (Value-F.Map ks vs)) (Ty-F.Map k s) ≡ true)
+  map_at (Value-F.Int n) k s h = absurd (cc)
+  map_at (Value-F.Bool b) k s h = absurd (cc)
+  map_at (Value-F.Text t) k s h = absurd (cc)
+  map_at (Value-F.Tuple vs) k s h = absurd (cc)
+  map_at (Value-F.List vs) k s h = absurd (cc)
+  map_at (Value-F.Map ks vs) k s h = (ks, vs, refl, h)
+  map_at (Value-F.Var n) k s h = absurd (cc)
+  map_at (Value-F.Ref n v) k s h = absurd (cc)
+  map_at (Value-F.Call n vs) k s h = absurd (cc)
 
   ref_at : (d : Value-F Value) (s : Ty) → fits_level free vars ops (Level d) (Ty-F.Ref s) ≡ true → (n : ℕ) × (number_at d ≡ Some n)
   ref_at (Value-F.Int n) s h = absurd (cc)
@@ -80,6 +106,7 @@ module _ (free vars : List Ty) (ops : List (List Ty)) where
   ref_at (Value-F.Text t) s h = absurd (cc)
   ref_at (Value-F.Tuple vs) s h = absurd (cc)
   ref_at (Value-F.List vs) s h = absurd (cc)
+  ref_at (Value-F.Map ks vs) s h = absurd (cc)
   ref_at (Value-F.Var n) s h = (n, refl)
   ref_at (Value-F.Ref n v) s h = (n, refl)
   ref_at (Value-F.Call n vs) s h = absurd (cc)
@@ -104,6 +131,27 @@ module _ (free vars : List Ty) (ops : List (List Ty)) where
   pub tuple_form : (v : Value) (ts : List Ty) → test v (ty.Tuple ts) ≡ true → (vs : List Value) × (v ≡ tuple vs) × (fit_each (map test vs) ts ≡ true)
   tuple_form v ts h = let r = tuple_at (out-Value v) ts (opened v (ty.Tuple ts) (Ty-F.Tuple ts) (ty.outs-Tuple ts) h) in (r.0, back v _ r.1, r.2)
 
+  pub map_form : (v : Value) (k : KeyTy) (t : Ty) → test v (ty.Map k t) ≡ true
+      → (ks : List Key) × (vs : List Value) × (v ≡ map_of ks vs)
+      × ((are_keys k (length vs) ks && list_all (λ w. test w t) vs) ≡ true)
+  map_form v k t h =
+      let r = map_at (out-Value v) k t (opened v (ty.Map k t) (Ty-F.Map k t) (ty.outs-Map k t) h) in (
+        r.0,
+        r.1,
+        back v _ r.2,
+        ap (λ n. are_keys k n r.0 && list_all (λ w. test w t) r.1) (sym (length-map r.1 test))
+            ∙ ap (λ b. are_keys k (length (map test r.1)) r.0 && b)
+            (sym (list_all-map free vars ops (λ f. f t) test r.1))
+            ∙ r.3,
+      )
+
+  -- the key that a value is
+  pub key_form : (v : Value) (k : KeyTy) → test v (key_type k) ≡ true
+      → (l : Key) × (v ≡ value_of l) × (is_key k l ≡ true)
+  key_form v kind.Int h = let r = int_form v h in (key.Int r.0, r.1, r.2)
+  key_form v kind.Bool h = let r = bool_form v h in (key.Bool r.0, r.1, refl)
+  key_form v kind.Text h = let r = text_form v h in (key.Text r.0, r.1, r.2)
+
   pub ref_form : (v : Value) (t : Ty) → test v (ty.Ref t) ≡ true → (n : ℕ) × (number_of v ≡ Some n)
   ref_form v t h = ref_at (out-Value v) t (opened v (ty.Ref t) (Ty-F.Ref t) (ty.outs-Ref t) h)
 
@@ -121,6 +169,7 @@ module _ (vars : List Ty) (ops : List (List Ty)) where
   known_at (Value-F.Text t) s h = absurd (cc)
   known_at (Value-F.Tuple vs) s h = absurd (cc)
   known_at (Value-F.List vs) s h = absurd (cc)
+  known_at (Value-F.Map ks vs) s h = absurd (cc)
   known_at (Value-F.Var zero) s h = absurd (cc)
   known_at (Value-F.Var (suc n)) s h = absurd (cc)
   known_at (Value-F.Ref n v) s h = (n, v, refl, both_second _ _ h)

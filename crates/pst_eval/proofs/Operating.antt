@@ -1,32 +1,37 @@
 -- An operator on operands of its types gives a value of its type, or a fault.
-use Rattle.std.proofs.Common.{◌≡◌, ◌==◌, ◌<◌, ◌≤◌, ◌+◌, ◌^◌, ◌+ℤ◌, ◌-ℤ◌, ◌*ℤ◌, int_div, int_rem, int_lt, unsigned_abs, ℕ, zero, suc, ℤ, pos, negsuc, Bool, true, false, not, List, [], ◌∷◌, ◌++◌, length, Option, Some, None, refl, sym, ap, ◌∙◌, subst, inl, inr, arith, rules, slice_get}
+use Rattle.std.proofs.Common.{◌≡◌, ◌==◌, ◌≤◌, ◌+◌, ◌+ℤ◌, ◌-ℤ◌, ◌*ℤ◌, int_div, int_rem, int_lt, unsigned_abs, ℕ, zero, suc, ℤ, pos, negsuc, Bool, true, false, not, List, [], ◌∷◌, ◌++◌, length, Option, Some, None, refl, sym, ap, ◌∙◌, subst, inl, inr, arith, rules, slice_get}
 use Rattle.std.proofs.lemmas.Bool.{cases_Bool, and_from}
 use Rattle.std.proofs.lemmas.Bool.Decides.{nat_tests}
 use Rattle.std.proofs.lemmas.Int.{ints, rem_below, fits_signed_from_abs}
 use Rattle.std.proofs.lemmas.List.{length-append}
-use Rattle.std.specs.Prelude.{if◌then◌else◌, nat_lt, nat_le, ◌<ℤ◌}
+use Rattle.std.specs.Prelude.{nat_lt, nat_le, ◌<ℤ◌}
 use Rattle.std.specs.List.{list_all}
 use Rattle.std.specs.Ordering.{int_eq}
 use Rattle.std.specs.Int.RustNames.{FitsSigned}
 use Rattle.std.specs.Int.{w64}
 use Rattle.pst_model.specs.declared.expr.Binary.{Binary}
-use Rattle.pst_model.specs.declared.expr.Binary.TheVariants.{Add, Sub, Mul, Div, Rem, Less, LessEqual, Equal, Same, Append, Nth, Range}
+use Rattle.pst_model.specs.declared.expr.Binary.TheVariants.{Add, Sub, Mul, Div, Rem, Less, LessEqual, Equal, Same, Append, Nth, Range, Get, Has, Del}
 use Rattle.pst_model.specs.declared.expr.Unary.{Unary}
-use Rattle.pst_model.specs.declared.expr.Unary.TheVariants.{Not, Len, Deref}
-use Rattle.pst_operators.specs.Operators.{int, bool, text, list, tuple, integer, truth_of, truth_at, items_of, items_at, unary, unary_at, item, item_at, binary, binary_at, divided, joined_texts, joined_lists, text_less, nth, range, count_up, append}
+use Rattle.pst_model.specs.declared.expr.Unary.TheVariants.{Deref}
+use Rattle.pst_operators.specs.Maps.{beside, with_key, get, has, put_key, put}
+use Rattle.pst_operators.specs.Operators.{int, integer, truth_of, truth_at, items_of, items_at, unary, binary, binary_at, divided, joined_texts, joined_lists, nth, range, append}
 use Rattle.pst_operators.specs.Outcome.{Outcome, Gives, Faults, Stuck, and_then, or_fault, turn}
-use Rattle.pst_rules.specs.Rules.{OperatesOnOne, operates_not, operates_len_text, operates_len_list, operates_deref, OperatesOnTwo, operates_arithmetic, operates_order_int, operates_order_text, operates_equal, operates_same, operates_append_text, operates_append_list, operates_nth, operates_range, is_arithmetic, is_order}
+use Rattle.pst_rules.specs.Rules.{OperatesOnOne, operates_not, operates_len_text, operates_len_list, operates_deref, operates_keys, OperatesOnTwo, operates_arithmetic, operates_order_int, operates_order_text, operates_equal, operates_same, operates_append_text, operates_append_list, operates_nth, operates_get, operates_has, operates_del, operates_range, key_type, is_arithmetic, is_order}
 use Rattle.pst_value.specs.Equality.{same_value}
 use Rattle.pst_value.specs.Fits.{fits}
-use Rattle.pst_value.specs.Text.{is_i64, is_text, is_printable, limit}
-use Rattle.pst_value.specs.declared.fault.Fault.TheVariants.{Index}
+use Rattle.pst_value.specs.Keys.{is_key, most}
+use Rattle.pst_value.specs.Text.{is_i64, is_text, is_printable, limit, text_less}
+use Rattle.pst_value.specs.declared.fault.Fault.TheVariants.{Index, Missing}
+use Rattle.pst_value.specs.declared.key.Key.{Key}
+use Rattle.pst_value.specs.declared.key.KeyTy.{KeyTy}
 use Rattle.pst_value.specs.declared.ty.Ty.{Ty}
 use Rattle.pst_value.specs.declared.ty.Ty.TheVariants as ty
 use Rattle.pst_value.specs.declared.value.Value.{Value, out-Value, out-roll-Value}
 use Rattle.pst_value.specs.declared.value.Value.TheOpen.{Value-F}
 use Rattle.pst_eval.proofs.Counting.{fits_from, fits_to, length_count_up, each_count_up}
-use Rattle.pst_eval.proofs.Fitting.{both, Fit, EachFits, FitAll, Built, each_from, all_from, fit_int, fit_bool, fit_text, fit_list, each_get, built_append, built_joined}
-use Rattle.pst_eval.proofs.Forms.{bool_form, int_form, text_form, list_form, ref_form, known_form}
+use Rattle.pst_eval.proofs.Fitting.{both, Fit, EachFits, Built, each_from, fit_int, fit_bool, fit_text, fit_list, each_get, built_append, built_joined}
+use Rattle.pst_eval.proofs.Forms.{bool_form, int_form, text_form, list_form, key_form, ref_form, known_form}
+use Rattle.pst_eval.proofs.Maps.{AreOf, map_parts, fit_keys, fit_beside, fit_with, fit_without, keys_seen, get_seen, has_seen, del_seen, put_seen}
 
 -- a value with the property, or a fault
 abbrev pub By : {A : Type 0} → (A → Type 0) → Outcome (A × ℕ) → Type 0
@@ -75,6 +80,9 @@ looks_arithmetic Same v w h = absurd (cc)
 looks_arithmetic Append v w h = absurd (cc)
 looks_arithmetic Nth v w h = absurd (cc)
 looks_arithmetic Range v w h = absurd (cc)
+looks_arithmetic Get v w h = absurd (cc)
+looks_arithmetic Has v w h = absurd (cc)
+looks_arithmetic Del v w h = absurd (cc)
 
 looks_order : (op : Binary) (v w : Value) → is_order op ≡ true → binary op v w ≡ binary_at op (out-Value v) (out-Value w)
 looks_order Add v w h = absurd (cc)
@@ -89,6 +97,9 @@ looks_order Same v w h = absurd (cc)
 looks_order Append v w h = absurd (cc)
 looks_order Nth v w h = absurd (cc)
 looks_order Range v w h = absurd (cc)
+looks_order Get v w h = absurd (cc)
+looks_order Has v w h = absurd (cc)
+looks_order Del v w h = absurd (cc)
 
 module _ (free vars : List Ty) (ops : List (List Ty)) where
   abbrev pub F1 : Value → Ty → Type 0
@@ -139,6 +150,31 @@ module _ (free vars : List Ty) (ops : List (List Ty)) where
     | inr e ↦ rw e tt
   ]
 
+  get_by : (ks : List Key) (vs : List Value) (l : Key) (T : Ty) (t : ℕ)
+      → list_all (λ v. fits free vars ops v T) vs ≡ true → By (λ v. F1 v T) (Lifted (get ks vs l) t)
+  get_by ks vs l T t h = at (beside ks vs l) refl
+    where
+      at : (o : Option Value) → beside ks vs l ≡ o
+          → By (λ v. F1 v T) (Lifted (or_fault Missing (beside ks vs l)) t)
+      at None e = rw e tt
+      at (Some v) e = rw e (fit_beside free vars ops T ks vs l v h e)
+
+  put_key-by : (k : KeyTy) (T : Ty) (ks : List Key) (vs : List Value) (l : Key) (v : Value) (t : ℕ)
+      → AreOf free vars ops k T ks vs → is_key k l ≡ true → F1 v T
+      → By (λ u. F1 u (ty.Map k T)) (Lifted (put_key ks vs v l) t)
+  put_key-by k T ks vs l v t h i f = elim (cases_Bool (nat_le (length (with_key ks l)) most)) [
+    | inl e ↦ rw e (fit_with free vars ops k T ks vs l v h i f e)
+    | inr e ↦ rw e tt
+  ]
+
+  -- a map with a key and its value
+  pub put_by : (k : KeyTy) (T : Ty) (m y v : Value) (t : ℕ) → F1 m (ty.Map k T) → F1 y (key_type k) → F1 v T
+      → By (λ u. F1 u (ty.Map k T)) (Lifted (put m y v) t)
+  put_by k T m y v t f g h =
+      let p = map_parts free vars ops k T m f in
+      let l = key_form free vars ops y k g in
+      rw (p.2, l.1, put_seen p.0 p.1 l.0 v) (put_key-by k T p.0 p.1 l.0 v t p.3 l.2 h)
+
   arithmetic_by : (op : Binary) (m n : ℤ) (t : ℕ) → is_arithmetic op ≡ true → is_i64 n ≡ true → By (λ v. F1 v ty.Int) (Lifted (binary_at op (Value-F.Int m) (Value-F.Int n)) t)
   arithmetic_by Add m n t h hn = integer_by (m +ℤ n) t
   arithmetic_by Sub m n t h hn = integer_by (m -ℤ n) t
@@ -152,6 +188,9 @@ module _ (free vars : List Ty) (ops : List (List Ty)) where
   arithmetic_by Append m n t h hn = absurd (cc)
   arithmetic_by Nth m n t h hn = absurd (cc)
   arithmetic_by Range m n t h hn = absurd (cc)
+  arithmetic_by Get m n t h hn = absurd (cc)
+  arithmetic_by Has m n t h hn = absurd (cc)
+  arithmetic_by Del m n t h hn = absurd (cc)
 
   order_int_by : (op : Binary) (m n : ℤ) (t : ℕ) → is_order op ≡ true → By (λ v. F1 v ty.Bool) (Lifted (binary_at op (Value-F.Int m) (Value-F.Int n)) t)
   order_int_by Less m n t h = fit_bool free vars ops (int_lt m n)
@@ -166,6 +205,9 @@ module _ (free vars : List Ty) (ops : List (List Ty)) where
   order_int_by Append m n t h = absurd (cc)
   order_int_by Nth m n t h = absurd (cc)
   order_int_by Range m n t h = absurd (cc)
+  order_int_by Get m n t h = absurd (cc)
+  order_int_by Has m n t h = absurd (cc)
+  order_int_by Del m n t h = absurd (cc)
 
   order_text_by : (op : Binary) (s r : List ℕ) (t : ℕ) → is_order op ≡ true → By (λ v. F1 v ty.Bool) (Lifted (binary_at op (Value-F.Text s) (Value-F.Text r)) t)
   order_text_by Less s r t h = fit_bool free vars ops (text_less s r)
@@ -180,6 +222,9 @@ module _ (free vars : List Ty) (ops : List (List Ty)) where
   order_text_by Append s r t h = absurd (cc)
   order_text_by Nth s r t h = absurd (cc)
   order_text_by Range s r t h = absurd (cc)
+  order_text_by Get s r t h = absurd (cc)
+  order_text_by Has s r t h = absurd (cc)
+  order_text_by Del s r t h = absurd (cc)
 
   pub binary_by : (post : Bool) (op : Binary) (R S T : Ty) (v w : Value) (t : ℕ) → OperatesOnTwo post op R S T → F1 v R → F1 w S → By (λ u. F1 u T) (Lifted (binary op v w) t)
   binary_by post _ _ _ _ v w t (operates_arithmetic op h) f g =
@@ -211,6 +256,18 @@ module _ (free vars : List Ty) (ops : List (List Ty)) where
       let m = list_form free vars ops v T f in
       let n = int_form free vars ops w g in
       rw (m.1, n.1, out-roll-Value (Value-F.List m.0), out-roll-Value (Value-F.Int n.0)) (nth_by m.0 n.0 T t (each_from free vars ops m.0 T (both _ _ m.2).1))
+  binary_by post _ _ _ _ v w t (operates_get k T) f g =
+      let m = map_parts free vars ops k T v f in
+      let l = key_form free vars ops w k g in
+      rw (m.2, l.1, get_seen m.0 m.1 l.0) (get_by m.0 m.1 l.0 T t m.3.each)
+  binary_by post _ _ _ _ v w t (operates_has k T) f g =
+      let m = map_parts free vars ops k T v f in
+      let l = key_form free vars ops w k g in
+      rw (m.2, l.1, has_seen m.0 m.1 l.0) (fit_bool free vars ops (has m.0 l.0))
+  binary_by post _ _ _ _ v w t (operates_del k T) f g =
+      let m = map_parts free vars ops k T v f in
+      let l = key_form free vars ops w k g in
+      rw (m.2, l.1, del_seen m.0 m.1 l.0) (fit_without free vars ops k T m.0 m.1 l.0 m.3)
   binary_by post _ _ _ _ v w t operates_range f g =
       let m = int_form free vars ops v f in
       let n = int_form free vars ops w g in
@@ -235,6 +292,9 @@ module _ (free vars : List Ty) (ops : List (List Ty)) where
       let m = list_form free vars ops v T f in
       rw (m.1, out-roll-Value (Value-F.List m.0)) (integer_by (pos (length m.0)) t)
   unary_by post _ _ _ v t closed (operates_deref T p) f = deref_by v T t (closed p) f
+  unary_by post _ _ _ v t closed (operates_keys k T) f =
+      let m = map_parts free vars ops k T v f in
+      rw (m.2, keys_seen m.0 m.1) (fit_keys free vars ops k T m.0 m.1 m.3)
 
   pub append_by : (vs : List Value) (v : Value) (T : Ty) (t : ℕ) → Built free vars ops vs T → F1 v T → By (λ ws. Built free vars ops ws T) (and_then (append vs v) (λ a. Gives (a, t)))
   append_by vs v T t f h = elim (cases_Bool (nat_lt (length vs) limit)) [ inl e ↦ rw e (built_append free vars ops vs v T e f.each h) | inr e ↦ rw e tt ]

@@ -1,26 +1,27 @@
 -- A well-typed expression gives a value of its type, or a fault, and is never stuck.
-use Rattle.std.proofs.Common.{◌≡◌, ◌||◌, not, ◌^◌, ℕ, zero, suc, Bool, true, false, List, [], ◌∷◌, ◌++◌, length, map, Option, Some, None, refl, sym, ap, ◌∙◌, subst, append_assoc, append-nil, slice_get}
-use Rattle.std.specs.Prelude.{if◌then◌else◌, nat_lt, nat_le}
-use Rattle.pst_model.specs.Parts.{Name, number_of, operation_of, operations_of, parameters_of, types_of}
+use Rattle.std.proofs.Common.{◌≡◌, ◌||◌, not, ℕ, zero, suc, Bool, true, false, List, [], ◌∷◌, ◌++◌, length, map, Some, refl, sym, ap, ◌∙◌, subst, append_assoc, append-nil, slice_get}
+use Rattle.std.specs.Prelude.{if◌then◌else◌, nat_le}
+use Rattle.pst_model.specs.Parts.{Name, operations_of, parameters_of, types_of}
 use Rattle.pst_model.specs.declared.expr.Clause.{Clause}
 use Rattle.pst_model.specs.declared.expr.Expr.{Expr, Expr-F, roll-Expr, map-Expr, fold-roll-Expr}
 use Rattle.pst_model.specs.declared.expr.Expr.TheVariants as expr
 use Rattle.pst_model.specs.declared.model.Fun.{Fun}
 use Rattle.pst_model.specs.declared.model.Item.{Item}
 use Rattle.pst_model.specs.declared.model.Op.{Op}
-use Rattle.pst_operators.specs.Operators.{bool, text, list, tuple, call, truth_of}
+use Rattle.pst_operators.specs.Operators.{bool}
 use Rattle.pst_operators.specs.Outcome.{Outcome, Gives, Faults, Stuck, and_then, turn}
-use Rattle.pst_meaning.specs.Meaning.{Run, pure, lift, ◌>>=◌, Env, Called, applied, call_of, Mean, Part, part_at, mean_at, mean, part, truth, all_from as all_of, visit, visit_each, fold_over}
+use Rattle.pst_meaning.specs.Meaning.{Run, pure, ◌>>=◌, Env, Called, applied, Mean, Part, part_at, mean_at, mean, part, truth, all_from as all_of, visit, visit_each, fold_over}
 use Rattle.pst_meaning.proofs.Means.{part_in, part_when, mean_for}
-use Rattle.pst_rules.specs.Rules.{Context, type_named, signature, Judgement, Has, Have, AllHave, Builds, Typed, typed_int, typed_bool, typed_text, typed_name, typed_let, typed_if, typed_and, typed_or, typed_unary, typed_binary, typed_tuple, typed_at, typed_list, typed_for, typed_fold, typed_call, typed_apply, typed_none, typed_more, typed_empty, typed_each, typed_body, typed_in, typed_when}
+use Rattle.pst_rules.specs.Rules.{signature, key_type, Judgement, Has, Have, AllHave, Builds, Typed, typed_int, typed_bool, typed_text, typed_name, typed_let, typed_if, typed_and, typed_or, typed_unary, typed_binary, typed_tuple, typed_at, typed_list, typed_map, typed_put, typed_for, typed_fold, typed_call, typed_apply, typed_none, typed_more, typed_empty, typed_each, typed_body, typed_in, typed_when}
 use Rattle.pst_value.specs.Text.{limit}
 use Rattle.pst_value.specs.declared.ty.Ty.{Ty}
 use Rattle.pst_value.specs.declared.ty.Ty.TheVariants as ty
 use Rattle.pst_value.specs.declared.value.Value.{Value, out-roll-Value}
 use Rattle.pst_value.specs.declared.value.Value.TheOpen.{Value-F}
-use Rattle.pst_eval.proofs.Fitting.{both, Fit, EachFits, FitAll, Built, all_from, fit_int, fit_bool, fit_text, fit_list, fit_tuple, fit_call, item_get, Agrees, name_fits}
+use Rattle.pst_eval.proofs.Fitting.{Fit, EachFits, FitAll, Built, all_from, fit_int, fit_bool, fit_text, fit_list, fit_tuple, fit_call, item_get, Agrees, name_fits}
 use Rattle.pst_eval.proofs.Forms.{tuple_form}
-use Rattle.pst_eval.proofs.Operating.{By, by_then, by_path, turn_by, Lifted, binary_by, unary_by, append_by, items_by, truth_by}
+use Rattle.pst_eval.proofs.Maps.{fit_map, empty_map}
+use Rattle.pst_eval.proofs.Operating.{By, by_then, by_path, turn_by, binary_by, unary_by, append_by, items_by, put_by, truth_by}
 
 right_unit : {A : Type 0} (o : Outcome A) → and_then o (λ r. Gives r) ≡ o
 right_unit (Gives r) = refl
@@ -131,6 +132,15 @@ module _ (free vars : List Ty) (items : List Item) where
         here (ty.List T) _ _ env t (mean_is (Expr-F.List T es) _ (expr.rolls-List T es))
         (by_then (λ vs. (ws : List Value) × (vs ≡ [] ++ ws) × (length ws ≡ length es) × EachFits free vars ops ws T) (λ v. F1 v (ty.List T)) _ _ (sound _ h env [] t a)
         (λ vs u p. rw p.1 (fit_list free vars ops p.0 T (record { within = ap (λ n. nat_le n limit) p.2 ∙ l; each = p.3 }))))
+    sound _ (typed_map G k T) = λ env t a.
+        here (ty.Map k T) _ _ env t (mean_is (Expr-F.Map k T) _ (expr.rolls-Map k T))
+        (fit_map free vars ops k T [] [] (empty_map free vars ops k T))
+    sound _ (typed_put G m y e k T hm hy he) = λ env t a.
+        let C = λ (v : Value). F1 v (ty.Map k T) in
+        here (ty.Map k T) _ _ env t (mean_is (Expr-F.Put m y e) _ (expr.rolls-Put m y e))
+        (by_then C C _ _ (sound _ hm env t a) (λ x u f.
+        by_then (λ v. F1 v (key_type k)) C _ _ (sound _ hy env u a) (λ z s g.
+        by_then (λ v. F1 v T) C _ _ (sound _ he env s a) (λ v r h. put_by free vars ops k T x z v r f g h))))
     sound _ (typed_for G cs b T h) = λ env t a.
         here (ty.List T) _ _ env t (mean_for items F cs b)
         (by_then (λ vs. Built free vars ops vs T) (λ v. F1 v (ty.List T)) _ _ (sound _ h env [] t a (record { within = refl; each = tt })) (λ vs u f. fit_list free vars ops vs T f))

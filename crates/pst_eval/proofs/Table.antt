@@ -1,10 +1,10 @@
 -- The functions of a well-typed model give values of their result types, and each callback a value of its type.
-use Rattle.std.proofs.Common.{◌≡◌, ◌≢◌, ◌==◌, ◌||◌, not, ℕ, Bool, true, false, List, [], ◌∷◌, ◌++◌, length, map, reverse, Option, Some, None, Ok, Err, Result, refl, sym, ap, ◌∙◌, subst, inl, inr, eq-eqb, append_assoc, append-nil}
+use Rattle.std.proofs.Common.{◌≡◌, ◌≢◌, ◌||◌, not, ℕ, Bool, true, false, List, [], ◌∷◌, ◌++◌, length, reverse, Option, Some, None, Ok, Err, Result, refl, sym, ap, ◌∙◌, subst, inl, inr, eq-eqb, append_assoc, append-nil}
 use Rattle.std.proofs.lemmas.Bool.{cases_Bool}
 use Rattle.std.proofs.lemmas.List.{reverse-append}
 use Rattle.std.specs.Str.{bytes_eq}
 use Rattle.pst_meaning.specs.Meaning.{Env, applied, called, frame, mean}
-use Rattle.pst_model.specs.Parts.{Name, state_of, opening_of, calls_of, operation_of, parameters_of, types_of}
+use Rattle.pst_model.specs.Parts.{opening_of, calls_of, operation_of, parameters_of, types_of}
 use Rattle.pst_model.specs.declared.expr.Expr.{Expr}
 use Rattle.pst_model.specs.declared.model.Fun.{Fun}
 use Rattle.pst_model.specs.declared.model.Item.{Item}
@@ -13,9 +13,8 @@ use Rattle.pst_model.specs.declared.model.Op.{Op}
 use Rattle.pst_model.specs.declared.model.Source.{Source}
 use Rattle.pst_operators.specs.Outcome.{Outcome, Gives, Faults, Stuck, turn}
 use Rattle.pst_rules.proofs.Operations.{well_operation}
-use Rattle.pst_rules.specs.Rules.{Context, context_of, signature, Has, Typed}
+use Rattle.pst_rules.specs.Rules.{Context, context_of, Has, Typed}
 use Rattle.pst_rules.specs.WellTyped.{name_s, name_r, pre_context, next_context, post_context, WellItem, WellItems, WellModel}
-use Rattle.pst_value.specs.Fits.{fits}
 use Rattle.pst_value.specs.declared.fault.Fault.{Fault}
 use Rattle.pst_value.specs.declared.ty.Ty.{Ty}
 use Rattle.pst_value.specs.declared.ty.Ty.TheVariants as ty

@@ -3,7 +3,6 @@ use Rattle.std.specs.Prelude.{◌≡◌, ℕ, ⊤, true, List, [], ◌∷◌, re
 use Rattle.pst_meaning.specs.Meaning.{Env, called, mean, frame}
 use Rattle.pst_model.specs.Parts.{opening_of, calls_of, operation_of}
 use Rattle.pst_model.specs.declared.expr.Expr.{Expr}
-use Rattle.pst_model.specs.declared.model.Item.{Item}
 use Rattle.pst_model.specs.declared.model.Op.{Op}
 use Rattle.pst_model.specs.declared.model.Source.{Source}
 use Rattle.pst_operators.specs.Outcome.{Outcome, Gives, Faults, Stuck}

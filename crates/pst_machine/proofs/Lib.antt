@@ -1,3 +1,4 @@
+pub mod Entries
 pub mod Falls
 pub mod Writing
 pub mod Stepping

@@ -5,10 +5,12 @@ use Rattle.pst_model.specs.declared.expr.Unary.{Unary as UnaryOperator}
 use Rattle.pst_model.specs.declared.expr.Unary.TheVariants as unary
 use Rattle.pst_model.specs.declared.expr.Binary.{Binary as BinaryOperator}
 use Rattle.pst_model.specs.declared.expr.Binary.TheVariants as binary
+use Rattle.pst_value.specs.declared.key.Key.{Key}
+use Rattle.pst_value.specs.declared.key.Key.TheVariants as key
 use Rattle.pst_value.specs.declared.value.Value.{Value, fold-Value}
 use Rattle.pst_value.specs.declared.value.Value.TheOpen.{Value-F}
 use Rattle.pst_machine.specs.declared.instruction.Instr.{Instr}
-use Rattle.pst_machine.specs.declared.instruction.Instr.TheVariants.{Const, Move, Take, Unary, Binary, At, Tuple, List as MakeList, Call, Append, Jump, Unless, Apply, Loop, Return}
+use Rattle.pst_machine.specs.declared.instruction.Instr.TheVariants.{Const, Move, Take, Unary, Binary, Put, At, Tuple, List as MakeList, Call, Append, Jump, Unless, Apply, Loop, Return}
 use Rattle.pst_machine.specs.declared.instruction.FunCode.{FunCode}
 
 -- ---- values, as items spell them
@@ -30,6 +32,21 @@ abbrev pub parts_text : List (List ℕ) → List ℕ
 parts_text [] = []
 parts_text (part ∷ parts) = 32 ∷ part ++ parts_text parts
 
+abbrev pub key_text : Key → List ℕ
+key_text (key.Int n) = signed_decimal n
+key_text (key.Bool b) = truth_text b
+key_text (key.Text t) = 34 ∷ bytes_text t ++ 34 ∷ []
+
+-- a key and the text of its value in brackets, behind a space
+abbrev pub entry_text : Key → List ℕ → List ℕ
+entry_text k part = 32 ∷ 40 ∷ key_text k ++ 32 ∷ part ++ 41 ∷ []
+
+-- keys and the texts of their values
+abbrev pub entries_text : List Key → List (List ℕ) → List ℕ
+entries_text [] parts = []
+entries_text (k ∷ ks) [] = []
+entries_text (k ∷ ks) (part ∷ parts) = entry_text k part ++ entries_text ks parts
+
 -- a value, by the texts of its parts (a constant of compiled code holds neither a reference nor a call)
 abbrev pub text_at : Value-F (List ℕ) → List ℕ
 text_at (Value-F.Int n) = signed_decimal n
@@ -37,6 +54,7 @@ text_at (Value-F.Bool b) = truth_text b
 text_at (Value-F.Text t) = 34 ∷ bytes_text t ++ 34 ∷ []
 text_at (Value-F.Tuple parts) = codes "(tuple" ++ parts_text parts ++ 41 ∷ []
 text_at (Value-F.List parts) = codes "(list" ++ parts_text parts ++ 41 ∷ []
+text_at (Value-F.Map ks parts) = codes "(map" ++ entries_text ks parts ++ 41 ∷ []
 text_at (Value-F.Var n) = codes "$" ++ decimal n
 text_at (Value-F.Ref n part) = part
 text_at (Value-F.Call op parts) = codes "(call" ++ parts_text parts ++ 41 ∷ []
@@ -50,6 +68,7 @@ abbrev pub unary_name : UnaryOperator → List ℕ
 unary_name unary.Not = codes "not"
 unary_name unary.Len = codes "len"
 unary_name unary.Deref = codes "deref"
+unary_name unary.Keys = codes "keys"
 
 abbrev pub binary_name : BinaryOperator → List ℕ
 binary_name binary.Add = codes "add"
@@ -64,6 +83,9 @@ binary_name binary.Same = codes "same"
 binary_name binary.Append = codes "cat"
 binary_name binary.Nth = codes "nth"
 binary_name binary.Range = codes "range"
+binary_name binary.Get = codes "get"
+binary_name binary.Has = codes "has"
+binary_name binary.Del = codes "del"
 
 -- numbers, each behind a space
 abbrev pub numbers_text : List ℕ → List ℕ
@@ -81,6 +103,7 @@ instr_text (Move d a) = words_text (codes "move") (d ∷ a ∷ [])
 instr_text (Take d a) = words_text (codes "take") (d ∷ a ∷ [])
 instr_text (Unary op d a) = words_text (unary_name op) (d ∷ a ∷ [])
 instr_text (Binary op d a b) = words_text (binary_name op) (d ∷ a ∷ b ∷ [])
+instr_text (Put d a b c) = words_text (codes "put") (d ∷ a ∷ b ∷ c ∷ [])
 instr_text (At d a i) = words_text (codes "at") (d ∷ a ∷ i ∷ [])
 instr_text (Tuple d from) = words_text (codes "tuple") (d ∷ []) ++ numbers_text from
 instr_text (MakeList d from) = words_text (codes "list") (d ∷ []) ++ numbers_text from

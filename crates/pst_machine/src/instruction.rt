@@ -17,10 +17,13 @@ pub enum Instr {
     Move(u32, u32),
     /// `take d a`: moves the value of a register, which is left with none.
     Take(u32, u32),
-    /// `not d a`, `len d a`, `deref d a`
+    /// `not d a`, `len d a`, `deref d a`, `keys d a`
     Unary(Unary, u32, u32),
-    /// `add d a b`, `sub`, `mul`, `div`, `rem`, `less`, `lesseq`, `eq`, `same`, `cat`, `nth`, `range`
+    /// `add d a b`, `sub`, `mul`, `div`, `rem`, `less`, `lesseq`, `eq`, `same`, `cat`, `nth`, `range`,
+    /// `get`, `has`, `del`
     Binary(Binary, u32, u32, u32),
+    /// `put d a b c`: the map of `a` with the key of `b` and its value, that of `c`.
+    Put(u32, u32, u32, u32),
     /// `at d a i`: an item of a tuple, by its place from 1.
     At(u32, u32, u64),
     /// `tuple d a..`

@@ -7,7 +7,7 @@ ghost use Rattle.pst_machine.specs.Listing as spec;
 use crate::instruction::{FunCode, Instr};
 use pst_items::Items;
 use pst_model::{Binary, Unary};
-use pst_value::Value;
+use pst_value::{Key, Value};
 use std::alloc::{AllocError, Global};
 
 /// The bytes of a text, unless memory is refused.
@@ -95,6 +95,7 @@ fn unary_name(operator: Unary) -> &'static [u8]
         Unary::Not => b"not",
         Unary::Len => b"len",
         Unary::Deref => b"deref",
+        Unary::Keys => b"keys",
     }
 }
 
@@ -115,6 +116,9 @@ fn binary_name(operator: Binary) -> &'static [u8]
         Binary::Append => b"cat",
         Binary::Nth => b"nth",
         Binary::Range => b"range",
+        Binary::Get => b"get",
+        Binary::Has => b"has",
+        Binary::Del => b"del",
     }
 }
 
@@ -161,6 +165,48 @@ fn variable_text(alloc: Global, number: u32) -> Bytes
     )
 }
 
+/// A truth.
+fn truth_text(alloc: Global, truth: bool) -> Bytes
+    ensures { IfOk result (λ text. text ≡ spec.truth_text truth) }
+{
+    if truth {
+        Items::from_slice(alloc, b"true")
+    } else {
+        Items::from_slice(alloc, b"false")
+    }
+}
+
+/// A key.
+fn key_text(alloc: Global, key: &Key) -> Bytes
+    ensures { IfOk result (λ text. text ≡ spec.key_text key.now) }
+{
+    match key {
+        Key::Int(number) => integer_text(alloc, *number),
+        Key::Bool(truth) => truth_text(alloc, *truth),
+        Key::Text(text) => quoted(alloc, text.as_bytes()),
+    }
+}
+
+/// A key and the text of its value in brackets, behind a space.
+fn entry_text(alloc: Global, key: &Key, part: &[u8]) -> Bytes
+    ensures { IfOk result (λ text. text ≡ spec.entry_text key.now part.now) }
+{
+    let value = spaced(alloc, Items::from_slice(alloc, part)?)?;
+    let entry = joined(key_text(alloc, key)?, value)?;
+    spaced(alloc, bracketed(alloc, b"(", entry)?)
+}
+
+/// Keys and the texts of their values.
+fn entries_text(alloc: Global, keys: &[Key], parts: &[Items<u8>]) -> Bytes
+    ensures { IfOk result (λ text. text ≡ spec.entries_text keys.now parts.now) }
+{
+    let mut text = Items::new(alloc);
+    for (key, part) in keys.iter().zip(parts) {
+        text.append(entry_text(alloc, key, part.as_slice())?)?;
+    }
+    Ok(text)
+}
+
 /// A value.
 #[cycle(value_text)]
 #[tactic(auto, using(crate::proofs::ValueTexts::value_texts))]
@@ -169,11 +215,15 @@ fn value_text(alloc: Global, value: &Value) -> Bytes
 {
     match value {
         Value::Int(number) => integer_text(alloc, *number),
-        Value::Bool(true) => Items::from_slice(alloc, b"true"),
-        Value::Bool(false) => Items::from_slice(alloc, b"false"),
+        Value::Bool(truth) => truth_text(alloc, *truth),
         Value::Text(text) => quoted(alloc, text.as_bytes()),
         Value::Tuple(parts) => bracketed(alloc, b"(tuple", parts_text(alloc, parts.as_slice())?),
         Value::List(parts) => bracketed(alloc, b"(list", parts_text(alloc, parts.as_slice())?),
+        Value::Map(keys, parts) => {
+            let parts = each_text(alloc, parts.as_slice())?;
+            let entries = entries_text(alloc, keys.as_slice(), parts.as_slice())?;
+            bracketed(alloc, b"(map", entries)
+        }
         Value::Var(number) => variable_text(alloc, *number),
         Value::Ref(_, part) => value_text(alloc, part.get()),
         Value::Call(_, parts) => bracketed(alloc, b"(call", parts_text(alloc, parts.as_slice())?),
@@ -190,6 +240,18 @@ fn parts_text(alloc: Global, parts: &[Value]) -> Bytes
         text.append(spaced(alloc, value_text(alloc, part)?)?)?;
     }
     Ok(text)
+}
+
+/// The texts of values.
+#[cycle(value_text)]
+fn each_text(alloc: Global, parts: &[Value]) -> Result<Items<Items<u8>>, AllocError>
+    ensures { IfOk result (λ texts. texts ≡ map spec.value_text parts.now) }
+{
+    let mut texts = Items::new(alloc);
+    for part in parts {
+        texts.push(value_text(alloc, part)?)?;
+    }
+    Ok(texts)
 }
 
 /// A name, numbers, and then registers.
@@ -221,6 +283,7 @@ fn instr_text(alloc: Global, instr: &Instr) -> Bytes
         Instr::Take(d, a) => named(alloc, b"take", &[*d, *a]),
         Instr::Unary(operator, d, a) => named(alloc, unary_name(*operator), &[*d, *a]),
         Instr::Binary(operator, d, a, b) => { named(alloc, binary_name(*operator), &[*d, *a, *b]) }
+        Instr::Put(d, a, b, c) => named(alloc, b"put", &[*d, *a, *b, *c]),
         Instr::At(d, a, i) => words(alloc, b"at", &[*d as u64, *a as u64, *i]),
         Instr::Tuple(d, from) => row_text(alloc, b"tuple", &[*d as u64], from.as_slice()),
         Instr::List(d, from) => row_text(alloc, b"list", &[*d as u64], from.as_slice()),

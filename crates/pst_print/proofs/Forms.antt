@@ -12,9 +12,10 @@ use Rattle.pst_model.specs.declared.expr.Expr.TheVariants as exprs
 use Rattle.pst_model.specs.declared.expr.Unary.{Unary}
 use Rattle.pst_print.specs.Printed.{ty_at, ty_form, clause_at, expr_at, expr_form, clause_form}
 use Rattle.pst_sexpr.specs.Parts.{headed}
-use Rattle.pst_print.specs.Words.{unary_word, binary_word, truth_word}
+use Rattle.pst_print.specs.Words.{unary_word, binary_word, truth_word, key_word}
 use Rattle.pst_sexpr.specs.declared.form.Form.{Form}
 use Rattle.pst_sexpr.specs.declared.form.Form.TheVariants.{Word, Text, Node}
+use Rattle.pst_value.specs.declared.key.KeyTy.{KeyTy}
 use Rattle.pst_value.specs.declared.ty.Ty.{Ty, fold-roll-Ty}
 use Rattle.pst_value.specs.declared.ty.Ty as ty
 use Rattle.pst_value.specs.declared.ty.Ty.TheOpen.{Ty-F}
@@ -77,6 +78,12 @@ form_For cs b = ap expr_form (sym (exprs.rolls-For cs b)) ∙ expr_layer (Expr-F
 pub form_Fold : (x : List ℕ) (e : Expr) (acc : List ℕ) (i b : Expr) → expr_form (expr.Fold x e acc i b) ≡ headed (codes "fold") (Word x ∷ expr_form e ∷ Word acc ∷ expr_form i ∷ expr_form b ∷ [])
 form_Fold x e acc i b = ap expr_form (sym (exprs.rolls-Fold x e acc i b)) ∙ expr_layer (Expr-F.Fold x e acc i b)
 
+pub form_Map : (k : KeyTy) (t : Ty) → expr_form (expr.Map k t) ≡ headed (codes "map") (Word (key_word k) ∷ ty_form t ∷ [])
+form_Map k t = ap expr_form (sym (exprs.rolls-Map k t)) ∙ expr_layer (Expr-F.Map k t)
+
+pub form_Put : (m k v : Expr) → expr_form (expr.Put m k v) ≡ headed (codes "put") (expr_form m ∷ expr_form k ∷ expr_form v ∷ [])
+form_Put m k v = ap expr_form (sym (exprs.rolls-Put m k v)) ∙ expr_layer (Expr-F.Put m k v)
+
 pub form_Call : (op : List ℕ) (es : List Expr) → expr_form (expr.Call op es) ≡ headed (codes "call") (Word op ∷ map expr_form es)
 form_Call op es = ap expr_form (sym (exprs.rolls-Call op es)) ∙ expr_layer (Expr-F.Call op es)
 
@@ -107,9 +114,12 @@ type_Tuple ts = ap ty_form (sym (tys.rolls-Tuple ts)) ∙ ty_layer (Ty-F.Tuple t
 pub type_List : (t : Ty) → ty_form (ty.List t) ≡ headed (codes "list") (ty_form t ∷ [])
 type_List t = ap ty_form (sym (tys.rolls-List t)) ∙ ty_layer (Ty-F.List t)
 
+pub type_Map : (k : KeyTy) (t : Ty) → ty_form (ty.Map k t) ≡ headed (codes "map") (Word (key_word k) ∷ ty_form t ∷ [])
+type_Map k t = ap ty_form (sym (tys.rolls-Map k t)) ∙ ty_layer (Ty-F.Map k t)
+
 pub type_Ref : (t : Ty) → ty_form (ty.Ref t) ≡ headed (codes "ref") (ty_form t ∷ [])
 type_Ref t = ap ty_form (sym (tys.rolls-Ref t)) ∙ ty_layer (Ty-F.Ref t)
 
-pub ruleset expr_forms = (form_Int, form_Bool, form_Text, form_Name, form_Let, form_If, form_And, form_Or, form_Unary, form_Binary, form_Tuple, form_At, form_List, form_For, form_Fold, form_Call, form_Apply, form_In, form_When)
+pub ruleset expr_forms = (form_Int, form_Bool, form_Text, form_Name, form_Let, form_If, form_And, form_Or, form_Unary, form_Binary, form_Tuple, form_At, form_List, form_For, form_Fold, form_Map, form_Put, form_Call, form_Apply, form_In, form_When)
 
-pub ruleset ty_forms = (type_Int, type_Bool, type_Text, type_Call, type_Tuple, type_List, type_Ref)
+pub ruleset ty_forms = (type_Int, type_Bool, type_Text, type_Call, type_Tuple, type_List, type_Map, type_Ref)

@@ -5,11 +5,12 @@ use Rattle.std.specs.Str.{bytes_eq}
 use Rattle.std.proofs.lemmas.Slice.Eq.{bytes_eq-Decides}
 use Rattle.pst_sexpr.specs.declared.form.Form.{Form}
 use Rattle.pst_sexpr.specs.declared.form.Form.TheVariants.{Word, Node}
-use Rattle.pst_sexpr.specs.Parts.{word_of, node_of, and_then, where_true, headed}
-use Rattle.pst_syntax.specs.ItemShape.{ItemShape, CallbackShape, StateItem, InitItem, CommandItem, FunItem, OpItem, Pre, Next, Post, single, as_fun, as_op, item_shape, item_node, item_headed, callback_shape, callback_node, callback_headed, param_shape, param_node, model_shape, model_node, as_model}
+use Rattle.pst_sexpr.specs.Parts.{word_of, node_of, and_then, headed}
+use Rattle.pst_syntax.specs.ItemShape.{ItemShape, CallbackShape, ModelShape, StateItem, InitItem, CommandItem, FunItem, OpItem, Pre, Next, Post, single, as_fun, as_op, item_shape, item_node, item_headed, callback_shape, callback_node, callback_headed, param_shape, param_node, model_shape, model_node, as_model, language}
 use Rattle.pst_print.specs.Printed.{fun_word}
+use Rattle.pst_print.specs.Words.{model_word}
 use Rattle.pst_print.proofs.Alike.{node_of_node, word_of_word}
-use Rattle.pst_print.proofs.Shapes.{word_is, node_is, made_some, where_some}
+use Rattle.pst_print.proofs.Shapes.{word_is, node_is, made_some}
 
 -- ---- items
 
@@ -145,26 +146,50 @@ param_is f pair k = let p = made_some (node_of f) param_node pair k in node_is f
 
 -- ---- the model
 
-as_model_is : (w : List ℕ) (parts : List Form) (pair : List ℕ × List Form) → as_model w parts ≡ Some pair → headed w parts ≡ headed (codes "model") (Word pair.0 ∷ pair.1)
-as_model_is w [] pair k = absurd (cc)
-as_model_is w (x ∷ items) pair k =
-    let p = made_some (word_of x) (λ x. where_true (bytes_eq w (codes "model")) (x, items)) pair k in
-    let q = where_some (bytes_eq w (codes "model")) (p.0, items) pair p.2 in
-    let r : (p.0, items) ≡ pair = let m : Some (p.0, items) ≡ Some pair = q.1 in cc in
-    ap (λ v. headed v (x ∷ items)) ((bytes_eq-Decides w (codes "model")).0 q.0) ∙ ap (λ y. headed (codes "model") (y ∷ items)) (word_is x p.0 p.1) ∙ ap (λ d. headed (codes "model") (Word d.0 ∷ d.1)) r
+-- the tree of a model's name and items, under the head of its language
+abbrev pub model_form_of : ModelShape → Form
+model_form_of m = headed (model_word m.has_maps) (Word m.name ∷ m.items)
 
-model_node_is : (parts : List Form) (pair : List ℕ × List Form) → model_node parts ≡ Some pair → Node parts ≡ headed (codes "model") (Word pair.0 ∷ pair.1)
-model_node_is [] pair k = absurd (cc)
-model_node_is (h ∷ parts) pair k =
-    let p = made_some (word_of h) (λ w. as_model w parts) pair k in
-    ap (λ y. Node (y ∷ parts)) (word_is h p.0 p.1) ∙ as_model_is p.0 parts pair p.2
+abbrev pub model : Bool → List ℕ → List Form → ModelShape
+model maps x items = record { has_maps = maps; name = x; items = items }
 
-pub model_is : (f : Form) (pair : List ℕ × List Form) → model_shape f ≡ Some pair → f ≡ headed (codes "model") (Word pair.0 ∷ pair.1)
+model_got : (m n : ModelShape) → Some m ≡ Some n → model_form_of m ≡ model_form_of n
+model_got m n e = let q : m ≡ n = cc in ap model_form_of q
+
+language_words : (a b : Bool) (w : List ℕ) (maps : Bool) → (a ≡ true → w ≡ codes "model") → (b ≡ true → w ≡ codes "model2") → (if a then Some false else if b then Some true else None) ≡ Some maps → w ≡ model_word maps
+language_words true b w maps ha hb k = let q : false ≡ maps = cc in ha refl ∙ ap model_word q
+language_words false true w maps ha hb k = let q : true ≡ maps = cc in hb refl ∙ ap model_word q
+language_words false false w maps ha hb k = absurd (cc)
+
+language_is : (w : List ℕ) (maps : Bool) → language w ≡ Some maps → w ≡ model_word maps
+language_is w maps k = language_words (bytes_eq w (codes "model")) (bytes_eq w (codes "model2")) w maps (bytes_eq-Decides w (codes "model")).0 (bytes_eq-Decides w (codes "model2")).0 k
+
+language_of_word : (maps : Bool) → language (model_word maps) ≡ Some maps
+language_of_word true = refl
+language_of_word false = refl
+
+as_model_is : (w : List ℕ) (parts : List Form) (m : ModelShape) → as_model w parts ≡ Some m → headed w parts ≡ model_form_of m
+as_model_is w [] m k = absurd (cc)
+as_model_is w (x ∷ items) m k =
+    let p = made_some (word_of x) (λ x. and_then (language w) (λ maps. Some (model maps x items))) m k in
+    let q = made_some (language w) (λ maps. Some (model maps p.0 items)) m p.2 in
+    ap (λ v. headed v (x ∷ items)) (language_is w q.0 q.1) ∙ ap (λ y. headed (model_word q.0) (y ∷ items)) (word_is x p.0 p.1) ∙ model_got (model q.0 p.0 items) m q.2
+
+model_node_is : (parts : List Form) (m : ModelShape) → model_node parts ≡ Some m → Node parts ≡ model_form_of m
+model_node_is [] m k = absurd (cc)
+model_node_is (h ∷ parts) m k =
+    let p = made_some (word_of h) (λ w. as_model w parts) m k in
+    ap (λ y. Node (y ∷ parts)) (word_is h p.0 p.1) ∙ as_model_is p.0 parts m p.2
+
+pub model_is : (f : Form) (m : ModelShape) → model_shape f ≡ Some m → f ≡ model_form_of m
 unfolding model_shape
-model_is f pair k = let p = made_some (node_of f) model_node pair k in node_is f p.0 p.1 ∙ model_node_is p.0 pair p.2
+model_is f m k = let p = made_some (node_of f) model_node m k in node_is f p.0 p.1 ∙ model_node_is p.0 m p.2
 
-pub model_shaped : (x : List ℕ) (items : List Form) → model_shape (headed (codes "model") (Word x ∷ items)) ≡ Some (x, items)
+pub model_shaped : (m : ModelShape) → model_shape (model_form_of m) ≡ Some m
 unfolding model_shape
-model_shaped x items =
-    ap (λ o. and_then o model_node) (node_of_node (Word (codes "model") ∷ Word x ∷ items)) ∙ ap (λ o. and_then o (λ v. as_model v (Word x ∷ items))) (word_of_word (codes "model"))
-    ∙ ap (λ o. and_then o (λ x. Some (x, items))) (word_of_word x)
+model_shaped m =
+    let head = model_word m.has_maps in
+    let parts = Word m.name ∷ m.items in
+    ap (λ o. and_then o model_node) (node_of_node (Word head ∷ parts)) ∙ ap (λ o. and_then o (λ v. as_model v parts)) (word_of_word head)
+    ∙ ap (λ o. and_then o (λ x. and_then (language head) (λ maps. Some (model maps x m.items)))) (word_of_word m.name)
+    ∙ ap (λ o. and_then o (λ maps. Some (model maps m.name m.items))) (language_of_word m.has_maps)

@@ -4,21 +4,19 @@ use Rattle.std.specs.Prelude.{◌||◌, if◌then◌else◌, codes}
 use Rattle.std.specs.Str.{bytes_eq}
 use Rattle.std.specs.List.{AllByRecursion}
 use Rattle.std.proofs.lemmas.Slice.Eq.{bytes_eq-Decides}
-use Rattle.pst_model.specs.declared.expr.Binary.{Binary as BinaryOp}
-use Rattle.pst_model.specs.declared.expr.Binary.TheVariants.{Add, Sub, Mul, Div, Rem, Less, LessEqual, Equal, Same, Append, Nth, Range}
-use Rattle.pst_model.specs.declared.expr.Unary.{Unary as UnaryOp}
-use Rattle.pst_model.specs.declared.expr.Unary.TheVariants.{Not, Len, Deref}
 use Rattle.pst_sexpr.specs.declared.form.Form.{Form, Form-F, out-Form, roll-Form, out-roll-Form, roll-out-Form}
 use Rattle.pst_sexpr.specs.declared.form.Form.TheVariants.{Word, Text, Node, rolls-Word, rolls-Text, rolls-Node}
+use Rattle.pst_value.specs.declared.key.KeyTy.{KeyTy}
+use Rattle.pst_value.specs.declared.key.KeyTy.TheVariants as kind
 use Rattle.pst_syntax.specs.declared.heads.Head.{Head}
 use Rattle.pst_syntax.specs.declared.heads.Head.TheVariants as head
-use Rattle.pst_syntax.specs.Heads.{head_of, look_up, rows}
+use Rattle.pst_syntax.specs.Heads.{head_of, look_up, or_of_maps, rows, map_rows}
 use Rattle.pst_syntax.specs.Names.{is_used}
 use Rattle.pst_words.specs.Integers.{is_integer}
 use Rattle.pst_syntax.specs.Places.{is_place}
-use Rattle.pst_syntax.specs.Shape.{Shape, Integer, Truth, Quoted, Used, Let, If, And, Or, Unary, Binary, Tuple, At, ListOf, For, Fold, Call, Apply, shape_of, shape_at, some_of, word_shape, node_shape, applied, headed}
+use Rattle.pst_syntax.specs.Shape.{Shape, Integer, Truth, Quoted, Used, Let, If, And, Or, Unary, Binary, Tuple, At, ListOf, For, Fold, MapOf, Put, Call, Apply, shape_of, shape_at, some_of, key_word as key_of, key_shape, word_shape, node_shape, applied, headed}
 use Rattle.pst_sexpr.specs.Parts.{word_of, word_at, node_of, node_at, and_then, where_true}
-use Rattle.pst_print.specs.Words.{unary_word, binary_word, truth_word}
+use Rattle.pst_print.specs.Words.{unary_word, binary_word, truth_word, key_word}
 use Rattle.pst_sexpr.specs.Parts as tree
 use Rattle.pst_print.proofs.Alike.{node_of_node, word_of_word}
 
@@ -37,6 +35,8 @@ spelled head.At = codes "at"
 spelled head.List = codes "list"
 spelled head.For = codes "for"
 spelled head.Fold = codes "fold"
+spelled head.Map = codes "map"
+spelled head.Put = codes "put"
 spelled head.Call = codes "call"
 spelled head.Ref = codes "ref"
 spelled head.In = codes "in"
@@ -58,48 +58,18 @@ all_spelled : AllByRecursion (λ row. spelled row.1 ≡ row.0) rows
 unfolding spelled
 all_spelled = (refl, (refl, (refl, (refl, (refl, (refl, (refl, (refl, (refl, (refl, (refl, (refl, (refl, (refl, (refl, (refl, (refl, (refl, (refl, (refl, (refl, (refl, (refl, (refl, (refl, (refl, (refl, (refl, tt))))))))))))))))))))))))))))
 
-pub head_word : (w : List ℕ) (h : Head) → head_of w ≡ Some h → w ≡ spelled h
-unfolding head_of
-head_word = spelled_in rows all_spelled
+all_spelled_maps : AllByRecursion (λ row. spelled row.1 ≡ row.0) map_rows
+unfolding spelled
+all_spelled_maps = (refl, (refl, (refl, (refl, (refl, (refl, tt))))))
 
-pub head_unary : (o : UnaryOp) → head_of (unary_word o) ≡ Some (head.Unary o)
-unfolding head_of
-head_unary Not = refl
-head_unary Len = refl
-head_unary Deref = refl
+head_at : (maps : Bool) (o : Option Head) (w : List ℕ) (h : Head) → (o ≡ Some h → w ≡ spelled h) → or_of_maps o maps w ≡ Some h → w ≡ spelled h
+head_at maps (Some g) w h p e = p e
+head_at true None w h p e = spelled_in map_rows all_spelled_maps w h e
+head_at false None w h p e = absurd (cc)
 
-pub head_binary : (o : BinaryOp) → head_of (binary_word o) ≡ Some (head.Binary o)
+pub head_word : (maps : Bool) (w : List ℕ) (h : Head) → head_of maps w ≡ Some h → w ≡ spelled h
 unfolding head_of
-head_binary Add = refl
-head_binary Sub = refl
-head_binary Mul = refl
-head_binary Div = refl
-head_binary Rem = refl
-head_binary Less = refl
-head_binary LessEqual = refl
-head_binary Equal = refl
-head_binary Same = refl
-head_binary Append = refl
-head_binary Nth = refl
-head_binary Range = refl
-
-pub head_spelled : (h : Head) → head_of (spelled h) ≡ Some h
-unfolding head_of spelled
-head_spelled head.Let = refl
-head_spelled head.If = refl
-head_spelled head.And = refl
-head_spelled head.Or = refl
-head_spelled (head.Unary operator) = head_unary operator
-head_spelled (head.Binary operator) = head_binary operator
-head_spelled head.Tuple = refl
-head_spelled head.At = refl
-head_spelled head.List = refl
-head_spelled head.For = refl
-head_spelled head.Fold = refl
-head_spelled head.Call = refl
-head_spelled head.Ref = refl
-head_spelled head.In = refl
-head_spelled head.When = refl
+head_word maps w h e = head_at maps (look_up rows w) w h (spelled_in rows all_spelled w h) e
 
 -- ---- the tables, backwards
 
@@ -131,6 +101,35 @@ pub some_same : (fs gs : List Form) → some_of fs ≡ Some gs → fs ≡ gs
 some_same [] gs e = absurd (cc)
 some_same (f ∷ fs) gs e = cc
 
+-- ---- types of keys
+
+key_got : (j k : KeyTy) → Some j ≡ Some k → key_word j ≡ key_word k
+key_got j k e = let q : j ≡ k = cc in ap key_word q
+
+key_words : (a b c : Bool) (w : List ℕ) (k : KeyTy) → (a ≡ true → w ≡ codes "int") → (b ≡ true → w ≡ codes "bool") → (c ≡ true → w ≡ codes "text")
+    → (if a then Some kind.Int else if b then Some kind.Bool else if c then Some kind.Text else None) ≡ Some k → w ≡ key_word k
+key_words true b c w k p q r e = p refl ∙ key_got kind.Int k e
+key_words false true c w k p q r e = q refl ∙ key_got kind.Bool k e
+key_words false false true w k p q r e = r refl ∙ key_got kind.Text k e
+key_words false false false w k p q r e = absurd (cc)
+
+-- what the table of types of keys says of a tree is what it is
+pub key_is : (f : Form) (k : KeyTy) → key_shape f ≡ Some k → f ≡ Word (key_word k)
+key_is f k e =
+    let p = made_some (word_of f) key_of k e in
+    let w = p.0 in
+    word_is f w p.1
+    ∙ ap Word (key_words (bytes_eq w (codes "int")) (bytes_eq w (codes "bool")) (bytes_eq w (codes "text")) w k
+    (bytes_eq-Decides w (codes "int")).0 (bytes_eq-Decides w (codes "bool")).0 (bytes_eq-Decides w (codes "text")).0 p.2)
+
+key_read : (k : KeyTy) → key_of (key_word k) ≡ Some k
+key_read kind.Int = refl
+key_read kind.Bool = refl
+key_read kind.Text = refl
+
+pub key_shaped : (k : KeyTy) → key_shape (Word (key_word k)) ≡ Some k
+key_shaped k = ap (λ o. and_then o key_of) (word_of_word (key_word k)) ∙ key_read k
+
 -- ---- expressions
 
 -- the tree of a shape
@@ -150,149 +149,178 @@ form_of (At e i) = tree.headed (codes "at") (e ∷ Word i ∷ [])
 form_of (ListOf t es) = tree.headed (codes "list") (t ∷ es)
 form_of (For cs b) = tree.headed (codes "for") (Node cs ∷ b ∷ [])
 form_of (Fold x e acc i b) = tree.headed (codes "fold") (Word x ∷ e ∷ Word acc ∷ i ∷ b ∷ [])
+form_of (MapOf k t) = tree.headed (codes "map") (Word (key_word k) ∷ t ∷ [])
+form_of (Put m k v) = tree.headed (codes "put") (m ∷ k ∷ v ∷ [])
 form_of (Call op es) = tree.headed (codes "call") (Word op ∷ es)
 form_of (Apply f es) = tree.headed f es
 
--- what the table asks of the words and counts of a shape
-abbrev pub Lawful : Shape → Type 0
-Lawful (Integer w) = is_integer w ≡ true
-Lawful (Used x) = word_shape x ≡ Some (Used x)
-Lawful (Tuple es) = some_of es ≡ Some es
-Lawful (At e i) = is_place i ≡ true
-Lawful (For cs b) = some_of cs ≡ Some cs
-Lawful (Apply f es) = (head_of f ≡ None) × (is_used f ≡ true)
-Lawful _ = Unit {0}
+-- whether a language has a head
+abbrev IsHead : Bool → Head → Type 0
+IsHead maps h = head_of maps (spelled h) ≡ Some h
 
-pub record Is (f : Form) (s : Shape) : Type 0 where
+-- what the tables of a language ask of the words and counts of a shape
+abbrev pub Lawful : Bool → Shape → Type 0
+Lawful maps (Integer w) = is_integer w ≡ true
+Lawful maps (Truth b) = Unit {0}
+Lawful maps (Quoted t) = Unit {0}
+Lawful maps (Used x) = word_shape maps x ≡ Some (Used x)
+Lawful maps (Let x e b) = IsHead maps head.Let
+Lawful maps (If c a b) = IsHead maps head.If
+Lawful maps (And a b) = IsHead maps head.And
+Lawful maps (Or a b) = IsHead maps head.Or
+Lawful maps (Unary op a) = IsHead maps (head.Unary op)
+Lawful maps (Binary op a b) = IsHead maps (head.Binary op)
+Lawful maps (Tuple es) = IsHead maps head.Tuple × (some_of es ≡ Some es)
+Lawful maps (At e i) = IsHead maps head.At × (is_place i ≡ true)
+Lawful maps (ListOf t es) = IsHead maps head.List
+Lawful maps (For cs b) = IsHead maps head.For × (some_of cs ≡ Some cs)
+Lawful maps (Fold x e acc i b) = IsHead maps head.Fold
+Lawful maps (MapOf k t) = IsHead maps head.Map
+Lawful maps (Put m k v) = IsHead maps head.Put
+Lawful maps (Call op es) = IsHead maps head.Call
+Lawful maps (Apply f es) = (head_of maps f ≡ None) × (is_used maps f ≡ true)
+
+pub record Is (maps : Bool) (f : Form) (s : Shape) : Type 0 where
   pub form : f ≡ form_of s
-  pub lawful : Lawful s
+  pub lawful : Lawful maps s
 
-is_same : (f : Form) (s t : Shape) → Some s ≡ Some t → Is f s → Is f t
-is_same f s t e i = let q : s ≡ t = cc in subst (Is f) q i
+is_same : (maps : Bool) (f : Form) (s t : Shape) → Some s ≡ Some t → Is maps f s → Is maps f t
+is_same maps f s t e i = let q : s ≡ t = cc in subst (Is maps f) q i
 
-headed_is : (h : Head) (parts : List Form) (s : Shape) → headed h parts ≡ Some s → Is (tree.headed (spelled h) parts) s
+headed_is : (maps : Bool) (h : Head) (parts : List Form) (s : Shape) → IsHead maps h → headed h parts ≡ Some s → Is maps (tree.headed (spelled h) parts) s
 unfolding spelled
-headed_is head.Let (x ∷ e ∷ b ∷ []) s k =
+headed_is maps head.Let (x ∷ e ∷ b ∷ []) s o k =
     let p = made_some (word_of x) (λ x. Some (Let x e b)) s k in
-    is_same _ _ _ p.2 (record { form = ap (λ y. tree.headed (codes "let") (y ∷ e ∷ b ∷ [])) (word_is x p.0 p.1); lawful = tt })
-headed_is head.If (c ∷ a ∷ b ∷ []) s k = is_same _ (If c a b) s k (record { form = refl; lawful = tt })
-headed_is head.And (a ∷ b ∷ []) s k = is_same _ (And a b) s k (record { form = refl; lawful = tt })
-headed_is head.Or (a ∷ b ∷ []) s k = is_same _ (Or a b) s k (record { form = refl; lawful = tt })
-headed_is (head.Unary op) (a ∷ []) s k = is_same _ (Unary op a) s k (record { form = refl; lawful = tt })
-headed_is (head.Binary op) (a ∷ b ∷ []) s k = is_same _ (Binary op a b) s k (record { form = refl; lawful = tt })
-headed_is head.Tuple (t ∷ es) s k = is_same _ (Tuple (t ∷ es)) s k (record { form = refl; lawful = refl })
-headed_is head.At (e ∷ i ∷ []) s k =
+    is_same maps _ _ _ p.2 (record { form = ap (λ y. tree.headed (codes "let") (y ∷ e ∷ b ∷ [])) (word_is x p.0 p.1); lawful = o })
+headed_is maps head.If (c ∷ a ∷ b ∷ []) s o k = is_same maps _ (If c a b) s k (record { form = refl; lawful = o })
+headed_is maps head.And (a ∷ b ∷ []) s o k = is_same maps _ (And a b) s k (record { form = refl; lawful = o })
+headed_is maps head.Or (a ∷ b ∷ []) s o k = is_same maps _ (Or a b) s k (record { form = refl; lawful = o })
+headed_is maps (head.Unary op) (a ∷ []) s o k = is_same maps _ (Unary op a) s k (record { form = refl; lawful = o })
+headed_is maps (head.Binary op) (a ∷ b ∷ []) s o k = is_same maps _ (Binary op a b) s k (record { form = refl; lawful = o })
+headed_is maps head.Tuple (t ∷ es) s o k = is_same maps _ (Tuple (t ∷ es)) s k (record { form = refl; lawful = (o, refl) })
+headed_is maps head.At (e ∷ i ∷ []) s o k =
     let p = made_some (word_of i) (λ i. where_true (is_place i) (At e i)) s k in
     let q = where_some (is_place p.0) (At e p.0) s p.2 in
-    is_same _ _ _ q.1 (record { form = ap (λ y. tree.headed (codes "at") (e ∷ y ∷ [])) (word_is i p.0 p.1); lawful = q.0 })
-headed_is head.List (t ∷ es) s k = is_same _ (ListOf t es) s k (record { form = refl; lawful = tt })
-headed_is head.For (cs ∷ b ∷ []) s k =
+    is_same maps _ _ _ q.1 (record { form = ap (λ y. tree.headed (codes "at") (e ∷ y ∷ [])) (word_is i p.0 p.1); lawful = (o, q.0) })
+headed_is maps head.List (t ∷ es) s o k = is_same maps _ (ListOf t es) s k (record { form = refl; lawful = o })
+headed_is maps head.For (cs ∷ b ∷ []) s o k =
     let p = made_some (node_of cs) (λ cs. and_then (some_of cs) (λ cs. Some (For cs b))) s k in
     let q = made_some (some_of p.0) (λ cs. Some (For cs b)) s p.2 in
     let i = some_same p.0 q.0 q.1 in
-    is_same _ _ _ q.2 (record { form = ap (λ y. tree.headed (codes "for") (y ∷ b ∷ [])) (node_is cs p.0 p.1 ∙ ap Node i); lawful = ap some_of (sym i) ∙ q.1 })
-headed_is head.Fold (x ∷ e ∷ acc ∷ i ∷ b ∷ []) s k =
+    is_same maps _ _ _ q.2 (record { form = ap (λ y. tree.headed (codes "for") (y ∷ b ∷ [])) (node_is cs p.0 p.1 ∙ ap Node i); lawful = (o, ap some_of (sym i) ∙ q.1) })
+headed_is maps head.Fold (x ∷ e ∷ acc ∷ i ∷ b ∷ []) s o k =
     let p = made_some (word_of x) (λ x. and_then (word_of acc) (λ acc. Some (Fold x e acc i b))) s k in
     let q = made_some (word_of acc) (λ acc. Some (Fold p.0 e acc i b)) s p.2 in
-    is_same _ _ _ q.2 (record {
+    is_same maps _ _ _ q.2 (record {
       form = ap (λ y. tree.headed (codes "fold") (y ∷ e ∷ acc ∷ i ∷ b ∷ [])) (word_is x p.0 p.1) ∙ ap (λ y. tree.headed (codes "fold") (Word p.0 ∷ e ∷ y ∷ i ∷ b ∷ [])) (word_is acc q.0 q.1);
-      lawful = tt;
+      lawful = o;
     })
-headed_is head.Call (op ∷ es) s k =
+headed_is maps head.Map (k ∷ t ∷ []) s o e =
+    let p = made_some (key_shape k) (λ k. Some (MapOf k t)) s e in
+    is_same maps _ _ _ p.2 (record { form = ap (λ y. tree.headed (codes "map") (y ∷ t ∷ [])) (key_is k p.0 p.1); lawful = o })
+headed_is maps head.Put (m ∷ k ∷ v ∷ []) s o e = is_same maps _ (Put m k v) s e (record { form = refl; lawful = o })
+headed_is maps head.Call (op ∷ es) s o k =
     let p = made_some (word_of op) (λ op. Some (Call op es)) s k in
-    is_same _ _ _ p.2 (record { form = ap (λ y. tree.headed (codes "call") (y ∷ es)) (word_is op p.0 p.1); lawful = tt })
-headed_is _ _ s k = absurd (cc)
+    is_same maps _ _ _ p.2 (record { form = ap (λ y. tree.headed (codes "call") (y ∷ es)) (word_is op p.0 p.1); lawful = o })
+headed_is maps _ _ s o k = absurd (cc)
 
-applied_is : (o : Option Head) (w : List ℕ) (parts : List Form) (s : Shape) → head_of w ≡ o → applied o w parts ≡ Some s → Is (tree.headed w parts) s
-applied_is (Some h) w parts s e k =
-    let i = headed_is h parts s k in
-    record { form = ap (λ v. tree.headed v parts) (head_word w h e) ∙ i.form; lawful = i.lawful }
-applied_is None w parts s e k =
-    let q = where_some (is_used w) (Apply w parts) s k in
-    is_same _ _ _ q.1 (record { form = refl; lawful = (e, q.0) })
+applied_is : (maps : Bool) (o : Option Head) (w : List ℕ) (parts : List Form) (s : Shape) → head_of maps w ≡ o → applied maps o w parts ≡ Some s → Is maps (tree.headed w parts) s
+applied_is maps (Some h) w parts s e k =
+    let n = head_word maps w h e in
+    let i = headed_is maps h parts s (ap (head_of maps) (sym n) ∙ e) k in
+    record { form = ap (λ v. tree.headed v parts) n ∙ i.form; lawful = i.lawful }
+applied_is maps None w parts s e k =
+    let q = where_some (is_used maps w) (Apply w parts) s k in
+    is_same maps _ _ _ q.1 (record { form = refl; lawful = (e, q.0) })
 
-node_shape_is : (parts : List Form) (s : Shape) → node_shape parts ≡ Some s → Is (Node parts) s
-node_shape_is [] s k = absurd (cc)
-node_shape_is (h ∷ parts) s k =
-    let p = made_some (word_of h) (λ w. applied (head_of w) w parts) s k in
-    let i = applied_is (head_of p.0) p.0 parts s refl p.2 in
+node_shape_is : (maps : Bool) (parts : List Form) (s : Shape) → node_shape maps parts ≡ Some s → Is maps (Node parts) s
+node_shape_is maps [] s k = absurd (cc)
+node_shape_is maps (h ∷ parts) s k =
+    let p = made_some (word_of h) (λ w. applied maps (head_of maps w) w parts) s k in
+    let i = applied_is maps (head_of maps p.0) p.0 parts s refl p.2 in
     record { form = ap (λ y. Node (y ∷ parts)) (word_is h p.0 p.1) ∙ i.form; lawful = i.lawful }
 
-words : (a b c d : Bool) (w : List ℕ) (s : Shape) → is_integer w ≡ a → bytes_eq w (codes "true") ≡ b → bytes_eq w (codes "false") ≡ c → (bytes_eq w (codes "s") || bytes_eq w (codes "r") || is_used w) ≡ d
-    → (if a then Some (Integer w) else if b then Some (Truth true) else if c then Some (Truth false) else where_true d (Used w)) ≡ Some s → Is (Word w) s
-words true b c d w s ea eb ec ed k = is_same _ (Integer w) s k (record { form = refl; lawful = ea })
-words false true c d w s ea eb ec ed k = is_same _ (Truth true) s k (record { form = ap Word ((bytes_eq-Decides w (codes "true")).0 eb); lawful = tt })
-words false false true d w s ea eb ec ed k = is_same _ (Truth false) s k (record { form = ap Word ((bytes_eq-Decides w (codes "false")).0 ec); lawful = tt })
-words false false false true w s ea eb ec ed k =
-    is_same _ (Used w) s k (record {
+-- whether a word may be a name that is used, the state and the result among them
+abbrev is_named : Bool → List ℕ → Bool
+is_named maps w = bytes_eq w (codes "s") || bytes_eq w (codes "r") || is_used maps w
+
+words : (maps a b c d : Bool) (w : List ℕ) (s : Shape) → is_integer w ≡ a → bytes_eq w (codes "true") ≡ b → bytes_eq w (codes "false") ≡ c → is_named maps w ≡ d
+    → (if a then Some (Integer w) else if b then Some (Truth true) else if c then Some (Truth false) else where_true d (Used w)) ≡ Some s → Is maps (Word w) s
+words maps true b c d w s ea eb ec ed k = is_same maps _ (Integer w) s k (record { form = refl; lawful = ea })
+words maps false true c d w s ea eb ec ed k = is_same maps _ (Truth true) s k (record { form = ap Word ((bytes_eq-Decides w (codes "true")).0 eb); lawful = tt })
+words maps false false true d w s ea eb ec ed k = is_same maps _ (Truth false) s k (record { form = ap Word ((bytes_eq-Decides w (codes "false")).0 ec); lawful = tt })
+words maps false false false true w s ea eb ec ed k =
+    is_same maps _ (Used w) s k (record {
       form = refl;
       lawful =
-          ap (λ a. if a then Some (Integer w) else if bytes_eq w (codes "true") then Some (Truth true) else if bytes_eq w (codes "false") then Some (Truth false) else where_true (bytes_eq w (codes "s") || bytes_eq w (codes "r") || is_used w) (Used w)) ea
-          ∙ ap (λ b. if b then Some (Truth true) else if bytes_eq w (codes "false") then Some (Truth false) else where_true (bytes_eq w (codes "s") || bytes_eq w (codes "r") || is_used w) (Used w)) eb
-          ∙ ap (λ c. if c then Some (Truth false) else where_true (bytes_eq w (codes "s") || bytes_eq w (codes "r") || is_used w) (Used w)) ec
+          ap (λ a. if a then Some (Integer w) else if bytes_eq w (codes "true") then Some (Truth true) else if bytes_eq w (codes "false") then Some (Truth false) else where_true (is_named maps w) (Used w)) ea
+          ∙ ap (λ b. if b then Some (Truth true) else if bytes_eq w (codes "false") then Some (Truth false) else where_true (is_named maps w) (Used w)) eb
+          ∙ ap (λ c. if c then Some (Truth false) else where_true (is_named maps w) (Used w)) ec
           ∙ ap (λ d. where_true d (Used w)) ed;
     })
-words false false false false w s ea eb ec ed k = absurd (cc)
+words maps false false false false w s ea eb ec ed k = absurd (cc)
 
-shape_is_at : (d : Form-F Form) (f : Form) (s : Shape) → roll-Form d ≡ f → shape_at d ≡ Some s → Is f s
-shape_is_at (Form-F.Word w) f s r k =
-    let i = words (is_integer w) (bytes_eq w (codes "true")) (bytes_eq w (codes "false")) (bytes_eq w (codes "s") || bytes_eq w (codes "r") || is_used w) w s refl refl refl refl k in
+shape_is_at : (maps : Bool) (d : Form-F Form) (f : Form) (s : Shape) → roll-Form d ≡ f → shape_at maps d ≡ Some s → Is maps f s
+shape_is_at maps (Form-F.Word w) f s r k =
+    let i = words maps (is_integer w) (bytes_eq w (codes "true")) (bytes_eq w (codes "false")) (is_named maps w) w s refl refl refl refl k in
     record { form = sym r ∙ rolls-Word w ∙ i.form; lawful = i.lawful }
-shape_is_at (Form-F.Text t) f s r k = is_same _ (Quoted t) s k (record { form = sym r ∙ rolls-Text t; lawful = tt })
-shape_is_at (Form-F.Node parts) f s r k = let i = node_shape_is parts s k in record { form = sym r ∙ rolls-Node parts ∙ i.form; lawful = i.lawful }
+shape_is_at maps (Form-F.Text t) f s r k = is_same maps _ (Quoted t) s k (record { form = sym r ∙ rolls-Text t; lawful = tt })
+shape_is_at maps (Form-F.Node parts) f s r k = let i = node_shape_is maps parts s k in record { form = sym r ∙ rolls-Node parts ∙ i.form; lawful = i.lawful }
 
 -- what the table of expressions says of a tree is what it is
-pub shape_is : (f : Form) (s : Shape) → shape_of f ≡ Some s → Is f s
+pub shape_is : (maps : Bool) (f : Form) (s : Shape) → shape_of maps f ≡ Some s → Is maps f s
 unfolding shape_of
-shape_is f s k = shape_is_at (out-Form f) f s (roll-out-Form f) k
+shape_is maps f s k = shape_is_at maps (out-Form f) f s (roll-out-Form f) k
 
 -- ---- the table, forwards
 
-shape_word : (w : List ℕ) → shape_of (Word w) ≡ word_shape w
+shape_word : (maps : Bool) (w : List ℕ) → shape_of maps (Word w) ≡ word_shape maps w
 unfolding shape_of
-shape_word w = ap (λ f. shape_at (out-Form f)) (sym (rolls-Word w)) ∙ ap shape_at (out-roll-Form (Form-F.Word w))
+shape_word maps w = ap (λ f. shape_at maps (out-Form f)) (sym (rolls-Word w)) ∙ ap (shape_at maps) (out-roll-Form (Form-F.Word w))
 
-shape_text : (w : List ℕ) → shape_of (Text w) ≡ Some (Quoted w)
+shape_text : (maps : Bool) (w : List ℕ) → shape_of maps (Text w) ≡ Some (Quoted w)
 unfolding shape_of
-shape_text w = ap (λ f. shape_at (out-Form f)) (sym (rolls-Text w)) ∙ ap shape_at (out-roll-Form (Form-F.Text w))
+shape_text maps w = ap (λ f. shape_at maps (out-Form f)) (sym (rolls-Text w)) ∙ ap (shape_at maps) (out-roll-Form (Form-F.Text w))
 
-shape_node : (w : List ℕ) (parts : List Form) → shape_of (tree.headed w parts) ≡ applied (head_of w) w parts
+shape_node : (maps : Bool) (w : List ℕ) (parts : List Form) → shape_of maps (tree.headed w parts) ≡ applied maps (head_of maps w) w parts
 unfolding shape_of
-shape_node w parts =
-    ap (λ f. shape_at (out-Form f)) (sym (rolls-Node (Word w ∷ parts))) ∙ ap shape_at (out-roll-Form (Form-F.Node (Word w ∷ parts)))
-    ∙ ap (λ o. and_then o (λ v. applied (head_of v) v parts)) (word_of_word w)
+shape_node maps w parts =
+    ap (λ f. shape_at maps (out-Form f)) (sym (rolls-Node (Word w ∷ parts))) ∙ ap (shape_at maps) (out-roll-Form (Form-F.Node (Word w ∷ parts)))
+    ∙ ap (λ o. and_then o (λ v. applied maps (head_of maps v) v parts)) (word_of_word w)
 
-at_head : (w : List ℕ) (h : Head) (parts : List Form) → head_of w ≡ Some h → shape_of (tree.headed w parts) ≡ headed h parts
-at_head w h parts e = shape_node w parts ∙ ap (λ o. applied o w parts) e
+at_head : (maps : Bool) (w : List ℕ) (h : Head) (parts : List Form) → head_of maps w ≡ Some h → shape_of maps (tree.headed w parts) ≡ headed h parts
+at_head maps w h parts e = shape_node maps w parts ∙ ap (λ o. applied maps o w parts) e
 
-integer_shape : (w : List ℕ) → is_integer w ≡ true → word_shape w ≡ Some (Integer w)
-integer_shape w e = ap (λ a. if a then Some (Integer w) else if bytes_eq w (codes "true") then Some (Truth true) else if bytes_eq w (codes "false") then Some (Truth false) else where_true (bytes_eq w (codes "s") || bytes_eq w (codes "r") || is_used w) (Used w)) e
+integer_shape : (maps : Bool) (w : List ℕ) → is_integer w ≡ true → word_shape maps w ≡ Some (Integer w)
+integer_shape maps w e = ap (λ a. if a then Some (Integer w) else if bytes_eq w (codes "true") then Some (Truth true) else if bytes_eq w (codes "false") then Some (Truth false) else where_true (is_named maps w) (Used w)) e
 
-truth_shape : (b : Bool) → word_shape (truth_word b) ≡ Some (Truth b)
+truth_shape : (maps b : Bool) → word_shape maps (truth_word b) ≡ Some (Truth b)
 unfolding is_integer
-truth_shape true = refl
-truth_shape false = refl
+truth_shape maps true = refl
+truth_shape maps false = refl
 
 -- the table answers the shape of the tree that is written for it
-pub shaped : (s : Shape) → Lawful s → shape_of (form_of s) ≡ Some s
+pub shaped : (maps : Bool) (s : Shape) → Lawful maps s → shape_of maps (form_of s) ≡ Some s
 unfolding spelled
-shaped (Integer w) l = shape_word w ∙ integer_shape w l
-shaped (Truth b) l = shape_word (truth_word b) ∙ truth_shape b
-shaped (Quoted t) l = shape_text t
-shaped (Used x) l = shape_word x ∙ l
-shaped (Let x e b) l = at_head (codes "let") head.Let (Word x ∷ e ∷ b ∷ []) (head_spelled head.Let) ∙ ap (λ o. and_then o (λ x. Some (Let x e b))) (word_of_word x)
-shaped (If c a b) l = at_head (codes "if") head.If (c ∷ a ∷ b ∷ []) (head_spelled head.If)
-shaped (And a b) l = at_head (codes "and") head.And (a ∷ b ∷ []) (head_spelled head.And)
-shaped (Or a b) l = at_head (codes "or") head.Or (a ∷ b ∷ []) (head_spelled head.Or)
-shaped (Unary op a) l = at_head (unary_word op) (head.Unary op) (a ∷ []) (head_unary op)
-shaped (Binary op a b) l = at_head (binary_word op) (head.Binary op) (a ∷ b ∷ []) (head_binary op)
-shaped (Tuple es) l = at_head (codes "tuple") head.Tuple es (head_spelled head.Tuple) ∙ ap (λ o. and_then o (λ es. Some (Tuple es))) l
-shaped (At e i) l = at_head (codes "at") head.At (e ∷ Word i ∷ []) (head_spelled head.At) ∙ ap (λ o. and_then o (λ i. where_true (is_place i) (At e i))) (word_of_word i) ∙ ap (λ b. where_true b (At e i)) l
-shaped (ListOf t es) l = at_head (codes "list") head.List (t ∷ es) (head_spelled head.List)
-shaped (For cs b) l = at_head (codes "for") head.For (Node cs ∷ b ∷ []) (head_spelled head.For) ∙ ap (λ o. and_then o (λ cs. and_then (some_of cs) (λ cs. Some (For cs b)))) (node_of_node cs) ∙ ap (λ o. and_then o (λ cs. Some (For cs b))) l
-shaped (Fold x e acc i b) l =
-    at_head (codes "fold") head.Fold (Word x ∷ e ∷ Word acc ∷ i ∷ b ∷ []) (head_spelled head.Fold)
+shaped maps (Integer w) l = shape_word maps w ∙ integer_shape maps w l
+shaped maps (Truth b) l = shape_word maps (truth_word b) ∙ truth_shape maps b
+shaped maps (Quoted t) l = shape_text maps t
+shaped maps (Used x) l = shape_word maps x ∙ l
+shaped maps (Let x e b) l = at_head maps (codes "let") head.Let (Word x ∷ e ∷ b ∷ []) l ∙ ap (λ o. and_then o (λ x. Some (Let x e b))) (word_of_word x)
+shaped maps (If c a b) l = at_head maps (codes "if") head.If (c ∷ a ∷ b ∷ []) l
+shaped maps (And a b) l = at_head maps (codes "and") head.And (a ∷ b ∷ []) l
+shaped maps (Or a b) l = at_head maps (codes "or") head.Or (a ∷ b ∷ []) l
+shaped maps (Unary op a) l = at_head maps (unary_word op) (head.Unary op) (a ∷ []) l
+shaped maps (Binary op a b) l = at_head maps (binary_word op) (head.Binary op) (a ∷ b ∷ []) l
+shaped maps (Tuple es) l = at_head maps (codes "tuple") head.Tuple es l.0 ∙ ap (λ o. and_then o (λ es. Some (Tuple es))) l.1
+shaped maps (At e i) l = at_head maps (codes "at") head.At (e ∷ Word i ∷ []) l.0 ∙ ap (λ o. and_then o (λ i. where_true (is_place i) (At e i))) (word_of_word i) ∙ ap (λ b. where_true b (At e i)) l.1
+shaped maps (ListOf t es) l = at_head maps (codes "list") head.List (t ∷ es) l
+shaped maps (For cs b) l = at_head maps (codes "for") head.For (Node cs ∷ b ∷ []) l.0 ∙ ap (λ o. and_then o (λ cs. and_then (some_of cs) (λ cs. Some (For cs b)))) (node_of_node cs) ∙ ap (λ o. and_then o (λ cs. Some (For cs b))) l.1
+shaped maps (Fold x e acc i b) l =
+    at_head maps (codes "fold") head.Fold (Word x ∷ e ∷ Word acc ∷ i ∷ b ∷ []) l
     ∙ ap (λ o. and_then o (λ x. and_then (word_of (Word acc)) (λ acc. Some (Fold x e acc i b)))) (word_of_word x)
     ∙ ap (λ o. and_then o (λ acc. Some (Fold x e acc i b))) (word_of_word acc)
-shaped (Call op es) l = at_head (codes "call") head.Call (Word op ∷ es) (head_spelled head.Call) ∙ ap (λ o. and_then o (λ op. Some (Call op es))) (word_of_word op)
-shaped (Apply f es) l = shape_node f es ∙ ap (λ o. applied o f es) l.0 ∙ ap (λ b. where_true b (Apply f es)) l.1
+shaped maps (MapOf k t) l = at_head maps (codes "map") head.Map (Word (key_word k) ∷ t ∷ []) l ∙ ap (λ o. and_then o (λ k. Some (MapOf k t))) (key_shaped k)
+shaped maps (Put m k v) l = at_head maps (codes "put") head.Put (m ∷ k ∷ v ∷ []) l
+shaped maps (Call op es) l = at_head maps (codes "call") head.Call (Word op ∷ es) l ∙ ap (λ o. and_then o (λ op. Some (Call op es))) (word_of_word op)
+shaped maps (Apply f es) l = shape_node maps f es ∙ ap (λ o. applied maps o f es) l.0 ∙ ap (λ b. where_true b (Apply f es)) l.1

@@ -12,13 +12,14 @@ use Rattle.pst_syntax.specs.declared.heads.Head.{Head}
 use Rattle.pst_syntax.specs.declared.heads.Head.TheVariants as head
 use Rattle.pst_syntax.specs.Heads.{head_of}
 use Rattle.pst_syntax.specs.Names.{is_short}
-use Rattle.pst_syntax.specs.Shape.{TyShape, IntType, BoolType, TextType, CallType, TupleType, ListType, RefType, ty_shape, ty_at, ty_node, ty_headed, some_of}
+use Rattle.pst_syntax.specs.Shape.{TyShape, IntType, BoolType, TextType, CallType, TupleType, ListType, MapType, RefType, ty_shape, ty_at, ty_node, ty_headed, some_of, key_shape}
 use Rattle.pst_sexpr.specs.Parts.{word_of, headed}
 use Rattle.pst_syntax.specs.Reading.{Read, ◌>>=◌, known, within, once, lawful, each, declared, are_few, ty_of, ty_parts}
 use Rattle.pst_print.specs.Printed.{ty_form}
+use Rattle.pst_print.specs.Words.{key_word}
 use Rattle.pst_print.proofs.Alike.{Alike, AllAlike, none, more, itself}
-use Rattle.pst_print.proofs.Forms.{type_Int, type_Bool, type_Text, type_Call, type_Tuple, type_List, type_Ref}
-use Rattle.pst_print.proofs.Shapes.{spelled, head_word, word_is, made_some}
+use Rattle.pst_print.proofs.Forms.{type_Int, type_Bool, type_Text, type_Call, type_Tuple, type_List, type_Map, type_Ref}
+use Rattle.pst_print.proofs.Shapes.{spelled, head_word, word_is, made_some, key_is}
 
 -- ---- reading, backwards and forwards
 
@@ -94,6 +95,7 @@ ty_form_of TextType = Word (codes "text")
 ty_form_of CallType = Word (codes "call")
 ty_form_of (TupleType ts) = headed (codes "tuple") ts
 ty_form_of (ListType t) = headed (codes "list") (t ∷ [])
+ty_form_of (MapType k t) = headed (codes "map") (Word (key_word k) ∷ t ∷ [])
 ty_form_of (RefType t) = headed (codes "ref") (t ∷ [])
 
 each_is : {A : Type 0} (r : Form → Read A) (p : A → Form) → ((f : Form) (a : A) → r f ≡ Ok a → f ≡ p a) → (fs : List Form) (items : List A) → each r fs ≡ Ok items → fs ≡ map p items
@@ -117,6 +119,9 @@ ty_parts_is e h (TupleType ts) z k =
 ty_parts_is e h (ListType a) z k =
     let q = behind (e a) (λ a. Ok (ty.List a)) z k in
     ap (λ f. headed (codes "list") (f ∷ [])) (h a q.0 q.1) ∙ sym (type_List q.0) ∙ ap ty_form (same (ty.List q.0) z q.2)
+ty_parts_is e h (MapType j a) z k =
+    let q = behind (e a) (λ a. Ok (ty.Map j a)) z k in
+    ap (λ f. headed (codes "map") (Word (key_word j) ∷ f ∷ [])) (h a q.0 q.1) ∙ sym (type_Map j q.0) ∙ ap ty_form (same (ty.Map j q.0) z q.2)
 ty_parts_is e h (RefType a) z k =
     let q = behind (e a) (λ a. Ok (ty.Ref a)) z k in
     ap (λ f. headed (codes "ref") (f ∷ [])) (h a q.0 q.1) ∙ sym (type_Ref q.0) ∙ ap ty_form (same (ty.Ref q.0) z q.2)
@@ -124,12 +129,15 @@ ty_parts_is e h (RefType a) z k =
 ty_got : (s t : TyShape) → Some s ≡ Some t → ty_form_of s ≡ ty_form_of t
 ty_got s t e = let q : s ≡ t = cc in ap ty_form_of q
 
-ty_headed_is : (h : Option Head) (w : List ℕ) (parts : List Form) (s : TyShape) → head_of w ≡ h → ty_headed h parts ≡ Some s → Node (Word w ∷ parts) ≡ ty_form_of s
+ty_headed_is : (maps : Bool) (h : Option Head) (w : List ℕ) (parts : List Form) (s : TyShape) → head_of maps w ≡ h → ty_headed h parts ≡ Some s → Node (Word w ∷ parts) ≡ ty_form_of s
 unfolding ty_form_of spelled
-ty_headed_is (Some head.Tuple) w (t ∷ ts) s o k = ap (λ v. Node (Word v ∷ t ∷ ts)) (head_word w head.Tuple o) ∙ ty_got (TupleType (t ∷ ts)) s k
-ty_headed_is (Some head.List) w (t ∷ []) s o k = ap (λ v. Node (Word v ∷ t ∷ [])) (head_word w head.List o) ∙ ty_got (ListType t) s k
-ty_headed_is (Some head.Ref) w (t ∷ []) s o k = ap (λ v. Node (Word v ∷ t ∷ [])) (head_word w head.Ref o) ∙ ty_got (RefType t) s k
-ty_headed_is _ w _ s o k = absurd (cc)
+ty_headed_is maps (Some head.Tuple) w (t ∷ ts) s o k = ap (λ v. Node (Word v ∷ t ∷ ts)) (head_word maps w head.Tuple o) ∙ ty_got (TupleType (t ∷ ts)) s k
+ty_headed_is maps (Some head.List) w (t ∷ []) s o k = ap (λ v. Node (Word v ∷ t ∷ [])) (head_word maps w head.List o) ∙ ty_got (ListType t) s k
+ty_headed_is maps (Some head.Map) w (j ∷ t ∷ []) s o k =
+    let p = made_some (key_shape j) (λ j. Some (MapType j t)) s k in
+    ap (λ v. Node (Word v ∷ j ∷ t ∷ [])) (head_word maps w head.Map o) ∙ ap (λ y. Node (Word (codes "map") ∷ y ∷ t ∷ [])) (key_is j p.0 p.1) ∙ ty_got (MapType p.0 t) s p.2
+ty_headed_is maps (Some head.Ref) w (t ∷ []) s o k = ap (λ v. Node (Word v ∷ t ∷ [])) (head_word maps w head.Ref o) ∙ ty_got (RefType t) s k
+ty_headed_is maps _ w _ s o k = absurd (cc)
 
 ty_words : (a b c d : Bool) (w : List ℕ) (s : TyShape) → (a ≡ true → w ≡ codes "int") → (b ≡ true → w ≡ codes "bool") → (c ≡ true → w ≡ codes "text") → (d ≡ true → w ≡ codes "call")
     → (if a then Some IntType else if b then Some BoolType else if c then Some TextType else if d then Some CallType else None) ≡ Some s → Word w ≡ ty_form_of s
@@ -140,30 +148,30 @@ ty_words false false true d w s p q r t k = ap Word (r refl) ∙ ty_got TextType
 ty_words false false false true w s p q r t k = ap Word (t refl) ∙ ty_got CallType s k
 ty_words false false false false w s p q r t k = absurd (cc)
 
-ty_node_is : (parts : List Form) (s : TyShape) → ty_node parts ≡ Some s → Node parts ≡ ty_form_of s
-ty_node_is [] s k = absurd (cc)
-ty_node_is (h ∷ parts) s k =
-    let p = made_some (word_of h) (λ w. ty_headed (head_of w) parts) s k in
-    ap (λ y. Node (y ∷ parts)) (word_is h p.0 p.1) ∙ ty_headed_is (head_of p.0) p.0 parts s refl p.2
+ty_node_is : (maps : Bool) (parts : List Form) (s : TyShape) → ty_node maps parts ≡ Some s → Node parts ≡ ty_form_of s
+ty_node_is maps [] s k = absurd (cc)
+ty_node_is maps (h ∷ parts) s k =
+    let p = made_some (word_of h) (λ w. ty_headed (head_of maps w) parts) s k in
+    ap (λ y. Node (y ∷ parts)) (word_is h p.0 p.1) ∙ ty_headed_is maps (head_of maps p.0) p.0 parts s refl p.2
 
-ty_shape_is_at : (d : Form-F Form) (f : Form) (s : TyShape) → roll-Form d ≡ f → ty_at d ≡ Some s → f ≡ ty_form_of s
-ty_shape_is_at (Form-F.Word w) f s r k = sym r ∙ rolls-Word w ∙ ty_words (bytes_eq w (codes "int")) (bytes_eq w (codes "bool")) (bytes_eq w (codes "text")) (bytes_eq w (codes "call")) w s
+ty_shape_is_at : (maps : Bool) (d : Form-F Form) (f : Form) (s : TyShape) → roll-Form d ≡ f → ty_at maps d ≡ Some s → f ≡ ty_form_of s
+ty_shape_is_at maps (Form-F.Word w) f s r k = sym r ∙ rolls-Word w ∙ ty_words (bytes_eq w (codes "int")) (bytes_eq w (codes "bool")) (bytes_eq w (codes "text")) (bytes_eq w (codes "call")) w s
     (bytes_eq-Decides w (codes "int")).0 (bytes_eq-Decides w (codes "bool")).0 (bytes_eq-Decides w (codes "text")).0 (bytes_eq-Decides w (codes "call")).0 k
-ty_shape_is_at (Form-F.Text t) f s r k = absurd (cc)
-ty_shape_is_at (Form-F.Node parts) f s r k = sym r ∙ rolls-Node parts ∙ ty_node_is parts s k
+ty_shape_is_at maps (Form-F.Text t) f s r k = absurd (cc)
+ty_shape_is_at maps (Form-F.Node parts) f s r k = sym r ∙ rolls-Node parts ∙ ty_node_is maps parts s k
 
-ty_shape_is : (f : Form) (s : TyShape) → ty_shape f ≡ Some s → f ≡ ty_form_of s
+ty_shape_is : (maps : Bool) (f : Form) (s : TyShape) → ty_shape maps f ≡ Some s → f ≡ ty_form_of s
 unfolding ty_shape
-ty_shape_is f s k = ty_shape_is_at (out-Form f) f s (roll-out-Form f) k
+ty_shape_is maps f s k = ty_shape_is_at maps (out-Form f) f s (roll-out-Form f) k
 
-pub ty_is : (room : ℕ) (f : Form) (a : Ty) → ty_of room f ≡ Ok a → f ≡ ty_form a
+pub ty_is : (maps : Bool) (room : ℕ) (f : Form) (a : Ty) → ty_of maps room f ≡ Ok a → f ≡ ty_form a
 unfolding ty_of
-ty_is zero f z k = let p = knows (ty_shape f) (λ s. Err OverLimit) z k in let e : Err OverLimit ≡ Ok z = p.2 in absurd (cc)
-ty_is (suc room) f z k =
-    let p = knows (ty_shape f) (ty_parts (ty_of room)) z k in
-    ty_shape_is f p.0 p.1 ∙ ty_parts_is (ty_of room) (ty_is room) p.0 z p.2
+ty_is maps zero f z k = let p = knows (ty_shape maps f) (λ s. Err OverLimit) z k in let e : Err OverLimit ≡ Ok z = p.2 in absurd (cc)
+ty_is maps (suc room) f z k =
+    let p = knows (ty_shape maps f) (ty_parts (ty_of maps room)) z k in
+    ty_shape_is maps f p.0 p.1 ∙ ty_parts_is (ty_of maps room) (ty_is maps room) p.0 z p.2
 
-pub ty_again : (room : ℕ) (f : Form) (a : Ty) → ty_of room f ≡ Ok a → Again (ty_of room) ty_form f a
-ty_again room f a e =
-    let i = ty_is room f a e in
-    record { reads = subst (λ g. ty_of room g ≡ Ok a) i e; alike = subst (Alike f) i (itself f) }
+pub ty_again : (maps : Bool) (room : ℕ) (f : Form) (a : Ty) → ty_of maps room f ≡ Ok a → Again (ty_of maps room) ty_form f a
+ty_again maps room f a e =
+    let i = ty_is maps room f a e in
+    record { reads = subst (λ g. ty_of maps room g ≡ Ok a) i e; alike = subst (Alike f) i (itself f) }

@@ -1,5 +1,5 @@
--- The tree that is written for a model: integers in their shortest form, callbacks in the order pre, next,
--- post.
+-- The tree that is written for a model: its head by its language, integers in their shortest form, callbacks
+-- in the order pre, next, post.
 use Rattle.std.specs.Prelude.{ℕ, Bool, true, false, List, [], ◌∷◌, map, codes, decimal}
 use Rattle.std.specs.Fmt.{signed_decimal}
 use Rattle.pst_model.specs.declared.expr.Clause.{Clause, Clause-F, fold-Clause}
@@ -11,7 +11,7 @@ use Rattle.pst_model.specs.declared.model.Op.{Op}
 use Rattle.pst_model.specs.declared.model.Param.{Param}
 use Rattle.pst_model.specs.declared.model.Source.{Source}
 use Rattle.pst_sexpr.specs.Parts.{headed}
-use Rattle.pst_print.specs.Words.{unary_word, binary_word, truth_word}
+use Rattle.pst_print.specs.Words.{unary_word, binary_word, truth_word, key_word, model_word}
 use Rattle.pst_sexpr.specs.declared.form.Form.{Form}
 use Rattle.pst_sexpr.specs.declared.form.Form.TheVariants.{Word, Text, Node}
 use Rattle.pst_value.specs.declared.ty.Ty.{Ty, fold-Ty}
@@ -25,6 +25,7 @@ ty_at Ty-F.Bool = Word (codes "bool")
 ty_at Ty-F.Text = Word (codes "text")
 ty_at (Ty-F.Tuple ts) = headed (codes "tuple") ts
 ty_at (Ty-F.List t) = headed (codes "list") (t ∷ [])
+ty_at (Ty-F.Map k t) = headed (codes "map") (Word (key_word k) ∷ t ∷ [])
 ty_at (Ty-F.Ref t) = headed (codes "ref") (t ∷ [])
 ty_at Ty-F.Call = Word (codes "call")
 
@@ -54,6 +55,8 @@ expr_at (Expr-F.At e n) = headed (codes "at") (e ∷ Word (decimal n) ∷ [])
 expr_at (Expr-F.List t es) = headed (codes "list") (ty_form t ∷ es)
 expr_at (Expr-F.For cs b) = headed (codes "for") (Node cs ∷ b ∷ [])
 expr_at (Expr-F.Fold x e acc i b) = headed (codes "fold") (Word x ∷ e ∷ Word acc ∷ i ∷ b ∷ [])
+expr_at (Expr-F.Map k t) = headed (codes "map") (Word (key_word k) ∷ ty_form t ∷ [])
+expr_at (Expr-F.Put m k v) = headed (codes "put") (m ∷ k ∷ v ∷ [])
 expr_at (Expr-F.Call op es) = headed (codes "call") (Word op ∷ es)
 expr_at (Expr-F.Apply f es) = headed f es
 
@@ -102,4 +105,4 @@ item_form (item.Op o) = op_form o
 
 -- the tree of a model
 abbrev pub source_form : Source → Form
-source_form m = headed (codes "model") (Word m.name ∷ map item_form m.items)
+source_form m = headed (model_word m.has_maps) (Word m.name ∷ map item_form m.items)

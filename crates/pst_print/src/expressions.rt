@@ -2,17 +2,17 @@
 ghost use Rattle.std.specs.Prelude.{◌≡◌, ◌∷◌, [], IfOk, map, codes, decimal};
 ghost use Rattle.std.specs.Fmt.{signed_decimal};
 ghost use Rattle.pst_print.specs.Printed.{clause_form, expr_form, ty_form};
-ghost use Rattle.pst_print.specs.Words.{truth_word};
+ghost use Rattle.pst_print.specs.Words.{key_word, truth_word};
 ghost use Rattle.pst_sexpr.specs.Parts.{headed};
 ghost use Rattle.pst_sexpr.specs.declared.form.Form.TheVariants.{Word};
 
 use crate::nodes::{before, name, three, two};
-use crate::types::ty_form;
+use crate::types::{map_form, ty_form};
 use crate::words::{binary_word, unary_word};
 use pst_items::{Items, Text};
 use pst_model::{Clause, Expr};
 use pst_sexpr::{Form, headed, list_of, word};
-use pst_value::Ty;
+use pst_value::{KeyTy, Ty};
 use std::alloc::{AllocError, Global};
 
 fn integer(alloc: Global, number: i64) -> Result<Form, AllocError>
@@ -51,17 +51,24 @@ fn of_two(alloc: Global, head: &str, first: Form, second: Form) -> Result<Form, 
     headed(alloc, head, two(alloc, first, second)?)
 }
 
+/// A node of a word and three trees.
+fn of_three(
+    alloc: Global,
+    head: &str,
+    first: Form,
+    second: Form,
+    third: Form,
+) -> Result<Form, AllocError>
+    ensures { IfOk result (λ form. form ≡ headed head.now (first ∷ second ∷ third ∷ [])) }
+{
+    headed(alloc, head, three(alloc, first, second, third)?)
+}
+
 fn let_form(alloc: Global, bound: &Text, value: Form, body: Form) -> Result<Form, AllocError>
     ensures { IfOk result (λ form. form ≡ headed (codes "let") (Word bound.now ∷ value ∷ body ∷ [])) }
 {
     let bound = name(alloc, bound)?;
     headed(alloc, "let", three(alloc, bound, value, body)?)
-}
-
-fn if_form(alloc: Global, condition: Form, yes: Form, otherwise: Form) -> Result<Form, AllocError>
-    ensures { IfOk result (λ form. form ≡ headed (codes "if") (condition ∷ yes ∷ otherwise ∷ [])) }
-{
-    headed(alloc, "if", three(alloc, condition, yes, otherwise)?)
 }
 
 fn at_form(alloc: Global, tuple: Form, number: u64) -> Result<Form, AllocError>
@@ -76,6 +83,13 @@ fn list_form(alloc: Global, ty: &Ty, items: Items<Form>) -> Result<Form, AllocEr
 {
     let ty = ty_form(alloc, ty)?;
     headed(alloc, "list", before(alloc, ty, items)?)
+}
+
+/// The empty map of a type of keys and a type of values.
+fn empty_map(alloc: Global, kind: KeyTy, ty: &Ty) -> Result<Form, AllocError>
+    ensures { IfOk result (λ form. form ≡ headed (codes "map") (Word (key_word kind) ∷ ty_form ty.now ∷ [])) }
+{
+    map_form(alloc, kind, ty_form(alloc, ty)?)
 }
 
 /// A fold, by the names of an item and of what is built.
@@ -121,7 +135,8 @@ pub fn expr_form(alloc: Global, expr: &Expr) -> Result<Form, AllocError>
         Expr::If(condition, yes, otherwise) => {
             let condition = expr_form(alloc, condition.get())?;
             let yes = expr_form(alloc, yes.get())?;
-            if_form(alloc, condition, yes, expr_form(alloc, otherwise.get())?)
+            let otherwise = expr_form(alloc, otherwise.get())?;
+            of_three(alloc, "if", condition, yes, otherwise)
         }
         Expr::And(first, second) => {
             let first = expr_form(alloc, first.get())?;
@@ -155,6 +170,13 @@ pub fn expr_form(alloc: Global, expr: &Expr) -> Result<Form, AllocError>
             let first = expr_form(alloc, first.get())?;
             let body = expr_form(alloc, body.get())?;
             fold_form(alloc, (bound, built), items, first, body)
+        }
+        Expr::Map(kind, ty) => empty_map(alloc, *kind, ty),
+        Expr::Put(map, key, value) => {
+            let map = expr_form(alloc, map.get())?;
+            let key = expr_form(alloc, key.get())?;
+            let value = expr_form(alloc, value.get())?;
+            of_three(alloc, "put", map, key, value)
         }
         Expr::Call(operation, args) => {
             call_form(alloc, operation, each_expr(alloc, args.as_slice())?)

@@ -5,6 +5,7 @@ ghost use Rattle.pst_print.specs.Printed as spec;
 use crate::expressions::expr_form;
 use crate::nodes::{before, name, three, two};
 use crate::types::ty_form;
+use crate::words::model_word;
 use pst_items::{Items, Text};
 use pst_model::{Expr, Fun, Item, Op, Param, Source};
 use pst_sexpr::{Form, headed, list_of};
@@ -95,5 +96,5 @@ pub fn source_form(alloc: Global, source: &Source) -> Result<Form, AllocError>
     for item in source.items.as_slice() {
         forms.push(item_form(alloc, item)?)?;
     }
-    headed(alloc, "model", forms)
+    headed(alloc, model_word(source.has_maps), forms)
 }

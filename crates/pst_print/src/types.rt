@@ -1,11 +1,24 @@
 //! Types as trees.
-ghost use Rattle.std.specs.Prelude.{◌≡◌, IfOk, map};
+ghost use Rattle.std.specs.Prelude.{◌≡◌, ◌∷◌, [], IfOk, map, codes};
 ghost use Rattle.pst_print.specs.Printed.{ty_form};
+ghost use Rattle.pst_print.specs.Words.{key_word};
+ghost use Rattle.pst_sexpr.specs.Parts.{headed};
+ghost use Rattle.pst_sexpr.specs.declared.form.Form.TheVariants.{Word};
 
+use crate::nodes::two;
+use crate::words::key_word;
 use pst_items::Items;
 use pst_sexpr::{Form, headed, list_of, word};
-use pst_value::Ty;
+use pst_value::{KeyTy, Ty};
 use std::alloc::{AllocError, Global};
+
+/// The tree of a map type, and that of an empty map: the type of the keys, and the tree of the values' type.
+pub fn map_form(alloc: Global, kind: KeyTy, ty: Form) -> Result<Form, AllocError>
+    ensures { IfOk result (λ form. form ≡ headed (codes "map") (Word (key_word kind) ∷ ty ∷ [])) }
+{
+    let kind = word(alloc, key_word(kind))?;
+    headed(alloc, "map", two(alloc, kind, ty)?)
+}
 
 /// The tree of a type.
 #[cycle(ty_form)]
@@ -19,6 +32,7 @@ pub fn ty_form(alloc: Global, ty: &Ty) -> Result<Form, AllocError>
         Ty::Text => word(alloc, "text"),
         Ty::Tuple(types) => headed(alloc, "tuple", each_ty(alloc, types.as_slice())?),
         Ty::List(item) => headed(alloc, "list", list_of(alloc, ty_form(alloc, item.get())?)?),
+        Ty::Map(kind, item) => map_form(alloc, *kind, ty_form(alloc, item.get())?),
         Ty::Ref(item) => headed(alloc, "ref", list_of(alloc, ty_form(alloc, item.get())?)?),
         Ty::Call => word(alloc, "call"),
     }

@@ -1,8 +1,9 @@
-//! The words of operators.
+//! The words of operators, of the types of keys and of models.
 ghost use Rattle.std.specs.Prelude.{◌≡◌};
-ghost use Rattle.pst_print.specs.Words.{binary_word, unary_word};
+ghost use Rattle.pst_print.specs.Words.{binary_word, key_word, model_word, unary_word};
 
 use pst_model::{Binary, Unary};
+use pst_value::KeyTy;
 
 /// The word of an operator of one operand.
 pub fn unary_word(operator: Unary) -> &'static str
@@ -12,6 +13,7 @@ pub fn unary_word(operator: Unary) -> &'static str
         Unary::Not => "not",
         Unary::Len => "len",
         Unary::Deref => "deref",
+        Unary::Keys => "keys",
     }
 }
 
@@ -32,5 +34,26 @@ pub fn binary_word(operator: Binary) -> &'static str
         Binary::Append => "++",
         Binary::Nth => "nth",
         Binary::Range => "range",
+        Binary::Get => "get",
+        Binary::Has => "has",
+        Binary::Del => "del",
     }
+}
+
+/// The word of a type of keys.
+pub fn key_word(kind: KeyTy) -> &'static str
+    ensures { result.now ≡ key_word kind }
+{
+    match kind {
+        KeyTy::Int => "int",
+        KeyTy::Bool => "bool",
+        KeyTy::Text => "text",
+    }
+}
+
+/// The head of a model, by whether its language has maps.
+pub fn model_word(has_maps: bool) -> &'static str
+    ensures { result.now ≡ model_word has_maps }
+{
+    if has_maps { "model2" } else { "model" }
 }

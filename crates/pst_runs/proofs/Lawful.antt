@@ -16,7 +16,7 @@ use Rattle.pst_runs.specs.Items.{run as run_with, with_history, run_of, unless_f
 use Rattle.pst_runs.specs.Lawful.{IsLawful, AreLawful}
 use Rattle.pst_runs.specs.Reading.{readable_case, case_fault}
 use Rattle.pst_runs.specs.Replies.{◌>>=◌, then_more, or_number, listed, listed_at, answered, reply_word, or_value, reply_of, part_replies, branch_replies, history_of, branches_count, are_counted}
-use Rattle.pst_runs.specs.Values.{value_of}
+use Rattle.pst_runs.specs.Values.{value_of, in_replies}
 use Rattle.pst_sexpr.specs.Parts.{and_then, word_of}
 use Rattle.pst_runs.specs.declared.fault.ItemFault.{ItemFault}
 use Rattle.pst_runs.specs.declared.fault.RunFaultKind.TheVariants.{NotAFit}
@@ -86,7 +86,7 @@ module _ (m : Source) where
   -- a reply that is read fits its command
   reply_of_fits : (c : Command) (form : Form) (said : Reply) → reply_of m c form ≡ Some said → reply_fits m c said ≡ true
   unfolding reply_of
-  reply_of_fits c form said h = either_fits c (reply_word (word_of form)) (value_of false form) said (word_fits c (word_of form)) h
+  reply_of_fits c form said h = either_fits c (reply_word (word_of form)) (value_of (in_replies m) form) said (word_fits c (word_of form)) h
 
   -- the replies that are read match their commands
   part_read : (cs : List Command) (forms : List Form) (number : ℕ) (out : List Reply) → length forms ≡ length cs

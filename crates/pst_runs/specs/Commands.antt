@@ -2,7 +2,7 @@
 use Rattle.std.specs.Prelude.{ℕ, Bool, true, false, if◌then◌else◌, List, [], ◌∷◌, map, Option, Some, None}
 use Rattle.pst_model.specs.Parts.{number_of}
 use Rattle.pst_model.specs.declared.model.Source.{Source}
-use Rattle.pst_runs.specs.Values.{each, value_of}
+use Rattle.pst_runs.specs.Values.{each, value_of, in_arguments}
 use Rattle.pst_sexpr.specs.Parts.{and_then, word_of, node_of}
 use Rattle.pst_runs.specs.declared.commands.Spelled.{Spelled}
 use Rattle.pst_runs.specs.declared.commands.Spelled.TheVariants.{Whole, Partial, Unknown}
@@ -22,8 +22,8 @@ are_present (None ∷ more) = false
 are_present (Some a ∷ more) = are_present more
 
 -- the values that arguments spell
-abbrev pub arguments_of : List Form → List (Option Value)
-arguments_of forms = map (value_of true) forms
+abbrev pub arguments_of : Source → List Form → List (Option Value)
+arguments_of m forms = map (value_of (in_arguments m)) forms
 
 -- the command of an operation, if there is one, with the arguments that spell values
 abbrev pub spelled : Option ℕ → List (Option Value) → Spelled
@@ -35,7 +35,7 @@ spelled (Some op) args =
 abbrev pub command_in : Source → List Form → Option Spelled
 command_in m [] = None
 command_in m (first ∷ args) =
-    and_then (word_of first) (λ name. Some (spelled (number_of m.items name) (arguments_of args)))
+    and_then (word_of first) (λ name. Some (spelled (number_of m.items name) (arguments_of m args)))
 
 -- the name of an operation, and then arguments
 abbrev pub command_of : Source → Form → Option Spelled

@@ -9,7 +9,7 @@ use Rattle.pst_case.specs.declared.history.Reply.{Reply}
 use Rattle.pst_case.specs.declared.history.Reply.TheVariants as reply
 use Rattle.pst_model.specs.declared.model.Source.{Source}
 use Rattle.pst_rules.specs.Fitting.{fits_in}
-use Rattle.pst_runs.specs.Values.{value_of}
+use Rattle.pst_runs.specs.Values.{value_of, in_replies}
 use Rattle.pst_sexpr.specs.Parts.{and_then, word_of, node_of}
 use Rattle.pst_sexpr.specs.declared.form.Form.{Form}
 use Rattle.pst_value.specs.declared.value.Value.{Value}
@@ -35,7 +35,7 @@ or_value None other = other
 -- the reply to a command that a tree spells: a word for a reply, or a value without a variable
 unfoldable pub reply_of : Source → Command → Form → Option Reply
 reply_of m c form =
-    or_value (reply_word (word_of form)) (and_then (value_of false form) (λ v. Some (answered m c v)))
+    or_value (reply_word (word_of form)) (and_then (value_of (in_replies m) form) (λ v. Some (answered m c v)))
 
 -- ---- lists of replies
 

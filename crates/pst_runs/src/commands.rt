@@ -3,7 +3,7 @@ ghost use Rattle.std.specs.Prelude.{◌≡◌, ◌++◌, IfOk, map, option_copie
 ghost use Rattle.pst_model.specs.Parts.{number_of};
 ghost use Rattle.pst_runs.specs.Commands as spec;
 
-use crate::values::value_of;
+use crate::values::{Spelling, value_of};
 use pst_case::Command;
 use pst_items::{Items, Text};
 use pst_model::number_of;
@@ -47,14 +47,17 @@ fn op_of(typed: &Typed, name: &Text) -> Option<u32>
     Some(number as u32)
 }
 
-fn arguments_of(alloc: Global, forms: &[Form]) -> Result<Arguments, AllocError>
-    ensures values { IfOk result (λ args. args.values ≡ spec.present (spec.arguments_of forms.now)) }
-    ensures all { IfOk result (λ args. args.are_all ≡ spec.are_present (spec.arguments_of forms.now)) }
+fn arguments_of(alloc: Global, typed: &Typed, forms: &[Form]) -> Result<Arguments, AllocError>
+    ensures values { IfOk result (λ args.
+        args.values ≡ spec.present (spec.arguments_of typed.now forms.now)) }
+    ensures all { IfOk result (λ args.
+        args.are_all ≡ spec.are_present (spec.arguments_of typed.now forms.now)) }
 {
+    let spelling = Spelling::of_arguments(typed);
     let mut values = Items::new(alloc);
     let mut are_all = true;
     for form in forms {
-        match value_of(alloc, form, true)? {
+        match value_of(alloc, form, spelling)? {
             Some(value) => values.push(value)?,
             None => are_all = false,
         }
@@ -74,7 +77,7 @@ fn command_of(alloc: Global, typed: &Typed, form: &Form) -> Result<Option<Spelle
     let Some(name) = word_of(first) else {
         return Ok(None);
     };
-    let Arguments { values, are_all } = arguments_of(alloc, arguments)?;
+    let Arguments { values, are_all } = arguments_of(alloc, typed, arguments)?;
     let Some(op) = op_of(typed, name) else {
         return Ok(Some(Spelled::Unknown));
     };

@@ -3,6 +3,7 @@
 
 mod commands;
 mod fault;
+mod keys;
 mod parts;
 mod reader;
 mod reading;

@@ -4,7 +4,7 @@ ghost use Rattle.pst_case.specs.Shape.{before_suffix, joined};
 ghost use Rattle.pst_runs.specs.Replies as spec;
 ghost use Rattle.pst_sexpr.specs.Parts.{word_of};
 
-use crate::values::value_of;
+use crate::values::{Spelling, value_of};
 use pst_case::{Case, Command, History, Reply, joined_len};
 use pst_items::Items;
 use pst_rules::Typed;
@@ -70,7 +70,7 @@ fn reply_of(
     if let Some(reply) = reply_word(form) {
         return Ok(Some(reply));
     }
-    match value_of(alloc, form, false)? {
+    match value_of(alloc, form, Spelling::of_replies(typed))? {
         Some(value) => Ok(Some(answered(typed, command, value))),
         None => Ok(None),
     }

@@ -2,11 +2,44 @@
 ghost use Rattle.std.specs.Prelude.{◌≡◌, IfOk};
 ghost use Rattle.pst_runs.specs.Values as spec;
 
+use crate::keys::{keys_of, pair_of};
 use pst_items::{Items, Text};
+use pst_rules::Typed;
 use pst_sexpr::{Form, MAX_LEVELS, word_of};
-use pst_value::Value;
+use pst_value::{Value, rising};
 use pst_words::{are_digits, integer_of, magnitude_of};
 use std::alloc::{AllocError, Global};
+
+/// What may stand in the values that trees spell.
+#[derive(Clone, Copy, Debug, PartialEq, Eq)]
+pub struct Spelling {
+    /// Maps, in the language that has them.
+    pub has_maps: bool,
+    /// Variables, in arguments.
+    pub symbolic: bool,
+}
+
+impl Spelling {
+    /// What may stand in the arguments of commands.
+    pub fn of_arguments(typed: &Typed) -> Spelling
+        ensures { result ≡ spec.in_arguments typed.now }
+    {
+        Spelling {
+            has_maps: typed.source().has_maps,
+            symbolic: true,
+        }
+    }
+
+    /// What may stand in replies.
+    pub fn of_replies(typed: &Typed) -> Spelling
+        ensures { result ≡ spec.in_replies typed.now }
+    {
+        Spelling {
+            has_maps: typed.source().has_maps,
+            symbolic: false,
+        }
+    }
+}
 
 /// The most digits of a variable.
 const MAX_DIGITS: usize = 4;
@@ -51,24 +84,24 @@ fn word_value(word: &Text, symbolic: bool) -> Option<Value>
     }
 }
 
-/// The value that a tree of so many levels spells.
+/// The value that a tree spells, with so many values in one another.
 #[cycle(value)]
 #[tactic(auto, using(crate::proofs::Rooms::rooms))]
 fn value_in(
     alloc: Global,
     form: &Form,
-    symbolic: bool,
+    spelling: Spelling,
     room: usize,
 ) -> Result<Option<Value>, AllocError>
-    ensures { IfOk result (λ value. value ≡ spec.value_in symbolic room form.now) }
+    ensures { IfOk result (λ value. value ≡ spec.value_in spelling room form.now) }
 {
     if room == 0 {
         return Ok(None);
     }
     match form {
-        Form::Word(word) => Ok(word_value(word, symbolic)),
+        Form::Word(word) => Ok(word_value(word, spelling.symbolic)),
         Form::Text(text) => Ok(Some(Value::Text(text.copy(alloc)?))),
-        Form::Node(parts) => node_value(alloc, parts.as_slice(), symbolic, room - 1),
+        Form::Node(parts) => node_value(alloc, parts.as_slice(), spelling, room - 1),
     }
 }
 
@@ -76,10 +109,11 @@ fn value_in(
 fn node_value(
     alloc: Global,
     parts: &[Form],
-    symbolic: bool,
+    spelling: Spelling,
     room: usize,
 ) -> Result<Option<Value>, AllocError>
-    ensures { IfOk result (λ value. value ≡ spec.node_value (spec.value_in symbolic room) parts.now) }
+    ensures { IfOk result (λ value.
+        value ≡ spec.node_value spelling (spec.value_in spelling room) parts.now) }
 {
     let Some((first, parts)) = parts.split_first() else {
         return Ok(None);
@@ -88,16 +122,19 @@ fn node_value(
         return Ok(None);
     };
     if head.as_str() == "tuple" {
-        return match values_in(alloc, parts, symbolic, room)? {
+        return match values_in(alloc, parts, spelling, room)? {
             Some(values) => Ok(Some(Value::Tuple(values))),
             None => Ok(None),
         };
     }
     if head.as_str() == "list" {
-        return match values_in(alloc, parts, symbolic, room)? {
+        return match values_in(alloc, parts, spelling, room)? {
             Some(values) => Ok(Some(Value::List(values))),
             None => Ok(None),
         };
+    }
+    if spelling.has_maps && head.as_str() == "map" {
+        return map_value(alloc, parts, spelling, room);
     }
     Ok(None)
 }
@@ -106,14 +143,14 @@ fn node_value(
 fn values_in(
     alloc: Global,
     forms: &[Form],
-    symbolic: bool,
+    spelling: Spelling,
     room: usize,
 ) -> Result<Option<Items<Value>>, AllocError>
-    ensures { IfOk result (λ values. values ≡ spec.each (spec.value_in symbolic room) forms.now) }
+    ensures { IfOk result (λ values. values ≡ spec.each (spec.value_in spelling room) forms.now) }
 {
     let mut values = Items::new(alloc);
     for form in forms {
-        let Some(value) = value_in(alloc, form, symbolic, room)? else {
+        let Some(value) = value_in(alloc, form, spelling, room)? else {
             return Ok(None);
         };
         values.push(value)?;
@@ -121,9 +158,55 @@ fn values_in(
     Ok(Some(values))
 }
 
-/// The value that a tree spells; `symbolic` says whether variables may stand in it.
-pub fn value_of(alloc: Global, form: &Form, symbolic: bool) -> Result<Option<Value>, AllocError>
-    ensures { IfOk result (λ value. value ≡ spec.value_of symbolic form.now) }
+/// The map of entries `(k v)` whose keys rise.
+#[cycle(value)]
+fn map_value(
+    alloc: Global,
+    entries: &[Form],
+    spelling: Spelling,
+    room: usize,
+) -> Result<Option<Value>, AllocError>
+    ensures { IfOk result (λ value. value ≡ spec.map_of (spec.value_in spelling room) entries.now) }
 {
-    value_in(alloc, form, symbolic, MAX_LEVELS)
+    let Some(keys) = keys_of(alloc, entries)? else {
+        return Ok(None);
+    };
+    let Some(values) = entry_values(alloc, entries, spelling, room)? else {
+        return Ok(None);
+    };
+    if rising(keys.as_slice()) {
+        Ok(Some(Value::Map(keys, values)))
+    } else {
+        Ok(None)
+    }
+}
+
+#[cycle(value)]
+fn entry_values(
+    alloc: Global,
+    entries: &[Form],
+    spelling: Spelling,
+    room: usize,
+) -> Result<Option<Items<Value>>, AllocError>
+    ensures { IfOk result (λ values.
+        values ≡ spec.each (spec.entry_value (spec.value_in spelling room)) entries.now) }
+{
+    let mut values = Items::new(alloc);
+    for entry in entries {
+        let Some((_, form)) = pair_of(entry) else {
+            return Ok(None);
+        };
+        let Some(value) = value_in(alloc, form, spelling, room)? else {
+            return Ok(None);
+        };
+        values.push(value)?;
+    }
+    Ok(Some(values))
+}
+
+/// The value that a tree spells, where so much may stand in it.
+pub fn value_of(alloc: Global, form: &Form, spelling: Spelling) -> Result<Option<Value>, AllocError>
+    ensures { IfOk result (λ value. value ≡ spec.value_of spelling form.now) }
+{
+    value_in(alloc, form, spelling, MAX_LEVELS)
 }

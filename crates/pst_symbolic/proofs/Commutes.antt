@@ -17,10 +17,10 @@ use Rattle.pst_model.specs.declared.model.Fun.{Fun}
 use Rattle.pst_model.specs.declared.model.Item.{Item}
 use Rattle.pst_operators.specs.Operators.{bool}
 use Rattle.pst_operators.specs.Outcome.{Gives, and_then, turn}
-use Rattle.pst_rules.specs.Rules.{Context, signature, Judgement, Has, Have, AllHave, Builds, Typed, typed_int, typed_bool, typed_text, typed_name, typed_let, typed_if, typed_and, typed_or, typed_unary, typed_binary, typed_tuple, typed_at, typed_list, typed_for, typed_fold, typed_call, typed_apply, typed_none, typed_more, typed_empty, typed_each, typed_body, typed_in, typed_when}
+use Rattle.pst_rules.specs.Rules.{Context, signature, key_type, Judgement, Has, Have, AllHave, Builds, Typed, typed_int, typed_bool, typed_text, typed_name, typed_let, typed_if, typed_and, typed_or, typed_unary, typed_binary, typed_tuple, typed_at, typed_list, typed_map, typed_put, typed_for, typed_fold, typed_call, typed_apply, typed_none, typed_more, typed_empty, typed_each, typed_body, typed_in, typed_when}
 use Rattle.pst_symbolic.proofs.Mapping.{commute_then, turn_commutes}
-use Rattle.pst_symbolic.proofs.Operands.{append_commutes, binary_commutes, unary_commutes, item_commutes, items_with, truth_with}
-use Rattle.pst_symbolic.proofs.Values.{sub_int, sub_bool, sub_text, sub_list, sub_tuple, sub_call}
+use Rattle.pst_symbolic.proofs.Operands.{append_commutes, binary_commutes, unary_commutes, put_commutes, item_commutes, items_with, truth_with}
+use Rattle.pst_symbolic.proofs.Values.{sub_int, sub_bool, sub_text, sub_list, sub_tuple, sub_map, sub_call}
 use Rattle.pst_symbolic.specs.Substituted.{mapped, substituted_in}
 use Rattle.pst_value.specs.Subst.{substituted}
 use Rattle.pst_value.specs.declared.ty.Ty.{Ty}
@@ -158,6 +158,17 @@ module _ (rs : List (Option Value)) (free vars : List Ty) (items : List Item) wh
     commutes _ (typed_list G T es l h) = λ env t a.
         at _ _ env t (is (Expr-F.List T es) _ (expr.rolls-List T es))
         (commute_then (λ vs. (ws : List Value) × (vs ≡ [] ++ ws) × (length ws ≡ length es) × EachFits free vars ops ws T) (map S) S _ _ _ _ (sound free vars items earlier false plainly F ok _ h env [] t a) (commutes _ h env [] t a) (λ vs u p. ap (λ v. Gives (v, u)) (sym (sub_list rs vs))))
+    commutes _ (typed_map G k T) = λ env t a.
+        at _ _ env t (is (Expr-F.Map k T) _ (expr.rolls-Map k T))
+        (ap (λ v. Gives (v, t)) (sym (sub_map rs [] [])))
+    commutes _ (typed_put G m y e k T hm hy he) = λ env t a.
+        at _ _ env t (is (Expr-F.Put m y e) _ (expr.rolls-Put m y e))
+        (commute_then (λ v. F1 v (ty.Map k T)) S S _ _ _ _ (fit _ _ _ hm env t a) (commutes _ hm env t a)
+        (λ x u f.
+        commute_then (λ v. F1 v (key_type k)) S S _ _ _ _ (fit _ _ _ hy env u a) (commutes _ hy env u a)
+        (λ z s g.
+        commute_then (λ v. F1 v T) S S _ _ _ _ (fit _ _ _ he env s a) (commutes _ he env s a)
+        (λ v r h. put_commutes rs free vars ops k T x z v r f g))))
     commutes _ (typed_for G cs b T h) = λ env t a.
         at _ _ env t (mean_for items F cs b)
         (commute_then (λ vs. All vs T) (map S) S _ _ _ _ (sound free vars items earlier false plainly F ok _ h env [] t a (record { within = refl; each = tt })) (commutes _ h env [] t a (record { within = refl; each = tt })) (λ vs u f. ap (λ v. Gives (v, u)) (sym (sub_list rs vs))))

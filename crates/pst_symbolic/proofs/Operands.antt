@@ -1,25 +1,31 @@
 -- An operator on operands with results in place of variables.
-use Rattle.std.proofs.Common.{◌≡◌, ◌==◌, ◌+◌, ◌+ℤ◌, ◌-ℤ◌, ◌*ℤ◌, int_div, int_rem, int_lt, unsigned_abs, ℕ, zero, suc, ℤ, pos, negsuc, Bool, true, false, not, List, [], ◌∷◌, ◌++◌, length, map, Option, refl, sym, ap, ◌∙◌, inl, inr, slice_get}
+use Rattle.std.proofs.Common.{◌≡◌, ◌==◌, ◌+◌, ◌+ℤ◌, ◌-ℤ◌, ◌*ℤ◌, int_div, int_rem, int_lt, unsigned_abs, ℕ, zero, suc, ℤ, pos, negsuc, Bool, true, false, not, List, [], ◌∷◌, ◌++◌, length, map, Option, Some, None, option_map, refl, sym, ap, ◌∙◌, inl, inr, slice_get}
 use Rattle.std.proofs.lemmas.Bool.{cases_Bool}
 use Rattle.std.proofs.lemmas.List.{length-map, map-append}
 use Rattle.std.specs.Prelude.{nat_lt, nat_le}
 use Rattle.std.specs.Ordering.{int_eq}
 use Rattle.pst_eval.proofs.Fitting.{Fit, Built, both, each_from}
-use Rattle.pst_eval.proofs.Forms.{bool_form, int_form, text_form, list_form, tuple_form, ref_form}
+use Rattle.pst_eval.proofs.Forms.{bool_form, int_form, text_form, list_form, tuple_form, map_form, key_form, ref_form}
+use Rattle.pst_eval.proofs.Maps.{keys_seen, get_seen, has_seen, del_seen, put_seen}
 use Rattle.pst_eval.proofs.Operating.{Lifted}
 use Rattle.pst_model.specs.declared.expr.Binary.{Binary}
-use Rattle.pst_model.specs.declared.expr.Binary.TheVariants.{Add, Sub, Mul, Div, Rem, Less, LessEqual, Equal, Same, Append, Nth, Range}
+use Rattle.pst_model.specs.declared.expr.Binary.TheVariants.{Add, Sub, Mul, Div, Rem, Less, LessEqual, Equal, Same, Append, Nth, Range, Get, Has, Del}
 use Rattle.pst_model.specs.declared.expr.Unary.{Unary}
-use Rattle.pst_operators.specs.Operators.{int, bool, text, list, integer, truth_of, truth_at, items_of, items_at, unary, item as item_of, binary, binary_at, divided, joined_texts, joined_lists, text_less, nth, range, count_up, append}
+use Rattle.pst_operators.proofs.Keeping.{with-map, without-map, beside-map}
+use Rattle.pst_operators.specs.Maps.{map_of, beside, with_key, with_value, without_key, without_value, get, has, put_key, put, del, keys}
+use Rattle.pst_operators.specs.Operators.{int, bool, text, list, integer, truth_of, truth_at, items_of, items_at, unary, item as item_of, binary, binary_at, divided, joined_texts, joined_lists, nth, range, count_up, append}
 use Rattle.pst_operators.specs.Outcome.{Outcome, Gives, and_then, or_fault, or_stuck}
 use Rattle.pst_rules.specs.Kinds.{holds_ref}
-use Rattle.pst_rules.specs.Rules.{OperatesOnOne, operates_not, operates_len_text, operates_len_list, operates_deref, OperatesOnTwo, operates_arithmetic, operates_order_int, operates_order_text, operates_equal, operates_same, operates_append_text, operates_append_list, operates_nth, operates_range, is_arithmetic, is_order}
-use Rattle.pst_symbolic.proofs.Values.{sub_int, sub_bool, sub_text, sub_list, sub_tuple, number_kept, stays}
+use Rattle.pst_rules.specs.Rules.{OperatesOnOne, operates_not, operates_len_text, operates_len_list, operates_deref, operates_keys, OperatesOnTwo, operates_arithmetic, operates_order_int, operates_order_text, operates_equal, operates_same, operates_append_text, operates_append_list, operates_nth, operates_get, operates_has, operates_del, operates_range, key_type, is_arithmetic, is_order}
+use Rattle.pst_symbolic.proofs.Values.{sub_int, sub_bool, sub_text, sub_list, sub_tuple, sub_map, sub_key, sub_keys, number_kept, stays}
 use Rattle.pst_symbolic.specs.Substituted.{mapped}
 use Rattle.pst_value.specs.Equality.{same_value}
 use Rattle.pst_value.specs.Subst.{substituted, numbered}
-use Rattle.pst_value.specs.Text.{is_i64, limit}
-use Rattle.pst_value.specs.declared.fault.Fault.TheVariants.{Index}
+use Rattle.pst_value.specs.Keys.{most}
+use Rattle.pst_value.specs.Text.{is_i64, limit, text_less}
+use Rattle.pst_value.specs.declared.fault.Fault.TheVariants.{Index, Missing}
+use Rattle.pst_value.specs.declared.key.Key.{Key}
+use Rattle.pst_value.specs.declared.key.KeyTy.{KeyTy}
 use Rattle.pst_value.specs.declared.ty.Ty.{Ty}
 use Rattle.pst_value.specs.declared.ty.Ty.TheVariants as ty
 use Rattle.pst_value.specs.declared.value.Value.{Value, out-roll-Value}
@@ -39,6 +45,9 @@ arithmetic_looks Same m n h = absurd (cc)
 arithmetic_looks Append m n h = absurd (cc)
 arithmetic_looks Nth m n h = absurd (cc)
 arithmetic_looks Range m n h = absurd (cc)
+arithmetic_looks Get m n h = absurd (cc)
+arithmetic_looks Has m n h = absurd (cc)
+arithmetic_looks Del m n h = absurd (cc)
 
 module _ (rs : List (Option Value)) where
   abbrev S : Value → Value
@@ -70,6 +79,9 @@ module _ (rs : List (Option Value)) where
   arithmetic_same Append m n h = absurd (cc)
   arithmetic_same Nth m n h = absurd (cc)
   arithmetic_same Range m n h = absurd (cc)
+  arithmetic_same Get m n h = absurd (cc)
+  arithmetic_same Has m n h = absurd (cc)
+  arithmetic_same Del m n h = absurd (cc)
 
   order_int_same : (op : Binary) (m n : ℤ) → is_order op ≡ true → Unchanged (binary op (int m) (int n))
   order_int_same Less m n h = λ t. rw (out-roll-Value (Value-F.Int m), out-roll-Value (Value-F.Int n)) (gives (bool (int_lt m n)) (sub_bool rs (int_lt m n)) t)
@@ -84,6 +96,9 @@ module _ (rs : List (Option Value)) where
   order_int_same Append m n h = absurd (cc)
   order_int_same Nth m n h = absurd (cc)
   order_int_same Range m n h = absurd (cc)
+  order_int_same Get m n h = absurd (cc)
+  order_int_same Has m n h = absurd (cc)
+  order_int_same Del m n h = absurd (cc)
 
   order_text_same : (op : Binary) (s r : List ℕ) → is_order op ≡ true → Unchanged (binary op (text s) (text r))
   order_text_same Less s r h = λ t. rw (out-roll-Value (Value-F.Text s), out-roll-Value (Value-F.Text r)) (gives (bool (text_less s r)) (sub_bool rs (text_less s r)) t)
@@ -98,6 +113,9 @@ module _ (rs : List (Option Value)) where
   order_text_same Append s r h = absurd (cc)
   order_text_same Nth s r h = absurd (cc)
   order_text_same Range s r h = absurd (cc)
+  order_text_same Get s r h = absurd (cc)
+  order_text_same Has s r h = absurd (cc)
+  order_text_same Del s r h = absurd (cc)
 
   texts_same : (s r : List ℕ) → Unchanged (joined_texts s r)
   texts_same s r t = elim (cases_Bool (nat_le (length s + length r) limit)) [ inl e ↦ rw e (gives (text (s ++ r)) (sub_text rs (s ++ r)) t) | inr e ↦ rw e refl ]
@@ -131,6 +149,37 @@ module _ (rs : List (Option Value)) where
           | inr l ↦ rw (e, l) (gives (list (count_up m (unsigned_abs (n -ℤ m)))) (sub_list rs (count_up m (unsigned_abs (n -ℤ m))) ∙ ap list (count_stays m (unsigned_abs (n -ℤ m)))) t)
         ]
     | inr e ↦ rw e (gives (list []) (sub_list rs []) t)
+  ]
+
+  -- ---- maps
+
+  found_commutes : (o : Option Value) (t : ℕ)
+      → Lifted (or_fault Missing (option_map S o)) t ≡ mapped S (Lifted (or_fault Missing o) t)
+  found_commutes None t = refl
+  found_commutes (Some v) t = refl
+
+  beside_commutes : (ks : List Key) (vs : List Value) (l : Key) (t : ℕ)
+      → Lifted (get ks (map S vs) l) t ≡ mapped S (Lifted (get ks vs l) t)
+  beside_commutes ks vs l t =
+      ap (λ o. Lifted (or_fault Missing o) t) (beside-map S ks vs l) ∙ found_commutes (beside ks vs l) t
+
+  del_commutes : (ks : List Key) (vs : List Value) (l : Key) → del ks (map S vs) l ≡ S (del ks vs l)
+  del_commutes ks vs l =
+      ap (map_of (without_key ks l)) (without-map S ks vs l)
+      ∙ sym (sub_map rs (without_key ks l) (without_value ks vs l))
+
+  with_commutes : (ks : List Key) (vs : List Value) (l : Key) (v : Value)
+      → map_of (with_key ks l) (with_value ks (map S vs) l (S v))
+      ≡ S (map_of (with_key ks l) (with_value ks vs l v))
+  with_commutes ks vs l v =
+      ap (map_of (with_key ks l)) (with-map S ks vs l v)
+      ∙ sym (sub_map rs (with_key ks l) (with_value ks vs l v))
+
+  put_key-commutes : (ks : List Key) (vs : List Value) (l : Key) (v : Value) (t : ℕ)
+      → Lifted (put_key ks (map S vs) (S v) l) t ≡ mapped S (Lifted (put_key ks vs v l) t)
+  put_key-commutes ks vs l v t = elim (cases_Bool (nat_le (length (with_key ks l)) most)) [
+    | inl e ↦ rw e (ap (λ m. Gives (m, t)) (with_commutes ks vs l v))
+    | inr e ↦ rw e refl
   ]
 
   pub append_commutes : (vs : List Value) (v : Value) (t : ℕ) → and_then (append (map S vs) (S v)) (λ a. Gives (a, t)) ≡ mapped (map S) (and_then (append vs v) (λ a. Gives (a, t)))
@@ -194,6 +243,21 @@ module _ (rs : List (Option Value)) where
         let m = list_form free vars ops v T f in
         let n = int_form free vars ops w g in
         rw (m.1, n.1, sub_list rs m.0, sub_int rs n.0, out-roll-Value (Value-F.List m.0), out-roll-Value (Value-F.Int n.0), out-roll-Value (Value-F.List (map S m.0))) (nth_commutes m.0 n.0 t)
+    binary_commutes _ _ _ _ v w t (operates_get k T) f g =
+        let m = map_form free vars ops v k T f in
+        let l = key_form free vars ops w k g in
+        rw (m.2, l.1, sub_map rs m.0 m.1, sub_key rs l.0, get_seen m.0 (map S m.1) l.0, get_seen m.0 m.1 l.0)
+        (beside_commutes m.0 m.1 l.0 t)
+    binary_commutes _ _ _ _ v w t (operates_has k T) f g =
+        let m = map_form free vars ops v k T f in
+        let l = key_form free vars ops w k g in
+        rw (m.2, l.1, sub_map rs m.0 m.1, sub_key rs l.0, has_seen m.0 (map S m.1) l.0, has_seen m.0 m.1 l.0)
+        (gives (bool (has m.0 l.0)) (sub_bool rs (has m.0 l.0)) t)
+    binary_commutes _ _ _ _ v w t (operates_del k T) f g =
+        let m = map_form free vars ops v k T f in
+        let l = key_form free vars ops w k g in
+        rw (m.2, l.1, sub_map rs m.0 m.1, sub_key rs l.0, del_seen m.0 (map S m.1) l.0, del_seen m.0 m.1 l.0)
+        (ap (λ u. Gives (u, t)) (del_commutes m.0 m.1 l.0))
     binary_commutes _ _ _ _ v w t operates_range f g =
         let m = int_form free vars ops v f in
         let n = int_form free vars ops w g in
@@ -210,6 +274,19 @@ module _ (rs : List (Option Value)) where
         let m = list_form free vars ops v T f in
         rw (m.1, sub_list rs m.0, out-roll-Value (Value-F.List m.0), out-roll-Value (Value-F.List (map S m.0)), length-map m.0 S) (integer_same (pos (length m.0)) t)
     unary_commutes _ _ _ v t (operates_deref T p) f = absurd (cc)
+    unary_commutes _ _ _ v t (operates_keys k T) f =
+        let m = map_form free vars ops v k T f in
+        rw (m.2, sub_map rs m.0 m.1, keys_seen m.0 (map S m.1), keys_seen m.0 m.1)
+        (gives (list (keys m.0)) (sub_keys rs m.0) t)
+
+    pub put_commutes : (k : KeyTy) (T : Ty) (m y v : Value) (t : ℕ) → F1 m (ty.Map k T) → F1 y (key_type k)
+        → Lifted (put (S m) (S y) (S v)) t ≡ mapped S (Lifted (put m y v) t)
+    put_commutes k T m y v t f g =
+        let p = map_form free vars ops m k T f in
+        let l = key_form free vars ops y k g in
+        let real = put_seen p.0 (map S p.1) l.0 (S v) in
+        rw (p.2, l.1, sub_map rs p.0 p.1, sub_key rs l.0, real, put_seen p.0 p.1 l.0 v)
+        (put_key-commutes p.0 p.1 l.0 v t)
 
     place_commutes : (vs : List Value) (place t : ℕ) → Lifted (or_stuck (numbered (map S vs) place)) t ≡ mapped S (Lifted (or_stuck (numbered vs place)) t)
     place_commutes vs zero t = refl

@@ -2,17 +2,21 @@
 use Rattle.std.proofs.Common.{◌≡◌, ℕ, ℤ, Bool, true, false, ◌||◌, List, [], ◌∷◌, map, Option, Some, None, refl, sym, ap, ◌∙◌, nat_le, length}
 use Rattle.std.specs.List.{AllByRecursion, list_all, list_any}
 use Rattle.pst_eval.proofs.Fitting.{both}
+use Rattle.pst_operators.specs.Maps.{map_of, value_of, keys}
 use Rattle.pst_operators.specs.Operators.{int, bool, text, list, tuple, call, number_at, number_of}
 use Rattle.pst_rules.specs.Kinds.{holds_ref, holds_ref_at}
 use Rattle.pst_value.proofs.Forms.{value_induction}
-use Rattle.pst_value.proofs.Substituting.{substituted-Int, substituted-Truth, substituted-Text, substituted-Tuple, substituted-ListOf, substituted-Var, substituted-Ref, substituted-Call}
-use Rattle.pst_value.proofs.Typing.{fits-Tuple, fits-ListOf, fits-Var, fits-Ref, fits-Call}
+use Rattle.pst_value.proofs.Substituting.{substituted-Int, substituted-Truth, substituted-Text, substituted-Tuple, substituted-ListOf, substituted-MapOf, substituted-Var, substituted-Ref, substituted-Call}
+use Rattle.pst_value.proofs.Typing.{fits-Tuple, fits-ListOf, fits-MapOf, fits-Var, fits-Ref, fits-Call}
 use Rattle.pst_value.specs.Fits.{fits, fits_level, fit_each}
+use Rattle.pst_value.specs.Keys.{are_keys}
 use Rattle.pst_value.specs.Subst.{substituted, known, named}
 use Rattle.pst_value.specs.Text.{limit}
+use Rattle.pst_value.specs.declared.key.Key.{Key}
+use Rattle.pst_value.specs.declared.key.Key.TheVariants as key
 use Rattle.pst_value.specs.declared.ty.Ty.{Ty, out-Ty, roll-out-Ty, fold-roll-Ty, map-Ty}
 use Rattle.pst_value.specs.declared.ty.Ty.TheOpen.{Ty-F}
-use Rattle.pst_value.specs.declared.value.Value.{Value, roll-Value, out-Value, roll-out-Value, out-roll-Value, Tuple, List as ListOf}
+use Rattle.pst_value.specs.declared.value.Value.{Value, roll-Value, out-Value, roll-out-Value, out-roll-Value, Tuple, List as ListOf, Map as MapOf}
 use Rattle.pst_value.specs.declared.value.Value.TheOpen.{Value-F}
 use Rattle.pst_value.specs.declared.value.Value.TheVariants as value
 
@@ -35,6 +39,23 @@ module _ (rs : List (Option Value)) where
   pub sub_tuple : (vs : List Value) → S (tuple vs) ≡ tuple (map S vs)
   sub_tuple vs = ap S (value.rolls-Tuple vs) ∙ substituted-Tuple rs vs ∙ sym (value.rolls-Tuple (map S vs))
 
+  pub sub_map : (ks : List Key) (vs : List Value) → S (map_of ks vs) ≡ map_of ks (map S vs)
+  sub_map ks vs =
+      ap S (value.rolls-Map ks vs) ∙ substituted-MapOf rs ks vs ∙ sym (value.rolls-Map ks (map S vs))
+
+  -- a key stays, and so do all keys
+  pub sub_key : (l : Key) → S (value_of l) ≡ value_of l
+  sub_key (key.Int n) = sub_int n
+  sub_key (key.Bool b) = sub_bool b
+  sub_key (key.Text t) = sub_text t
+
+  sub_each : (ks : List Key) → map S (keys ks) ≡ keys ks
+  sub_each [] = refl
+  sub_each (l ∷ ls) = ap (λ v. v ∷ map S (keys ls)) (sub_key l) ∙ ap (λ vs. value_of l ∷ vs) (sub_each ls)
+
+  pub sub_keys : (ks : List Key) → S (list (keys ks)) ≡ list (keys ks)
+  sub_keys ks = sub_list (keys ks) ∙ ap list (sub_each ks)
+
   pub sub_call : (n : ℕ) (vs : List Value) → S (call n vs) ≡ call n (map S vs)
   sub_call n vs = ap S (value.rolls-Call n vs) ∙ substituted-Call rs n vs ∙ sym (value.rolls-Call n (map S vs))
 
@@ -53,6 +74,8 @@ module _ (rs : List (Option Value)) where
   number_level (Value-F.Text t) = ap number_of (sub_text t) ∙ number_is (Value-F.Text t) _ refl
   number_level (Value-F.Tuple vs) = ap number_of (sub_tuple vs) ∙ number_is (Value-F.Tuple (map S vs)) _ refl
   number_level (Value-F.List vs) = ap number_of (sub_list vs) ∙ number_is (Value-F.List (map S vs)) _ refl
+  number_level (Value-F.Map ks vs) =
+      ap number_of (sub_map ks vs) ∙ number_is (Value-F.Map ks (map S vs)) _ refl
   number_level (Value-F.Var n) = ap (λ v. number_of (S v)) (value.rolls-Var n) ∙ ap number_of (substituted-Var rs n) ∙ number_named n (known rs n)
   number_level (Value-F.Ref n v) = ap (λ v. number_of (S v)) (value.rolls-Ref n v) ∙ ap number_of (substituted-Ref rs n v) ∙ number_is (Value-F.Ref n (S v)) _ (value.rolls-Ref n (S v))
   number_level (Value-F.Call n vs) = ap number_of (sub_call n vs) ∙ number_is (Value-F.Call n (map S vs)) _ refl
@@ -107,6 +130,7 @@ module _ (rs : List (Option Value)) (free vars : List Ty) (ops : List (List Ty))
   tuple_stays xs h Ty-F.Bool e r = absurd (cc)
   tuple_stays xs h Ty-F.Text e r = absurd (cc)
   tuple_stays xs h (Ty-F.List t) e r = absurd (cc)
+  tuple_stays xs h (Ty-F.Map k t) e r = absurd (cc)
   tuple_stays xs h (Ty-F.Ref t) e r = absurd (cc)
   tuple_stays xs h Ty-F.Call e r = absurd (cc)
 
@@ -117,8 +141,22 @@ module _ (rs : List (Option Value)) (free vars : List Ty) (ops : List (List Ty))
   list_stays xs h Ty-F.Bool e r = absurd (cc)
   list_stays xs h Ty-F.Text e r = absurd (cc)
   list_stays xs h (Ty-F.Tuple ts) e r = absurd (cc)
+  list_stays xs h (Ty-F.Map k t) e r = absurd (cc)
   list_stays xs h (Ty-F.Ref t) e r = absurd (cc)
   list_stays xs h Ty-F.Call e r = absurd (cc)
+
+  map_stays : (ks : List Key) (xs : List Value) → AllByRecursion Stays xs → (x : Ty-F Ty)
+      → fits_level free vars ops (Value-F.Map ks (map test xs)) x ≡ true → ref_in x ≡ false
+      → map (substituted rs) xs ≡ xs
+  unfolding ref_in
+  map_stays ks xs h (Ty-F.Map k t) e r = all_stay xs t h (both (are_keys k (length (map test xs)) ks) _ e).1 r
+  map_stays ks xs h Ty-F.Int e r = absurd (cc)
+  map_stays ks xs h Ty-F.Bool e r = absurd (cc)
+  map_stays ks xs h Ty-F.Text e r = absurd (cc)
+  map_stays ks xs h (Ty-F.Tuple ts) e r = absurd (cc)
+  map_stays ks xs h (Ty-F.List t) e r = absurd (cc)
+  map_stays ks xs h (Ty-F.Ref t) e r = absurd (cc)
+  map_stays ks xs h Ty-F.Call e r = absurd (cc)
 
   var_never : (n : ℕ) (x : Ty-F Ty) → fits_level free vars ops (Value-F.Var n) x ≡ true → ref_in x ≡ false → ⊥
   unfolding ref_in
@@ -128,6 +166,7 @@ module _ (rs : List (Option Value)) (free vars : List Ty) (ops : List (List Ty))
   var_never n Ty-F.Text e r = cc
   var_never n (Ty-F.Tuple ts) e r = cc
   var_never n (Ty-F.List t) e r = cc
+  var_never n (Ty-F.Map k t) e r = cc
   var_never n Ty-F.Call e r = cc
 
   ref_never : (n : ℕ) (v : Value) (x : Ty-F Ty) → fits_level free vars ops (Value-F.Ref n (test v)) x ≡ true → ref_in x ≡ false → ⊥
@@ -138,6 +177,7 @@ module _ (rs : List (Option Value)) (free vars : List Ty) (ops : List (List Ty))
   ref_never n v Ty-F.Text e r = cc
   ref_never n v (Ty-F.Tuple ts) e r = cc
   ref_never n v (Ty-F.List t) e r = cc
+  ref_never n v (Ty-F.Map k t) e r = cc
   ref_never n v Ty-F.Call e r = cc
 
   call_never : (n : ℕ) (xs : List Value) (x : Ty-F Ty) → fits_level free vars ops (Value-F.Call n (map test xs)) x ≡ true → ref_in x ≡ false → ⊥
@@ -148,6 +188,7 @@ module _ (rs : List (Option Value)) (free vars : List Ty) (ops : List (List Ty))
   call_never n xs Ty-F.Text e r = cc
   call_never n xs (Ty-F.Tuple ts) e r = cc
   call_never n xs (Ty-F.List t) e r = cc
+  call_never n xs (Ty-F.Map k t) e r = cc
   call_never n xs (Ty-F.Ref t) e r = cc
 
   pub stays : (v : Value) → Stays v
@@ -157,6 +198,11 @@ module _ (rs : List (Option Value)) (free vars : List Ty) (ops : List (List Ty))
     text = λ s t e r. substituted-Text rs s;
     tuple = λ xs h t e r. substituted-Tuple rs xs ∙ ap Tuple (tuple_stays xs h (out-Ty t) (sym (fits-Tuple free vars ops xs t) ∙ e) (sym (holds_ref-out t) ∙ r));
     items = λ xs h t e r. substituted-ListOf rs xs ∙ ap ListOf (list_stays xs h (out-Ty t) (sym (fits-ListOf free vars ops xs t) ∙ e) (sym (holds_ref-out t) ∙ r));
+    maps = λ ks xs h t e r.
+        substituted-MapOf rs ks xs
+        ∙ ap (MapOf ks)
+        (map_stays ks xs h (out-Ty t) (sym (fits-MapOf free vars ops ks xs t) ∙ e)
+        (sym (holds_ref-out t) ∙ r));
     var = λ n t e r. absurd (var_never n (out-Ty t) (sym (fits-Var free vars ops n t) ∙ e) (sym (holds_ref-out t) ∙ r));
     ref = λ n v h t e r. absurd (ref_never n v (out-Ty t) (sym (fits-Ref free vars ops n v t) ∙ e) (sym (holds_ref-out t) ∙ r));
     call = λ n xs h t e r. absurd (call_never n xs (out-Ty t) (sym (fits-Call free vars ops n xs t) ∙ e) (sym (holds_ref-out t) ∙ r));

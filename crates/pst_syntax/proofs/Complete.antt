@@ -1,5 +1,5 @@
 -- What stands in a model that was read.
-use Rattle.std.proofs.Common.{◌≡◌, ℕ, ◌+◌, ◌≤◌, ◌<◌, Bool, true, false, List, [], ◌∷◌, ◌++◌, length, Option, Some, None, Result, Ok, Err, refl, ap, arith, subst}
+use Rattle.std.proofs.Common.{◌≡◌, ℕ, ◌+◌, ◌≤◌, ◌<◌, Bool, true, false, List, [], ◌∷◌, ◌++◌, length, Option, Some, None, Result, Ok, Err, refl, sym, ap, ◌∙◌, arith, subst}
 use Rattle.std.specs.Prelude.{nat_lt, ◌&&◌, cond}
 use Rattle.std.specs.List.{count_by, list_any}
 use Rattle.std.proofs.lemmas.Bool.Decides.{nat_tests}
@@ -14,7 +14,7 @@ use Rattle.pst_model.specs.declared.model.Fun.{Fun}
 use Rattle.pst_model.specs.declared.model.Op.{Op}
 use Rattle.pst_model.specs.declared.model.Source.{Source}
 use Rattle.pst_syntax.specs.declared.fault.SyntaxFault.{SyntaxFault}
-use Rattle.pst_syntax.specs.ItemShape.{ItemShape, StateItem, InitItem, CommandItem, FunItem, OpItem, item_shape}
+use Rattle.pst_syntax.specs.ItemShape.{ItemShape, ModelShape, StateItem, InitItem, CommandItem, FunItem, OpItem, item_shape}
 use Rattle.pst_syntax.specs.Reading.{Read, ◌>>=◌, known, within, once}
 use Rattle.pst_syntax.specs.Items.{is_state, is_init, is_command, is_fun, is_op, has_room, whole_ty, whole_expr, fun_of, op_parts, item_parts, item_of, at_item, go_on, items_from, is_complete, complete, head_of_model, model_of, IsModel, HasItems}
 
@@ -107,44 +107,44 @@ room_is : (number : ℕ) → nat_lt number 64 ≡ true → number < 64
 room_is number e = grind (arith, nat_tests)
 
 -- an item that was read may follow those before it
-parts_follow : (seen : List Item) (shape : ItemShape) (i : Item) → Bounded seen → item_parts seen shape ≡ Ok i → MayFollow seen i
-parts_follow seen (StateItem t) i b e =
-    let p = once_ok (list_any is_state seen) (whole_ty t >>= (λ t. Ok (item.State t))) i e in
-    let q = bind_ok (whole_ty t) (λ t. Ok (item.State t)) i p.1 in
+parts_follow : (maps : Bool) (seen : List Item) (shape : ItemShape) (i : Item) → Bounded seen → item_parts maps seen shape ≡ Ok i → MayFollow seen i
+parts_follow maps seen (StateItem t) i b e =
+    let p = once_ok (list_any is_state seen) (whole_ty maps t >>= (λ t. Ok (item.State t))) i e in
+    let q = bind_ok (whole_ty maps t) (λ t. Ok (item.State t)) i p.1 in
     let r : item.State q.0 ≡ i = okay (item.State q.0) i q.2 in
     subst (MayFollow seen) r (state_follows seen q.0 b (none_counted is_state seen p.0))
-parts_follow seen (InitItem t) i b e =
-    let p = once_ok (list_any is_init seen) (whole_expr t >>= (λ t. Ok (item.Init t))) i e in
-    let q = bind_ok (whole_expr t) (λ t. Ok (item.Init t)) i p.1 in
+parts_follow maps seen (InitItem t) i b e =
+    let p = once_ok (list_any is_init seen) (whole_expr maps t >>= (λ t. Ok (item.Init t))) i e in
+    let q = bind_ok (whole_expr maps t) (λ t. Ok (item.Init t)) i p.1 in
     let r : item.Init q.0 ≡ i = okay (item.Init q.0) i q.2 in
     subst (MayFollow seen) r (init_follows seen q.0 b (none_counted is_init seen p.0))
-parts_follow seen (CommandItem t) i b e =
-    let p = once_ok (list_any is_command seen) (whole_expr t >>= (λ t. Ok (item.Command t))) i e in
-    let q = bind_ok (whole_expr t) (λ t. Ok (item.Command t)) i p.1 in
+parts_follow maps seen (CommandItem t) i b e =
+    let p = once_ok (list_any is_command seen) (whole_expr maps t >>= (λ t. Ok (item.Command t))) i e in
+    let q = bind_ok (whole_expr maps t) (λ t. Ok (item.Command t)) i p.1 in
     let r : item.Command q.0 ≡ i = okay (item.Command q.0) i q.2 in
     subst (MayFollow seen) r (command_follows seen q.0 b (none_counted is_command seen p.0))
-parts_follow seen (FunItem is_post x ps t body) i b e =
-    let p = within_ok (has_room is_fun seen) (fun_of is_post seen x ps t body >>= (λ f. Ok (item.Fun f))) i e in
-    let q = bind_ok (fun_of is_post seen x ps t body) (λ f. Ok (item.Fun f)) i p.1 in
+parts_follow maps seen (FunItem is_post x ps t body) i b e =
+    let p = within_ok (has_room is_fun seen) (fun_of maps is_post seen x ps t body >>= (λ f. Ok (item.Fun f))) i e in
+    let q = bind_ok (fun_of maps is_post seen x ps t body) (λ f. Ok (item.Fun f)) i p.1 in
     let r : item.Fun q.0 ≡ i = okay (item.Fun q.0) i q.2 in
     subst (MayFollow seen) r (fun_follows seen q.0 b (room_is (count_by is_fun seen) p.0))
-parts_follow seen (OpItem x ps t callbacks) i b e =
-    let p = within_ok (has_room is_op seen) (op_parts seen x ps t callbacks >>= (λ o. Ok (item.Op o))) i e in
-    let q = bind_ok (op_parts seen x ps t callbacks) (λ o. Ok (item.Op o)) i p.1 in
+parts_follow maps seen (OpItem x ps t callbacks) i b e =
+    let p = within_ok (has_room is_op seen) (op_parts maps seen x ps t callbacks >>= (λ o. Ok (item.Op o))) i e in
+    let q = bind_ok (op_parts maps seen x ps t callbacks) (λ o. Ok (item.Op o)) i p.1 in
     let r : item.Op q.0 ≡ i = okay (item.Op q.0) i q.2 in
     subst (MayFollow seen) r (op_follows seen q.0 b (room_is (count_by is_op seen) p.0))
 
-item_follows : (seen : List Item) (form : Form) (i : Item) → Bounded seen → item_of seen form ≡ Ok i → Bounded (seen ++ i ∷ [])
+item_follows : (maps : Bool) (seen : List Item) (form : Form) (i : Item) → Bounded seen → item_of maps seen form ≡ Ok i → Bounded (seen ++ i ∷ [])
 unfolding item_of
-item_follows seen form i b e =
-    let p = known_ok (item_shape form) (item_parts seen) i e in
-    follows seen i (parts_follow seen p.0 i b p.2)
+item_follows maps seen form i b e =
+    let p = known_ok (item_shape form) (item_parts maps seen) i e in
+    follows seen i (parts_follow maps seen p.0 i b p.2)
 
-all_bounded : (seen : List Item) (forms : List Form) (items : List Item) → Bounded seen → items_from seen forms ≡ Ok items → Bounded items
-all_bounded seen [] items b e = let r : seen ≡ items = cc in subst Bounded r b
-all_bounded seen (form ∷ forms) items b e =
-    let p = go_ok (at_item (length seen + 1) (item_of seen form)) (λ i. items_from (seen ++ i ∷ []) forms) items e in
-    all_bounded (seen ++ p.0 ∷ []) forms items (item_follows seen form p.0 b (at_ok (length seen + 1) (item_of seen form) p.0 p.1)) p.2
+all_bounded : (maps : Bool) (seen : List Item) (forms : List Form) (items : List Item) → Bounded seen → items_from maps seen forms ≡ Ok items → Bounded items
+all_bounded maps seen [] items b e = let r : seen ≡ items = cc in subst Bounded r b
+all_bounded maps seen (form ∷ forms) items b e =
+    let p = go_ok (at_item (length seen + 1) (item_of maps seen form)) (λ i. items_from maps (seen ++ i ∷ []) forms) items e in
+    all_bounded maps (seen ++ p.0 ∷ []) forms items (item_follows maps seen form p.0 b (at_ok (length seen + 1) (item_of maps seen form) p.0 p.1)) p.2
 
 nothing : Bounded []
 nothing = record { state = omega arith; init = omega arith; command = omega arith; functions = omega arith; operations = omega arith }
@@ -165,16 +165,32 @@ has items b e =
       operations = b.operations;
     }
 
-pub completed : (b : Bool) (x : List ℕ) (items : List Item) (source : Source) → complete b x items ≡ Ok source → (b ≡ true) × (items ≡ source.items)
-completed true x items source e = (refl, let r : record { name = x; items = items } ≡ source = cc in ap (λ (s : Source). s.items) r)
-completed false x items source e = absurd (cc)
+pub completed : (b : Bool) (m : ModelShape) (items : List Item) (source : Source) → complete b m items ≡ Ok source → (b ≡ true) × (record { has_maps = m.has_maps; name = m.name; items = items } ≡ source)
+completed true m items source e = (refl, okay (record { has_maps = m.has_maps; name = m.name; items = items }) source e)
+completed false m items source e = absurd (cc)
 
-read_has : (trees : List Form) (source : Source) → model_of trees ≡ Ok source → HasItems source.items
-read_has trees source e =
-    let p = go_ok (at_item 0 (head_of_model trees)) (λ parts. go_on (items_from [] parts.1) (λ items. at_item 0 (complete (is_complete items) parts.0 items))) source e in
-    let q = go_ok (items_from [] p.0.1) (λ items. at_item 0 (complete (is_complete items) p.0.0 items)) source p.2 in
-    let r = completed (is_complete q.0) p.0.0 q.0 source (at_ok 0 (complete (is_complete q.0) p.0.0 q.0) source q.2) in
-    subst HasItems r.1 (has q.0 (all_bounded [] p.0.1 q.0 nothing q.1) r.0)
+-- what was read: the shape of the model, and its items
+pub record ReadModel (trees : List Form) (source : Source) : Type 0 where
+  pub head : ModelShape
+  pub items : items_from source.has_maps [] head.items ≡ Ok source.items
+  pub whole : is_complete source.items ≡ true
+
+source_is : (m : ModelShape) (items : List Item) (source : Source) → record { has_maps = m.has_maps; name = m.name; items = items } ≡ source → (m.has_maps ≡ source.has_maps) × (items ≡ source.items)
+source_is m items source e = (ap (λ (s : Source). s.has_maps) e, ap (λ (s : Source). s.items) e)
+
+pub read_model : (trees : List Form) (source : Source) → model_of trees ≡ Ok source → ReadModel trees source
+read_model trees source e =
+    let p = go_ok (at_item 0 (head_of_model trees)) (λ m. go_on (items_from m.has_maps [] m.items) (λ items. at_item 0 (complete (is_complete items) m items))) source e in
+    let q = go_ok (items_from p.0.has_maps [] p.0.items) (λ items. at_item 0 (complete (is_complete items) p.0 items)) source p.2 in
+    let r = completed (is_complete q.0) p.0 q.0 source (at_ok 0 (complete (is_complete q.0) p.0 q.0) source q.2) in
+    let s = source_is p.0 q.0 source r.1 in
+    record {
+      head = p.0;
+      items = ap (λ maps. items_from maps [] p.0.items) (sym s.0) ∙ q.1 ∙ ap (λ items. Ok items) s.1;
+      whole = ap is_complete (sym s.1) ∙ r.0;
+    }
 
 pub model_has : (source : Source) → IsModel source → HasItems source.items
-model_has source m = read_has (m.tree ∷ []) source m.reads
+model_has source m =
+    let r = read_model (m.tree ∷ []) source m.reads in
+    has source.items (all_bounded source.has_maps [] r.head.items source.items nothing r.items) r.whole

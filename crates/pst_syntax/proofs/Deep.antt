@@ -1,12 +1,13 @@
 -- A type that was read has no more levels than there was room.
-use Rattle.std.proofs.Common.{◌≡◌, ◌≤◌, ℕ, zero, suc, List, [], ◌∷◌, map, Ok, Err, sym, ap, ◌∙◌, subst, arith}
+use Rattle.std.proofs.Common.{◌≡◌, ◌≤◌, ℕ, Bool, zero, suc, List, [], ◌∷◌, map, Ok, Err, sym, ap, ◌∙◌, subst, arith}
 use Rattle.std.proofs.Math.Nat.{max-le}
 use Rattle.pst_model.specs.Levels.{levels, layer_levels, greatest}
 use Rattle.pst_sexpr.specs.declared.form.Form.{Form}
 use Rattle.pst_syntax.specs.declared.fault.FaultKind.TheVariants.{OverLimit}
 use Rattle.pst_syntax.specs.Reading.{Read, ◌>>=◌, each, are_few, ty_of, ty_parts}
-use Rattle.pst_syntax.specs.Shape.{TyShape, IntType, BoolType, TextType, CallType, TupleType, ListType, RefType, ty_shape}
+use Rattle.pst_syntax.specs.Shape.{TyShape, IntType, BoolType, TextType, CallType, TupleType, ListType, MapType, RefType, ty_shape}
 use Rattle.pst_syntax.proofs.Complete.{bind_ok, known_ok, within_ok, okay}
+use Rattle.pst_value.specs.declared.key.KeyTy.{KeyTy}
 use Rattle.pst_value.specs.declared.ty.Ty.{Ty, Ty-F, fold-roll-Ty}
 use Rattle.pst_value.specs.declared.ty.Ty as ty
 use Rattle.pst_value.specs.declared.ty.Ty.TheVariants as tys
@@ -32,6 +33,9 @@ levels_tuple ts = ap levels (sym (tys.rolls-Tuple ts)) ∙ layers (Ty-F.Tuple ts
 
 levels_list : (t : Ty) → levels (ty.List t) ≡ suc (levels t)
 levels_list t = ap levels (sym (tys.rolls-List t)) ∙ layers (Ty-F.List t)
+
+levels_map : (k : KeyTy) (t : Ty) → levels (ty.Map k t) ≡ suc (levels t)
+levels_map k t = ap levels (sym (tys.rolls-Map k t)) ∙ layers (Ty-F.Map k t)
 
 levels_ref : (t : Ty) → levels (ty.Ref t) ≡ suc (levels t)
 levels_ref t = ap levels (sym (tys.rolls-Ref t)) ∙ layers (Ty-F.Ref t)
@@ -66,16 +70,19 @@ parts_shallow read room h (TupleType forms) t e =
 parts_shallow read room h (ListType form) t e =
     let q = bind_ok (read form) (λ a. Ok (ty.List a)) t e in
     above room (levels q.0) (ty.List q.0) t (okay (ty.List q.0) t q.2) (levels_list q.0) (h form q.0 q.1)
+parts_shallow read room h (MapType k form) t e =
+    let q = bind_ok (read form) (λ a. Ok (ty.Map k a)) t e in
+    above room (levels q.0) (ty.Map k q.0) t (okay (ty.Map k q.0) t q.2) (levels_map k q.0) (h form q.0 q.1)
 parts_shallow read room h (RefType form) t e =
     let q = bind_ok (read form) (λ a. Ok (ty.Ref a)) t e in
     above room (levels q.0) (ty.Ref q.0) t (okay (ty.Ref q.0) t q.2) (levels_ref q.0) (h form q.0 q.1)
 
 -- a type is no deeper than the room that it was read with
-pub ty_shallow : (room : ℕ) → Shallow (ty_of room) room
+pub ty_shallow : (maps : Bool) (room : ℕ) → Shallow (ty_of maps room) room
 unfolding ty_of
-ty_shallow zero form t e =
-    let p = known_ok (ty_shape form) (λ shape. Err OverLimit) t e in
+ty_shallow maps zero form t e =
+    let p = known_ok (ty_shape maps form) (λ shape. Err OverLimit) t e in
     absurd (let q : Err OverLimit ≡ Ok t = p.2 in cc)
-ty_shallow (suc room) form t e =
-    let p = known_ok (ty_shape form) (ty_parts (ty_of room)) t e in
-    parts_shallow (ty_of room) room (ty_shallow room) p.0 t p.2
+ty_shallow maps (suc room) form t e =
+    let p = known_ok (ty_shape maps form) (ty_parts (ty_of maps room)) t e in
+    parts_shallow (ty_of maps room) room (ty_shallow maps room) p.0 t p.2

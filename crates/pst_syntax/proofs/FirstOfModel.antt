@@ -21,7 +21,7 @@ use Rattle.pst_syntax.specs.declared.items.AllCallbacks.{AllCallbacks}
 use Rattle.pst_model.specs.Names.{is_name}
 use Rattle.pst_syntax.specs.Names.{is_free, is_short}
 use Rattle.pst_syntax.specs.Counting.{trees_in}
-use Rattle.pst_syntax.specs.ItemShape.{ItemShape, CallbackShape, StateItem, InitItem, CommandItem, FunItem, OpItem, Pre, Next, Post, item_shape, callback_shape, param_shape, model_shape}
+use Rattle.pst_syntax.specs.ItemShape.{ItemShape, CallbackShape, ModelShape, StateItem, InitItem, CommandItem, FunItem, OpItem, Pre, Next, Post, item_shape, callback_shape, param_shape, model_shape}
 use Rattle.pst_syntax.specs.Reading.{Read, ◌>>=◌, known, within, once, declared, are_few}
 use Rattle.pst_syntax.specs.Limits.{ty_room, expr_room}
 use Rattle.pst_syntax.specs.Items.{in_item, whole_ty, whole_expr, is_param, param_of, params_from, params_of, is_some, no_callbacks, callback_of, callbacks_from, there, all_callbacks, fun_of, op_parts, item_parts, item_of, at_item, go_on, items_from, is_complete, complete, head_parts, head_of_model, model_of}
@@ -85,34 +85,34 @@ count_more p q xs ys x y h e =
 record SameNames (params : List Param) (seen : List (List ℕ × Form)) : Type 0 where
   names : (word : List ℕ) → is_param params word ≡ list_any (is_named word) seen
 
-names_more : (params : List Param) (seen : List (List ℕ × Form)) (param : Param) (pair : List ℕ × Form) → SameNames params seen → param_of params pair ≡ Ok param → SameNames (params ++ param ∷ []) (seen ++ pair ∷ [])
-names_more params seen param pair s e =
-    let p = bind_ok (declared (is_free pair.0) (is_param params pair.0) pair.0) (λ x. whole_ty pair.1 >>= (λ t. Ok (record { name = x; ty = t }))) param e in
-    let q = bind_ok (whole_ty pair.1) (λ t. Ok (record { name = p.0; ty = t })) param p.2 in
-    let r : pair.0 ≡ p.0 = declared_is (is_free pair.0) (is_param params pair.0) pair.0 p.0 p.1 in
+names_more : (maps : Bool) (params : List Param) (seen : List (List ℕ × Form)) (param : Param) (pair : List ℕ × Form) → SameNames params seen → param_of maps params pair ≡ Ok param → SameNames (params ++ param ∷ []) (seen ++ pair ∷ [])
+names_more maps params seen param pair s e =
+    let p = bind_ok (declared (is_free maps pair.0) (is_param params pair.0) pair.0) (λ x. whole_ty maps pair.1 >>= (λ t. Ok (record { name = x; ty = t }))) param e in
+    let q = bind_ok (whole_ty maps pair.1) (λ t. Ok (record { name = p.0; ty = t })) param p.2 in
+    let r : pair.0 ≡ p.0 = declared_is (is_free maps pair.0) (is_param params pair.0) pair.0 p.0 p.1 in
     let t : record { name = p.0; ty = q.0 } ≡ param = okay (record { name = p.0; ty = q.0 }) param q.2 in
     let n : param.name ≡ pair.0 = ap (λ (p : Param). p.name) (sym t) ∙ sym r in
     record { names = λ word. any_more (λ param. bytes_eq param.name word) (is_named word) params seen param pair (s.names word) (ap (λ x. bytes_eq x word) n) }
 
-param_same : (params : List Param) (seen : List (List ℕ × Form)) (pair : List ℕ × Form) → SameNames params seen → Same (param_of params pair) (param_faults seen pair)
-param_same params seen pair s =
-    step (declared (is_free pair.0) (is_param params pair.0) pair.0) _ (name_faults (is_free pair.0) (list_any (is_named pair.0) seen) pair.0) _
-    (declared_as (is_free pair.0) (is_param params pair.0) (list_any (is_named pair.0) seen) pair.0 (s.names pair.0))
-    (λ x e. done (whole_ty pair.1) _ (ty_faults ty_room pair.1) (ty_same ty_room pair.1))
+param_same : (maps : Bool) (params : List Param) (seen : List (List ℕ × Form)) (pair : List ℕ × Form) → SameNames params seen → Same (param_of maps params pair) (param_faults maps seen pair)
+param_same maps params seen pair s =
+    step (declared (is_free maps pair.0) (is_param params pair.0) pair.0) _ (name_faults (is_free maps pair.0) (list_any (is_named pair.0) seen) pair.0) _
+    (declared_as (is_free maps pair.0) (is_param params pair.0) (list_any (is_named pair.0) seen) pair.0 (s.names pair.0))
+    (λ x e. done (whole_ty maps pair.1) _ (ty_faults maps ty_room pair.1) (ty_same maps ty_room pair.1))
 
 with_shape : {S : Type 0} (seen : List S) (shape : Option S) (s : S) → shape ≡ Some s → seen_with seen shape ≡ seen ++ s ∷ []
 with_shape seen shape s e = ap (seen_with seen) e
 
-params_after_same : (params : List Param) (seen : List (List ℕ × Form)) (forms : List Form) → SameNames params seen → Same (params_from params forms) (params_faults_after seen forms)
-params_after_same params seen [] s = refl
-params_after_same params seen (form ∷ forms) s =
-    shape_step (param_shape form) (param_of params) (param_faults seen) (λ param. params_from (params ++ param ∷ []) forms) (params_faults_after (seen_with seen (param_shape form)) forms)
-    (λ pair. param_same params seen pair s)
-    (λ pair param e r. subst (λ (seen : List (List ℕ × Form)). Same (params_from (params ++ param ∷ []) forms) (params_faults_after seen forms)) (sym (with_shape seen (param_shape form) pair e))
-    (params_after_same (params ++ param ∷ []) (seen ++ pair ∷ []) forms (names_more params seen param pair s r)))
+params_after_same : (maps : Bool) (params : List Param) (seen : List (List ℕ × Form)) (forms : List Form) → SameNames params seen → Same (params_from maps params forms) (params_faults_after maps seen forms)
+params_after_same maps params seen [] s = refl
+params_after_same maps params seen (form ∷ forms) s =
+    shape_step (param_shape form) (param_of maps params) (param_faults maps seen) (λ param. params_from maps (params ++ param ∷ []) forms) (params_faults_after maps (seen_with seen (param_shape form)) forms)
+    (λ pair. param_same maps params seen pair s)
+    (λ pair param e r. subst (λ (seen : List (List ℕ × Form)). Same (params_from maps (params ++ param ∷ []) forms) (params_faults_after maps seen forms)) (sym (with_shape seen (param_shape form) pair e))
+    (params_after_same maps (params ++ param ∷ []) (seen ++ pair ∷ []) forms (names_more maps params seen param pair s r)))
 
-params_same : (forms : List Form) → Same (params_of forms) (params_faults forms)
-params_same forms = limited (are_few forms) (params_from [] forms) (params_faults_after [] forms) (params_after_same [] [] forms (record { names = λ word. refl }))
+params_same : (maps : Bool) (forms : List Form) → Same (params_of maps forms) (params_faults maps forms)
+params_same maps forms = limited (are_few forms) (params_from maps [] forms) (params_faults_after maps [] forms) (params_after_same maps [] [] forms (record { names = λ word. refl }))
 
 -- ---- callbacks
 
@@ -122,10 +122,10 @@ record SameCallbacks (callbacks : Callbacks) (seen : List CallbackShape) : Type 
   next : is_some callbacks.next ≡ list_any is_next seen
   post : is_some callbacks.post ≡ list_any is_post seen
 
-callback_same : (callbacks : Callbacks) (seen : List CallbackShape) (shape : CallbackShape) → SameCallbacks callbacks seen → Same (callback_of callbacks shape) (callback_faults seen shape)
-callback_same callbacks seen (Pre e) s = single (is_some callbacks.pre) (list_any is_pre seen) _ _ s.pre (done (whole_expr e) _ _ (expr_same expr_room e))
-callback_same callbacks seen (Next e) s = single (is_some callbacks.next) (list_any is_next seen) _ _ s.next (done (whole_expr e) _ _ (expr_same expr_room e))
-callback_same callbacks seen (Post e) s = single (is_some callbacks.post) (list_any is_post seen) _ _ s.post (done (whole_expr e) _ _ (expr_same expr_room e))
+callback_same : (maps : Bool) (callbacks : Callbacks) (seen : List CallbackShape) (shape : CallbackShape) → SameCallbacks callbacks seen → Same (callback_of maps callbacks shape) (callback_faults maps seen shape)
+callback_same maps callbacks seen (Pre e) s = single (is_some callbacks.pre) (list_any is_pre seen) _ _ s.pre (done (whole_expr maps e) _ _ (expr_same maps expr_room e))
+callback_same maps callbacks seen (Next e) s = single (is_some callbacks.next) (list_any is_next seen) _ _ s.next (done (whole_expr maps e) _ _ (expr_same maps expr_room e))
+callback_same maps callbacks seen (Post e) s = single (is_some callbacks.post) (list_any is_post seen) _ _ s.post (done (whole_expr maps e) _ _ (expr_same maps expr_room e))
 
 or_true : (b : Bool) → (b || (true || false)) ≡ true
 or_true true = refl
@@ -142,28 +142,28 @@ seen_yes p seen shape e = sym (list_any-append p seen (shape ∷ []) ∙ ap (λ 
 seen_no : (p : CallbackShape → Bool) (seen : List CallbackShape) (shape : CallbackShape) (b : Bool) → p shape ≡ false → b ≡ list_any p seen → b ≡ list_any p (seen ++ shape ∷ [])
 seen_no p seen shape b e h = h ∙ sym (list_any-append p seen (shape ∷ []) ∙ ap (λ b. list_any p seen || (b || false)) e ∙ or_false (list_any p seen))
 
-callback_more : (callbacks : Callbacks) (seen : List CallbackShape) (shape : CallbackShape) (new : Callbacks) → SameCallbacks callbacks seen → callback_of callbacks shape ≡ Ok new → SameCallbacks new (seen ++ shape ∷ [])
-callback_more callbacks seen (Pre e) new s k =
-    let p = once_ok (is_some callbacks.pre) (whole_expr e >>= (λ e. Ok (record callbacks { pre = Some e }))) new k in
-    let q = bind_ok (whole_expr e) (λ e. Ok (record callbacks { pre = Some e })) new p.1 in
+callback_more : (maps : Bool) (callbacks : Callbacks) (seen : List CallbackShape) (shape : CallbackShape) (new : Callbacks) → SameCallbacks callbacks seen → callback_of maps callbacks shape ≡ Ok new → SameCallbacks new (seen ++ shape ∷ [])
+callback_more maps callbacks seen (Pre e) new s k =
+    let p = once_ok (is_some callbacks.pre) (whole_expr maps e >>= (λ e. Ok (record callbacks { pre = Some e }))) new k in
+    let q = bind_ok (whole_expr maps e) (λ e. Ok (record callbacks { pre = Some e })) new p.1 in
     let r : record callbacks { pre = Some q.0 } ≡ new = okay (record callbacks { pre = Some q.0 }) new q.2 in
     subst (λ (c : Callbacks). SameCallbacks c (seen ++ Pre e ∷ [])) r (record {
       pre = seen_yes is_pre seen (Pre e) refl;
       next = seen_no is_next seen (Pre e) (is_some callbacks.next) refl s.next;
       post = seen_no is_post seen (Pre e) (is_some callbacks.post) refl s.post;
     })
-callback_more callbacks seen (Next e) new s k =
-    let p = once_ok (is_some callbacks.next) (whole_expr e >>= (λ e. Ok (record callbacks { next = Some e }))) new k in
-    let q = bind_ok (whole_expr e) (λ e. Ok (record callbacks { next = Some e })) new p.1 in
+callback_more maps callbacks seen (Next e) new s k =
+    let p = once_ok (is_some callbacks.next) (whole_expr maps e >>= (λ e. Ok (record callbacks { next = Some e }))) new k in
+    let q = bind_ok (whole_expr maps e) (λ e. Ok (record callbacks { next = Some e })) new p.1 in
     let r : record callbacks { next = Some q.0 } ≡ new = okay (record callbacks { next = Some q.0 }) new q.2 in
     subst (λ (c : Callbacks). SameCallbacks c (seen ++ Next e ∷ [])) r (record {
       pre = seen_no is_pre seen (Next e) (is_some callbacks.pre) refl s.pre;
       next = seen_yes is_next seen (Next e) refl;
       post = seen_no is_post seen (Next e) (is_some callbacks.post) refl s.post;
     })
-callback_more callbacks seen (Post e) new s k =
-    let p = once_ok (is_some callbacks.post) (whole_expr e >>= (λ e. Ok (record callbacks { post = Some e }))) new k in
-    let q = bind_ok (whole_expr e) (λ e. Ok (record callbacks { post = Some e })) new p.1 in
+callback_more maps callbacks seen (Post e) new s k =
+    let p = once_ok (is_some callbacks.post) (whole_expr maps e >>= (λ e. Ok (record callbacks { post = Some e }))) new k in
+    let q = bind_ok (whole_expr maps e) (λ e. Ok (record callbacks { post = Some e })) new p.1 in
     let r : record callbacks { post = Some q.0 } ≡ new = okay (record callbacks { post = Some q.0 }) new q.2 in
     subst (λ (c : Callbacks). SameCallbacks c (seen ++ Post e ∷ [])) r (record {
       pre = seen_no is_pre seen (Post e) (is_some callbacks.pre) refl s.pre;
@@ -192,14 +192,14 @@ bind_assoc : {A B C : Type 0} (r : Read A) (f : A → Read B) (g : B → Read C)
 bind_assoc (Ok a) f g = refl
 bind_assoc (Err kind) f g = refl
 
-callbacks_same : (callbacks : Callbacks) (seen : List CallbackShape) (forms : List Form) → SameCallbacks callbacks seen → Same (callbacks_from callbacks forms >>= all_callbacks) (callbacks_faults seen forms)
-callbacks_same callbacks seen [] s = all_there callbacks seen s
-callbacks_same callbacks seen (form ∷ forms) s =
-    subst (λ (r : Read AllCallbacks). Same r (callbacks_faults seen (form ∷ forms))) (bind_assoc (known (callback_shape form) (callback_of callbacks)) (λ callbacks. callbacks_from callbacks forms) all_callbacks)
-    (shape_step (callback_shape form) (callback_of callbacks) (callback_faults seen) (λ callbacks. callbacks_from callbacks forms >>= all_callbacks) (callbacks_faults (seen_with seen (callback_shape form)) forms)
-    (λ shape. callback_same callbacks seen shape s)
-    (λ shape new e r. subst (λ (seen : List CallbackShape). Same (callbacks_from new forms >>= all_callbacks) (callbacks_faults seen forms)) (sym (with_shape seen (callback_shape form) shape e))
-    (callbacks_same new (seen ++ shape ∷ []) forms (callback_more callbacks seen shape new s r))))
+callbacks_same : (maps : Bool) (callbacks : Callbacks) (seen : List CallbackShape) (forms : List Form) → SameCallbacks callbacks seen → Same (callbacks_from maps callbacks forms >>= all_callbacks) (callbacks_faults maps seen forms)
+callbacks_same maps callbacks seen [] s = all_there callbacks seen s
+callbacks_same maps callbacks seen (form ∷ forms) s =
+    subst (λ (r : Read AllCallbacks). Same r (callbacks_faults maps seen (form ∷ forms))) (bind_assoc (known (callback_shape form) (callback_of maps callbacks)) (λ callbacks. callbacks_from maps callbacks forms) all_callbacks)
+    (shape_step (callback_shape form) (callback_of maps callbacks) (callback_faults maps seen) (λ callbacks. callbacks_from maps callbacks forms >>= all_callbacks) (callbacks_faults maps (seen_with seen (callback_shape form)) forms)
+    (λ shape. callback_same maps callbacks seen shape s)
+    (λ shape new e r. subst (λ (seen : List CallbackShape). Same (callbacks_from maps new forms >>= all_callbacks) (callbacks_faults maps seen forms)) (sym (with_shape seen (callback_shape form) shape e))
+    (callbacks_same maps new (seen ++ shape ∷ []) forms (callback_more maps callbacks seen shape new s r))))
 
 -- ---- items
 
@@ -233,78 +233,78 @@ items_more items seen i shape s h = record {
   op_names = λ word. any_more (read.is_op_named word) (faults.is_op_named word) items seen i shape (s.op_names word) (h.op_name word);
 }
 
-fun_named : (is_post : Bool) (items : List Item) (x : List ℕ) (ps : List Form) (t e : Form) (f : Fun) → fun_of is_post items x ps t e ≡ Ok f → f.name ≡ x
-fun_named is_post items x ps t e f k =
-    let p = bind_ok (declared (is_free x) (list_any (read.is_fun_named x) items) x) (λ x. params_of ps >>= (λ ps. whole_ty t >>= (λ t. whole_expr e >>= (λ e. Ok (record { is_post = is_post; name = x; params = ps; result = t; body = e }))))) f k in
-    let q = bind_ok (params_of ps) (λ ps. whole_ty t >>= (λ t. whole_expr e >>= (λ e. Ok (record { is_post = is_post; name = p.0; params = ps; result = t; body = e })))) f p.2 in
-    let u = bind_ok (whole_ty t) (λ t. whole_expr e >>= (λ e. Ok (record { is_post = is_post; name = p.0; params = q.0; result = t; body = e }))) f q.2 in
-    let v = bind_ok (whole_expr e) (λ e. Ok (record { is_post = is_post; name = p.0; params = q.0; result = u.0; body = e })) f u.2 in
+fun_named : (maps : Bool) (is_post : Bool) (items : List Item) (x : List ℕ) (ps : List Form) (t e : Form) (f : Fun) → fun_of maps is_post items x ps t e ≡ Ok f → f.name ≡ x
+fun_named maps is_post items x ps t e f k =
+    let p = bind_ok (declared (is_free maps x) (list_any (read.is_fun_named x) items) x) (λ x. params_of maps ps >>= (λ ps. whole_ty maps t >>= (λ t. whole_expr maps e >>= (λ e. Ok (record { is_post = is_post; name = x; params = ps; result = t; body = e }))))) f k in
+    let q = bind_ok (params_of maps ps) (λ ps. whole_ty maps t >>= (λ t. whole_expr maps e >>= (λ e. Ok (record { is_post = is_post; name = p.0; params = ps; result = t; body = e })))) f p.2 in
+    let u = bind_ok (whole_ty maps t) (λ t. whole_expr maps e >>= (λ e. Ok (record { is_post = is_post; name = p.0; params = q.0; result = t; body = e }))) f q.2 in
+    let v = bind_ok (whole_expr maps e) (λ e. Ok (record { is_post = is_post; name = p.0; params = q.0; result = u.0; body = e })) f u.2 in
     let w : record { is_post = is_post; name = p.0; params = q.0; result = u.0; body = v.0 } ≡ f = okay (record { is_post = is_post; name = p.0; params = q.0; result = u.0; body = v.0 }) f v.2 in
-    ap (λ (f : Fun). f.name) (sym w) ∙ sym (declared_is (is_free x) (list_any (read.is_fun_named x) items) x p.0 p.1)
+    ap (λ (f : Fun). f.name) (sym w) ∙ sym (declared_is (is_free maps x) (list_any (read.is_fun_named x) items) x p.0 p.1)
 
-op_named : (items : List Item) (x : List ℕ) (ps : List Form) (t : Form) (callbacks : List Form) (o : Op) → op_parts items x ps t callbacks ≡ Ok o → o.name ≡ x
-op_named items x ps t callbacks o k =
-    let p = bind_ok (declared (is_name x) (list_any (read.is_op_named x) items) x) (λ x. params_of ps >>= (λ ps. whole_ty t >>= (λ t. callbacks_from no_callbacks callbacks >>= all_callbacks >>= (λ all. Ok (record { name = x; params = ps; result = t; pre = all.pre; next = all.next; post = all.post }))))) o k in
-    let q = bind_ok (params_of ps) (λ ps. whole_ty t >>= (λ t. callbacks_from no_callbacks callbacks >>= all_callbacks >>= (λ all. Ok (record { name = p.0; params = ps; result = t; pre = all.pre; next = all.next; post = all.post })))) o p.2 in
-    let u = bind_ok (whole_ty t) (λ t. callbacks_from no_callbacks callbacks >>= all_callbacks >>= (λ all. Ok (record { name = p.0; params = q.0; result = t; pre = all.pre; next = all.next; post = all.post }))) o q.2 in
-    let v = bind_ok (callbacks_from no_callbacks callbacks >>= all_callbacks) (λ all. Ok (record { name = p.0; params = q.0; result = u.0; pre = all.pre; next = all.next; post = all.post })) o u.2 in
+op_named : (maps : Bool) (items : List Item) (x : List ℕ) (ps : List Form) (t : Form) (callbacks : List Form) (o : Op) → op_parts maps items x ps t callbacks ≡ Ok o → o.name ≡ x
+op_named maps items x ps t callbacks o k =
+    let p = bind_ok (declared (is_name x) (list_any (read.is_op_named x) items) x) (λ x. params_of maps ps >>= (λ ps. whole_ty maps t >>= (λ t. callbacks_from maps no_callbacks callbacks >>= all_callbacks >>= (λ all. Ok (record { name = x; params = ps; result = t; pre = all.pre; next = all.next; post = all.post }))))) o k in
+    let q = bind_ok (params_of maps ps) (λ ps. whole_ty maps t >>= (λ t. callbacks_from maps no_callbacks callbacks >>= all_callbacks >>= (λ all. Ok (record { name = p.0; params = ps; result = t; pre = all.pre; next = all.next; post = all.post })))) o p.2 in
+    let u = bind_ok (whole_ty maps t) (λ t. callbacks_from maps no_callbacks callbacks >>= all_callbacks >>= (λ all. Ok (record { name = p.0; params = q.0; result = t; pre = all.pre; next = all.next; post = all.post }))) o q.2 in
+    let v = bind_ok (callbacks_from maps no_callbacks callbacks >>= all_callbacks) (λ all. Ok (record { name = p.0; params = q.0; result = u.0; pre = all.pre; next = all.next; post = all.post })) o u.2 in
     let w : record { name = p.0; params = q.0; result = u.0; pre = v.0.pre; next = v.0.next; post = v.0.post } ≡ o = okay (record { name = p.0; params = q.0; result = u.0; pre = v.0.pre; next = v.0.next; post = v.0.post }) o v.2 in
     ap (λ (o : Op). o.name) (sym w) ∙ sym (declared_is (is_name x) (list_any (read.is_op_named x) items) x p.0 p.1)
 
 plain_item : (i : Item) (shape : ItemShape) → SameItem i shape → (j : Item) → i ≡ j → SameItem j shape
 plain_item i shape s j e = subst (λ (i : Item). SameItem i shape) e s
 
-item_is : (items : List Item) (shape : ItemShape) (i : Item) → item_parts items shape ≡ Ok i → SameItem i shape
-item_is items (StateItem t) i k =
-    let p = once_ok (list_any read.is_state items) (whole_ty t >>= (λ t. Ok (item.State t))) i k in
-    let q = bind_ok (whole_ty t) (λ t. Ok (item.State t)) i p.1 in
+item_is : (maps : Bool) (items : List Item) (shape : ItemShape) (i : Item) → item_parts maps items shape ≡ Ok i → SameItem i shape
+item_is maps items (StateItem t) i k =
+    let p = once_ok (list_any read.is_state items) (whole_ty maps t >>= (λ t. Ok (item.State t))) i k in
+    let q = bind_ok (whole_ty maps t) (λ t. Ok (item.State t)) i p.1 in
     plain_item (item.State q.0) (StateItem t) (record { state = refl; init = refl; command = refl; function = refl; operation = refl; fun_name = λ word. refl; op_name = λ word. refl }) i (okay (item.State q.0) i q.2)
-item_is items (InitItem e) i k =
-    let p = once_ok (list_any read.is_init items) (whole_expr e >>= (λ e. Ok (item.Init e))) i k in
-    let q = bind_ok (whole_expr e) (λ e. Ok (item.Init e)) i p.1 in
+item_is maps items (InitItem e) i k =
+    let p = once_ok (list_any read.is_init items) (whole_expr maps e >>= (λ e. Ok (item.Init e))) i k in
+    let q = bind_ok (whole_expr maps e) (λ e. Ok (item.Init e)) i p.1 in
     plain_item (item.Init q.0) (InitItem e) (record { state = refl; init = refl; command = refl; function = refl; operation = refl; fun_name = λ word. refl; op_name = λ word. refl }) i (okay (item.Init q.0) i q.2)
-item_is items (CommandItem e) i k =
-    let p = once_ok (list_any read.is_command items) (whole_expr e >>= (λ e. Ok (item.Command e))) i k in
-    let q = bind_ok (whole_expr e) (λ e. Ok (item.Command e)) i p.1 in
+item_is maps items (CommandItem e) i k =
+    let p = once_ok (list_any read.is_command items) (whole_expr maps e >>= (λ e. Ok (item.Command e))) i k in
+    let q = bind_ok (whole_expr maps e) (λ e. Ok (item.Command e)) i p.1 in
     plain_item (item.Command q.0) (CommandItem e) (record { state = refl; init = refl; command = refl; function = refl; operation = refl; fun_name = λ word. refl; op_name = λ word. refl }) i (okay (item.Command q.0) i q.2)
-item_is items (FunItem is_post x ps t e) i k =
-    let p = within_ok (read.has_room read.is_fun items) (fun_of is_post items x ps t e >>= (λ f. Ok (item.Fun f))) i k in
-    let q = bind_ok (fun_of is_post items x ps t e) (λ f. Ok (item.Fun f)) i p.1 in
-    let n : q.0.name ≡ x = fun_named is_post items x ps t e q.0 q.1 in
+item_is maps items (FunItem is_post x ps t e) i k =
+    let p = within_ok (read.has_room read.is_fun items) (fun_of maps is_post items x ps t e >>= (λ f. Ok (item.Fun f))) i k in
+    let q = bind_ok (fun_of maps is_post items x ps t e) (λ f. Ok (item.Fun f)) i p.1 in
+    let n : q.0.name ≡ x = fun_named maps is_post items x ps t e q.0 q.1 in
     plain_item (item.Fun q.0) (FunItem is_post x ps t e) (record { state = refl; init = refl; command = refl; function = refl; operation = refl; fun_name = λ word. ap (λ y. bytes_eq y word) n; op_name = λ word. refl }) i (okay (item.Fun q.0) i q.2)
-item_is items (OpItem x ps t callbacks) i k =
-    let p = within_ok (read.has_room read.is_op items) (op_parts items x ps t callbacks >>= (λ o. Ok (item.Op o))) i k in
-    let q = bind_ok (op_parts items x ps t callbacks) (λ o. Ok (item.Op o)) i p.1 in
-    let n : q.0.name ≡ x = op_named items x ps t callbacks q.0 q.1 in
+item_is maps items (OpItem x ps t callbacks) i k =
+    let p = within_ok (read.has_room read.is_op items) (op_parts maps items x ps t callbacks >>= (λ o. Ok (item.Op o))) i k in
+    let q = bind_ok (op_parts maps items x ps t callbacks) (λ o. Ok (item.Op o)) i p.1 in
+    let n : q.0.name ≡ x = op_named maps items x ps t callbacks q.0 q.1 in
     plain_item (item.Op q.0) (OpItem x ps t callbacks) (record { state = refl; init = refl; command = refl; function = refl; operation = refl; fun_name = λ word. refl; op_name = λ word. ap (λ y. bytes_eq y word) n }) i (okay (item.Op q.0) i q.2)
 
-fun_same : (items : List Item) (seen : List ItemShape) (is_post : Bool) (x : List ℕ) (ps : List Form) (t e : Form) → SameItems items seen
-    → Same (fun_of is_post items x ps t e) (name_faults (is_free x) (list_any (faults.is_fun_named x) seen) x ++ (params_faults ps ++ (ty_faults ty_room t ++ expr_faults expr_room e)))
-fun_same items seen is_post x ps t e s =
-    onward (declared (is_free x) (list_any (read.is_fun_named x) items) x) _ (name_faults (is_free x) (list_any (faults.is_fun_named x) seen) x) _
-    (declared_as (is_free x) (list_any (read.is_fun_named x) items) (list_any (faults.is_fun_named x) seen) x (s.fun_names x)) (λ x.
-    onward (params_of ps) _ (params_faults ps) _ (params_same ps) (λ ps.
-    onward (whole_ty t) _ (ty_faults ty_room t) _ (ty_same ty_room t) (λ t.
-    done (whole_expr e) _ (expr_faults expr_room e) (expr_same expr_room e))))
+fun_same : (maps : Bool) (items : List Item) (seen : List ItemShape) (is_post : Bool) (x : List ℕ) (ps : List Form) (t e : Form) → SameItems items seen
+    → Same (fun_of maps is_post items x ps t e) (name_faults (is_free maps x) (list_any (faults.is_fun_named x) seen) x ++ (params_faults maps ps ++ (ty_faults maps ty_room t ++ expr_faults maps expr_room e)))
+fun_same maps items seen is_post x ps t e s =
+    onward (declared (is_free maps x) (list_any (read.is_fun_named x) items) x) _ (name_faults (is_free maps x) (list_any (faults.is_fun_named x) seen) x) _
+    (declared_as (is_free maps x) (list_any (read.is_fun_named x) items) (list_any (faults.is_fun_named x) seen) x (s.fun_names x)) (λ x.
+    onward (params_of maps ps) _ (params_faults maps ps) _ (params_same maps ps) (λ ps.
+    onward (whole_ty maps t) _ (ty_faults maps ty_room t) _ (ty_same maps ty_room t) (λ t.
+    done (whole_expr maps e) _ (expr_faults maps expr_room e) (expr_same maps expr_room e))))
 
-op_same : (items : List Item) (seen : List ItemShape) (x : List ℕ) (ps : List Form) (t : Form) (callbacks : List Form) → SameItems items seen
-    → Same (op_parts items x ps t callbacks) (name_faults (is_name x) (list_any (faults.is_op_named x) seen) x ++ (params_faults ps ++ (ty_faults ty_room t ++ callbacks_faults [] callbacks)))
-op_same items seen x ps t callbacks s =
+op_same : (maps : Bool) (items : List Item) (seen : List ItemShape) (x : List ℕ) (ps : List Form) (t : Form) (callbacks : List Form) → SameItems items seen
+    → Same (op_parts maps items x ps t callbacks) (name_faults (is_name x) (list_any (faults.is_op_named x) seen) x ++ (params_faults maps ps ++ (ty_faults maps ty_room t ++ callbacks_faults maps [] callbacks)))
+op_same maps items seen x ps t callbacks s =
     onward (declared (is_name x) (list_any (read.is_op_named x) items) x) _ (name_faults (is_name x) (list_any (faults.is_op_named x) seen) x) _
     (declared_as (is_name x) (list_any (read.is_op_named x) items) (list_any (faults.is_op_named x) seen) x (s.op_names x)) (λ x.
-    onward (params_of ps) _ (params_faults ps) _ (params_same ps) (λ ps.
-    onward (whole_ty t) _ (ty_faults ty_room t) _ (ty_same ty_room t) (λ t.
-    done (callbacks_from no_callbacks callbacks >>= all_callbacks) _ (callbacks_faults [] callbacks)
-    (callbacks_same no_callbacks [] callbacks (record { pre = refl; next = refl; post = refl })))))
+    onward (params_of maps ps) _ (params_faults maps ps) _ (params_same maps ps) (λ ps.
+    onward (whole_ty maps t) _ (ty_faults maps ty_room t) _ (ty_same maps ty_room t) (λ t.
+    done (callbacks_from maps no_callbacks callbacks >>= all_callbacks) _ (callbacks_faults maps [] callbacks)
+    (callbacks_same maps no_callbacks [] callbacks (record { pre = refl; next = refl; post = refl })))))
 
-item_same : (items : List Item) (seen : List ItemShape) (shape : ItemShape) → SameItems items seen → Same (item_parts items shape) (item_faults seen shape)
-item_same items seen (StateItem t) s = single (list_any read.is_state items) (list_any faults.is_state seen) _ _ s.state (done (whole_ty t) _ _ (ty_same ty_room t))
-item_same items seen (InitItem e) s = single (list_any read.is_init items) (list_any faults.is_init seen) _ _ s.init (done (whole_expr e) _ _ (expr_same expr_room e))
-item_same items seen (CommandItem e) s = single (list_any read.is_command items) (list_any faults.is_command seen) _ _ s.command (done (whole_expr e) _ _ (expr_same expr_room e))
-item_same items seen (FunItem is_post x ps t e) s =
-    fitting (read.has_room read.is_fun items) (faults.has_room faults.is_fun seen) _ _ (ap (λ n. nat_lt n max_declared) s.functions) (done (fun_of is_post items x ps t e) _ _ (fun_same items seen is_post x ps t e s))
-item_same items seen (OpItem x ps t callbacks) s =
-    fitting (read.has_room read.is_op items) (faults.has_room faults.is_op seen) _ _ (ap (λ n. nat_lt n max_declared) s.operations) (done (op_parts items x ps t callbacks) _ _ (op_same items seen x ps t callbacks s))
+item_same : (maps : Bool) (items : List Item) (seen : List ItemShape) (shape : ItemShape) → SameItems items seen → Same (item_parts maps items shape) (item_faults maps seen shape)
+item_same maps items seen (StateItem t) s = single (list_any read.is_state items) (list_any faults.is_state seen) _ _ s.state (done (whole_ty maps t) _ _ (ty_same maps ty_room t))
+item_same maps items seen (InitItem e) s = single (list_any read.is_init items) (list_any faults.is_init seen) _ _ s.init (done (whole_expr maps e) _ _ (expr_same maps expr_room e))
+item_same maps items seen (CommandItem e) s = single (list_any read.is_command items) (list_any faults.is_command seen) _ _ s.command (done (whole_expr maps e) _ _ (expr_same maps expr_room e))
+item_same maps items seen (FunItem is_post x ps t e) s =
+    fitting (read.has_room read.is_fun items) (faults.has_room faults.is_fun seen) _ _ (ap (λ n. nat_lt n max_declared) s.functions) (done (fun_of maps is_post items x ps t e) _ _ (fun_same maps items seen is_post x ps t e s))
+item_same maps items seen (OpItem x ps t callbacks) s =
+    fitting (read.has_room read.is_op items) (faults.has_room faults.is_op seen) _ _ (ap (λ n. nat_lt n max_declared) s.operations) (done (op_parts maps items x ps t callbacks) _ _ (op_same maps items seen x ps t callbacks s))
 
 -- ---- faults with their items
 
@@ -319,63 +319,64 @@ go_assoc : {A B C : Type 0} (r : Result A SyntaxFault) (f : A → Result B Synta
 go_assoc (Ok a) f g = refl
 go_assoc (Err fault) f g = refl
 
-finish : List ℕ → List Item → Result Source SyntaxFault
-finish x items = at_item 0 (complete (is_complete items) x items)
+finish : ModelShape → List Item → Result Source SyntaxFault
+finish m items = at_item 0 (complete (is_complete items) m items)
 
-completed : (b c : Bool) (x : List ℕ) (items : List Item) → b ≡ c → refusal (at_item 0 (complete b x items)) ≡ first (map (in_item 0) (unless c Missing []))
-completed true true x items e = refl
-completed false false x items e = refl
-completed true false x items e = absurd (cc)
-completed false true x items e = absurd (cc)
+completed : (b c : Bool) (m : ModelShape) (items : List Item) → b ≡ c → refusal (at_item 0 (complete b m items)) ≡ first (map (in_item 0) (unless c Missing []))
+completed true true m items e = refl
+completed false false m items e = refl
+completed true false m items e = absurd (cc)
+completed false true m items e = absurd (cc)
 
-finished : (x : List ℕ) (items : List Item) (seen : List ItemShape) → SameItems items seen
-    → refusal (finish x items) ≡ first (map (in_item 0) (unless (list_any faults.is_state seen && list_any faults.is_init seen && list_any faults.is_command seen) Missing []))
+finished : (m : ModelShape) (items : List Item) (seen : List ItemShape) → SameItems items seen
+    → refusal (finish m items) ≡ first (map (in_item 0) (unless (list_any faults.is_state seen && list_any faults.is_init seen && list_any faults.is_command seen) Missing []))
 unfolding finish
-finished x items seen s =
+finished m items seen s =
     let e : is_complete items ≡ (list_any faults.is_state seen && list_any faults.is_init seen && list_any faults.is_command seen) =
     ap (λ b. b && list_any read.is_init items && list_any read.is_command items) s.state ∙ ap (λ b. list_any faults.is_state seen && b && list_any read.is_command items) s.init ∙ ap (λ b. list_any faults.is_state seen && list_any faults.is_init seen && b) s.command in
-    completed (is_complete items) (list_any faults.is_state seen && list_any faults.is_init seen && list_any faults.is_command seen) x items e
+    completed (is_complete items) (list_any faults.is_state seen && list_any faults.is_init seen && list_any faults.is_command seen) m items e
 
-items_same : (x : List ℕ) (items : List Item) (seen : List ItemShape) (number : ℕ) (forms : List Form) → number ≡ length items + 1 → SameItems items seen
-    → refusal (go_on (items_from items forms) (finish x)) ≡ first (items_faults seen number forms)
+items_same : (maps : Bool) (m : ModelShape) (items : List Item) (seen : List ItemShape) (number : ℕ) (forms : List Form) → number ≡ length items + 1 → SameItems items seen
+    → refusal (go_on (items_from maps items forms) (finish m)) ≡ first (items_faults maps seen number forms)
 unfolding item_of
-items_same x items seen number [] n s = finished x items seen s
-items_same x items seen number (form ∷ forms) n s =
-    subst (λ (number : ℕ). refusal (go_on (items_from items (form ∷ forms)) (finish x)) ≡ first (items_faults seen number (form ∷ forms))) (sym n)
-    (subst (λ (r : Result Source SyntaxFault). refusal r ≡ first (items_faults seen (length items + 1) (form ∷ forms)))
-    (go_assoc (at_item (length items + 1) (item_of items form)) (λ i. items_from (items ++ i ∷ []) forms) (finish x))
-    (item_step (length items + 1) (item_of items form) (λ i. go_on (items_from (items ++ i ∷ []) forms) (finish x)) (faults_of (item_shape form) (item_faults seen)) (items_faults (seen_with seen (item_shape form)) (length items + 1 + 1) forms)
-    (shaped (item_shape form) (item_parts items) (item_faults seen) (λ shape. item_same items seen shape s))
+items_same maps m items seen number [] n s = finished m items seen s
+items_same maps m items seen number (form ∷ forms) n s =
+    subst (λ (number : ℕ). refusal (go_on (items_from maps items (form ∷ forms)) (finish m)) ≡ first (items_faults maps seen number (form ∷ forms))) (sym n)
+    (subst (λ (r : Result Source SyntaxFault). refusal r ≡ first (items_faults maps seen (length items + 1) (form ∷ forms)))
+    (go_assoc (at_item (length items + 1) (item_of maps items form)) (λ i. items_from maps (items ++ i ∷ []) forms) (finish m))
+    (item_step (length items + 1) (item_of maps items form) (λ i. go_on (items_from maps (items ++ i ∷ []) forms) (finish m)) (faults_of (item_shape form) (item_faults maps seen)) (items_faults maps (seen_with seen (item_shape form)) (length items + 1 + 1) forms)
+    (shaped (item_shape form) (item_parts maps items) (item_faults maps seen) (λ shape. item_same maps items seen shape s))
     (λ i e.
-    let p = known_ok (item_shape form) (item_parts items) i e in
-    subst (λ (seen : List ItemShape). refusal (go_on (items_from (items ++ i ∷ []) forms) (finish x)) ≡ first (items_faults seen (length items + 1 + 1) forms)) (sym (with_shape seen (item_shape form) p.0 p.1))
-    (items_same x (items ++ i ∷ []) (seen ++ p.0 ∷ []) (length items + 1 + 1) forms (simp length-append (omega arith)) (items_more items seen i p.0 s (item_is items p.0 i p.2))))))
+    let p = known_ok (item_shape form) (item_parts maps items) i e in
+    subst (λ (seen : List ItemShape). refusal (go_on (items_from maps (items ++ i ∷ []) forms) (finish m)) ≡ first (items_faults maps seen (length items + 1 + 1) forms)) (sym (with_shape seen (item_shape form) p.0 p.1))
+    (items_same maps m (items ++ i ∷ []) (seen ++ p.0 ∷ []) (length items + 1 + 1) forms (simp length-append (omega arith)) (items_more items seen i p.0 s (item_is maps items p.0 i p.2))))))
 
 nothing_seen : SameItems [] []
 nothing_seen = record { state = refl; init = refl; command = refl; functions = refl; operations = refl; fun_names = λ word. refl; op_names = λ word. refl }
 
-head_same : (parts : List ℕ × List Form) → Same (head_parts parts) (name_faults (is_name parts.0) false parts.0)
-head_same parts = done (declared (is_name parts.0) false parts.0) (λ x. (x, parts.1)) (name_faults (is_name parts.0) false parts.0) (declared_same (is_name parts.0) false parts.0)
+head_same : (m : ModelShape) → Same (head_parts m) (name_faults (is_name m.name) false m.name)
+head_same m = done (declared (is_name m.name) false m.name) (λ x. record m { name = x }) (name_faults (is_name m.name) false m.name) (declared_same (is_name m.name) false m.name)
 
-head_keeps : (parts kept : List ℕ × List Form) → head_parts parts ≡ Ok kept → parts.1 ≡ kept.1
-head_keeps parts kept e =
-    let p = bind_ok (declared (is_name parts.0) false parts.0) (λ x. Ok (x, parts.1)) kept e in
-    let q : (p.0, parts.1) ≡ kept = okay (p.0, parts.1) kept p.2 in
-    ap (λ (k : List ℕ × List Form). k.1) q
+head_keeps : (m kept : ModelShape) → head_parts m ≡ Ok kept → (kept.has_maps ≡ m.has_maps) × (kept.items ≡ m.items)
+head_keeps m kept e =
+    let p = bind_ok (declared (is_name m.name) false m.name) (λ x. Ok (record m { name = x })) kept e in
+    let q : record m { name = p.0 } ≡ kept = okay (record m { name = p.0 }) kept p.2 in
+    (ap (λ (k : ModelShape). k.has_maps) (sym q), ap (λ (k : ModelShape). k.items) (sym q))
 
-behind : List ℕ × List Form → Result Source SyntaxFault
-behind parts = go_on (items_from [] parts.1) (finish parts.0)
+behind : ModelShape → Result Source SyntaxFault
+behind m = go_on (items_from m.has_maps [] m.items) (finish m)
 
-behind_same : (parts kept : List ℕ × List Form) → head_parts parts ≡ Ok kept → refusal (behind kept) ≡ first (items_faults [] 1 parts.1)
+behind_same : (m kept : ModelShape) → head_parts m ≡ Ok kept → refusal (behind kept) ≡ first (items_faults m.has_maps [] 1 m.items)
 unfolding behind
-behind_same parts kept e =
-    subst (λ (forms : List Form). refusal (go_on (items_from [] kept.1) (finish kept.0)) ≡ first (items_faults [] 1 forms)) (sym (head_keeps parts kept e))
-    (items_same kept.0 [] [] 1 kept.1 refl nothing_seen)
+behind_same m kept e =
+    let k = head_keeps m kept e in
+    items_same kept.has_maps kept [] [] 1 kept.items refl nothing_seen
+    ∙ ap (λ maps. first (items_faults maps [] 1 kept.items)) k.0 ∙ ap (λ forms. first (items_faults m.has_maps [] 1 forms)) k.1
 
-head_of_same : (b : Bool) (shape : Option (List ℕ × List Form)) → refusal (go_on (at_item 0 (within b (known shape head_parts))) behind) ≡ first (map (in_item 0) (unless b OverLimit []) ++ named_faults shape)
+head_of_same : (b : Bool) (shape : Option ModelShape) → refusal (go_on (at_item 0 (within b (known shape head_parts))) behind) ≡ first (map (in_item 0) (unless b OverLimit []) ++ named_faults shape)
 head_of_same false shape = refl
 head_of_same true None = refl
-head_of_same true (Some parts) = item_step 0 (head_parts parts) behind (name_faults (is_name parts.0) false parts.0) (items_faults [] 1 parts.1) (head_same parts) (behind_same parts)
+head_of_same true (Some m) = item_step 0 (head_parts m) behind (name_faults (is_name m.name) false m.name) (items_faults m.has_maps [] 1 m.items) (head_same m) (behind_same m)
 
 pub model_same : (trees : List Form) → refusal (model_of trees) ≡ first (model_faults trees)
 unfolding behind finish

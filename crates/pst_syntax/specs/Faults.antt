@@ -8,7 +8,7 @@ use Rattle.pst_syntax.specs.declared.fault.FaultKind.TheVariants.{UnknownForm, B
 use Rattle.pst_syntax.specs.Names.{is_free, is_short, is_used_operation}
 use Rattle.pst_words.specs.Integers.{value}
 use Rattle.pst_value.specs.Text.{is_i64}
-use Rattle.pst_syntax.specs.Shape.{Shape, TyShape, ClauseShape, Integer, Truth, Quoted, Used, Let, If, And, Or, Unary, Binary, Tuple, At, ListOf, For, Fold, Call, Apply, IntType, BoolType, TextType, CallType, TupleType, ListType, RefType, InEach, WhenTrue, shape_of, ty_shape, clause_shape}
+use Rattle.pst_syntax.specs.Shape.{Shape, TyShape, ClauseShape, Integer, Truth, Quoted, Used, Let, If, And, Or, Unary, Binary, Tuple, At, ListOf, For, Fold, MapOf, Put, Call, Apply, IntType, BoolType, TextType, CallType, TupleType, ListType, MapType, RefType, InEach, WhenTrue, shape_of, ty_shape, clause_shape}
 use Rattle.pst_syntax.specs.Reading.{are_few}
 use Rattle.pst_syntax.specs.Limits.{max_text, ty_room}
 
@@ -25,29 +25,32 @@ pub data Part : Type 0 where
   Clause : Form → Part
 
 -- a bound name
-abbrev pub Bound : List ℕ → Part
-Bound word = Declared (is_free word) false word
+abbrev pub Bound : Bool → List ℕ → Part
+Bound has_maps word = Declared (is_free has_maps word) false word
 
 -- the parts of each form, from left to right
-abbrev pub parts : Shape → List Part
-parts (Integer word) = []
-parts (Truth b) = []
-parts (Quoted text) = []
-parts (Used x) = []
-parts (Let x e b) = Bound x ∷ Expression e ∷ Expression b ∷ []
-parts (If c a b) = Expression c ∷ Expression a ∷ Expression b ∷ []
-parts (And a b) = Expression a ∷ Expression b ∷ []
-parts (Or a b) = Expression a ∷ Expression b ∷ []
-parts (Unary operator a) = Expression a ∷ []
-parts (Binary operator a b) = Expression a ∷ Expression b ∷ []
-parts (Tuple es) = map Expression es
-parts (At e i) = Expression e ∷ Place i ∷ []
-parts (ListOf t es) = OfType t ∷ map Expression es
-parts (For cs b) = map Clause cs ++ Expression b ∷ []
-parts (Fold x e acc i b) =
-    Bound x ∷ Expression e ∷ Declared (is_free acc) (bytes_eq x acc) acc ∷ Expression i ∷ Expression b ∷ []
-parts (Call op es) = Operation op ∷ map Expression es
-parts (Apply f es) = map Expression es
+abbrev pub parts : Bool → Shape → List Part
+parts has_maps (Integer word) = []
+parts has_maps (Truth b) = []
+parts has_maps (Quoted text) = []
+parts has_maps (Used x) = []
+parts has_maps (Let x e b) = Bound has_maps x ∷ Expression e ∷ Expression b ∷ []
+parts has_maps (If c a b) = Expression c ∷ Expression a ∷ Expression b ∷ []
+parts has_maps (And a b) = Expression a ∷ Expression b ∷ []
+parts has_maps (Or a b) = Expression a ∷ Expression b ∷ []
+parts has_maps (Unary operator a) = Expression a ∷ []
+parts has_maps (Binary operator a b) = Expression a ∷ Expression b ∷ []
+parts has_maps (Tuple es) = map Expression es
+parts has_maps (At e i) = Expression e ∷ Place i ∷ []
+parts has_maps (ListOf t es) = OfType t ∷ map Expression es
+parts has_maps (For cs b) = map Clause cs ++ Expression b ∷ []
+parts has_maps (Fold x e acc i b) =
+    Bound has_maps x ∷ Expression e ∷ Declared (is_free has_maps acc) (bytes_eq x acc) acc ∷ Expression i
+    ∷ Expression b ∷ []
+parts has_maps (MapOf k t) = OfType t ∷ []
+parts has_maps (Put m k v) = Expression m ∷ Expression k ∷ Expression v ∷ []
+parts has_maps (Call op es) = Operation op ∷ map Expression es
+parts has_maps (Apply f es) = map Expression es
 
 abbrev pub ty_parts : TyShape → List Part
 ty_parts IntType = []
@@ -56,11 +59,12 @@ ty_parts TextType = []
 ty_parts CallType = []
 ty_parts (TupleType ts) = map OfType ts
 ty_parts (ListType t) = OfType t ∷ []
+ty_parts (MapType k t) = OfType t ∷ []
 ty_parts (RefType t) = OfType t ∷ []
 
-abbrev pub clause_parts : ClauseShape → List Part
-clause_parts (InEach x e) = Bound x ∷ Expression e ∷ []
-clause_parts (WhenTrue c) = Expression c ∷ []
+abbrev pub clause_parts : Bool → ClauseShape → List Part
+clause_parts has_maps (InEach x e) = Bound has_maps x ∷ Expression e ∷ []
+clause_parts has_maps (WhenTrue c) = Expression c ∷ []
 
 -- the limits of a form, besides that of its depth
 abbrev pub fits : Shape → Bool
@@ -108,26 +112,29 @@ part_faults c t e (OfType form) = t form
 part_faults c t e (Expression form) = e form
 part_faults c t e (Clause form) = c form
 
-abbrev pub clause_faults : (Form → List FaultKind) → Form → List FaultKind
-clause_faults e form =
-    faults_of (clause_shape form) (λ shape. all_faults (part_faults none none e) (clause_parts shape))
+abbrev pub clause_faults : Bool → (Form → List FaultKind) → Form → List FaultKind
+clause_faults has_maps e form =
+    faults_of (clause_shape form)
+    (λ shape. all_faults (part_faults none none e) (clause_parts has_maps shape))
 
--- a type with so many levels of room
-unfoldable pub ty_faults : ℕ → Form → List FaultKind
-ty_faults zero form = faults_of (ty_shape form) (λ shape. OverLimit ∷ [])
-ty_faults (suc room) form =
-    faults_of (ty_shape form)
+-- a type with so many levels of room, in the language with or without maps
+unfoldable pub ty_faults : Bool → ℕ → Form → List FaultKind
+ty_faults has_maps zero form = faults_of (ty_shape has_maps form) (λ shape. OverLimit ∷ [])
+ty_faults has_maps (suc room) form =
+    faults_of (ty_shape has_maps form)
     (λ shape. unless (ty_fits shape) OverLimit
-    (all_faults (part_faults none (ty_faults room) none) (ty_parts shape)))
+    (all_faults (part_faults none (ty_faults has_maps room) none) (ty_parts shape)))
 
--- an expression with so many levels of room; a type in it starts anew
-unfoldable pub expr_faults : ℕ → Form → List FaultKind
-expr_faults zero form = faults_of (shape_of form) (λ shape. OverLimit ∷ [])
-expr_faults (suc room) form =
-    faults_of (shape_of form)
+-- an expression with so many levels of room, in the language with or without maps; a type in it starts anew
+unfoldable pub expr_faults : Bool → ℕ → Form → List FaultKind
+expr_faults has_maps zero form = faults_of (shape_of has_maps form) (λ shape. OverLimit ∷ [])
+expr_faults has_maps (suc room) form =
+    faults_of (shape_of has_maps form)
     (λ shape. unless (fits shape) OverLimit
-    (all_faults (part_faults (clause_faults (expr_faults room)) (ty_faults ty_room) (expr_faults room))
-    (parts shape)))
+    (all_faults
+    (part_faults (clause_faults has_maps (expr_faults has_maps room)) (ty_faults has_maps ty_room)
+    (expr_faults has_maps room))
+    (parts has_maps shape)))
 
 abbrev pub first : {A : Type 0} → List A → Option A
 first [] = None

@@ -1,5 +1,5 @@
 -- The words that head a bracket.
-use Rattle.std.specs.Prelude.{ℕ, if◌then◌else◌, List, [], ◌∷◌, Option, Some, None, codes}
+use Rattle.std.specs.Prelude.{ℕ, Bool, true, false, if◌then◌else◌, List, [], ◌∷◌, Option, Some, None, codes}
 use Rattle.std.specs.Str.{bytes_eq}
 use Rattle.pst_model.specs.declared.expr.Binary.TheVariants as binary
 use Rattle.pst_model.specs.declared.expr.Unary.TheVariants as unary
@@ -39,11 +39,28 @@ rows =
     (codes "when", head.When) ∷
     []
 
+-- THE HEAD WORDS OF MAPS, which count in a language that has maps
+abbrev pub map_rows : List (List ℕ × Head)
+map_rows =
+    (codes "get", head.Binary binary.Get) ∷
+    (codes "has", head.Binary binary.Has) ∷
+    (codes "del", head.Binary binary.Del) ∷
+    (codes "keys", head.Unary unary.Keys) ∷
+    (codes "put", head.Put) ∷
+    (codes "map", head.Map) ∷
+    []
+
 -- the head beside the first row's word that is this word
 abbrev pub look_up : List (List ℕ × Head) → List ℕ → Option Head
 look_up [] word = None
 look_up (row ∷ rows) word = if bytes_eq row.0 word then Some row.1 else look_up rows word
 
--- the head that a word is
-unfoldable pub head_of : List ℕ → Option Head
-head_of = look_up rows
+-- a head that was found, or else that of a word of maps, where the language has maps
+abbrev pub or_of_maps : Option Head → Bool → List ℕ → Option Head
+or_of_maps (Some head) has_maps word = Some head
+or_of_maps None true word = look_up map_rows word
+or_of_maps None false word = None
+
+-- the head that a word is, in the language with or without maps
+unfoldable pub head_of : Bool → List ℕ → Option Head
+head_of has_maps word = or_of_maps (look_up rows word) has_maps word

@@ -2,7 +2,7 @@
 use Rattle.std.specs.Prelude.{ℕ, Bool, true, false, if◌then◌else◌, List, [], ◌∷◌, Option, Some, None, codes}
 use Rattle.std.specs.Str.{bytes_eq}
 use Rattle.pst_sexpr.specs.declared.form.Form.{Form}
-use Rattle.pst_sexpr.specs.Parts.{word_of, node_of, and_then, where_true}
+use Rattle.pst_sexpr.specs.Parts.{word_of, node_of, and_then}
 
 pub data ItemShape : Type 0 where
   StateItem : Form → ItemShape
@@ -75,14 +75,29 @@ param_node _ = None
 unfoldable pub param_shape : Form → Option (List ℕ × Form)
 param_shape form = and_then (node_of form) param_node
 
-abbrev pub as_model : List ℕ → List Form → Option (List ℕ × List Form)
-as_model word [] = None
-as_model word (x ∷ items) = and_then (word_of x) (λ x. where_true (bytes_eq word (codes "model")) (x, items))
+-- a model: whether its language has maps, its name, and its items, which are trees yet
+pub record ModelShape : Type 0 where
+  pub has_maps : Bool
+  pub name : List ℕ
+  pub items : List Form
 
-abbrev pub model_node : List Form → Option (List ℕ × List Form)
+-- THE TWO LANGUAGES: whether the one that a word heads has maps
+abbrev pub language : List ℕ → Option Bool
+language word =
+    if bytes_eq word (codes "model") then Some false
+    else if bytes_eq word (codes "model2") then Some true
+    else None
+
+abbrev pub as_model : List ℕ → List Form → Option ModelShape
+as_model word [] = None
+as_model word (x ∷ items) =
+    and_then (word_of x) (λ x. and_then (language word)
+    (λ has_maps. Some (record { has_maps = has_maps; name = x; items = items })))
+
+abbrev pub model_node : List Form → Option ModelShape
 model_node [] = None
 model_node (first ∷ parts) = and_then (word_of first) (λ word. as_model word parts)
 
--- a model: its name and its items
-unfoldable pub model_shape : Form → Option (List ℕ × List Form)
+-- a model, by its head word
+unfoldable pub model_shape : Form → Option ModelShape
 model_shape form = and_then (node_of form) model_node

@@ -21,16 +21,16 @@ use Rattle.pst_model.specs.Names.{is_name}
 use Rattle.pst_syntax.specs.Names.{is_free}
 use Rattle.pst_syntax.specs.Counting.{trees_in}
 use Rattle.pst_syntax.specs.Limits.{max_declared, max_trees}
-use Rattle.pst_syntax.specs.ItemShape.{ItemShape, CallbackShape, StateItem, InitItem, CommandItem, FunItem, OpItem, Pre, Next, Post, item_shape, callback_shape, param_shape, model_shape}
+use Rattle.pst_syntax.specs.ItemShape.{ItemShape, CallbackShape, ModelShape, StateItem, InitItem, CommandItem, FunItem, OpItem, Pre, Next, Post, item_shape, callback_shape, param_shape, model_shape}
 use Rattle.pst_syntax.specs.Reading.{Read, ◌>>=◌, known, within, once, declared, are_few, ty_of, expr_of}
 use Rattle.pst_syntax.specs.Limits.{ty_room, expr_room}
 
 -- a type, and an expression, that stand in no other one
-abbrev pub whole_ty : Form → Read Ty
-whole_ty = ty_of ty_room
+abbrev pub whole_ty : Bool → Form → Read Ty
+whole_ty has_maps = ty_of has_maps ty_room
 
-abbrev pub whole_expr : Form → Read Expr
-whole_expr = expr_of expr_room
+abbrev pub whole_expr : Bool → Form → Read Expr
+whole_expr has_maps = expr_of has_maps expr_room
 
 -- ---- parameters
 
@@ -38,18 +38,19 @@ abbrev pub is_param : List Param → List ℕ → Bool
 is_param params word = list_any (λ param. bytes_eq param.name word) params
 
 -- a parameter after others
-abbrev pub param_of : List Param → List ℕ × Form → Read Param
-param_of params pair =
-    declared (is_free pair.0) (is_param params pair.0) pair.0
-    >>= (λ x. whole_ty pair.1 >>= (λ t. Ok (record { name = x; ty = t })))
+abbrev pub param_of : Bool → List Param → List ℕ × Form → Read Param
+param_of has_maps params pair =
+    declared (is_free has_maps pair.0) (is_param params pair.0) pair.0
+    >>= (λ x. whole_ty has_maps pair.1 >>= (λ t. Ok (record { name = x; ty = t })))
 
-abbrev pub params_from : List Param → List Form → Read (List Param)
-params_from params [] = Ok params
-params_from params (form ∷ forms) =
-    known (param_shape form) (param_of params) >>= (λ param. params_from (params ++ param ∷ []) forms)
+abbrev pub params_from : Bool → List Param → List Form → Read (List Param)
+params_from has_maps params [] = Ok params
+params_from has_maps params (form ∷ forms) =
+    known (param_shape form) (param_of has_maps params)
+    >>= (λ param. params_from has_maps (params ++ param ∷ []) forms)
 
-abbrev pub params_of : List Form → Read (List Param)
-params_of forms = within (are_few forms) (params_from [] forms)
+abbrev pub params_of : Bool → List Form → Read (List Param)
+params_of has_maps forms = within (are_few forms) (params_from has_maps [] forms)
 
 -- ---- callbacks
 
@@ -61,18 +62,19 @@ abbrev pub no_callbacks : Callbacks
 no_callbacks = record { pre = None; next = None; post = None }
 
 -- a callback after others
-abbrev pub callback_of : Callbacks → CallbackShape → Read Callbacks
-callback_of callbacks (Pre e) =
-    once (is_some callbacks.pre) (whole_expr e >>= (λ e. Ok (record callbacks { pre = Some e })))
-callback_of callbacks (Next e) =
-    once (is_some callbacks.next) (whole_expr e >>= (λ e. Ok (record callbacks { next = Some e })))
-callback_of callbacks (Post e) =
-    once (is_some callbacks.post) (whole_expr e >>= (λ e. Ok (record callbacks { post = Some e })))
+abbrev pub callback_of : Bool → Callbacks → CallbackShape → Read Callbacks
+callback_of has_maps callbacks (Pre e) =
+    once (is_some callbacks.pre) (whole_expr has_maps e >>= (λ e. Ok (record callbacks { pre = Some e })))
+callback_of has_maps callbacks (Next e) =
+    once (is_some callbacks.next) (whole_expr has_maps e >>= (λ e. Ok (record callbacks { next = Some e })))
+callback_of has_maps callbacks (Post e) =
+    once (is_some callbacks.post) (whole_expr has_maps e >>= (λ e. Ok (record callbacks { post = Some e })))
 
-abbrev pub callbacks_from : Callbacks → List Form → Read Callbacks
-callbacks_from callbacks [] = Ok callbacks
-callbacks_from callbacks (form ∷ forms) =
-    known (callback_shape form) (callback_of callbacks) >>= (λ callbacks. callbacks_from callbacks forms)
+abbrev pub callbacks_from : Bool → Callbacks → List Form → Read Callbacks
+callbacks_from has_maps callbacks [] = Ok callbacks
+callbacks_from has_maps callbacks (form ∷ forms) =
+    known (callback_shape form) (callback_of has_maps callbacks)
+    >>= (λ callbacks. callbacks_from has_maps callbacks forms)
 
 -- what has to stand there
 abbrev pub there : {A : Type 0} → Option A → Read A
@@ -86,8 +88,8 @@ all_callbacks callbacks =
     Ok (record { pre = pre; next = next; post = post }))))
 
 -- the callbacks that trees spell, none missing
-abbrev pub whole_callbacks : List Form → Read AllCallbacks
-whole_callbacks forms = callbacks_from no_callbacks forms >>= all_callbacks
+abbrev pub whole_callbacks : Bool → List Form → Read AllCallbacks
+whole_callbacks has_maps forms = callbacks_from has_maps no_callbacks forms >>= all_callbacks
 
 -- ---- items
 
@@ -123,32 +125,34 @@ is_op_named word _ = false
 abbrev pub has_room : (Item → Bool) → List Item → Bool
 has_room test seen = nat_lt (count_by test seen) max_declared
 
-abbrev pub fun_of : Bool → List Item → List ℕ → List Form → Form → Form → Read Fun
-fun_of is_post seen x ps t e =
-    declared (is_free x) (list_any (is_fun_named x) seen) x
-    >>= (λ x. params_of ps >>= (λ ps. whole_ty t >>= (λ t. whole_expr e >>= (λ e.
+abbrev pub fun_of : Bool → Bool → List Item → List ℕ → List Form → Form → Form → Read Fun
+fun_of has_maps is_post seen x ps t e =
+    declared (is_free has_maps x) (list_any (is_fun_named x) seen) x
+    >>= (λ x. params_of has_maps ps >>= (λ ps. whole_ty has_maps t >>= (λ t. whole_expr has_maps e >>= (λ e.
     Ok (record { is_post = is_post; name = x; params = ps; result = t; body = e })))))
 
-abbrev pub op_parts : List Item → List ℕ → List Form → Form → List Form → Read Op
-op_parts seen x ps t callbacks =
+abbrev pub op_parts : Bool → List Item → List ℕ → List Form → Form → List Form → Read Op
+op_parts has_maps seen x ps t callbacks =
     declared (is_name x) (list_any (is_op_named x) seen) x
-    >>= (λ x. params_of ps >>= (λ ps. whole_ty t >>= (λ t.
-    whole_callbacks callbacks >>= (λ all.
+    >>= (λ x. params_of has_maps ps >>= (λ ps. whole_ty has_maps t >>= (λ t.
+    whole_callbacks has_maps callbacks >>= (λ all.
     Ok (record { name = x; params = ps; result = t; pre = all.pre; next = all.next; post = all.post })))))
 
 -- an item after others
-abbrev pub item_parts : List Item → ItemShape → Read Item
-item_parts seen (StateItem t) = once (list_any is_state seen) (whole_ty t >>= (λ t. Ok (item.State t)))
-item_parts seen (InitItem e) = once (list_any is_init seen) (whole_expr e >>= (λ e. Ok (item.Init e)))
-item_parts seen (CommandItem e) =
-    once (list_any is_command seen) (whole_expr e >>= (λ e. Ok (item.Command e)))
-item_parts seen (FunItem is_post x ps t e) =
-    within (has_room is_fun seen) (fun_of is_post seen x ps t e >>= (λ f. Ok (item.Fun f)))
-item_parts seen (OpItem x ps t callbacks) =
-    within (has_room is_op seen) (op_parts seen x ps t callbacks >>= (λ o. Ok (item.Op o)))
+abbrev pub item_parts : Bool → List Item → ItemShape → Read Item
+item_parts has_maps seen (StateItem t) =
+    once (list_any is_state seen) (whole_ty has_maps t >>= (λ t. Ok (item.State t)))
+item_parts has_maps seen (InitItem e) =
+    once (list_any is_init seen) (whole_expr has_maps e >>= (λ e. Ok (item.Init e)))
+item_parts has_maps seen (CommandItem e) =
+    once (list_any is_command seen) (whole_expr has_maps e >>= (λ e. Ok (item.Command e)))
+item_parts has_maps seen (FunItem is_post x ps t e) =
+    within (has_room is_fun seen) (fun_of has_maps is_post seen x ps t e >>= (λ f. Ok (item.Fun f)))
+item_parts has_maps seen (OpItem x ps t callbacks) =
+    within (has_room is_op seen) (op_parts has_maps seen x ps t callbacks >>= (λ o. Ok (item.Op o)))
 
-unfoldable pub item_of : List Item → Form → Read Item
-item_of seen form = known (item_shape form) (item_parts seen)
+unfoldable pub item_of : Bool → List Item → Form → Read Item
+item_of has_maps seen form = known (item_shape form) (item_parts has_maps seen)
 
 -- ---- the model
 
@@ -166,32 +170,33 @@ go_on (Ok a) f = f a
 go_on (Err fault) f = Err fault
 
 -- items after others, numbered from 1
-abbrev pub items_from : List Item → List Form → Result (List Item) SyntaxFault
-items_from seen [] = Ok seen
-items_from seen (form ∷ forms) =
-    go_on (at_item (length seen + 1) (item_of seen form)) (λ i. items_from (seen ++ i ∷ []) forms)
+abbrev pub items_from : Bool → List Item → List Form → Result (List Item) SyntaxFault
+items_from has_maps seen [] = Ok seen
+items_from has_maps seen (form ∷ forms) =
+    go_on (at_item (length seen + 1) (item_of has_maps seen form))
+    (λ i. items_from has_maps (seen ++ i ∷ []) forms)
 
 -- the state, the init and the command stand there
 abbrev pub is_complete : List Item → Bool
 is_complete items = list_any is_state items && list_any is_init items && list_any is_command items
 
-abbrev pub complete : Bool → List ℕ → List Item → Read Source
-complete true x items = Ok (record { name = x; items = items })
-complete false x items = Err Missing
+abbrev pub complete : Bool → ModelShape → List Item → Read Source
+complete true m items = Ok (record { has_maps = m.has_maps; name = m.name; items = items })
+complete false m items = Err Missing
 
--- the name of the model, and its items
-abbrev pub head_parts : List ℕ × List Form → Read (List ℕ × List Form)
-head_parts parts = declared (is_name parts.0) false parts.0 >>= (λ x. Ok (x, parts.1))
+-- the language of the model, its name, and its items
+abbrev pub head_parts : ModelShape → Read ModelShape
+head_parts m = declared (is_name m.name) false m.name >>= (λ x. Ok (record m { name = x }))
 
-abbrev pub head_of_model : List Form → Read (List ℕ × List Form)
+abbrev pub head_of_model : List Form → Read ModelShape
 head_of_model [] = Err Missing
 head_of_model (form ∷ forms) = within (nat_le (trees_in form) max_trees) (known (model_shape form) head_parts)
 
 -- the model that the first tree spells, or its first fault
 abbrev pub model_of : List Form → Result Source SyntaxFault
 model_of trees =
-    go_on (at_item 0 (head_of_model trees)) (λ parts.
-    go_on (items_from [] parts.1) (λ items. at_item 0 (complete (is_complete items) parts.0 items)))
+    go_on (at_item 0 (head_of_model trees)) (λ m.
+    go_on (items_from m.has_maps [] m.items) (λ items. at_item 0 (complete (is_complete items) m items)))
 
 -- what a `Model` keeps: some lawful tree is read as it
 pub record IsModel (source : Source) : Type 0 where

@@ -10,7 +10,7 @@ use Rattle.pst_model.specs.Names.{is_name}
 use Rattle.pst_syntax.specs.Names.{is_free}
 use Rattle.pst_syntax.specs.Counting.{trees_in}
 use Rattle.pst_syntax.specs.Items.{in_item}
-use Rattle.pst_syntax.specs.ItemShape.{ItemShape, CallbackShape, StateItem, InitItem, CommandItem, FunItem, OpItem, Pre, Next, Post, item_shape, callback_shape, param_shape, model_shape}
+use Rattle.pst_syntax.specs.ItemShape.{ItemShape, CallbackShape, ModelShape, StateItem, InitItem, CommandItem, FunItem, OpItem, Pre, Next, Post, item_shape, callback_shape, param_shape, model_shape}
 use Rattle.pst_syntax.specs.Reading.{are_few}
 use Rattle.pst_syntax.specs.Limits.{ty_room, expr_room}
 use Rattle.pst_syntax.specs.Limits.{max_declared, max_trees}
@@ -26,18 +26,19 @@ seen_with seen (Some shape) = seen ++ shape ∷ []
 abbrev pub is_named : List ℕ → List ℕ × Form → Bool
 is_named word pair = bytes_eq pair.0 word
 
-abbrev pub param_faults : List (List ℕ × Form) → List ℕ × Form → List FaultKind
-param_faults seen pair =
-    name_faults (is_free pair.0) (list_any (is_named pair.0) seen) pair.0 ++ ty_faults ty_room pair.1
+abbrev pub param_faults : Bool → List (List ℕ × Form) → List ℕ × Form → List FaultKind
+param_faults has_maps seen pair =
+    name_faults (is_free has_maps pair.0) (list_any (is_named pair.0) seen) pair.0
+    ++ ty_faults has_maps ty_room pair.1
 
-abbrev pub params_faults_after : List (List ℕ × Form) → List Form → List FaultKind
-params_faults_after seen [] = []
-params_faults_after seen (form ∷ forms) =
-    faults_of (param_shape form) (param_faults seen)
-    ++ params_faults_after (seen_with seen (param_shape form)) forms
+abbrev pub params_faults_after : Bool → List (List ℕ × Form) → List Form → List FaultKind
+params_faults_after has_maps seen [] = []
+params_faults_after has_maps seen (form ∷ forms) =
+    faults_of (param_shape form) (param_faults has_maps seen)
+    ++ params_faults_after has_maps (seen_with seen (param_shape form)) forms
 
-abbrev pub params_faults : List Form → List FaultKind
-params_faults forms = unless (are_few forms) OverLimit (params_faults_after [] forms)
+abbrev pub params_faults : Bool → List Form → List FaultKind
+params_faults has_maps forms = unless (are_few forms) OverLimit (params_faults_after has_maps [] forms)
 
 -- ---- callbacks
 
@@ -53,18 +54,21 @@ abbrev pub is_post : CallbackShape → Bool
 is_post (Post e) = true
 is_post _ = false
 
-abbrev pub callback_faults : List CallbackShape → CallbackShape → List FaultKind
-callback_faults seen (Pre e) = unless (not (list_any is_pre seen)) DoubleName (expr_faults expr_room e)
-callback_faults seen (Next e) = unless (not (list_any is_next seen)) DoubleName (expr_faults expr_room e)
-callback_faults seen (Post e) = unless (not (list_any is_post seen)) DoubleName (expr_faults expr_room e)
+abbrev pub callback_faults : Bool → List CallbackShape → CallbackShape → List FaultKind
+callback_faults has_maps seen (Pre e) =
+    unless (not (list_any is_pre seen)) DoubleName (expr_faults has_maps expr_room e)
+callback_faults has_maps seen (Next e) =
+    unless (not (list_any is_next seen)) DoubleName (expr_faults has_maps expr_room e)
+callback_faults has_maps seen (Post e) =
+    unless (not (list_any is_post seen)) DoubleName (expr_faults has_maps expr_room e)
 
 -- a callback that is missing is a fault behind all others
-abbrev pub callbacks_faults : List CallbackShape → List Form → List FaultKind
-callbacks_faults seen [] =
+abbrev pub callbacks_faults : Bool → List CallbackShape → List Form → List FaultKind
+callbacks_faults has_maps seen [] =
     unless (list_any is_pre seen && list_any is_next seen && list_any is_post seen) Missing []
-callbacks_faults seen (form ∷ forms) =
-    faults_of (callback_shape form) (callback_faults seen)
-    ++ callbacks_faults (seen_with seen (callback_shape form)) forms
+callbacks_faults has_maps seen (form ∷ forms) =
+    faults_of (callback_shape form) (callback_faults has_maps seen)
+    ++ callbacks_faults has_maps (seen_with seen (callback_shape form)) forms
 
 -- ---- items
 
@@ -100,33 +104,37 @@ abbrev pub has_room : (ItemShape → Bool) → List ItemShape → Bool
 has_room test seen = nat_lt (count_by test seen) max_declared
 
 -- the faults of an item behind others
-abbrev pub item_faults : List ItemShape → ItemShape → List FaultKind
-item_faults seen (StateItem t) = unless (not (list_any is_state seen)) DoubleName (ty_faults ty_room t)
-item_faults seen (InitItem e) = unless (not (list_any is_init seen)) DoubleName (expr_faults expr_room e)
-item_faults seen (CommandItem e) =
-    unless (not (list_any is_command seen)) DoubleName (expr_faults expr_room e)
-item_faults seen (FunItem is_post x ps t e) =
-    unless (has_room is_fun seen) OverLimit (name_faults (is_free x) (list_any (is_fun_named x) seen) x
-    ++ (params_faults ps ++ (ty_faults ty_room t ++ expr_faults expr_room e)))
-item_faults seen (OpItem x ps t callbacks) =
+abbrev pub item_faults : Bool → List ItemShape → ItemShape → List FaultKind
+item_faults has_maps seen (StateItem t) =
+    unless (not (list_any is_state seen)) DoubleName (ty_faults has_maps ty_room t)
+item_faults has_maps seen (InitItem e) =
+    unless (not (list_any is_init seen)) DoubleName (expr_faults has_maps expr_room e)
+item_faults has_maps seen (CommandItem e) =
+    unless (not (list_any is_command seen)) DoubleName (expr_faults has_maps expr_room e)
+item_faults has_maps seen (FunItem is_post x ps t e) =
+    unless (has_room is_fun seen) OverLimit
+    (name_faults (is_free has_maps x) (list_any (is_fun_named x) seen) x
+    ++ (params_faults has_maps ps ++ (ty_faults has_maps ty_room t ++ expr_faults has_maps expr_room e)))
+item_faults has_maps seen (OpItem x ps t callbacks) =
     unless (has_room is_op seen) OverLimit (name_faults (is_name x) (list_any (is_op_named x) seen) x
-    ++ (params_faults ps ++ (ty_faults ty_room t ++ callbacks_faults [] callbacks)))
+    ++ (params_faults has_maps ps
+    ++ (ty_faults has_maps ty_room t ++ callbacks_faults has_maps [] callbacks)))
 
 -- the items are numbered from 1; what is missing is a fault of the model itself, behind all others
-abbrev pub items_faults : List ItemShape → ℕ → List Form → List SyntaxFault
-items_faults seen number [] =
+abbrev pub items_faults : Bool → List ItemShape → ℕ → List Form → List SyntaxFault
+items_faults has_maps seen number [] =
     map (in_item 0) (unless (list_any is_state seen && list_any is_init seen
     && list_any is_command seen) Missing [])
-items_faults seen number (form ∷ forms) =
-    map (in_item number) (faults_of (item_shape form) (item_faults seen))
-    ++ items_faults (seen_with seen (item_shape form)) (number + 1) forms
+items_faults has_maps seen number (form ∷ forms) =
+    map (in_item number) (faults_of (item_shape form) (item_faults has_maps seen))
+    ++ items_faults has_maps (seen_with seen (item_shape form)) (number + 1) forms
 
 -- ---- the model
 
-abbrev pub named_faults : Option (List ℕ × List Form) → List SyntaxFault
+abbrev pub named_faults : Option ModelShape → List SyntaxFault
 named_faults None = in_item 0 UnknownForm ∷ []
-named_faults (Some parts) =
-    map (in_item 0) (name_faults (is_name parts.0) false parts.0) ++ items_faults [] 1 parts.1
+named_faults (Some m) =
+    map (in_item 0) (name_faults (is_name m.name) false m.name) ++ items_faults m.has_maps [] 1 m.items
 
 -- the number of its trees is judged before all else
 abbrev pub model_faults : List Form → List SyntaxFault

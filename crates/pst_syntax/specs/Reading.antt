@@ -15,7 +15,7 @@ use Rattle.pst_words.specs.Integers.{value}
 use Rattle.pst_value.specs.Text.{is_i64}
 use Rattle.pst_syntax.specs.Places.{natural}
 use Rattle.pst_syntax.specs.Limits.{max_text, max_parts, ty_room}
-use Rattle.pst_syntax.specs.Shape.{Shape, TyShape, ClauseShape, Integer, Truth, Quoted, Used, Let, If, And, Or, Unary, Binary, Tuple, At, ListOf, For, Fold, Call, Apply, IntType, BoolType, TextType, CallType, TupleType, ListType, RefType, InEach, WhenTrue, shape_of, ty_shape, clause_shape}
+use Rattle.pst_syntax.specs.Shape.{Shape, TyShape, ClauseShape, Integer, Truth, Quoted, Used, Let, If, And, Or, Unary, Binary, Tuple, At, ListOf, For, Fold, MapOf, Put, Call, Apply, IntType, BoolType, TextType, CallType, TupleType, ListType, MapType, RefType, InEach, WhenTrue, shape_of, ty_shape, clause_shape}
 
 -- what is read, or why it is refused
 abbrev pub Read : Type 0 → Type 0
@@ -56,12 +56,12 @@ unfoldable pub declared : Bool → Bool → List ℕ → Read (List ℕ)
 declared is_lawful is_taken word = lawful is_lawful (once is_taken (within (is_short word) (Ok word)))
 
 -- a bound name
-abbrev pub bound : List ℕ → Read (List ℕ)
-bound word = declared (is_free word) false word
+abbrev pub bound : Bool → List ℕ → Read (List ℕ)
+bound has_maps word = declared (is_free has_maps word) false word
 
 -- a bound name that stands beside another one
-abbrev pub bound_beside : List ℕ → List ℕ → Read (List ℕ)
-bound_beside other word = declared (is_free word) (bytes_eq other word) word
+abbrev pub bound_beside : Bool → List ℕ → List ℕ → Read (List ℕ)
+bound_beside has_maps other word = declared (is_free has_maps word) (bytes_eq other word) word
 
 -- the name of an operation where it is used
 abbrev pub used_operation : List ℕ → Read (List ℕ)
@@ -90,48 +90,55 @@ ty_parts t TextType = Ok ty.Text
 ty_parts t CallType = Ok ty.Call
 ty_parts t (TupleType ts) = within (are_few ts) (each t ts >>= (λ ts. Ok (ty.Tuple ts)))
 ty_parts t (ListType a) = t a >>= (λ a. Ok (ty.List a))
+ty_parts t (MapType k a) = t a >>= (λ a. Ok (ty.Map k a))
 ty_parts t (RefType a) = t a >>= (λ a. Ok (ty.Ref a))
 
--- a type with so many levels of room
-unfoldable pub ty_of : ℕ → Form → Read Ty
-ty_of zero form = known (ty_shape form) (λ shape. Err OverLimit)
-ty_of (suc room) form = known (ty_shape form) (ty_parts (ty_of room))
+-- a type with so many levels of room, in the language with or without maps
+unfoldable pub ty_of : Bool → ℕ → Form → Read Ty
+ty_of has_maps zero form = known (ty_shape has_maps form) (λ shape. Err OverLimit)
+ty_of has_maps (suc room) form = known (ty_shape has_maps form) (ty_parts (ty_of has_maps room))
 
 -- ---- expressions
 
-abbrev pub clause_parts : (Form → Read Expr) → ClauseShape → Read Clause
-clause_parts e (InEach x a) = bound x >>= (λ x. e a >>= (λ a. Ok (clause.In x a)))
-clause_parts e (WhenTrue c) = e c >>= (λ c. Ok (clause.When c))
+abbrev pub clause_parts : Bool → (Form → Read Expr) → ClauseShape → Read Clause
+clause_parts has_maps e (InEach x a) = bound has_maps x >>= (λ x. e a >>= (λ a. Ok (clause.In x a)))
+clause_parts has_maps e (WhenTrue c) = e c >>= (λ c. Ok (clause.When c))
 
-abbrev pub clause_of : (Form → Read Expr) → Form → Read Clause
-clause_of e form = known (clause_shape form) (clause_parts e)
+abbrev pub clause_of : Bool → (Form → Read Expr) → Form → Read Clause
+clause_of has_maps e form = known (clause_shape form) (clause_parts has_maps e)
 
-abbrev pub expr_parts : (Form → Read Ty) → (Form → Read Expr) → Shape → Read Expr
-expr_parts t e (Integer word) = int_of word
-expr_parts t e (Truth b) = Ok (expr.Bool b)
-expr_parts t e (Quoted text) = text_of text
-expr_parts t e (Used x) = Ok (expr.Name x)
-expr_parts t e (Let x a b) = bound x >>= (λ x. e a >>= (λ a. e b >>= (λ b. Ok (expr.Let x a b))))
-expr_parts t e (If c a b) = e c >>= (λ c. e a >>= (λ a. e b >>= (λ b. Ok (expr.If c a b))))
-expr_parts t e (And a b) = e a >>= (λ a. e b >>= (λ b. Ok (expr.And a b)))
-expr_parts t e (Or a b) = e a >>= (λ a. e b >>= (λ b. Ok (expr.Or a b)))
-expr_parts t e (Unary operator a) = e a >>= (λ a. Ok (expr.Unary operator a))
-expr_parts t e (Binary operator a b) = e a >>= (λ a. e b >>= (λ b. Ok (expr.Binary operator a b)))
-expr_parts t e (Tuple es) = within (are_few es) (each e es >>= (λ es. Ok (expr.Tuple es)))
-expr_parts t e (At a i) = e a >>= (λ a. item_at a i)
-expr_parts t e (ListOf a es) = t a >>= (λ a. each e es >>= (λ es. Ok (expr.List a es)))
-expr_parts t e (For cs b) =
-    within (are_few cs) (each (clause_of e) cs >>= (λ cs. e b >>= (λ b. Ok (expr.For cs b))))
-expr_parts t e (Fold x a acc i b) =
-    bound x >>= (λ y. e a
-    >>= (λ a. bound_beside x acc >>= (λ acc. e i >>= (λ i. e b >>= (λ b. Ok (expr.Fold y a acc i b))))))
-expr_parts t e (Call op es) = used_operation op >>= (λ op. each e es >>= (λ es. Ok (expr.Call op es)))
-expr_parts t e (Apply f es) = each e es >>= (λ es. Ok (expr.Apply f es))
+abbrev pub expr_parts : Bool → (Form → Read Ty) → (Form → Read Expr) → Shape → Read Expr
+expr_parts has_maps t e (Integer word) = int_of word
+expr_parts has_maps t e (Truth b) = Ok (expr.Bool b)
+expr_parts has_maps t e (Quoted text) = text_of text
+expr_parts has_maps t e (Used x) = Ok (expr.Name x)
+expr_parts has_maps t e (Let x a b) =
+    bound has_maps x >>= (λ x. e a >>= (λ a. e b >>= (λ b. Ok (expr.Let x a b))))
+expr_parts has_maps t e (If c a b) = e c >>= (λ c. e a >>= (λ a. e b >>= (λ b. Ok (expr.If c a b))))
+expr_parts has_maps t e (And a b) = e a >>= (λ a. e b >>= (λ b. Ok (expr.And a b)))
+expr_parts has_maps t e (Or a b) = e a >>= (λ a. e b >>= (λ b. Ok (expr.Or a b)))
+expr_parts has_maps t e (Unary operator a) = e a >>= (λ a. Ok (expr.Unary operator a))
+expr_parts has_maps t e (Binary operator a b) = e a >>= (λ a. e b >>= (λ b. Ok (expr.Binary operator a b)))
+expr_parts has_maps t e (Tuple es) = within (are_few es) (each e es >>= (λ es. Ok (expr.Tuple es)))
+expr_parts has_maps t e (At a i) = e a >>= (λ a. item_at a i)
+expr_parts has_maps t e (ListOf a es) = t a >>= (λ a. each e es >>= (λ es. Ok (expr.List a es)))
+expr_parts has_maps t e (For cs b) =
+    within (are_few cs) (each (clause_of has_maps e) cs >>= (λ cs. e b >>= (λ b. Ok (expr.For cs b))))
+expr_parts has_maps t e (Fold x a acc i b) =
+    bound has_maps x >>= (λ y. e a >>= (λ a. bound_beside has_maps x acc
+    >>= (λ acc. e i >>= (λ i. e b >>= (λ b. Ok (expr.Fold y a acc i b))))))
+expr_parts has_maps t e (MapOf k a) = t a >>= (λ a. Ok (expr.Map k a))
+expr_parts has_maps t e (Put m k v) =
+    e m >>= (λ m. e k >>= (λ k. e v >>= (λ v. Ok (expr.Put m k v))))
+expr_parts has_maps t e (Call op es) =
+    used_operation op >>= (λ op. each e es >>= (λ es. Ok (expr.Call op es)))
+expr_parts has_maps t e (Apply f es) = each e es >>= (λ es. Ok (expr.Apply f es))
 
--- an expression with so many levels of room; a type in it starts anew
-unfoldable pub expr_of : ℕ → Form → Read Expr
-expr_of zero form = known (shape_of form) (λ shape. Err OverLimit)
-expr_of (suc room) form = known (shape_of form) (expr_parts (ty_of ty_room) (expr_of room))
+-- an expression with so many levels of room, in the language with or without maps; a type in it starts anew
+unfoldable pub expr_of : Bool → ℕ → Form → Read Expr
+expr_of has_maps zero form = known (shape_of has_maps form) (λ shape. Err OverLimit)
+expr_of has_maps (suc room) form =
+    known (shape_of has_maps form) (expr_parts has_maps (ty_of has_maps ty_room) (expr_of has_maps room))
 
 -- ---- what the reader ensures
 

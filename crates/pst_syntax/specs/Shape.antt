@@ -4,6 +4,8 @@ use Rattle.std.specs.Str.{bytes_eq}
 use Rattle.pst_sexpr.specs.declared.form.Form.{Form, out-Form}
 use Rattle.pst_sexpr.specs.declared.form.Form.TheOpen.{Form-F}
 use Rattle.pst_sexpr.specs.Parts.{word_of, node_of, and_then, where_true}
+use Rattle.pst_value.specs.declared.key.KeyTy.{KeyTy}
+use Rattle.pst_value.specs.declared.key.KeyTy.TheVariants as kind
 use Rattle.pst_model.specs.declared.expr.Unary.{Unary as UnaryOp}
 use Rattle.pst_model.specs.declared.expr.Binary.{Binary as BinaryOp}
 use Rattle.pst_syntax.specs.declared.heads.Head.{Head}
@@ -30,6 +32,10 @@ pub data Shape : Type 0 where
   ListOf : Form → List Form → Shape
   For : List Form → Form → Shape
   Fold : List ℕ → Form → List ℕ → Form → Form → Shape
+  -- the empty map of a type of keys and a type of values
+  MapOf : KeyTy → Form → Shape
+  -- a map, a key and its value
+  Put : Form → Form → Form → Shape
   Call : List ℕ → List Form → Shape
   Apply : List ℕ → List Form → Shape
 
@@ -38,12 +44,24 @@ abbrev pub some_of : List Form → Option (List Form)
 some_of [] = None
 some_of (form ∷ forms) = Some (form ∷ forms)
 
-abbrev pub word_shape : List ℕ → Option Shape
-word_shape word =
+-- the type of the keys of a map: THE TABLE OF KEY TYPES
+abbrev pub key_word : List ℕ → Option KeyTy
+key_word word =
+    if bytes_eq word (codes "int") then Some kind.Int
+    else if bytes_eq word (codes "bool") then Some kind.Bool
+    else if bytes_eq word (codes "text") then Some kind.Text
+    else None
+
+abbrev pub key_shape : Form → Option KeyTy
+key_shape form = and_then (word_of form) key_word
+
+abbrev pub word_shape : Bool → List ℕ → Option Shape
+word_shape has_maps word =
     if is_integer word then Some (Integer word)
     else if bytes_eq word (codes "true") then Some (Truth true)
     else if bytes_eq word (codes "false") then Some (Truth false)
-    else where_true (bytes_eq word (codes "s") || bytes_eq word (codes "r") || is_used word) (Used word)
+    else where_true (bytes_eq word (codes "s") || bytes_eq word (codes "r") || is_used has_maps word)
+    (Used word)
 
 -- THE TABLE OF EXPRESSIONS: what stands behind each head word
 abbrev pub headed : Head → List Form → Option Shape
@@ -59,26 +77,29 @@ headed head.List (t ∷ es) = Some (ListOf t es)
 headed head.For (cs ∷ b ∷ []) = and_then (node_of cs) (λ cs. and_then (some_of cs) (λ cs. Some (For cs b)))
 headed head.Fold (x ∷ e ∷ acc ∷ i ∷ b ∷ []) =
     and_then (word_of x) (λ x. and_then (word_of acc) (λ acc. Some (Fold x e acc i b)))
+headed head.Map (k ∷ t ∷ []) = and_then (key_shape k) (λ k. Some (MapOf k t))
+headed head.Put (m ∷ k ∷ v ∷ []) = Some (Put m k v)
 headed head.Call (op ∷ es) = and_then (word_of op) (λ op. Some (Call op es))
 headed _ _ = None
 
 -- another word applies a function
-abbrev pub applied : Option Head → List ℕ → List Form → Option Shape
-applied (Some head) word parts = headed head parts
-applied None word parts = where_true (is_used word) (Apply word parts)
+abbrev pub applied : Bool → Option Head → List ℕ → List Form → Option Shape
+applied has_maps (Some head) word parts = headed head parts
+applied has_maps None word parts = where_true (is_used has_maps word) (Apply word parts)
 
-abbrev pub node_shape : List Form → Option Shape
-node_shape [] = None
-node_shape (first ∷ parts) = and_then (word_of first) (λ word. applied (head_of word) word parts)
+abbrev pub node_shape : Bool → List Form → Option Shape
+node_shape has_maps [] = None
+node_shape has_maps (first ∷ parts) =
+    and_then (word_of first) (λ word. applied has_maps (head_of has_maps word) word parts)
 
-abbrev pub shape_at : Form-F Form → Option Shape
-shape_at (Form-F.Word word) = word_shape word
-shape_at (Form-F.Text text) = Some (Quoted text)
-shape_at (Form-F.Node parts) = node_shape parts
+abbrev pub shape_at : Bool → Form-F Form → Option Shape
+shape_at has_maps (Form-F.Word word) = word_shape has_maps word
+shape_at has_maps (Form-F.Text text) = Some (Quoted text)
+shape_at has_maps (Form-F.Node parts) = node_shape has_maps parts
 
--- which form of expression a tree has
-unfoldable pub shape_of : Form → Option Shape
-shape_of form = shape_at (out-Form form)
+-- which form of expression a tree has, in the language with or without maps
+unfoldable pub shape_of : Bool → Form → Option Shape
+shape_of has_maps form = shape_at has_maps (out-Form form)
 
 -- a type, whose parts are trees yet
 pub data TyShape : Type 0 where
@@ -88,6 +109,7 @@ pub data TyShape : Type 0 where
   CallType : TyShape
   TupleType : List Form → TyShape
   ListType : Form → TyShape
+  MapType : KeyTy → Form → TyShape
   RefType : Form → TyShape
 
 -- THE TABLE OF TYPES
@@ -102,28 +124,30 @@ ty_word word =
 abbrev pub ty_headed : Option Head → List Form → Option TyShape
 ty_headed (Some head.Tuple) ts = and_then (some_of ts) (λ ts. Some (TupleType ts))
 ty_headed (Some head.List) (t ∷ []) = Some (ListType t)
+ty_headed (Some head.Map) (k ∷ t ∷ []) = and_then (key_shape k) (λ k. Some (MapType k t))
 ty_headed (Some head.Ref) (t ∷ []) = Some (RefType t)
 ty_headed _ _ = None
 
-abbrev pub ty_node : List Form → Option TyShape
-ty_node [] = None
-ty_node (first ∷ parts) = and_then (word_of first) (λ word. ty_headed (head_of word) parts)
+abbrev pub ty_node : Bool → List Form → Option TyShape
+ty_node has_maps [] = None
+ty_node has_maps (first ∷ parts) =
+    and_then (word_of first) (λ word. ty_headed (head_of has_maps word) parts)
 
-abbrev pub ty_at : Form-F Form → Option TyShape
-ty_at (Form-F.Word word) = ty_word word
-ty_at (Form-F.Text text) = None
-ty_at (Form-F.Node parts) = ty_node parts
+abbrev pub ty_at : Bool → Form-F Form → Option TyShape
+ty_at has_maps (Form-F.Word word) = ty_word word
+ty_at has_maps (Form-F.Text text) = None
+ty_at has_maps (Form-F.Node parts) = ty_node has_maps parts
 
--- which form of type a tree has
-unfoldable pub ty_shape : Form → Option TyShape
-ty_shape form = ty_at (out-Form form)
+-- which form of type a tree has, in the language with or without maps
+unfoldable pub ty_shape : Bool → Form → Option TyShape
+ty_shape has_maps form = ty_at has_maps (out-Form form)
 
 -- a clause, whose parts are trees yet
 pub data ClauseShape : Type 0 where
   InEach : List ℕ → Form → ClauseShape
   WhenTrue : Form → ClauseShape
 
--- THE TABLE OF CLAUSES
+-- THE TABLE OF CLAUSES, which is the same in both languages
 abbrev pub clause_headed : Option Head → List Form → Option ClauseShape
 clause_headed (Some head.In) (x ∷ e ∷ []) = and_then (word_of x) (λ x. Some (InEach x e))
 clause_headed (Some head.When) (c ∷ []) = Some (WhenTrue c)
@@ -131,7 +155,7 @@ clause_headed _ _ = None
 
 abbrev pub clause_node : List Form → Option ClauseShape
 clause_node [] = None
-clause_node (first ∷ parts) = and_then (word_of first) (λ word. clause_headed (head_of word) parts)
+clause_node (first ∷ parts) = and_then (word_of first) (λ word. clause_headed (head_of false word) parts)
 
 -- which form of clause a tree has
 unfoldable pub clause_shape : Form → Option ClauseShape

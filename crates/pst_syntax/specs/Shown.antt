@@ -24,7 +24,9 @@ shown (code.Tuple es) = spec.Tuple es.now
 shown (code.At e i) = spec.At e.now i.now
 shown (code.List t es) = spec.ListOf t.now es.now
 shown (code.For cs b) = spec.For cs.now b.now
-shown (code.Fold x e acc i b) = spec.Fold x.now e.now acc.now i.now b.now
+shown (code.Fold f) = spec.Fold f.name.now f.list.now f.built.now f.first.now f.body.now
+shown (code.Map k t) = spec.MapOf k t.now
+shown (code.Put m k v) = spec.Put m.now k.now v.now
 shown (code.Call op es) = spec.Call op.now es.now
 shown (code.Apply f es) = spec.Apply f.now es.now
 
@@ -39,6 +41,7 @@ shown_ty ty.Text = spec.TextType
 shown_ty ty.Call = spec.CallType
 shown_ty (ty.Tuple ts) = spec.TupleType ts.now
 shown_ty (ty.List t) = spec.ListType t.now
+shown_ty (ty.Map k t) = spec.MapType k t.now
 shown_ty (ty.Ref t) = spec.RefType t.now
 
 abbrev pub shown_ty_option : Option BorrowedTy → Option TyShape

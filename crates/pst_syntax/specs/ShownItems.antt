@@ -6,8 +6,8 @@ use Rattle.pst_syntax.specs.declared.item_shape.ItemShape.TheVariants as item
 use Rattle.pst_syntax.specs.declared.item_shape.CallbackShape.{CallbackShape as BorrowedCallback}
 use Rattle.pst_syntax.specs.declared.item_shape.CallbackShape.TheVariants as callback
 use Rattle.pst_syntax.specs.declared.item_shape.ParamShape.{ParamShape}
-use Rattle.pst_syntax.specs.declared.item_shape.ModelShape.{ModelShape}
-use Rattle.pst_syntax.specs.ItemShape.{ItemShape, CallbackShape}
+use Rattle.pst_syntax.specs.declared.item_shape.ModelShape.{ModelShape as BorrowedModel}
+use Rattle.pst_syntax.specs.ItemShape.{ItemShape, CallbackShape, ModelShape}
 use Rattle.pst_syntax.specs.ItemShape as spec
 
 abbrev pub shown_item : BorrowedItem → ItemShape
@@ -37,9 +37,9 @@ abbrev pub shown_param_option : Option ParamShape → Option (List ℕ × Form)
 shown_param_option None = None
 shown_param_option (Some shape) = Some (shown_param shape)
 
-abbrev pub shown_model : ModelShape → List ℕ × List Form
-shown_model m = (m.name.now, m.items.now)
+abbrev pub shown_model : BorrowedModel → ModelShape
+shown_model m = record { has_maps = m.has_maps; name = m.name.now; items = m.items.now }
 
-abbrev pub shown_model_option : Option ModelShape → Option (List ℕ × List Form)
+abbrev pub shown_model_option : Option BorrowedModel → Option ModelShape
 shown_model_option None = None
 shown_model_option (Some shape) = Some (shown_model shape)

@@ -19,13 +19,15 @@ pub enum Head {
     List,
     For,
     Fold,
+    Map,
+    Put,
     Call,
     Ref,
     In,
     When,
 }
 
-/// The head words of expressions, types and clauses.
+/// The head words of expressions, types and clauses in both languages.
 pub const HEADS: [(&str, Head); 28] = [
     ("let", Head::Let),
     ("if", Head::If),
@@ -57,12 +59,29 @@ pub const HEADS: [(&str, Head); 28] = [
     ("when", Head::When),
 ];
 
-/// The head that a word is.
+/// The head words of maps, which are free names in the language without maps.
+pub const MAP_HEADS: [(&str, Head); 6] = [
+    ("get", Head::Binary(Binary::Get)),
+    ("has", Head::Binary(Binary::Has)),
+    ("del", Head::Binary(Binary::Del)),
+    ("keys", Head::Unary(Unary::Keys)),
+    ("put", Head::Put),
+    ("map", Head::Map),
+];
+
+/// The head that a word is, in the language with or without maps.
 #[tactic(auto, unfolding(crate::specs::Heads::head_of))]
-pub fn head_of(word: &str) -> Option<Head>
-    ensures { result ≡ head_of word.now }
+pub fn head_of(has_maps: bool, word: &str) -> Option<Head>
+    ensures { result ≡ head_of has_maps word.now }
 {
-    look_up(&HEADS, word)
+    if let Some(head) = look_up(&HEADS, word) {
+        return Some(head);
+    }
+    if has_maps {
+        look_up(&MAP_HEADS, word)
+    } else {
+        None
+    }
 }
 
 fn look_up(rows: &[(&str, Head)], word: &str) -> Option<Head>

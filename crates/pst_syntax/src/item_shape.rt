@@ -54,6 +54,8 @@ pub struct ParamShape<'a> {
 /// A model, whose items are trees yet.
 #[derive(Drop)]
 pub struct ModelShape<'a> {
+    /// Whether its language has maps.
+    pub has_maps: bool,
     pub name: &'a Text,
     pub items: &'a [Form],
 }
@@ -174,19 +176,33 @@ pub fn param_shape(form: &Form) -> Option<ParamShape<'_>>
     })
 }
 
-fn model_headed<'a>(word: &str, parts: &'a [Form]) -> Option<ModelShape<'a>>
-    ensures { shown_model_option result ≡ spec.as_model word.now parts.now }
+/// Whether the language that a word heads has maps.
+fn language(word: &str) -> Option<bool>
+    ensures { result ≡ spec.language word.now }
 {
-    let (name, items) = parts.split_first()?;
-    let name = word_of(name)?;
     if word == "model" {
-        Some(ModelShape { name, items })
+        Some(false)
+    } else if word == "model2" {
+        Some(true)
     } else {
         None
     }
 }
 
-/// The name and the items of a model.
+fn model_headed<'a>(word: &str, parts: &'a [Form]) -> Option<ModelShape<'a>>
+    ensures { shown_model_option result ≡ spec.as_model word.now parts.now }
+{
+    let (name, items) = parts.split_first()?;
+    let name = word_of(name)?;
+    let has_maps = language(word)?;
+    Some(ModelShape {
+        has_maps,
+        name,
+        items,
+    })
+}
+
+/// The language of a model, its name and its items.
 #[tactic(auto, unfolding(crate::specs::ItemShape::model_shape))]
 pub fn model_shape(form: &Form) -> Option<ModelShape<'_>>
     ensures { shown_model_option result ≡ spec.model_shape form.now }

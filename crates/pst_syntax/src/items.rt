@@ -24,17 +24,17 @@ use pst_value::Ty;
 use std::alloc::Global;
 
 /// A type that stands in no other one.
-fn whole_ty(alloc: Global, form: &Form) -> Result<Ty, FaultKind>
-    ensures { Gives result (spec.whole_ty form.now) }
+fn whole_ty(alloc: Global, has_maps: bool, form: &Form) -> Result<Ty, FaultKind>
+    ensures { Gives result (spec.whole_ty has_maps form.now) }
 {
-    ty(alloc, form, MAX_TY_LEVELS)
+    ty(alloc, has_maps, form, MAX_TY_LEVELS)
 }
 
 /// An expression that stands in no other one.
-fn whole_expr(alloc: Global, form: &Form) -> Result<Expr, FaultKind>
-    ensures { Gives result (spec.whole_expr form.now) }
+fn whole_expr(alloc: Global, has_maps: bool, form: &Form) -> Result<Expr, FaultKind>
+    ensures { Gives result (spec.whole_expr has_maps form.now) }
 {
-    expr(alloc, form, MAX_EXPR_LEVELS)
+    expr(alloc, has_maps, form, MAX_EXPR_LEVELS)
 }
 
 fn is_param(params: &[Param], word: &Text) -> bool
@@ -45,34 +45,44 @@ fn is_param(params: &[Param], word: &Text) -> bool
         .any(|param| param.name.as_str() == word.as_str())
 }
 
-fn param_of(alloc: Global, params: &[Param], shape: &ParamShape<'_>) -> Result<Param, FaultKind>
-    ensures { Gives result (spec.param_of params.now (shown_param shape.now)) }
+fn param_of(
+    alloc: Global,
+    has_maps: bool,
+    params: &[Param],
+    shape: &ParamShape<'_>,
+) -> Result<Param, FaultKind>
+    ensures { Gives result (spec.param_of has_maps params.now (shown_param shape.now)) }
 {
     let is_taken = is_param(params, shape.name);
-    let name = declared(alloc, is_free(shape.name), is_taken, shape.name)?;
-    let ty = whole_ty(alloc, shape.ty)?;
+    let name = declared(alloc, is_free(has_maps, shape.name), is_taken, shape.name)?;
+    let ty = whole_ty(alloc, has_maps, shape.ty)?;
     Ok(Param { name, ty })
 }
 
 /// The parameter that a tree spells, behind others.
-fn known_param(alloc: Global, params: &[Param], form: &Form) -> Result<Param, FaultKind>
-    ensures { Gives result (known (param_shape form.now) (spec.param_of params.now)) }
+fn known_param(
+    alloc: Global,
+    has_maps: bool,
+    params: &[Param],
+    form: &Form,
+) -> Result<Param, FaultKind>
+    ensures { Gives result (known (param_shape form.now) (spec.param_of has_maps params.now)) }
 {
     match param_shape(form) {
-        Some(shape) => param_of(alloc, params, &shape),
+        Some(shape) => param_of(alloc, has_maps, params, &shape),
         None => Err(FaultKind::UnknownForm),
     }
 }
 
-fn params_of(alloc: Global, forms: &[Form]) -> Result<Items<Param>, FaultKind>
-    ensures { Gives result (spec.params_of forms.now) }
+fn params_of(alloc: Global, has_maps: bool, forms: &[Form]) -> Result<Items<Param>, FaultKind>
+    ensures { Gives result (spec.params_of has_maps forms.now) }
 {
     if forms.len() > MAX_PARTS {
         return Err(FaultKind::OverLimit);
     }
     let mut params = Items::new(alloc);
     for form in forms {
-        params.push(known_param(alloc, params.as_slice(), form)?)?;
+        params.push(known_param(alloc, has_maps, params.as_slice(), form)?)?;
     }
     Ok(params)
 }
@@ -86,52 +96,63 @@ pub struct Callbacks {
 }
 
 /// The expression of a callback that must stand once.
-fn callback_body(alloc: Global, is_taken: bool, body: &Form) -> Result<Boxed<Expr>, FaultKind>
-    ensures { Gives result (once is_taken (spec.whole_expr body.now)) }
+fn callback_body(
+    alloc: Global,
+    has_maps: bool,
+    is_taken: bool,
+    body: &Form,
+) -> Result<Boxed<Expr>, FaultKind>
+    ensures { Gives result (once is_taken (spec.whole_expr has_maps body.now)) }
 {
     if is_taken {
         return Err(FaultKind::DoubleName);
     }
-    Ok(Boxed::new(alloc, whole_expr(alloc, body)?)?)
+    Ok(Boxed::new(alloc, whole_expr(alloc, has_maps, body)?)?)
 }
 
 /// The callbacks, with one more.
 fn callback_of(
     alloc: Global,
+    has_maps: bool,
     callbacks: Callbacks,
     shape: &CallbackShape<'_>,
 ) -> Result<Callbacks, FaultKind>
-    ensures { Gives result (spec.callback_of callbacks (shown_callback shape.now)) }
+    ensures { Gives result (spec.callback_of has_maps callbacks (shown_callback shape.now)) }
 {
     let Callbacks { pre, next, post } = callbacks;
     match shape {
         CallbackShape::Pre(body) => {
-            let pre = Some(callback_body(alloc, pre.is_some(), body)?);
+            let pre = Some(callback_body(alloc, has_maps, pre.is_some(), body)?);
             Ok(Callbacks { pre, next, post })
         }
         CallbackShape::Next(body) => {
-            let next = Some(callback_body(alloc, next.is_some(), body)?);
+            let next = Some(callback_body(alloc, has_maps, next.is_some(), body)?);
             Ok(Callbacks { pre, next, post })
         }
         CallbackShape::Post(body) => {
-            let post = Some(callback_body(alloc, post.is_some(), body)?);
+            let post = Some(callback_body(alloc, has_maps, post.is_some(), body)?);
             Ok(Callbacks { pre, next, post })
         }
     }
 }
 
 /// The callbacks, with the one that a tree spells.
-fn with_callback(alloc: Global, callbacks: Callbacks, form: &Form) -> Result<Callbacks, FaultKind>
-    ensures { Gives result (known (callback_shape form.now) (spec.callback_of callbacks)) }
+fn with_callback(
+    alloc: Global,
+    has_maps: bool,
+    callbacks: Callbacks,
+    form: &Form,
+) -> Result<Callbacks, FaultKind>
+    ensures { Gives result (known (callback_shape form.now) (spec.callback_of has_maps callbacks)) }
 {
     match callback_shape(form) {
-        Some(shape) => callback_of(alloc, callbacks, &shape),
+        Some(shape) => callback_of(alloc, has_maps, callbacks, &shape),
         None => Err(FaultKind::UnknownForm),
     }
 }
 
-fn callbacks_of(alloc: Global, forms: &[Form]) -> Result<Callbacks, FaultKind>
-    ensures { Gives result (spec.callbacks_from spec.no_callbacks forms.now) }
+fn callbacks_of(alloc: Global, has_maps: bool, forms: &[Form]) -> Result<Callbacks, FaultKind>
+    ensures { Gives result (spec.callbacks_from has_maps spec.no_callbacks forms.now) }
 {
     let mut callbacks = Callbacks {
         pre: None,
@@ -139,7 +160,7 @@ fn callbacks_of(alloc: Global, forms: &[Form]) -> Result<Callbacks, FaultKind>
         post: None,
     };
     for form in forms {
-        callbacks = with_callback(alloc, callbacks, form)?;
+        callbacks = with_callback(alloc, has_maps, callbacks, form)?;
     }
     Ok(callbacks)
 }
@@ -165,10 +186,10 @@ fn all_callbacks(callbacks: Callbacks) -> Option<AllCallbacks>
 }
 
 /// The callbacks that trees spell, of which none is missing.
-fn whole_callbacks(alloc: Global, forms: &[Form]) -> Result<AllCallbacks, FaultKind>
-    ensures { Gives result (spec.whole_callbacks forms.now) }
+fn whole_callbacks(alloc: Global, has_maps: bool, forms: &[Form]) -> Result<AllCallbacks, FaultKind>
+    ensures { Gives result (spec.whole_callbacks has_maps forms.now) }
 {
-    all_callbacks(callbacks_of(alloc, forms)?).ok_or(FaultKind::Missing)
+    all_callbacks(callbacks_of(alloc, has_maps, forms)?).ok_or(FaultKind::Missing)
 }
 
 /// Whether some item gives the type of the state: `(state ..)`.
@@ -244,16 +265,21 @@ fn has_op_room(items: &[Item]) -> bool
         < MAX_DECLARED
 }
 
-fn fun_of(alloc: Global, seen: &[Item], shape: &FunShape<'_>) -> Result<Fun, FaultKind>
+fn fun_of(
+    alloc: Global,
+    has_maps: bool,
+    seen: &[Item],
+    shape: &FunShape<'_>,
+) -> Result<Fun, FaultKind>
     ensures { Gives result
-        (spec.fun_of shape.now.is_post seen.now shape.now.name.now shape.now.params.now
+        (spec.fun_of has_maps shape.now.is_post seen.now shape.now.name.now shape.now.params.now
         shape.now.result.now shape.now.body.now) }
 {
     let is_taken = has_fun(seen, shape.name);
-    let name = declared(alloc, is_free(shape.name), is_taken, shape.name)?;
-    let params = params_of(alloc, shape.params)?;
-    let result = whole_ty(alloc, shape.result)?;
-    let body = whole_expr(alloc, shape.body)?;
+    let name = declared(alloc, is_free(has_maps, shape.name), is_taken, shape.name)?;
+    let params = params_of(alloc, has_maps, shape.params)?;
+    let result = whole_ty(alloc, has_maps, shape.result)?;
+    let body = whole_expr(alloc, has_maps, shape.body)?;
     Ok(Fun {
         is_post: shape.is_post,
         name,
@@ -263,16 +289,21 @@ fn fun_of(alloc: Global, seen: &[Item], shape: &FunShape<'_>) -> Result<Fun, Fau
     })
 }
 
-fn op_parts(alloc: Global, seen: &[Item], shape: &OpShape<'_>) -> Result<Op, FaultKind>
+fn op_parts(
+    alloc: Global,
+    has_maps: bool,
+    seen: &[Item],
+    shape: &OpShape<'_>,
+) -> Result<Op, FaultKind>
     ensures { Gives result
-        (spec.op_parts seen.now shape.now.name.now shape.now.params.now
+        (spec.op_parts has_maps seen.now shape.now.name.now shape.now.params.now
         shape.now.result.now shape.now.callbacks.now) }
 {
     let is_taken = has_op(seen, shape.name);
     let name = declared(alloc, is_name(shape.name), is_taken, shape.name)?;
-    let params = params_of(alloc, shape.params)?;
-    let result = whole_ty(alloc, shape.result)?;
-    let AllCallbacks { pre, next, post } = whole_callbacks(alloc, shape.callbacks)?;
+    let params = params_of(alloc, has_maps, shape.params)?;
+    let result = whole_ty(alloc, has_maps, shape.result)?;
+    let AllCallbacks { pre, next, post } = whole_callbacks(alloc, has_maps, shape.callbacks)?;
     Ok(Op {
         name,
         params,
@@ -283,10 +314,10 @@ fn op_parts(alloc: Global, seen: &[Item], shape: &OpShape<'_>) -> Result<Op, Fau
     })
 }
 
-/// An item after others.
+/// An item after others, in the language with or without maps.
 #[tactic(auto, unfolding(crate::specs::Items::item_of))]
-pub fn item_of(alloc: Global, seen: &[Item], form: &Form) -> Result<Item, FaultKind>
-    ensures { Gives result (spec.item_of seen.now form.now) }
+pub fn item_of(alloc: Global, has_maps: bool, seen: &[Item], form: &Form) -> Result<Item, FaultKind>
+    ensures { Gives result (spec.item_of has_maps seen.now form.now) }
 {
     let Some(shape) = item_shape(form) else {
         return Err(FaultKind::UnknownForm);
@@ -297,10 +328,10 @@ pub fn item_of(alloc: Global, seen: &[Item], form: &Form) -> Result<Item, FaultK
         ItemShape::Command(_) if has_command(seen) => Err(FaultKind::DoubleName),
         ItemShape::Fun(_) if !has_fun_room(seen) => Err(FaultKind::OverLimit),
         ItemShape::Op(_) if !has_op_room(seen) => Err(FaultKind::OverLimit),
-        ItemShape::State(ty) => Ok(Item::State(whole_ty(alloc, ty)?)),
-        ItemShape::Init(value) => Ok(Item::Init(whole_expr(alloc, value)?)),
-        ItemShape::Command(calls) => Ok(Item::Command(whole_expr(alloc, calls)?)),
-        ItemShape::Fun(shape) => Ok(Item::Fun(fun_of(alloc, seen, &shape)?)),
-        ItemShape::Op(shape) => Ok(Item::Op(op_parts(alloc, seen, &shape)?)),
+        ItemShape::State(ty) => Ok(Item::State(whole_ty(alloc, has_maps, ty)?)),
+        ItemShape::Init(value) => Ok(Item::Init(whole_expr(alloc, has_maps, value)?)),
+        ItemShape::Command(calls) => Ok(Item::Command(whole_expr(alloc, has_maps, calls)?)),
+        ItemShape::Fun(shape) => Ok(Item::Fun(fun_of(alloc, has_maps, seen, &shape)?)),
+        ItemShape::Op(shape) => Ok(Item::Op(op_parts(alloc, has_maps, seen, &shape)?)),
     }
 }

@@ -1,9 +1,10 @@
 //! Laws of models and of their reading.
 
+ghost use Rattle.pst_model.specs.Language.{KeepsLanguage};
 ghost use Rattle.pst_model.specs.Operations.{HasOperations};
 ghost use Rattle.pst_model.specs.declared.model.Source.{Source};
 ghost use Rattle.pst_sexpr.specs.declared.form.Form.{Form};
-ghost use Rattle.std.specs.Prelude.{◌≡◌, ℕ, List};
+ghost use Rattle.std.specs.Prelude.{◌≡◌, ℕ, Bool, List};
 ghost use Rattle.pst_syntax.specs.ModelFaults.{model_faults};
 ghost use Rattle.pst_syntax.specs.Reading.{expr_of, ty_of};
 ghost use Rattle.pst_syntax.specs.Faults.{expr_faults, ty_faults, first, refusal};
@@ -19,14 +20,21 @@ pub fn model_operations()
     ensures { (source : Source) → IsModel source → HasOperations source.items }
 {}
 
+/// The operations of a model headed `model` have no map among their types.
+pub fn model_language()
+    ensures { (source : Source) → IsModel source → KeepsLanguage source }
+{}
+
 /// An expression is refused by the first of its faults, and read where it has none.
 pub fn first_refusal_of_expr()
-    ensures { (room : ℕ) (form : Form) → refusal (expr_of room form) ≡ first (expr_faults room form) }
+    ensures { (has_maps : Bool) (room : ℕ) (form : Form) →
+        refusal (expr_of has_maps room form) ≡ first (expr_faults has_maps room form) }
 {}
 
 /// A type is refused by the first of its faults, and read where it has none.
 pub fn first_refusal_of_ty()
-    ensures { (room : ℕ) (form : Form) → refusal (ty_of room form) ≡ first (ty_faults room form) }
+    ensures { (has_maps : Bool) (room : ℕ) (form : Form) →
+        refusal (ty_of has_maps room form) ≡ first (ty_faults has_maps room form) }
 {}
 
 /// A model is refused by the first of its faults, and read where it has none.

@@ -51,27 +51,34 @@ fn is_short(word: &Text) -> bool
     word.len() <= MAX_NAME
 }
 
-/// Whether a word means something of its own where a name could stand.
+/// Whether a word means something of its own where a name could stand; the words of maps do so only in the
+/// language that has them.
 #[tactic(auto, unfolding(crate::specs::Names::is_reserved))]
-fn is_reserved(word: &str) -> bool
-    ensures { result ≡ spec.is_reserved word.now }
+fn is_reserved(has_maps: bool, word: &str) -> bool
+    ensures { result ≡ spec.is_reserved has_maps word.now }
 {
-    word == "true" || word == "false" || word == "s" || word == "r" || head_of(word).is_some()
+    word == "true"
+        || word == "false"
+        || word == "s"
+        || word == "r"
+        || head_of(has_maps, word).is_some()
 }
 
-/// Whether a function, a parameter or a bound name may be named so, whatever its length.
-pub fn is_free(word: &Text) -> bool
-    ensures { result ≡ spec.is_free word.now }
+/// Whether a function, a parameter or a bound name may be named so in the language with or without maps,
+/// whatever the length of the name.
+pub fn is_free(has_maps: bool, word: &Text) -> bool
+    ensures { result ≡ spec.is_free has_maps word.now }
 {
-    is_name(word) && !is_reserved(word.as_str())
+    is_name(word) && !is_reserved(has_maps, word.as_str())
 }
 
-/// Whether a word may be used as the name of a function, a parameter or a bound name.
+/// Whether a word may be used as the name of a function, a parameter or a bound name in the language with or
+/// without maps.
 #[tactic(auto, unfolding(crate::specs::Names::is_used))]
-pub fn is_used(word: &Text) -> bool
-    ensures { result ≡ spec.is_used word.now }
+pub fn is_used(has_maps: bool, word: &Text) -> bool
+    ensures { result ≡ spec.is_used has_maps word.now }
 {
-    is_free(word) && is_short(word)
+    is_free(has_maps, word) && is_short(word)
 }
 
 /// Whether a word may be used as the name of an operation.

@@ -7,13 +7,13 @@ ghost use Rattle.pst_syntax.specs.declared.fault.FaultKind.TheVariants.{OverLimi
 ghost use Rattle.pst_syntax.specs.Limits.{ty_room};
 ghost use Rattle.pst_syntax.specs.Reading as spec;
 ghost use Rattle.pst_syntax.specs.Reading.{Gives};
-ghost use Rattle.pst_syntax.specs.Shape.{Fold, For, If, Let, ListOf};
+ghost use Rattle.pst_syntax.specs.Shape.{Fold, For, If, Let, ListOf, Put};
 ghost use Rattle.pst_syntax.specs.Shown.{shown, shown_ty, shown_clause};
 
 use crate::fault::FaultKind;
 use crate::limits::{MAX_PARTS, MAX_TY_LEVELS};
 use crate::names::{declared, is_free, is_used_operation};
-use crate::shape::{Shape, shape_of};
+use crate::shape::{FoldShape, Shape, shape_of};
 use crate::ty_shape::{ClauseShape, TyShape, clause_shape, ty_shape};
 use pst_items::{Boxed, Items, Text};
 use pst_model::{Clause, Expr};
@@ -23,17 +23,18 @@ use pst_words::value_of;
 use std::alloc::Global;
 
 /// A bound name.
-fn bound(alloc: Global, name: &Text) -> Result<Text, FaultKind>
-    ensures { Gives result (spec.bound name.now) }
+fn bound(alloc: Global, has_maps: bool, name: &Text) -> Result<Text, FaultKind>
+    ensures { Gives result (spec.bound has_maps name.now) }
 {
-    declared(alloc, is_free(name), false, name)
+    declared(alloc, is_free(has_maps, name), false, name)
 }
 
 /// A bound name beside another one.
-fn bound_beside(alloc: Global, other: &Text, name: &Text) -> Result<Text, FaultKind>
-    ensures { Gives result (spec.bound_beside other.now name.now) }
+fn bound_beside(alloc: Global, has_maps: bool, other: &Text, name: &Text) -> Result<Text, FaultKind>
+    ensures { Gives result (spec.bound_beside has_maps other.now name.now) }
 {
-    declared(alloc, is_free(name), other.as_str() == name.as_str(), name)
+    let is_taken = other.as_str() == name.as_str();
+    declared(alloc, is_free(has_maps, name), is_taken, name)
 }
 
 /// The name of an operation where it is used.
@@ -77,24 +78,29 @@ fn application(alloc: Global, function: &Text, arguments: Items<Expr>) -> Result
     Ok(Expr::Apply(function.copy(alloc)?, arguments))
 }
 
-/// A type, with so many levels of room.
+/// A type, with so many levels of room, in the language with or without maps.
 #[cycle(ty)]
 #[tactic(auto, using(crate::proofs::Rooms::ty_rooms))]
-pub fn ty(alloc: Global, form: &Form, room: usize) -> Result<Ty, FaultKind>
-    ensures { Gives result (spec.ty_of room form.now) }
+pub fn ty(alloc: Global, has_maps: bool, form: &Form, room: usize) -> Result<Ty, FaultKind>
+    ensures { Gives result (spec.ty_of has_maps room form.now) }
 {
-    let Some(shape) = ty_shape(form) else {
+    let Some(shape) = ty_shape(has_maps, form) else {
         return Err(FaultKind::UnknownForm);
     };
     if room == 0 {
         return Err(FaultKind::OverLimit);
     }
-    ty_parts(alloc, &shape, room - 1)
+    ty_parts(alloc, has_maps, &shape, room - 1)
 }
 
 #[cycle(ty)]
-fn ty_parts(alloc: Global, shape: &TyShape<'_>, room: usize) -> Result<Ty, FaultKind>
-    ensures { Gives result (spec.ty_parts (spec.ty_of room) (shown_ty shape.now)) }
+fn ty_parts(
+    alloc: Global,
+    has_maps: bool,
+    shape: &TyShape<'_>,
+    room: usize,
+) -> Result<Ty, FaultKind>
+    ensures { Gives result (spec.ty_parts (spec.ty_of has_maps room) (shown_ty shape.now)) }
 {
     match shape {
         TyShape::Int => Ok(Ty::Int),
@@ -105,202 +111,274 @@ fn ty_parts(alloc: Global, shape: &TyShape<'_>, room: usize) -> Result<Ty, Fault
             if types.len() > MAX_PARTS {
                 return Err(FaultKind::OverLimit);
             }
-            Ok(Ty::Tuple(tys(alloc, types, room)?))
+            Ok(Ty::Tuple(tys(alloc, has_maps, types, room)?))
         }
-        TyShape::List(item) => Ok(Ty::List(Boxed::new(alloc, ty(alloc, item, room)?)?)),
-        TyShape::Ref(target) => Ok(Ty::Ref(Boxed::new(alloc, ty(alloc, target, room)?)?)),
+        TyShape::List(item) => Ok(Ty::List(boxed_ty(alloc, has_maps, item, room)?)),
+        TyShape::Map(key, value) => Ok(Ty::Map(*key, boxed_ty(alloc, has_maps, value, room)?)),
+        TyShape::Ref(target) => Ok(Ty::Ref(boxed_ty(alloc, has_maps, target, room)?)),
     }
 }
 
 #[cycle(ty)]
-fn tys(alloc: Global, forms: &[Form], room: usize) -> Result<Items<Ty>, FaultKind>
-    ensures { Gives result (spec.each (spec.ty_of room) forms.now) }
+fn boxed_ty(alloc: Global, has_maps: bool, form: &Form, room: usize) -> Result<Boxed<Ty>, FaultKind>
+    ensures { Gives result (spec.ty_of has_maps room form.now) }
+{
+    Ok(Boxed::new(alloc, ty(alloc, has_maps, form, room)?)?)
+}
+
+#[cycle(ty)]
+fn tys(alloc: Global, has_maps: bool, forms: &[Form], room: usize) -> Result<Items<Ty>, FaultKind>
+    ensures { Gives result (spec.each (spec.ty_of has_maps room) forms.now) }
 {
     let mut types = Items::new(alloc);
     for form in forms {
-        types.push(ty(alloc, form, room)?)?;
+        types.push(ty(alloc, has_maps, form, room)?)?;
     }
     Ok(types)
 }
 
-/// An expression, with so many levels of room.
+/// An expression, with so many levels of room, in the language with or without maps.
 #[cycle(expr)]
 #[tactic(auto, using(crate::proofs::Rooms::expr_rooms))]
-pub fn expr(alloc: Global, form: &Form, room: usize) -> Result<Expr, FaultKind>
-    ensures { Gives result (spec.expr_of room form.now) }
+pub fn expr(alloc: Global, has_maps: bool, form: &Form, room: usize) -> Result<Expr, FaultKind>
+    ensures { Gives result (spec.expr_of has_maps room form.now) }
 {
-    let Some(shape) = shape_of(form) else {
+    let Some(shape) = shape_of(has_maps, form) else {
         return Err(FaultKind::UnknownForm);
     };
     if room == 0 {
         return Err(FaultKind::OverLimit);
     }
-    expr_parts(alloc, &shape, room - 1)
+    expr_parts(alloc, has_maps, &shape, room - 1)
 }
 
 #[cycle(expr)]
-fn expr_parts(alloc: Global, shape: &Shape<'_>, room: usize) -> Result<Expr, FaultKind>
+fn expr_parts(
+    alloc: Global,
+    has_maps: bool,
+    shape: &Shape<'_>,
+    room: usize,
+) -> Result<Expr, FaultKind>
     ensures { Gives result
-        (spec.expr_parts (spec.ty_of ty_room) (spec.expr_of room) (shown shape.now)) }
+        (spec.expr_parts has_maps (spec.ty_of has_maps ty_room) (spec.expr_of has_maps room)
+        (shown shape.now)) }
 {
     match shape {
         Shape::Integer(word) => int(word).ok_or(FaultKind::OverLimit),
         Shape::Truth(truth) => Ok(Expr::Bool(*truth)),
         Shape::Quoted(bytes) => text(alloc, bytes),
         Shape::Used(name) => Ok(Expr::Name(name.copy(alloc)?)),
-        Shape::Let(name, value, body) => let_in(alloc, name, value, body, room),
-        Shape::If(test, yes, no) => choice(alloc, test, yes, no, room),
+        Shape::Let(name, value, body) => let_in(alloc, has_maps, name, value, body, room),
+        Shape::If(test, yes, no) => choice(alloc, has_maps, test, yes, no, room),
         Shape::And(a, b) => {
-            let a = boxed(alloc, a, room)?;
-            Ok(Expr::And(a, boxed(alloc, b, room)?))
+            let a = boxed(alloc, has_maps, a, room)?;
+            Ok(Expr::And(a, boxed(alloc, has_maps, b, room)?))
         }
         Shape::Or(a, b) => {
-            let a = boxed(alloc, a, room)?;
-            Ok(Expr::Or(a, boxed(alloc, b, room)?))
+            let a = boxed(alloc, has_maps, a, room)?;
+            Ok(Expr::Or(a, boxed(alloc, has_maps, b, room)?))
         }
-        Shape::Unary(operator, a) => Ok(Expr::Unary(*operator, boxed(alloc, a, room)?)),
+        Shape::Unary(operator, a) => Ok(Expr::Unary(*operator, boxed(alloc, has_maps, a, room)?)),
         Shape::Binary(operator, a, b) => {
-            let a = boxed(alloc, a, room)?;
-            Ok(Expr::Binary(*operator, a, boxed(alloc, b, room)?))
+            let a = boxed(alloc, has_maps, a, room)?;
+            Ok(Expr::Binary(*operator, a, boxed(alloc, has_maps, b, room)?))
         }
         Shape::Tuple(items) => {
             if items.len() > MAX_PARTS {
                 return Err(FaultKind::OverLimit);
             }
-            Ok(Expr::Tuple(exprs(alloc, items, room)?))
+            Ok(Expr::Tuple(exprs(alloc, has_maps, items, room)?))
         }
         Shape::At(tuple, place) => {
-            item_at(boxed(alloc, tuple, room)?, place).ok_or(FaultKind::OverLimit)
+            item_at(boxed(alloc, has_maps, tuple, room)?, place).ok_or(FaultKind::OverLimit)
         }
-        Shape::List(item, items) => list(alloc, item, items, room),
-        Shape::For(parts, body) => comprehension(alloc, parts, body, room),
-        Shape::Fold(name, list, built, first, body) => {
-            fold(alloc, name, list, built, first, body, room)
-        }
+        Shape::List(item, items) => list(alloc, has_maps, item, items, room),
+        Shape::For(parts, body) => comprehension(alloc, has_maps, parts, body, room),
+        Shape::Fold(shape) => fold(alloc, has_maps, shape, room),
+        Shape::Map(key, value) => Ok(Expr::Map(*key, ty(alloc, has_maps, value, MAX_TY_LEVELS)?)),
+        Shape::Put(map, key, value) => put(alloc, has_maps, map, key, value, room),
         Shape::Call(operation, arguments) => {
             let operation = used_operation(alloc, operation)?;
-            Ok(Expr::Call(operation, exprs(alloc, arguments, room)?))
+            Ok(Expr::Call(operation, exprs(alloc, has_maps, arguments, room)?))
         }
         Shape::Apply(function, arguments) => {
-            application(alloc, function, exprs(alloc, arguments, room)?)
+            application(alloc, function, exprs(alloc, has_maps, arguments, room)?)
         }
     }
 }
 
 #[cycle(expr)]
-fn boxed(alloc: Global, form: &Form, room: usize) -> Result<Boxed<Expr>, FaultKind>
-    ensures { Gives result (spec.expr_of room form.now) }
+fn boxed(alloc: Global, has_maps: bool, form: &Form, room: usize) -> Result<Boxed<Expr>, FaultKind>
+    ensures { Gives result (spec.expr_of has_maps room form.now) }
 {
-    Ok(Boxed::new(alloc, expr(alloc, form, room)?)?)
+    Ok(Boxed::new(alloc, expr(alloc, has_maps, form, room)?)?)
 }
 
 /// A list of items of a type.
 #[cycle(expr)]
-fn list(alloc: Global, item: &Form, items: &[Form], room: usize) -> Result<Expr, FaultKind>
+fn list(
+    alloc: Global,
+    has_maps: bool,
+    item: &Form,
+    items: &[Form],
+    room: usize,
+) -> Result<Expr, FaultKind>
     ensures { Gives result
-        (spec.expr_parts (spec.ty_of ty_room) (spec.expr_of room) (ListOf item.now items.now)) }
+        (spec.expr_parts has_maps (spec.ty_of has_maps ty_room) (spec.expr_of has_maps room)
+        (ListOf item.now items.now)) }
 {
-    let item = ty(alloc, item, MAX_TY_LEVELS)?;
-    Ok(Expr::List(item, exprs(alloc, items, room)?))
+    let item = ty(alloc, has_maps, item, MAX_TY_LEVELS)?;
+    Ok(Expr::List(item, exprs(alloc, has_maps, items, room)?))
 }
 
 /// A body that sees a value under a name.
 #[cycle(expr)]
 fn let_in(
     alloc: Global,
+    has_maps: bool,
     name: &Text,
     value: &Form,
     body: &Form,
     room: usize,
 ) -> Result<Expr, FaultKind>
     ensures { Gives result
-        (spec.expr_parts (spec.ty_of ty_room) (spec.expr_of room) (Let name.now value.now body.now)) }
+        (spec.expr_parts has_maps (spec.ty_of has_maps ty_room) (spec.expr_of has_maps room)
+        (Let name.now value.now body.now)) }
 {
-    let name = bound(alloc, name)?;
-    let value = boxed(alloc, value, room)?;
-    Ok(Expr::Let(name, value, boxed(alloc, body, room)?))
+    let name = bound(alloc, has_maps, name)?;
+    let value = boxed(alloc, has_maps, value, room)?;
+    Ok(Expr::Let(name, value, boxed(alloc, has_maps, body, room)?))
 }
 
 /// One of two expressions, by a test.
 #[cycle(expr)]
-fn choice(alloc: Global, test: &Form, yes: &Form, no: &Form, room: usize) -> Result<Expr, FaultKind>
+fn choice(
+    alloc: Global,
+    has_maps: bool,
+    test: &Form,
+    yes: &Form,
+    no: &Form,
+    room: usize,
+) -> Result<Expr, FaultKind>
     ensures { Gives result
-        (spec.expr_parts (spec.ty_of ty_room) (spec.expr_of room) (If test.now yes.now no.now)) }
+        (spec.expr_parts has_maps (spec.ty_of has_maps ty_room) (spec.expr_of has_maps room)
+        (If test.now yes.now no.now)) }
 {
-    let test = boxed(alloc, test, room)?;
-    let yes = boxed(alloc, yes, room)?;
-    Ok(Expr::If(test, yes, boxed(alloc, no, room)?))
+    let test = boxed(alloc, has_maps, test, room)?;
+    let yes = boxed(alloc, has_maps, yes, room)?;
+    Ok(Expr::If(test, yes, boxed(alloc, has_maps, no, room)?))
 }
 
 /// A comprehension.
 #[cycle(expr)]
-fn comprehension(alloc: Global, parts: &[Form], body: &Form, room: usize) -> Result<Expr, FaultKind>
+fn comprehension(
+    alloc: Global,
+    has_maps: bool,
+    parts: &[Form],
+    body: &Form,
+    room: usize,
+) -> Result<Expr, FaultKind>
     ensures { Gives result
-        (spec.expr_parts (spec.ty_of ty_room) (spec.expr_of room) (For parts.now body.now)) }
+        (spec.expr_parts has_maps (spec.ty_of has_maps ty_room) (spec.expr_of has_maps room)
+        (For parts.now body.now)) }
 {
     if parts.len() > MAX_PARTS {
         return Err(FaultKind::OverLimit);
     }
-    let clauses = clauses(alloc, parts, room)?;
-    Ok(Expr::For(clauses, boxed(alloc, body, room)?))
+    let clauses = clauses(alloc, has_maps, parts, room)?;
+    Ok(Expr::For(clauses, boxed(alloc, has_maps, body, room)?))
 }
 
 /// A fold over a list.
 #[cycle(expr)]
 fn fold(
     alloc: Global,
-    name: &Text,
-    list: &Form,
-    built: &Text,
-    first: &Form,
-    body: &Form,
+    has_maps: bool,
+    shape: &FoldShape<'_>,
     room: usize,
 ) -> Result<Expr, FaultKind>
     ensures { Gives result
-        (spec.expr_parts (spec.ty_of ty_room) (spec.expr_of room)
-        (Fold name.now list.now built.now first.now body.now)) }
+        (spec.expr_parts has_maps (spec.ty_of has_maps ty_room) (spec.expr_of has_maps room)
+        (Fold shape.now.name.now shape.now.list.now shape.now.built.now shape.now.first.now
+        shape.now.body.now)) }
 {
-    let new_name = bound(alloc, name)?;
-    let list = boxed(alloc, list, room)?;
-    let built = bound_beside(alloc, name, built)?;
-    let first = boxed(alloc, first, room)?;
-    Ok(Expr::Fold(new_name, list, built, first, boxed(alloc, body, room)?))
+    let name = bound(alloc, has_maps, shape.name)?;
+    let list = boxed(alloc, has_maps, shape.list, room)?;
+    let built = bound_beside(alloc, has_maps, shape.name, shape.built)?;
+    let first = boxed(alloc, has_maps, shape.first, room)?;
+    Ok(Expr::Fold(
+        name,
+        list,
+        built,
+        first,
+        boxed(alloc, has_maps, shape.body, room)?,
+    ))
+}
+
+/// A map with a key and its value.
+#[cycle(expr)]
+fn put(
+    alloc: Global,
+    has_maps: bool,
+    map: &Form,
+    key: &Form,
+    value: &Form,
+    room: usize,
+) -> Result<Expr, FaultKind>
+    ensures { Gives result
+        (spec.expr_parts has_maps (spec.ty_of has_maps ty_room) (spec.expr_of has_maps room)
+        (Put map.now key.now value.now)) }
+{
+    let map = boxed(alloc, has_maps, map, room)?;
+    let key = boxed(alloc, has_maps, key, room)?;
+    Ok(Expr::Put(map, key, boxed(alloc, has_maps, value, room)?))
 }
 
 #[cycle(expr)]
-fn exprs(alloc: Global, forms: &[Form], room: usize) -> Result<Items<Expr>, FaultKind>
-    ensures { Gives result (spec.each (spec.expr_of room) forms.now) }
+fn exprs(
+    alloc: Global,
+    has_maps: bool,
+    forms: &[Form],
+    room: usize,
+) -> Result<Items<Expr>, FaultKind>
+    ensures { Gives result (spec.each (spec.expr_of has_maps room) forms.now) }
 {
     let mut expressions = Items::new(alloc);
     for form in forms {
-        expressions.push(expr(alloc, form, room)?)?;
+        expressions.push(expr(alloc, has_maps, form, room)?)?;
     }
     Ok(expressions)
 }
 
 #[cycle(expr)]
-fn clauses(alloc: Global, forms: &[Form], room: usize) -> Result<Items<Clause>, FaultKind>
-    ensures { Gives result (spec.each (spec.clause_of (spec.expr_of room)) forms.now) }
+fn clauses(
+    alloc: Global,
+    has_maps: bool,
+    forms: &[Form],
+    room: usize,
+) -> Result<Items<Clause>, FaultKind>
+    ensures { Gives result
+        (spec.each (spec.clause_of has_maps (spec.expr_of has_maps room)) forms.now) }
 {
     let mut clauses = Items::new(alloc);
     for form in forms {
-        clauses.push(clause(alloc, form, room)?)?;
+        clauses.push(clause(alloc, has_maps, form, room)?)?;
     }
     Ok(clauses)
 }
 
 #[cycle(expr)]
-fn clause(alloc: Global, form: &Form, room: usize) -> Result<Clause, FaultKind>
-    ensures { Gives result (spec.clause_of (spec.expr_of room) form.now) }
+fn clause(alloc: Global, has_maps: bool, form: &Form, room: usize) -> Result<Clause, FaultKind>
+    ensures { Gives result (spec.clause_of has_maps (spec.expr_of has_maps room) form.now) }
 {
     let Some(shape) = clause_shape(form) else {
         return Err(FaultKind::UnknownForm);
     };
     match shape {
         ClauseShape::In(name, list) => {
-            let name = bound(alloc, name)?;
-            Ok(Clause::In(name, expr(alloc, list, room)?))
+            let name = bound(alloc, has_maps, name)?;
+            Ok(Clause::In(name, expr(alloc, has_maps, list, room)?))
         }
-        ClauseShape::When(test) => Ok(Clause::When(expr(alloc, test, room)?)),
+        ClauseShape::When(test) => Ok(Clause::When(expr(alloc, has_maps, test, room)?)),
     }
 }

@@ -18,13 +18,13 @@ use pst_model::{Item, Source};
 use pst_sexpr::{Form, Tree};
 use std::alloc::Global;
 
-fn items_of(alloc: Global, forms: &[Form]) -> Result<Items<Item>, SyntaxFault>
-    ensures { Answers result (spec.items_from [] forms.now) }
+fn items_of(alloc: Global, has_maps: bool, forms: &[Form]) -> Result<Items<Item>, SyntaxFault>
+    ensures { Answers result (spec.items_from has_maps [] forms.now) }
 {
     let mut items = Items::new(alloc);
     for form in forms {
         let number = items.len() + 1;
-        match item_of(alloc, items.as_slice(), form) {
+        match item_of(alloc, has_maps, items.as_slice(), form) {
             Ok(item) => items.push(item)?,
             Err(kind) => return Err(fault(kind, number)),
         }
@@ -41,24 +41,36 @@ fn source_of(alloc: Global, form: &Form) -> Result<Source, SyntaxFault>
     if room_after(form, MAX_TREES).is_none() {
         return Err(fault(FaultKind::OverLimit, 0));
     }
-    let Some(ModelShape { name, items }) = model_shape(form) else {
+    let Some(
+        ModelShape {
+            has_maps,
+            name,
+            items,
+        },
+    ) = model_shape(form)
+    else {
         return Err(fault(FaultKind::UnknownForm, 0));
     };
     let name = match declared(alloc, is_name(name), false, name) {
         Ok(name) => name,
         Err(kind) => return Err(fault(kind, 0)),
     };
-    let items = items_of(alloc, items)?;
+    let items = items_of(alloc, has_maps, items)?;
     if !(has_state(items.as_slice())
         && has_init(items.as_slice())
         && has_command(items.as_slice()))
     {
         return Err(fault(FaultKind::Missing, 0));
     }
-    Ok(Source { name, items })
+    Ok(Source {
+        has_maps,
+        name,
+        items,
+    })
 }
 
-/// Reads the model that the first tree spells; further trees are not looked at.
+/// Reads the model that the first tree spells; further trees are not looked at. It is headed `model`, or
+/// `model2` where its language has maps: in `model` their words are names as others.
 ///
 /// The fault is the first one, where each tree is judged before its parts, and these from left to right. Its
 /// item is the one in which it stands, from 1, or 0 for the model itself.

@@ -13,6 +13,7 @@ use crate::place::is_place;
 use pst_items::Text;
 use pst_model as model;
 use pst_sexpr::{Form, node_of, word_of};
+use pst_value::KeyTy;
 use pst_words::is_integer;
 
 /// An expression, whose parts are trees yet.
@@ -32,9 +33,23 @@ pub enum Shape<'a> {
     At(&'a Form, &'a Text),
     List(&'a Form, &'a [Form]),
     For(&'a [Form], &'a Form),
-    Fold(&'a Text, &'a Form, &'a Text, &'a Form, &'a Form),
+    Fold(FoldShape<'a>),
+    /// The empty map of a type of keys and a type of values.
+    Map(KeyTy, &'a Form),
+    /// A map, a key and its value.
+    Put(&'a Form, &'a Form, &'a Form),
     Call(&'a Text, &'a [Form]),
     Apply(&'a Text, &'a [Form]),
+}
+
+/// A fold over a list, whose parts are trees yet.
+#[derive(Drop)]
+pub struct FoldShape<'a> {
+    pub name: &'a Text,
+    pub list: &'a Form,
+    pub built: &'a Text,
+    pub first: &'a Form,
+    pub body: &'a Form,
 }
 
 /// The trees, or `None` where there are none.
@@ -47,8 +62,8 @@ pub fn some_of(forms: &[Form]) -> Option<&[Form]>
     }
 }
 
-fn word_shape(word: &Text) -> Option<Shape<'_>>
-    ensures { shown_option result ≡ spec.word_shape word.now }
+fn word_shape(has_maps: bool, word: &Text) -> Option<Shape<'_>>
+    ensures { shown_option result ≡ spec.word_shape has_maps word.now }
 {
     if is_integer(word) {
         return Some(Shape::Integer(word));
@@ -59,8 +74,25 @@ fn word_shape(word: &Text) -> Option<Shape<'_>>
     if word.as_str() == "false" {
         return Some(Shape::Truth(false));
     }
-    if word.as_str() == "s" || word.as_str() == "r" || is_used(word) {
+    if word.as_str() == "s" || word.as_str() == "r" || is_used(has_maps, word) {
         return Some(Shape::Used(word));
+    }
+    None
+}
+
+/// The type of the keys of a map.
+pub fn key_shape(form: &Form) -> Option<KeyTy>
+    ensures { result ≡ spec.key_shape form.now }
+{
+    let word = word_of(form)?;
+    if word.as_str() == "int" {
+        return Some(KeyTy::Int);
+    }
+    if word.as_str() == "bool" {
+        return Some(KeyTy::Bool);
+    }
+    if word.as_str() == "text" {
+        return Some(KeyTy::Text);
     }
     None
 }
@@ -95,7 +127,14 @@ fn fold_shape(parts: &[Form]) -> Option<Shape<'_>>
         return None;
     };
     let name = word_of(name)?;
-    Some(Shape::Fold(name, list, word_of(built)?, first, body))
+    let built = word_of(built)?;
+    Some(Shape::Fold(FoldShape {
+        name,
+        list,
+        built,
+        first,
+        body,
+    }))
 }
 
 fn headed(head: Head, parts: &[Form]) -> Option<Shape<'_>>
@@ -113,6 +152,8 @@ fn headed(head: Head, parts: &[Form]) -> Option<Shape<'_>>
         (Head::List, [ty, items @ ..]) => Some(Shape::List(ty, items)),
         (Head::For, [clauses, body]) => for_shape(clauses, body),
         (Head::Fold, parts) => fold_shape(parts),
+        (Head::Map, [key, value]) => Some(Shape::Map(key_shape(key)?, value)),
+        (Head::Put, [map, key, value]) => Some(Shape::Put(map, key, value)),
         (Head::Call, [operation, arguments @ ..]) => {
             Some(Shape::Call(word_of(operation)?, arguments))
         }
@@ -120,14 +161,14 @@ fn headed(head: Head, parts: &[Form]) -> Option<Shape<'_>>
     }
 }
 
-fn node_shape(parts: &[Form]) -> Option<Shape<'_>>
-    ensures { shown_option result ≡ spec.node_shape parts.now }
+fn node_shape(has_maps: bool, parts: &[Form]) -> Option<Shape<'_>>
+    ensures { shown_option result ≡ spec.node_shape has_maps parts.now }
 {
     let (first, parts) = parts.split_first()?;
     let word = word_of(first)?;
-    match head_of(word.as_str()) {
+    match head_of(has_maps, word.as_str()) {
         Some(head) => headed(head, parts),
-        None => if is_used(word) {
+        None => if is_used(has_maps, word) {
             Some(Shape::Apply(word, parts))
         } else {
             None
@@ -135,14 +176,14 @@ fn node_shape(parts: &[Form]) -> Option<Shape<'_>>
     }
 }
 
-/// Which form of expression a tree has.
+/// Which form of expression a tree has, in the language with or without maps.
 #[tactic(auto, unfolding(crate::specs::Shape::shape_of))]
-pub fn shape_of(form: &Form) -> Option<Shape<'_>>
-    ensures { shown_option result ≡ spec.shape_of form.now }
+pub fn shape_of(has_maps: bool, form: &Form) -> Option<Shape<'_>>
+    ensures { shown_option result ≡ spec.shape_of has_maps form.now }
 {
     match form {
-        Form::Word(word) => word_shape(word),
+        Form::Word(word) => word_shape(has_maps, word),
         Form::Text(text) => Some(Shape::Quoted(text)),
-        Form::Node(parts) => node_shape(parts.as_slice()),
+        Form::Node(parts) => node_shape(has_maps, parts.as_slice()),
     }
 }

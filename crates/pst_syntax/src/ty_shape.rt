@@ -5,9 +5,10 @@ ghost use Rattle.pst_syntax.specs.Shape as spec;
 ghost use Rattle.pst_syntax.specs.Shown.{shown_ty_option, shown_clause_option};
 
 use crate::heads::{Head, head_of};
-use crate::shape::some_of;
+use crate::shape::{key_shape, some_of};
 use pst_items::Text;
 use pst_sexpr::{Form, node_of, word_of};
+use pst_value::KeyTy;
 
 /// A type, whose parts are trees yet.
 #[derive(Drop)]
@@ -18,6 +19,7 @@ pub enum TyShape<'a> {
     Call,
     Tuple(&'a [Form]),
     List(&'a Form),
+    Map(KeyTy, &'a Form),
     Ref(&'a Form),
 }
 
@@ -44,27 +46,28 @@ fn ty_word(word: &str) -> Option<TyShape<'_>>
     }
 }
 
-fn ty_node(parts: &[Form]) -> Option<TyShape<'_>>
-    ensures { shown_ty_option result ≡ spec.ty_node parts.now }
+fn ty_node(has_maps: bool, parts: &[Form]) -> Option<TyShape<'_>>
+    ensures { shown_ty_option result ≡ spec.ty_node has_maps parts.now }
 {
     let (first, parts) = parts.split_first()?;
-    match (head_of(word_of(first)?.as_str())?, parts) {
+    match (head_of(has_maps, word_of(first)?.as_str())?, parts) {
         (Head::Tuple, types) => Some(TyShape::Tuple(some_of(types)?)),
         (Head::List, [ty]) => Some(TyShape::List(ty)),
+        (Head::Map, [key, value]) => Some(TyShape::Map(key_shape(key)?, value)),
         (Head::Ref, [ty]) => Some(TyShape::Ref(ty)),
         _ => None,
     }
 }
 
-/// Which form of type a tree has.
+/// Which form of type a tree has, in the language with or without maps.
 #[tactic(auto, unfolding(crate::specs::Shape::ty_shape))]
-pub fn ty_shape(form: &Form) -> Option<TyShape<'_>>
-    ensures { shown_ty_option result ≡ spec.ty_shape form.now }
+pub fn ty_shape(has_maps: bool, form: &Form) -> Option<TyShape<'_>>
+    ensures { shown_ty_option result ≡ spec.ty_shape has_maps form.now }
 {
     match form {
         Form::Word(word) => ty_word(word.as_str()),
         Form::Text(_) => None,
-        Form::Node(parts) => ty_node(parts.as_slice()),
+        Form::Node(parts) => ty_node(has_maps, parts.as_slice()),
     }
 }
 
@@ -72,14 +75,14 @@ fn clause_node(parts: &[Form]) -> Option<ClauseShape<'_>>
     ensures { shown_clause_option result ≡ spec.clause_node parts.now }
 {
     let (first, parts) = parts.split_first()?;
-    match (head_of(word_of(first)?.as_str())?, parts) {
+    match (head_of(false, word_of(first)?.as_str())?, parts) {
         (Head::In, [name, list]) => Some(ClauseShape::In(word_of(name)?, list)),
         (Head::When, [test]) => Some(ClauseShape::When(test)),
         _ => None,
     }
 }
 
-/// Which form of clause a tree has.
+/// Which form of clause a tree has, in both languages.
 #[tactic(auto, unfolding(crate::specs::Shape::clause_shape))]
 pub fn clause_shape(form: &Form) -> Option<ClauseShape<'_>>
     ensures { shown_clause_option result ≡ spec.clause_shape form.now }

@@ -24,6 +24,8 @@ mod limits;
 #[cfg(test)]
 mod lines;
 #[cfg(test)]
+mod map_forms;
+#[cfg(test)]
 mod merges;
 #[cfg(test)]
 mod models;

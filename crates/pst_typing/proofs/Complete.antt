@@ -6,11 +6,11 @@ use Rattle.pst_model.specs.declared.expr.Clause.{Clause}
 use Rattle.pst_model.specs.declared.expr.Expr.{Expr, Expr-F, roll-Expr, map-Expr, fold-roll-Expr}
 use Rattle.pst_model.specs.declared.expr.Expr.TheVariants as expr
 use Rattle.pst_model.specs.declared.model.Item.{Item}
-use Rattle.pst_rules.specs.Rules.{Context, Judgement, Has, Have, AllHave, Builds, Typed, typed_int, typed_bool, typed_text, typed_name, typed_let, typed_if, typed_and, typed_or, typed_unary, typed_binary, typed_tuple, typed_at, typed_list, typed_for, typed_fold, typed_call, typed_apply, typed_none, typed_more, typed_empty, typed_each, typed_body, typed_in, typed_when}
+use Rattle.pst_rules.specs.Rules.{Context, Judgement, Has, Have, AllHave, Builds, Typed, typed_int, typed_bool, typed_text, typed_name, typed_let, typed_if, typed_and, typed_or, typed_unary, typed_binary, typed_tuple, typed_at, typed_list, typed_map, typed_put, typed_for, typed_fold, typed_call, typed_apply, typed_none, typed_more, typed_empty, typed_each, typed_body, typed_in, typed_when}
 use Rattle.pst_typing.specs.Decision.{Finds, Part, all_types, all_have, each_has, built_type, type_at, part_at, type_of, part_of}
 use Rattle.pst_typing.proofs.Exactly.{found_is}
 use Rattle.pst_typing.proofs.Forms.{part_in, part_when}
-use Rattle.pst_typing.proofs.Operating.{item_of, parts_of, unary_of, binary_of}
+use Rattle.pst_typing.proofs.Operating.{item_of, parts_of, keys_of, values_of, unary_of, binary_of}
 use Rattle.pst_value.specs.declared.ty.Ty.{Ty}
 
 module _ (items earlier : List Item) (post : Bool) where
@@ -41,6 +41,8 @@ module _ (items earlier : List Item) (post : Bool) where
   complete _ (typed_tuple G es Ts h) = to G _ _ _ (expr.rolls-Tuple es) (rw (complete _ h).0 refl)
   complete _ (typed_at G e place Ts T o h) = to G _ _ _ (expr.rolls-At e place) (rw (complete _ h, parts_of Ts) o)
   complete _ (typed_list G T es l h) = to G _ _ _ (expr.rolls-List T es) (rw (length-map es Found, l, complete _ h) refl)
+  complete _ (typed_map G k T) = to G _ _ _ (expr.rolls-Map k T) refl
+  complete _ (typed_put G m key e k T hm hk he) = to G _ _ _ (expr.rolls-Put m key e) (rw (complete _ hm, keys_of k T, found_is _ _ (complete _ hk), values_of k T, found_is _ _ (complete _ he)) refl)
   complete _ (typed_for G cs b T h) = to G _ _ _ (expr.rolls-For cs b) (rw (complete _ h) refl)
   complete _ (typed_fold G x e acc i b S T he hi hb) = to G _ _ _ (expr.rolls-Fold x e acc i b) (rw (complete _ he, item_of S, complete _ hi, found_is _ _ (complete _ hb)) refl)
   complete _ (typed_call G x es n o hn small ho h) = to G _ _ _ (expr.rolls-Call x es) (rw (hn, small, ho, (complete _ h).1) refl)

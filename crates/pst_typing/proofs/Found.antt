@@ -8,10 +8,10 @@ use Rattle.pst_model.specs.declared.expr.Clause.TheVariants as clause
 use Rattle.pst_model.specs.declared.expr.Expr.{Expr, Expr-F, roll-Expr, map-Expr, fold-roll-Expr, ind-Expr}
 use Rattle.pst_model.specs.declared.expr.Expr.TheVariants as expr
 use Rattle.pst_model.specs.declared.model.Item.{Item}
-use Rattle.pst_rules.specs.Rules.{Context, Judgement, Has, Have, AllHave, Builds, Typed, typed_int, typed_bool, typed_text, typed_name, typed_let, typed_if, typed_and, typed_or, typed_unary, typed_binary, typed_tuple, typed_at, typed_list, typed_for, typed_fold, typed_call, typed_apply, typed_none, typed_more, typed_empty, typed_each, typed_body, typed_in, typed_when}
+use Rattle.pst_rules.specs.Rules.{Context, key_type, Judgement, Has, Have, AllHave, Builds, Typed, typed_int, typed_bool, typed_text, typed_name, typed_let, typed_if, typed_and, typed_or, typed_unary, typed_binary, typed_tuple, typed_at, typed_list, typed_map, typed_put, typed_for, typed_fold, typed_call, typed_apply, typed_none, typed_more, typed_empty, typed_each, typed_body, typed_in, typed_when}
 use Rattle.pst_typing.specs.Decision.{Finds, Part, all_types, all_have, each_has, built_type, type_at, part_at, type_of, part_of}
 use Rattle.pst_typing.proofs.Exactly.{then_some, where_some, some_is, is_found, both}
-use Rattle.pst_typing.proofs.Operating.{item_is, parts_is, unary_some, binary_some}
+use Rattle.pst_typing.proofs.Operating.{item_is, parts_is, map_is, values_are, unary_some, binary_some}
 use Rattle.pst_value.specs.Text.{limit}
 use Rattle.pst_value.specs.declared.ty.Ty.{Ty}
 use Rattle.pst_value.specs.declared.ty.Ty.TheVariants as ty
@@ -138,6 +138,19 @@ module _ (items earlier : List Item) (post : Bool) where
       let v = where_some _ _ T u.2 in
       let q : u.0 ≡ T = some_is _ T v.1 in
       put G _ _ _ T (expr.rolls-Fold x e.0 acc i.0 b.0) q (typed_fold G x e.0 acc i.0 b.0 r.0 u.0 (e.1 G (ty.List r.0) (s.1 ∙ ap Some (item_is s.0 r.0 s.2))) (i.1 G u.0 u.1) (b.1 ((acc, u.0) ∷ (x, r.0) ∷ G) u.0 (is_found _ _ v.0)))
+  layer (Expr-F.Map k U) G T h = let q : ty.Map k U ≡ T = some_is _ T h in put G _ _ _ T (expr.rolls-Map k U) q (typed_map G k U)
+  layer (Expr-F.Put m k e) G T h =
+      let r = then_some _ _ T h in
+      let s = then_some _ _ T r.2 in
+      let w = where_some _ _ T s.2 in
+      let u = then_some _ _ T w.1 in
+      let v = where_some _ _ T u.2 in
+      let n = map_is r.0 s.0 s.1 in
+      let same : n.1 ≡ u.0 = values_are r.0 n.0 n.1 u.0 n.2 u.1 in
+      let map_found = r.1 ∙ ap Some n.2 in
+      let key_found = is_found _ _ w.0 ∙ ap Some (sym n.3) in
+      let value_found = is_found _ _ v.0 ∙ ap Some (sym same) in
+      put G _ _ _ T (expr.rolls-Put m.0 k.0 e.0) (sym n.2 ∙ some_is _ T v.1) (typed_put G m.0 k.0 e.0 n.0 n.1 (m.1 G (ty.Map n.0 n.1) map_found) (k.1 G (key_type n.0) key_found) (e.1 G n.1 value_found))
   layer (Expr-F.Call x es) G T h =
       let r = then_some _ _ T h in
       let n = then_some _ _ r.0 r.1 in

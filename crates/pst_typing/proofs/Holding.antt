@@ -5,9 +5,10 @@ use Rattle.pst_model.specs.Parts.{types_of}
 use Rattle.pst_model.specs.declared.model.Param.{Param}
 use Rattle.pst_rules.specs.Kinds.{holds_ref, holds_ref_at, holds_call, holds_call_at}
 use Rattle.pst_value.proofs.Holding.{list_any-map}
-use Rattle.pst_value.specs.declared.ty.Ty.{Ty, Int, Bool as Truth, Text, Tuple, List as ListOf, Ref, Call, fold-Ty, fold-roll-Ty}
+use Rattle.pst_value.specs.declared.key.KeyTy.{KeyTy}
+use Rattle.pst_value.specs.declared.ty.Ty.{Ty, Int, Bool as Truth, Text, Tuple, List as ListOf, Map as MapOf, Ref, Call, fold-Ty, fold-roll-Ty}
 use Rattle.pst_value.specs.declared.ty.Ty.TheOpen.{Ty-F}
-use Rattle.pst_value.specs.declared.ty.Ty.TheVariants.{rolls-Int, rolls-Bool, rolls-Text, rolls-Tuple, rolls-List, rolls-Ref, rolls-Call}
+use Rattle.pst_value.specs.declared.ty.Ty.TheVariants.{rolls-Int, rolls-Bool, rolls-Text, rolls-Tuple, rolls-List, rolls-Map, rolls-Ref, rolls-Call}
 
 module _ (A : Type 0) (step : Ty-F A → A) where
   fold-Int : fold-Ty A step Int ≡ step Ty-F.Int
@@ -24,6 +25,9 @@ module _ (A : Type 0) (step : Ty-F A → A) where
 
   fold-ListOf : (t : Ty) → fold-Ty A step (ListOf t) ≡ step (Ty-F.List (fold-Ty A step t))
   fold-ListOf t = ap (fold-Ty A step) (sym (rolls-List t)) ∙ fold-roll-Ty A step (Ty-F.List t)
+
+  fold-MapOf : (k : KeyTy) (t : Ty) → fold-Ty A step (MapOf k t) ≡ step (Ty-F.Map k (fold-Ty A step t))
+  fold-MapOf k t = ap (fold-Ty A step) (sym (rolls-Map k t)) ∙ fold-roll-Ty A step (Ty-F.Map k t)
 
   fold-Ref : (t : Ty) → fold-Ty A step (Ref t) ≡ step (Ty-F.Ref (fold-Ty A step t))
   fold-Ref t = ap (fold-Ty A step) (sym (rolls-Ref t)) ∙ fold-roll-Ty A step (Ty-F.Ref t)
@@ -50,6 +54,10 @@ holds_ref-Tuple ts = fold-Tuple Bool holds_ref_at ts ∙ list_any-map holds_ref 
 pub holds_ref-ListOf : (t : Ty) → holds_ref (ListOf t) ≡ holds_ref t
 unfolding holds_ref
 holds_ref-ListOf t = fold-ListOf Bool holds_ref_at t
+
+pub holds_ref-MapOf : (k : KeyTy) (t : Ty) → holds_ref (MapOf k t) ≡ holds_ref t
+unfolding holds_ref
+holds_ref-MapOf k t = fold-MapOf Bool holds_ref_at k t
 
 pub holds_ref-Ref : (t : Ty) → holds_ref (Ref t) ≡ true
 unfolding holds_ref
@@ -79,6 +87,10 @@ pub holds_call-ListOf : (t : Ty) → holds_call (ListOf t) ≡ holds_call t
 unfolding holds_call
 holds_call-ListOf t = fold-ListOf Bool holds_call_at t
 
+pub holds_call-MapOf : (k : KeyTy) (t : Ty) → holds_call (MapOf k t) ≡ holds_call t
+unfolding holds_call
+holds_call-MapOf k t = fold-MapOf Bool holds_call_at k t
+
 pub holds_call-Ref : (t : Ty) → holds_call (Ref t) ≡ holds_call t
 unfolding holds_call
 holds_call-Ref t = fold-Ref Bool holds_call_at t
@@ -87,9 +99,9 @@ pub holds_call-Call : holds_call Call ≡ true
 unfolding holds_call
 holds_call-Call = fold-Call Bool holds_call_at
 
-pub ruleset refs = (holds_ref-Int, holds_ref-Truth, holds_ref-Text, holds_ref-Tuple, holds_ref-ListOf, holds_ref-Ref, holds_ref-Call)
+pub ruleset refs = (holds_ref-Int, holds_ref-Truth, holds_ref-Text, holds_ref-Tuple, holds_ref-ListOf, holds_ref-MapOf, holds_ref-Ref, holds_ref-Call)
 
-pub ruleset calls = (holds_call-Int, holds_call-Truth, holds_call-Text, holds_call-Tuple, holds_call-ListOf, holds_call-Ref, holds_call-Call)
+pub ruleset calls = (holds_call-Int, holds_call-Truth, holds_call-Text, holds_call-Tuple, holds_call-ListOf, holds_call-MapOf, holds_call-Ref, holds_call-Call)
 
 or_true : (a b : Bool) → b ≡ true → (a || b) ≡ true
 or_true true b h = refl

@@ -2,15 +2,15 @@
 use Rattle.std.specs.Prelude.{◌&&◌, ◌||◌, not, ℕ, ◌^◌, nat_lt, nat_le, Bool, true, false, if◌then◌else◌, List, [], ◌∷◌, length, Option, Some, None}
 use Rattle.pst_model.specs.Parts.{Name, number_of, operation_of, types_of}
 use Rattle.pst_model.specs.declared.expr.Binary.{Binary}
-use Rattle.pst_model.specs.declared.expr.Binary.TheVariants.{Add, Sub, Mul, Div, Rem, Less, LessEqual, Equal, Same, Append, Nth, Range}
+use Rattle.pst_model.specs.declared.expr.Binary.TheVariants.{Add, Sub, Mul, Div, Rem, Less, LessEqual, Equal, Same, Append, Nth, Range, Get, Has, Del}
 use Rattle.pst_model.specs.declared.expr.Clause.{Clause, Clause-F, fold-Clause}
 use Rattle.pst_model.specs.declared.expr.Expr.{Expr, Expr-F, fold-Expr}
 use Rattle.pst_model.specs.declared.expr.Unary.{Unary}
-use Rattle.pst_model.specs.declared.expr.Unary.TheVariants.{Not, Len, Deref}
+use Rattle.pst_model.specs.declared.expr.Unary.TheVariants.{Not, Len, Deref, Keys}
 use Rattle.pst_model.specs.declared.model.Item.{Item}
 use Rattle.pst_model.specs.declared.model.Op.{Op}
 use Rattle.pst_rules.specs.Kinds.{holds_ref}
-use Rattle.pst_rules.specs.Rules.{Context, type_named, signature}
+use Rattle.pst_rules.specs.Rules.{Context, type_named, signature, key_type}
 use Rattle.pst_value.specs.Equality.{same_ty}
 use Rattle.pst_value.specs.Fits.{is_ty}
 use Rattle.pst_value.specs.Subst.{numbered}
@@ -76,6 +76,22 @@ is_sequence_at _ = false
 abbrev pub is_sequence : Ty → Bool
 is_sequence t = is_sequence_at (out-Ty t)
 
+abbrev pub keys_at : Ty-F Ty → Option Ty
+keys_at (Ty-F.Map k t) = Some (key_type k)
+keys_at _ = None
+
+-- the type of a map's keys, as values
+abbrev pub keys_type : Ty → Option Ty
+keys_type t = keys_at (out-Ty t)
+
+abbrev pub values_at : Ty-F Ty → Option Ty
+values_at (Ty-F.Map k t) = Some t
+values_at _ = None
+
+-- the type of a map's values
+abbrev pub values_type : Ty → Option Ty
+values_type t = values_at (out-Ty t)
+
 -- ---- operators
 
 -- whether both are `int`
@@ -94,6 +110,7 @@ abbrev pub unary_type : (post : Bool) → Unary → Ty → Option Ty
 unary_type post Not S = where_true (same_ty S ty.Bool) (Some ty.Bool)
 unary_type post Len S = where_true (is_sequence S) (Some ty.Int)
 unary_type post Deref S = where_true post (referred_type S)
+unary_type post Keys S = keys_type S >>= (λ K. Some (ty.List K))
 
 abbrev pub binary_type : (post : Bool) → Binary → Ty → Ty → Option Ty
 binary_type post Add R S = where_true (both_int R S) (Some ty.Int)
@@ -107,6 +124,9 @@ binary_type post Equal R S = where_true (are_compared post R S) (Some ty.Bool)
 binary_type post Same R S = where_true (same_ty R S && is_ref R) (Some ty.Bool)
 binary_type post Append R S = where_true (same_ty R S && is_sequence R) (Some R)
 binary_type post Nth R S = where_true (same_ty S ty.Int) (item_type R)
+binary_type post Get R S = where_true (is_ty (keys_type R) S) (values_type R)
+binary_type post Has R S = where_true (is_ty (keys_type R) S) (Some ty.Bool)
+binary_type post Del R S = where_true (is_ty (keys_type R) S) (Some R)
 binary_type post Range R S = where_true (both_int R S) (Some (ty.List ty.Int))
 
 -- ---- expressions
@@ -167,6 +187,12 @@ abbrev pub fold_type : Name → Finds → Name → Finds → Finds → Finds
 fold_type x e acc i b G =
     e G >>= item_type >>= (λ S. i G >>= (λ T. where_true (is_ty (b ((acc, T) ∷ (x, S) ∷ G)) T) (Some T)))
 
+-- a map with a key and its value
+abbrev pub put_type : Finds → Finds → Finds → Finds
+put_type m k e G =
+    m G >>= (λ R. keys_type R >>= (λ K. where_true (is_ty (k G) K)
+    (values_type R >>= (λ T. where_true (is_ty (e G) T) (Some R)))))
+
 -- a call of an operation of the items
 abbrev pub call_type : List Item → Name → List Finds → Finds
 call_type items x es G =
@@ -197,6 +223,8 @@ type_at items earlier post (Expr-F.List T es) G =
     where_true (nat_le (length es) limit && all_have es G T) (Some (ty.List T))
 type_at items earlier post (Expr-F.For cs b) G = built_type cs b G >>= (λ T. Some (ty.List T))
 type_at items earlier post (Expr-F.Fold x e acc i b) G = fold_type x e acc i b G
+type_at items earlier post (Expr-F.Map k T) G = Some (ty.Map k T)
+type_at items earlier post (Expr-F.Put m k e) G = put_type m k e G
 type_at items earlier post (Expr-F.Call x es) G = call_type items x es G
 type_at items earlier post (Expr-F.Apply f es) G = apply_type earlier post f es G
 

@@ -9,7 +9,7 @@ use crate::type_fault::TypeFault;
 use pst_model::{Source, state_of};
 use pst_rules::Typed;
 use pst_syntax::Model;
-use pst_syntax::laws::{model_items, model_operations};
+use pst_syntax::laws::{model_items, model_language, model_operations};
 use std::alloc::{AllocError, Global};
 
 /// The number of the least item that is not well typed.
@@ -33,6 +33,7 @@ pub fn check(alloc: Global, model: Model) -> Result<Typed, (Model, TypeFault)>
 {
     model_items();
     model_operations();
+    model_language();
     match judge(alloc, model.source()) {
         Ok(None) => Ok(Typed::new(model.into_source())),
         Ok(Some(number)) => Err((model, TypeFault::Item(number))),

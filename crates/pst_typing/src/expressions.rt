@@ -6,16 +6,18 @@ ghost use Rattle.pst_typing.specs.Decision as spec;
 ghost use Rattle.pst_typing.specs.Scope.{names_of, type_in, parts_in};
 ghost use Rattle.pst_rules.specs.Rules.{type_named};
 ghost use Rattle.pst_value.specs.Fits.{is_ty};
-ghost use Rattle.pst_value.specs.declared.ty.Ty.TheVariants.{List as list};
+ghost use Rattle.pst_value.specs.declared.ty.Ty.TheVariants.{List as list, Map as map_type};
 
 use crate::context::Context;
-use crate::operators::{binary_type, int_type, item_type, part_type, text_type, unary_type};
+use crate::operators::{
+    binary_type, int_type, item_type, keys_type, part_type, text_type, unary_type, values_type,
+};
 use crate::refusal::Refusal;
 use crate::scope::{Scope, function_called, operation_called, type_of_name};
 use crate::types::copy_type;
 use pst_items::{Boxed, Items, Text};
 use pst_model::{Binary, Clause, Expr, Param};
-use pst_value::{LIMIT, Ty};
+use pst_value::{KeyTy, LIMIT, Ty};
 use std::alloc::{AllocError, Global};
 
 /// The type of an expression among the names of a scope, `None` where it is not well typed.
@@ -52,7 +54,8 @@ fn find_type(expr: &Expr, context: &Context<'_>, scope: &Scope<'_>) -> Result<Ty
         Expr::Or(first, second) => find_both(first.get(), second.get(), context, scope),
         Expr::Unary(operator, operand) => {
             let ty = find_type(operand.get(), context, scope)?;
-            unary_type(context.is_post, *operator, ty).ok_or(Refusal::Ill)
+            let given = unary_type(context.alloc, context.is_post, *operator, ty)?;
+            given.ok_or(Refusal::Ill)
         }
         Expr::Binary(operator, first, second) => {
             find_operation(*operator, first.get(), second.get(), context, scope)
@@ -75,6 +78,10 @@ fn find_type(expr: &Expr, context: &Context<'_>, scope: &Scope<'_>) -> Result<Ty
         }
         Expr::Fold(name, list, acc, first, body) => {
             find_fold(name, list, acc, first, body, context, scope)
+        }
+        Expr::Map(keys, ty) => map_of(context.alloc, *keys, copy_type(context.alloc, ty)?),
+        Expr::Put(map, key, value) => {
+            find_put(map.get(), key.get(), value.get(), context, scope)
         }
         Expr::Call(name, exprs) => find_call(name.as_bytes(), exprs.as_slice(), context, scope),
         Expr::Apply(name, exprs) => {
@@ -183,6 +190,30 @@ fn find_fold(
     let inner = Scope::With(acc.as_bytes(), &built, &outer);
     expect_type(body.get(), &built, context, &inner)?;
     Ok(built)
+}
+
+/// The type of a map with a key and its value, where both have the types that the map gives them.
+#[cycle(find)]
+fn find_put(
+    map: &Expr,
+    key: &Expr,
+    value: &Expr,
+    context: &Context<'_>,
+    scope: &Scope<'_>,
+) -> Result<Ty, Refusal>
+    ensures { Answers
+        (spec.put_type (type_in context.now map.now) (type_in context.now key.now)
+        (type_in context.now value.now) (names_of scope.now))
+        result }
+{
+    let ty = find_type(map, context, scope)?;
+    let keys = keys_type(&ty).ok_or(Refusal::Ill)?;
+    expect_type(key, &keys, context, scope)?;
+    let Some(values) = values_type(&ty) else {
+        return Err(Refusal::Ill);
+    };
+    expect_type(value, values, context, scope)?;
+    Ok(ty)
 }
 
 /// `call`, where the operation of the name takes such arguments.
@@ -341,6 +372,13 @@ fn list_of(alloc: Global, item: Ty) -> Result<Ty, Refusal>
     ensures { Answers (Some (list item)) result }
 {
     Ok(Ty::List(Boxed::new(alloc, item)?))
+}
+
+/// The type of maps of a type of keys and a type of values.
+fn map_of(alloc: Global, keys: KeyTy, value: Ty) -> Result<Ty, Refusal>
+    ensures { Answers (Some (map_type keys value)) result }
+{
+    Ok(Ty::Map(keys, Boxed::new(alloc, value)?))
 }
 
 fn split_first(clauses: &[Clause]) -> Option<(&Clause, &[Clause])>

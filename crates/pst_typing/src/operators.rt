@@ -1,8 +1,11 @@
 //! The types of what operators give, and of the parts of types.
 ghost use Rattle.std.specs.Prelude.{◌≡◌, Some, IfOk};
+ghost use Rattle.std.specs.Option.{option_copied};
 ghost use Rattle.std.specs.List.{list_all};
+ghost use Rattle.pst_rules.specs.Rules as rules;
 ghost use Rattle.pst_typing.specs.Answers.{Answers};
 ghost use Rattle.pst_typing.specs.Decision as spec;
+ghost use Rattle.pst_value.specs.Fits.{is_ty};
 ghost use Rattle.pst_value.specs.Text as lawful;
 ghost use Rattle.pst_value.specs.declared.ty.Ty.TheVariants.{Int as int, Text as text};
 
@@ -10,7 +13,7 @@ use crate::refusal::Refusal;
 use crate::types::{copy_type, holds_ref};
 use pst_items::Boxed;
 use pst_model::{Binary, Unary};
-use pst_value::{LIMIT, Ty};
+use pst_value::{KeyTy, LIMIT, Ty};
 use std::alloc::{AllocError, Global};
 
 /// A type, where a test is passed.
@@ -78,6 +81,57 @@ fn referred_type(reference: Ty) -> Option<Ty>
     }
 }
 
+/// The type of the keys of maps, as values.
+fn key_type(keys: KeyTy) -> Ty
+    ensures { result ≡ rules.key_type keys }
+{
+    match keys {
+        KeyTy::Int => Ty::Int,
+        KeyTy::Bool => Ty::Bool,
+        KeyTy::Text => Ty::Text,
+    }
+}
+
+/// The type of a map's keys, as values, or `None` where the type is no map type.
+pub fn keys_type(map: &Ty) -> Option<Ty>
+    ensures { result ≡ spec.keys_type map.now }
+{
+    match map {
+        Ty::Map(keys, _) => Some(key_type(*keys)),
+        _ => None,
+    }
+}
+
+/// The type of a map's values, or `None` where the type is no map type.
+pub fn values_type(map: &Ty) -> Option<&Ty>
+    ensures { option_copied result ≡ spec.values_type map.now }
+{
+    match map {
+        Ty::Map(_, value) => Some(value.get()),
+        _ => None,
+    }
+}
+
+/// Whether the first is a map type, and the second the type of its keys.
+fn has_keys(map: &Ty, key: &Ty) -> bool
+    ensures { result ≡ is_ty (spec.keys_type map.now) key.now }
+{
+    match keys_type(map) {
+        Some(ty) => ty == *key,
+        None => false,
+    }
+}
+
+/// The same as `values_type`, out of a type that is not used again.
+fn into_values(map: Ty) -> Option<Ty>
+    ensures { result ≡ spec.values_type map }
+{
+    match map {
+        Ty::Map(_, value) => Some(value.into_inner()),
+        _ => None,
+    }
+}
+
 /// The type of a tuple's item, by its place from 1.
 pub fn part_type(alloc: Global, tuple: &Ty, place: u64) -> Result<Ty, Refusal>
     ensures { Answers (spec.part_type tuple.now place) result }
@@ -96,18 +150,29 @@ pub fn part_type(alloc: Global, tuple: &Ty, place: u64) -> Result<Ty, Refusal>
 
 /// The type of an operator's value, by that of its operand, or `None` where the operator takes no such
 /// operand.
-pub fn unary_type(is_post: bool, operator: Unary, operand: Ty) -> Option<Ty>
-    ensures { result ≡ spec.unary_type is_post operator operand }
+///
+/// `AllocError`: memory was refused.
+pub fn unary_type(
+    alloc: Global,
+    is_post: bool,
+    operator: Unary,
+    operand: Ty,
+) -> Result<Option<Ty>, AllocError>
+    ensures { IfOk result (λ ty. ty ≡ spec.unary_type is_post operator operand) }
 {
     match operator {
-        Unary::Not => where_true(operand == Ty::Bool, Ty::Bool),
-        Unary::Len => where_true(is_sequence(&operand), Ty::Int),
+        Unary::Not => Ok(where_true(operand == Ty::Bool, Ty::Bool)),
+        Unary::Len => Ok(where_true(is_sequence(&operand), Ty::Int)),
         Unary::Deref => {
             if !is_post {
-                return None;
+                return Ok(None);
             }
-            referred_type(operand)
+            Ok(referred_type(operand))
         }
+        Unary::Keys => match keys_type(&operand) {
+            Some(key) => Ok(Some(Ty::List(Boxed::new(alloc, key)?))),
+            None => Ok(None),
+        },
     }
 }
 
@@ -139,6 +204,15 @@ pub fn binary_type(
                 None
             }
         }
+        Binary::Get => {
+            if has_keys(&first, second) {
+                into_values(first)
+            } else {
+                None
+            }
+        }
+        Binary::Has => where_true(has_keys(&first, second), Ty::Bool),
+        Binary::Del => where_true(has_keys(&first, second), first),
         Binary::Range => {
             let list = Ty::List(Boxed::new(alloc, Ty::Int)?);
             where_true(both_int(&first, second), list)

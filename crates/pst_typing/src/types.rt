@@ -20,6 +20,9 @@ pub fn copy_type(alloc: Global, ty: &Ty) -> Result<Ty, AllocError>
         Ty::Text => Ok(Ty::Text),
         Ty::Tuple(items) => Ok(Ty::Tuple(copy_all(alloc, items.as_slice())?)),
         Ty::List(item) => Ok(Ty::List(Boxed::new(alloc, copy_type(alloc, item.get())?)?)),
+        Ty::Map(keys, value) => {
+            Ok(Ty::Map(*keys, Boxed::new(alloc, copy_type(alloc, value.get())?)?))
+        }
         Ty::Ref(named) => Ok(Ty::Ref(Boxed::new(alloc, copy_type(alloc, named.get())?)?)),
         Ty::Call => Ok(Ty::Call),
     }
@@ -45,7 +48,7 @@ pub fn holds_ref(ty: &Ty) -> bool
     match ty {
         Ty::Int | Ty::Bool | Ty::Text => false,
         Ty::Tuple(items) => any_holds_ref(items.as_slice()),
-        Ty::List(item) => holds_ref(item.get()),
+        Ty::List(item) | Ty::Map(_, item) => holds_ref(item.get()),
         Ty::Ref(_) | Ty::Call => true,
     }
 }
@@ -71,7 +74,7 @@ pub fn holds_call(ty: &Ty) -> bool
     match ty {
         Ty::Int | Ty::Bool | Ty::Text => false,
         Ty::Tuple(items) => any_holds_call(items.as_slice()),
-        Ty::List(item) | Ty::Ref(item) => holds_call(item.get()),
+        Ty::List(item) | Ty::Map(_, item) | Ty::Ref(item) => holds_call(item.get()),
         Ty::Call => true,
     }
 }

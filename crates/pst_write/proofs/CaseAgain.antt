@@ -7,6 +7,7 @@ use Rattle.std.proofs.lemmas.List.{length-append, length-map, append-nil}
 use Rattle.pst_case.specs.Shape.{IsShaped, shape_fault, over_limit, before_suffix, commands_fault, part_fault, branches_fault, result_type, result_types, commands_of, joined, or_else}
 use Rattle.pst_case.specs.declared.case.Case.{Case}
 use Rattle.pst_case.specs.declared.case.Command.{Command}
+use Rattle.pst_model.specs.Language.{KeepsLanguage}
 use Rattle.pst_model.specs.Operations.{HasOperations}
 use Rattle.pst_model.specs.declared.model.Source.{Source}
 use Rattle.pst_rules.specs.WellTyped.{WellModel}
@@ -62,8 +63,8 @@ pub record CaseAgain (m : Source) (c : Case) : Type 0 where
   pub suffix : EachCommand m c.suffix
   pub count : (nat_le 2 (length c.branches) && nat_le (length c.branches) 4) ≡ true
 
-pub case_again : (m : Source) → WellModel m → HasOperations m.items → (c : Case) → IsShaped m c → CaseAgain m c
-case_again m model has c h =
+pub case_again : (m : Source) → WellModel m → HasOperations m.items → KeepsLanguage m → (c : Case) → IsShaped m c → CaseAgain m c
+case_again m model has language c h =
     let vars = result_types m c in
     let few = few_results m c h in
     let n = length c.prefix in
@@ -73,9 +74,9 @@ case_again m model has c h =
     let p = none_either prefix (or_else branches suffix) (no_command_fault m c h) in
     let q = none_either branches suffix p.1 in
     record {
-      prefix = part_again m model has vars n 0 1 c.prefix few p.0;
-      branches = branches_again m model has vars n n c.branches few q.0;
-      suffix = part_again m model has vars n 0 (before_suffix c + 1) c.suffix few q.1;
+      prefix = part_again m model has language vars n 0 1 c.prefix few p.0;
+      branches = branches_again m model has language vars n n c.branches few q.0;
+      suffix = part_again m model has language vars n 0 (before_suffix c + 1) c.suffix few q.1;
       count = counted c (not_over m c h);
     }
 
@@ -195,26 +196,26 @@ module _ (m : Source) where
 
   -- ---- sizes
 
-  section_sized : (byte : ℕ) (bytes : List ℕ) (cs : List Command) → list_all is_word_byte (byte ∷ bytes) ≡ true → EachCommand m cs → Sized 19 (section_form m (byte ∷ bytes) cs)
-  section_sized byte bytes cs e h = wider 19 (headed_sized byte bytes e (part_read m cs h).sized (omega arith)) (omega arith)
+  section_sized : (byte : ℕ) (bytes : List ℕ) (cs : List Command) → list_all is_word_byte (byte ∷ bytes) ≡ true → EachCommand m cs → Sized 35 (section_form m (byte ∷ bytes) cs)
+  section_sized byte bytes cs e h = wider 35 (headed_sized byte bytes e (part_read m cs h).sized (omega arith)) (omega arith)
 
-  many_sized : (bs : List (List Command)) → EachBranch m bs → AllSized 19 (headed (codes "branches") (map (branch_form m) bs) ∷ [])
+  many_sized : (bs : List (List Command)) → EachBranch m bs → AllSized 35 (headed (codes "branches") (map (branch_form m) bs) ∷ [])
   unfolding is_word_byte
-  many_sized bs h = more_sized (headed_sized _ _ refl (branches_sized m bs h) (omega arith)) (none_sized 19)
+  many_sized bs h = more_sized (headed_sized _ _ refl (branches_sized m bs h) (omega arith)) (none_sized 35)
 
-  parts_sized : (bs : List (List Command)) → EachBranch m bs → AllSized 19 (branches_forms m bs)
+  parts_sized : (bs : List (List Command)) → EachBranch m bs → AllSized 35 (branches_forms m bs)
   unfolding is_word_byte
   parts_sized [] h = many_sized [] h
   parts_sized (b ∷ []) h = many_sized (b ∷ []) h
-  parts_sized (l ∷ r ∷ []) h = more_sized (section_sized _ _ l refl h.0) (more_sized (section_sized _ _ r refl h.1.0) (none_sized 19))
+  parts_sized (l ∷ r ∷ []) h = more_sized (section_sized _ _ l refl h.0) (more_sized (section_sized _ _ r refl h.1.0) (none_sized 35))
   parts_sized (l ∷ r ∷ b ∷ bs) h = many_sized (l ∷ r ∷ b ∷ bs) h
 
-  with_suffix_sized : (forms : List Form) (cs : List Command) → AllSized 19 forms → EachCommand m cs → AllSized 19 (forms ++ suffix_forms m cs)
+  with_suffix_sized : (forms : List Form) (cs : List Command) → AllSized 35 forms → EachCommand m cs → AllSized 35 (forms ++ suffix_forms m cs)
   unfolding is_word_byte
-  with_suffix_sized forms [] all h = subst (AllSized 19) (sym (append-nil forms)) all
+  with_suffix_sized forms [] all h = subst (AllSized 35) (sym (append-nil forms)) all
   with_suffix_sized forms (c ∷ cs) all h = last_sized forms all (section_sized _ _ (c ∷ cs) refl h)
 
-  pub case_sized : (c : Case) → CaseAgain m c → AllSized 19 (case_forms m c)
+  pub case_sized : (c : Case) → CaseAgain m c → AllSized 35 (case_forms m c)
   unfolding is_word_byte
   case_sized c a =
       with_suffix_sized (front c) c.suffix

@@ -1,5 +1,5 @@
 -- The commands of a shaped case are read again from what is written for them.
-use Rattle.std.proofs.Common.{◌≡◌, ℕ, zero, suc, ◌+◌, ◌<◌, ◌≤◌, ◌||◌, not, nat_le, Bool, true, false, length, slice_get, List, [], ◌∷◌, map, Option, Some, None, refl, sym, ap, ◌∙◌, subst, arith}
+use Rattle.std.proofs.Common.{◌≡◌, ℕ, zero, suc, ◌+◌, ◌*◌, ◌<◌, ◌≤◌, ◌||◌, not, nat_le, Bool, true, false, length, slice_get, List, [], ◌∷◌, map, Option, Some, None, refl, sym, ap, ◌∙◌, subst, arith}
 use Rattle.std.specs.Prelude.{if◌then◌else◌}
 use Rattle.std.specs.List.{list_any, list_all}
 use Rattle.std.proofs.lemmas.Bool.Decides.{nat_tests}
@@ -9,6 +9,7 @@ use Rattle.pst_case.specs.declared.fault.CaseFault.{CaseFault}
 use Rattle.pst_case.specs.declared.fault.CaseFaultKind.TheVariants.{UnknownOp, BadArgument, ForwardVar, CrossVar}
 use Rattle.pst_case.specs.declared.fault.CaseFaultKind.{CaseFaultKind}
 use Rattle.pst_rules.specs.Fitting.{args_fit, args_fit_in}
+use Rattle.pst_model.specs.Language.{KeepsLanguage, holds_map}
 use Rattle.pst_model.specs.Levels as ty_levels
 use Rattle.pst_model.specs.Names.{is_between, is_name_byte, is_name}
 use Rattle.pst_model.specs.Operations.{HasOperations, max_levels as max_ty_levels}
@@ -23,7 +24,7 @@ use Rattle.pst_runs.specs.Commands.{present, are_present, arguments_of, spelled,
 use Rattle.pst_runs.specs.Forms.{branch_of}
 use Rattle.pst_runs.specs.declared.commands.Spelled.{Spelled}
 use Rattle.pst_runs.specs.declared.commands.Spelled.TheVariants.{Whole, Partial}
-use Rattle.pst_runs.specs.Values.{each, value_in}
+use Rattle.pst_runs.specs.Values.{each, value_in, in_arguments}
 use Rattle.pst_sexpr.specs.Parts.{and_then, word_of, word_at, node_of, node_at}
 use Rattle.pst_sexpr.proofs.Made.{word_is_tree}
 use Rattle.pst_sexpr.specs.Bytes.{is_word_byte}
@@ -160,12 +161,12 @@ whole_part cs = map (λ c. Whole c) cs
 pub record CommandAgain (m : Source) (c : Command) : Type 0 where
   pub operation : Op
   pub known : operation_of m.items c.op ≡ Some operation
-  pub sized : Sized 17 (command_form m c)
+  pub sized : Sized 33 (command_form m c)
   pub reads : command_of m (command_form m c) ≡ Some (Whole c)
 
 -- so has each command of a part
 pub record PartAgain (m : Source) (cs : List Command) : Type 0 where
-  pub sized : AllSized 17 (map (command_form m) cs)
+  pub sized : AllSized 33 (map (command_form m) cs)
   pub reads : commands_of m (map (command_form m) cs) ≡ Some (whole_part cs)
 
 abbrev pub EachCommand : Source → List Command → Type 0
@@ -176,18 +177,19 @@ abbrev pub EachBranch : Source → List (List Command) → Type 0
 EachBranch m [] = Unit {0}
 EachBranch m (b ∷ bs) = EachCommand m b × EachBranch m bs
 
-module _ (m : Source) (model : WellModel m) (has : HasOperations m.items) where
+module _ (m : Source) (model : WellModel m) (has : HasOperations m.items) (language : KeepsLanguage m) where
   arguments_again : (vars : List Ty) (c : Command) (o : Op) → length vars ≤ 88 → operation_of m.items c.op ≡ Some o → args_fit m vars vars c.op c.args ≡ true
-      → list_any holds_reference c.args ≡ false → (depth : ℕ) × (depth ≤ 16) × EachAgain true depth c.args
+      → list_any holds_reference c.args ≡ false → (depth : ℕ) × (depth ≤ 32) × EachAgain (in_arguments m) depth c.args
   unfolding args_fit
   arguments_again vars c o few is fit closed =
       let ts = types_of o.params in
       let low = parameters_shallow o.params (has c.op o is).parameters in
       let calls : list_any (λ held. held) (map holds_call ts) ≡ false = list_any-map holds_call ts ∙ (well_operation m c.op o model is).parameters in
+      let maps : m.has_maps ≡ false → list_any (λ held. held) (map holds_map ts) ≡ false = λ e. list_any-map holds_map ts ∙ (language e c.op o is).parameters in
       let fit_in : fit_each (map (fits vars vars (parameters_of m.items)) c.args) ts ≡ true = ap (λ q. args_fit_in m vars vars q c.args) (sym is) ∙ fit in (
-        ty_levels.greatest (map ty_levels.levels ts),
-        low,
-        each_again true vars vars (parameters_of m.items) (λ n t e. variable_within vars n t few e) c.args ts (omega arith) calls closed fit_in,
+        2 * ty_levels.greatest (map ty_levels.levels ts),
+        (omega arith),
+        each_again (in_arguments m) vars vars (parameters_of m.items) (λ n t e. variable_within vars n t few e) c.args ts (omega arith) calls maps closed fit_in,
       )
 
   number_is : (c : Command) (o : Op) → operation_of m.items c.op ≡ Some o → number_of m.items (name_of m c.op) ≡ Some c.op
@@ -202,13 +204,13 @@ module _ (m : Source) (model : WellModel m) (has : HasOperations m.items) where
       let name = name_of m c.op in
       let forms = map value_form c.args in
       let lawful : IsTree (Word name) = subst (λ q. IsTree (Word (name_in q))) (sym is) (name_is_tree o.name (has c.op o is).name) in
-      let values = arguments_of forms in
-      let args : ArgumentsRead (value_in true max_levels) forms c.args =
-      arguments_read (value_in true max_levels) forms c.args (again.reads max_levels (omega arith)) in
+      let values = arguments_of m forms in
+      let args : ArgumentsRead (value_in (in_arguments m) max_levels) forms c.args =
+      arguments_read (value_in (in_arguments m) max_levels) forms c.args (again.reads max_levels (omega arith)) in
       record {
         operation = o;
         known = is;
-        sized = node_sized (more_sized (word_sized 16 name lawful) (all_wider 16 again.sized low)) (omega arith);
+        sized = node_sized (more_sized (word_sized 32 name lawful) (all_wider 32 again.sized low)) (omega arith);
         reads =
             ap (λ q. and_then q (command_in m)) (node_is (Word name ∷ forms))
             ∙ ap (λ q. and_then q (λ name. Some (spelled (number_of m.items name) values))) (word_is name)
@@ -243,7 +245,7 @@ module _ (m : Source) (model : WellModel m) (has : HasOperations m.items) where
 
 module _ (m : Source) where
   pub part_read : (cs : List Command) → EachCommand m cs → PartAgain m cs
-  part_read [] h = record { sized = none_sized 17; reads = refl }
+  part_read [] h = record { sized = none_sized 33; reads = refl }
   part_read (c ∷ cs) h =
       let rest = part_read cs h.1 in
       record {
@@ -260,6 +262,6 @@ module _ (m : Source) where
       ap (λ o. and_then o (λ b. and_then (each (branch_of m) (map (branch_form m) bs)) (λ bs. Some (b ∷ bs)))) (branch_read b h.0)
       ∙ ap (λ o. and_then o (λ bs. Some (whole_part b ∷ bs))) (branches_read bs h.1)
 
-  pub branches_sized : (bs : List (List Command)) → EachBranch m bs → AllSized 18 (map (branch_form m) bs)
-  branches_sized [] h = none_sized 18
+  pub branches_sized : (bs : List (List Command)) → EachBranch m bs → AllSized 34 (map (branch_form m) bs)
+  branches_sized [] h = none_sized 34
   branches_sized (b ∷ bs) h = more_sized (node_sized (part_read b h.0).sized (omega arith)) (branches_sized bs h.1)

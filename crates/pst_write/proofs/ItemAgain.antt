@@ -7,6 +7,7 @@ use Rattle.pst_case.specs.Shape.{IsShaped}
 use Rattle.pst_case.specs.declared.case.Case.{Case}
 use Rattle.pst_case.specs.declared.history.History.{History}
 use Rattle.pst_case.specs.declared.history.Run.{Run}
+use Rattle.pst_model.specs.Language.{KeepsLanguage}
 use Rattle.pst_model.specs.Operations.{HasOperations}
 use Rattle.pst_model.specs.declared.model.Source.{Source}
 use Rattle.pst_rules.specs.WellTyped.{WellModel}
@@ -34,7 +35,7 @@ record ItemAgain (m : Source) (c : Case) (history : Option History) : Type 0 whe
   lawful : IsTree (item_form m c history)
   reads : item_of m (item_form m c history) ≡ Ok (run_with m c history)
 
-module _ (m : Source) (model : WellModel m) (has : HasOperations m.items) where
+module _ (m : Source) (model : WellModel m) (has : HasOperations m.items) (language : KeepsLanguage m) where
   abbrev parts : Case → Option (List Form) → Parts
   parts c replies = record { read = whole_case c; replies = replies }
 
@@ -53,7 +54,7 @@ module _ (m : Source) (model : WellModel m) (has : HasOperations m.items) where
       ap (λ o. and_then o (item_in m)) (node_is (Word (codes "run") ∷ forms))
       ∙ ap (λ o. and_then o (λ head. if bytes_eq head (codes "case") then case_parts m forms else if bytes_eq head (codes "run") then run_parts m forms else None)) (word_is (codes "run"))
       ∙ run_read m c (replies_form h) a
-      ∙ lists_read m model has c h e
+      ∙ lists_read m model has language c h e
 
   -- the case is read again
   again : (c : Case) (replies : Option (List Form)) → IsShaped m c → of_parts m (Some (parts c replies)) ≡ run_of m c replies
@@ -64,20 +65,20 @@ module _ (m : Source) (model : WellModel m) (has : HasOperations m.items) where
   item_again : (c : Case) (history : Option History) → IsShaped m c → IfSome history (λ h. matches m c h ≡ true) → ItemAgain m c history
   unfolding item_of is_word_byte
   item_again c None s e =
-      let a = case_again m model has c s in
+      let a = case_again m model has language c s in
       record {
         lawful = (headed_sized _ _ refl (case_sized m c a) (omega arith)).lawful;
         reads = ap (of_parts m) (case_parts_read c a) ∙ again c None s;
       }
   item_again c (Some h) s e =
-      let a = case_again m model has c s in
+      let a = case_again m model has language c s in
       let lists = lists_of h in
       record {
-        lawful = (headed_sized _ _ refl (last_sized (case_forms m c) (case_sized m c a) (wider 19 (history_sized m model has c h a e) (omega arith))) (omega arith)).lawful;
+        lawful = (headed_sized _ _ refl (last_sized (case_forms m c) (case_sized m c a) (wider 35 (history_sized m model has language c h a e) (omega arith))) (omega arith)).lawful;
         reads =
             ap (of_parts m) (run_parts_read c h a e) ∙ again c (Some lists) s
-            ∙ ap (λ b. if b then with_history m c (history_of m c lists) else Err (record { kind = NotAFit; command = 0 })) (history_counted m model has c h e)
-            ∙ ap (with_history m c) (history_read m model has c h a e);
+            ∙ ap (λ b. if b then with_history m c (history_of m c lists) else Err (record { kind = NotAFit; command = 0 })) (history_counted m model has language c h e)
+            ∙ ap (with_history m c) (history_read m model has language c h a e);
       }
 
   -- what is written of a lawful run has a spelling
@@ -110,16 +111,17 @@ module _ (m : Source) where
 
 -- ---- what the types of the model and of the case keep
 
-pub lawful_is_read : (m n : Source) (run : Run) → n ≡ m → IsShaped run.shaped.model run.shaped.case → WellModel n → HasOperations n.items
+pub lawful_is_read : (m n : Source) (run : Run) → n ≡ m → IsShaped run.shaped.model run.shaped.case → WellModel n → HasOperations n.items → KeepsLanguage n
     → IsLawful m run → IsRead m run
-lawful_is_read m n run same shape model has h =
+lawful_is_read m n run same shape model has language h =
     let P : Source → Type 0 = λ m. HasOperations m.items in
     let well : WellModel m = subst WellModel same model in
     let operations : HasOperations m.items = subst P same has in
+    let speaks : KeepsLanguage m = subst KeepsLanguage same language in
     let shaped : IsShaped m run.shaped.case = subst (λ m. IsShaped m run.shaped.case) h.model shape in
     record {
-      lawful = written_lawful m well operations run h shaped;
-      read = written_read m well operations run h shaped;
+      lawful = written_lawful m well operations speaks run h shaped;
+      read = written_read m well operations speaks run h shaped;
     }
 
 -- a form that is the tree of the run

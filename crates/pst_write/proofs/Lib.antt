@@ -1,10 +1,12 @@
 pub mod CaseAgain
 pub mod CommandAgain
+pub mod EntryAgain
 pub mod Forms
 pub mod ItemAgain
 pub mod Lines
 pub mod Numbers
 pub mod ReplyAgain
 pub mod Sized
+pub mod Texts
 pub mod ValueAgain
 pub mod WholeAgain

@@ -1,5 +1,5 @@
 -- A history that matches a shaped case is read again from what is written for it.
-use Rattle.std.proofs.Common.{◌≡◌, ℕ, ◌+◌, ◌≤◌, ◌&&◌, ◌==◌, true, false, length, List, [], ◌∷◌, ◌++◌, map, Option, Some, None, Ok, refl, sym, ap, ◌∙◌, eq-eqb, arith}
+use Rattle.std.proofs.Common.{◌≡◌, ℕ, ◌+◌, ◌*◌, ◌≤◌, ◌&&◌, ◌==◌, true, false, length, List, [], ◌∷◌, ◌++◌, map, Option, Some, None, Ok, refl, sym, ap, ◌∙◌, eq-eqb, arith}
 use Rattle.std.specs.Prelude.{codes, if◌then◌else◌}
 use Rattle.std.specs.List.{list_all}
 use Rattle.std.proofs.lemmas.List.{length-map}
@@ -13,6 +13,7 @@ use Rattle.pst_case.specs.declared.history.Reply.TheVariants as reply
 use Rattle.pst_case.specs.declared.history.Reply.{Reply}
 use Rattle.pst_rules.proofs.Operations.{well_operation}
 use Rattle.pst_rules.specs.Fitting.{fits_in}
+use Rattle.pst_model.specs.Language.{KeepsLanguage}
 use Rattle.pst_model.specs.Levels as ty_levels
 use Rattle.pst_model.specs.Operations.{HasOperations}
 use Rattle.pst_model.specs.Parts.{parameters_of}
@@ -20,7 +21,7 @@ use Rattle.pst_model.specs.declared.model.Source.{Source}
 use Rattle.pst_rules.specs.WellTyped.{WellModel}
 use Rattle.pst_runs.specs.Forms.{Parts, is_node, number_of_parts, with_replies}
 use Rattle.pst_runs.specs.Replies.{◌>>=◌, then_more, or_number, listed, listed_in, listed_at, answered, reply_word, or_value, reply_of, part_replies, branch_replies, history_of, branches_count, are_counted}
-use Rattle.pst_runs.specs.Values.{value_of}
+use Rattle.pst_runs.specs.Values.{value_of, in_replies}
 use Rattle.pst_sexpr.specs.Parts.{and_then, node_of}
 use Rattle.pst_sexpr.specs.Bytes.{is_word_byte}
 use Rattle.pst_sexpr.specs.Reading.{max_levels}
@@ -46,20 +47,20 @@ listed_is replies = ap listed_in (node_is (map reply_form replies))
 
 -- the tree of a reply has a spelling, and is read as the reply to the command
 record ReplyAgain (m : Source) (c : Command) (r : Reply) : Type 0 where
-  sized : Sized 16 (reply_form r)
+  sized : Sized 32 (reply_form r)
   reads : reply_of m c (reply_form r) ≡ Some r
 
 abbrev answer : Source → Command → Option Value → Option Reply
 answer m c o = and_then o (λ v. Some (answered m c v))
 
-module _ (m : Source) (model : WellModel m) (has : HasOperations m.items) where
-  value_read : (c : Command) (v : Value) (depth : ℕ) → depth ≤ 16 → FormAgain false depth v (value_form v) → fits_in m [] [] v (result_type m c) ≡ true → ReplyAgain m c (reply.Value v)
+module _ (m : Source) (model : WellModel m) (has : HasOperations m.items) (language : KeepsLanguage m) where
+  value_read : (c : Command) (v : Value) (depth : ℕ) → depth ≤ 32 → FormAgain (in_replies m) depth v (value_form v) → fits_in m [] [] v (result_type m c) ≡ true → ReplyAgain m c (reply.Value v)
   unfolding reply_of
   value_read c v depth low a e =
       record {
-        sized = wider 16 a.sized low;
+        sized = wider 32 a.sized low;
         reads =
-            ap (λ o. or_value o (answer m c (value_of false (value_form v)))) a.other
+            ap (λ o. or_value o (answer m c (value_of (in_replies m) (value_form v)))) a.other
             ∙ ap (answer m c) (a.reads max_levels (omega arith))
             ∙ ap (λ b. Some (if b then reply.Value v else reply.Misfit)) e;
       }
@@ -71,31 +72,31 @@ module _ (m : Source) (model : WellModel m) (has : HasOperations m.items) where
       let low = room_is o.result (has c.op o a.known).result in
       let call = holds_ref-call o.result (well_operation m c.op o model a.known).result in
       let fit : fits [] [] (parameters_of m.items) v o.result ≡ true = ap (λ q. fits_in m [] [] v (type_in q)) (sym a.known) ∙ e in
-      value_read c v (ty_levels.levels o.result) low (reply_again (parameters_of m.items) v o.result (omega arith) call fit) e
+      value_read c v (2 * ty_levels.levels o.result) (omega arith) (reply_again (parameters_of m.items) (in_replies m) v o.result (omega arith) call (λ e. (language e c.op o a.known).result) fit) e
   reply_read c reply.Misfit a e = record {
-    sized = letters_sized 16 _ _ refl;
-    reads = ap (λ o. or_value (reply_word o) (answer m c (value_of false (Word (codes "misfit"))))) (word_is (codes "misfit"));
+    sized = letters_sized 32 _ _ refl;
+    reads = ap (λ o. or_value (reply_word o) (answer m c (value_of (in_replies m) (Word (codes "misfit"))))) (word_is (codes "misfit"));
   }
   reply_read c reply.Failed a e = record {
-    sized = letters_sized 16 _ _ refl;
-    reads = ap (λ o. or_value (reply_word o) (answer m c (value_of false (Word (codes "failed"))))) (word_is (codes "failed"));
+    sized = letters_sized 32 _ _ refl;
+    reads = ap (λ o. or_value (reply_word o) (answer m c (value_of (in_replies m) (Word (codes "failed"))))) (word_is (codes "failed"));
   }
   reply_read c reply.NotRun a e = record {
-    sized = letters_sized 16 _ _ refl;
-    reads = ap (λ o. or_value (reply_word o) (answer m c (value_of false (Word (codes "not-run"))))) (word_is (codes "not-run"));
+    sized = letters_sized 32 _ _ refl;
+    reads = ap (λ o. or_value (reply_word o) (answer m c (value_of (in_replies m) (Word (codes "not-run"))))) (word_is (codes "not-run"));
   }
 
   -- ---- the replies of a part
 
-  part_sized : (cs : List Command) (rs : List Reply) → EachCommand m cs → part_matches m cs rs ≡ true → AllSized 16 (map reply_form rs)
-  part_sized [] [] h e = none_sized 16
+  part_sized : (cs : List Command) (rs : List Reply) → EachCommand m cs → part_matches m cs rs ≡ true → AllSized 32 (map reply_form rs)
+  part_sized [] [] h e = none_sized 32
   part_sized [] (r ∷ rs) h e = absurd (cc)
   part_sized (c ∷ cs) [] h e = absurd (cc)
   part_sized (c ∷ cs) (r ∷ rs) h e =
       let p = both_hold (reply_fits m c r) (part_matches m cs rs) e in
       more_sized (reply_read c r h.0 p.0).sized (part_sized cs rs h.1 p.1)
 
-  list_sized : (cs : List Command) (rs : List Reply) → EachCommand m cs → part_matches m cs rs ≡ true → Sized 17 (list_form rs)
+  list_sized : (cs : List Command) (rs : List Reply) → EachCommand m cs → part_matches m cs rs ≡ true → Sized 33 (list_form rs)
   list_sized cs rs h e = node_sized (part_sized cs rs h e) (omega arith)
 
   part_count : (cs : List Command) (rs : List Reply) → part_matches m cs rs ≡ true → length rs ≡ length cs
@@ -130,7 +131,7 @@ module _ (m : Source) (model : WellModel m) (has : HasOperations m.items) where
   -- ---- the replies of branches, before those of the suffix
 
   lists_sized : (bs : List (List Command)) (rss : List (List Reply)) (rest : List Form) → EachBranch m bs → branches_match m bs rss ≡ true
-      → AllSized 17 rest → AllSized 17 (map list_form rss ++ rest)
+      → AllSized 33 rest → AllSized 33 (map list_form rss ++ rest)
   lists_sized [] [] rest h e more = more
   lists_sized [] (rs ∷ rss) rest h e more = absurd (cc)
   lists_sized (b ∷ bs) [] rest h e more = absurd (cc)
@@ -207,11 +208,11 @@ module _ (m : Source) (model : WellModel m) (has : HasOperations m.items) where
   suffix_nodes [] = refl
   suffix_nodes (r ∷ rs) = both_from _ _ (ap is_node (node_is (map reply_form (r ∷ rs)))) refl
 
-  suffix_sized : (cs : List Command) (rs : List Reply) → EachCommand m cs → part_matches m cs rs ≡ true → AllSized 17 (suffix_lists rs)
-  suffix_sized cs [] h e = none_sized 17
-  suffix_sized cs (r ∷ rs) h e = more_sized (list_sized cs (r ∷ rs) h e) (none_sized 17)
+  suffix_sized : (cs : List Command) (rs : List Reply) → EachCommand m cs → part_matches m cs rs ≡ true → AllSized 33 (suffix_lists rs)
+  suffix_sized cs [] h e = none_sized 33
+  suffix_sized cs (r ∷ rs) h e = more_sized (list_sized cs (r ∷ rs) h e) (none_sized 33)
 
-  pub history_sized : (c : Case) (h : History) → CaseAgain m c → matches m c h ≡ true → Sized 18 (replies_form h)
+  pub history_sized : (c : Case) (h : History) → CaseAgain m c → matches m c h ≡ true → Sized 34 (replies_form h)
   unfolding is_word_byte
   history_sized c h a e =
       let p = parts_match c h e in

@@ -14,6 +14,8 @@ use Rattle.pst_model.specs.declared.model.Source.{Source}
 use Rattle.pst_sexpr.specs.Parts.{headed}
 use Rattle.pst_sexpr.specs.declared.form.Form.{Form}
 use Rattle.pst_sexpr.specs.declared.form.Form.TheVariants.{Word, Text, Node}
+use Rattle.pst_value.specs.declared.key.Key.{Key}
+use Rattle.pst_value.specs.declared.key.Key.TheVariants as key
 use Rattle.pst_value.specs.declared.value.Value.{Value, fold-Value}
 use Rattle.pst_value.specs.declared.value.Value.TheOpen.{Value-F}
 
@@ -23,6 +25,18 @@ abbrev pub truth_word : Bool → List ℕ
 truth_word true = codes "true"
 truth_word false = codes "false"
 
+-- the tree of a key
+abbrev pub key_form : Key → Form
+key_form (key.Int n) = Word (signed_decimal n)
+key_form (key.Bool b) = Word (truth_word b)
+key_form (key.Text t) = Text t
+
+-- `(k v)` for each key and the value at its place
+abbrev pub entries_form : List Key → List Form → List Form
+entries_form ks [] = []
+entries_form [] (form ∷ forms) = []
+entries_form (k ∷ ks) (form ∷ forms) = Node (key_form k ∷ form ∷ []) ∷ entries_form ks forms
+
 -- the tree of a value, by those of its parts (neither a reference nor a call stands in a lawful run)
 abbrev pub value_at : Value-F Form → Form
 value_at (Value-F.Int n) = Word (signed_decimal n)
@@ -30,6 +44,7 @@ value_at (Value-F.Bool b) = Word (truth_word b)
 value_at (Value-F.Text t) = Text t
 value_at (Value-F.Tuple parts) = headed (codes "tuple") parts
 value_at (Value-F.List parts) = headed (codes "list") parts
+value_at (Value-F.Map keys parts) = headed (codes "map") (entries_form keys parts)
 value_at (Value-F.Var n) = Word (codes "$" ++ decimal n)
 value_at (Value-F.Ref n part) = part
 value_at (Value-F.Call op parts) = Node parts

@@ -18,10 +18,10 @@ abbrev pub decreases-clause : goal.decreases-clause
 decreases-clause l = 5 * l.room + 1
 
 abbrev pub invariant-exprs-loop-form : goal.invariant-exprs-loop-form
-invariant-exprs-loop-form l = each (expr_of l.room) l.forms ≡ (each (expr_of l.room) (drop l.form-index l.forms) >>= (λ more. Ok (l.expressions ++ more)))
+invariant-exprs-loop-form l = each (expr_of l.has_maps l.room) l.forms ≡ (each (expr_of l.has_maps l.room) (drop l.form-index l.forms) >>= (λ more. Ok (l.expressions ++ more)))
 
 abbrev pub invariant-clauses-loop-form : goal.invariant-clauses-loop-form
-invariant-clauses-loop-form l = each (clause_of (expr_of l.room)) l.forms ≡ (each (clause_of (expr_of l.room)) (drop l.form-index l.forms) >>= (λ more. Ok (l.clauses ++ more)))
+invariant-clauses-loop-form l = each (clause_of l.has_maps (expr_of l.has_maps l.room)) l.forms ≡ (each (clause_of l.has_maps (expr_of l.has_maps l.room)) (drop l.form-index l.forms) >>= (λ more. Ok (l.clauses ++ more)))
 
 abbrev pub decreases-boxed : goal.decreases-boxed
 decreases-boxed l = 5 * l.room + 1
@@ -40,3 +40,6 @@ decreases-fold l = 5 * l.room + 3
 
 abbrev pub decreases-list : goal.decreases-list
 decreases-list l = 5 * l.room + 3
+
+abbrev pub decreases-put : goal.decreases-put
+decreases-put l = 5 * l.room + 3

@@ -12,4 +12,7 @@ abbrev pub decreases-tys : goal.decreases-tys
 decreases-tys l = 3 * l.room + 1
 
 abbrev pub invariant-tys-loop-form : goal.invariant-tys-loop-form
-invariant-tys-loop-form l = each (ty_of l.room) l.forms ≡ (each (ty_of l.room) (drop l.form-index l.forms) >>= (λ more. Ok (l.types ++ more)))
+invariant-tys-loop-form l = each (ty_of l.has_maps l.room) l.forms ≡ (each (ty_of l.has_maps l.room) (drop l.form-index l.forms) >>= (λ more. Ok (l.types ++ more)))
+
+abbrev pub decreases-boxed_ty : goal.decreases-boxed_ty
+decreases-boxed_ty l = 3 * l.room + 1

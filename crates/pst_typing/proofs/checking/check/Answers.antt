@@ -6,3 +6,6 @@ judge-requires c = whole c.source.result.now (c.model_items.ensures c.source.res
 
 pub new-requires-clause-operations : goal.new-requires-clause-operations
 new-requires-clause-operations c = c.model_operations.ensures c.into_source.result c.into_source.ensures.lawful
+
+pub new-requires-clause-language : goal.new-requires-clause-language
+new-requires-clause-language c = c.model_language.ensures c.into_source.result c.into_source.ensures.lawful

@@ -39,6 +39,9 @@ decreases-find_operation l = 4 * (weight l.first.now + weight l.second.now) + 2
 abbrev pub decreases-find_fold : goal.decreases-find_fold
 decreases-find_fold l = 4 * (weight l.list.now + weight l.first.now + weight l.body.now) + 2
 
+abbrev pub decreases-find_put : goal.decreases-find_put
+decreases-find_put l = 4 * (weight l.map.now + weight l.key.now + weight l.value.now) + 2
+
 abbrev pub decreases-find_call : goal.decreases-find_call
 decreases-find_call l = 4 * total (map weight l.exprs.now) + 3
 

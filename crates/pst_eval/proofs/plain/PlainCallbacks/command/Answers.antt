@@ -1,4 +1,4 @@
-use Rattle.std.proofs.Common.{◌≡◌, Some, None, sym, ◌∙◌}
+use Rattle.std.proofs.Common.{sym, ◌∙◌}
 use Rattle.pst_eval.proofs.Calls.{says_at, command_is, command_starts, command_gives}
 use Rattle.pst_eval.proofs.plain.PlainCallbacks.command.Goals as goal
 

@@ -1,4 +1,4 @@
-use Rattle.std.proofs.Common.{◌≡◌, Some, None, sym, ◌∙◌}
+use Rattle.std.proofs.Common.{sym, ◌∙◌}
 use Rattle.pst_eval.proofs.Calls.{says_at, init_is, init_starts, init_gives}
 use Rattle.pst_eval.proofs.plain.PlainCallbacks.init.Goals as goal
 

@@ -1,4 +1,4 @@
-use Rattle.std.proofs.Common.{◌≡◌, [], Some, None, sym, ◌∙◌}
+use Rattle.std.proofs.Common.{sym, ◌∙◌}
 use Rattle.pst_eval.proofs.Calls.{says_at, next_is, next_starts, next_gives}
 use Rattle.pst_eval.proofs.Table.{the_operation}
 use Rattle.pst_eval.proofs.plain.PlainCallbacks.next.Goals as goal

@@ -1,4 +1,4 @@
-use Rattle.std.proofs.Common.{◌≡◌, [], Some, None, sym, ◌∙◌}
+use Rattle.std.proofs.Common.{[], sym, ◌∙◌}
 use Rattle.pst_eval.proofs.Calls.{says_at, post_is, post_starts, post_gives}
 use Rattle.pst_eval.proofs.Table.{the_operation}
 use Rattle.pst_eval.proofs.plain.PlainCallbacks.post.Goals as goal

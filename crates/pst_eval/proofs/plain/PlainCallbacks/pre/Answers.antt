@@ -1,4 +1,4 @@
-use Rattle.std.proofs.Common.{◌≡◌, [], Some, None, sym, ◌∙◌}
+use Rattle.std.proofs.Common.{sym, ◌∙◌}
 use Rattle.pst_eval.proofs.Calls.{says_at, pre_is, pre_starts, pre_gives}
 use Rattle.pst_eval.proofs.Table.{the_operation}
 use Rattle.pst_eval.proofs.plain.PlainCallbacks.pre.Goals as goal

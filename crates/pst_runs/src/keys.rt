@@ -1,0 +1,62 @@
+//! The keys of the maps that trees spell.
+ghost use Rattle.std.specs.Prelude.{◌≡◌, IfOk, MatchOption, None, Some};
+ghost use Rattle.pst_runs.specs.Values as spec;
+
+use pst_items::{Items, Text};
+use pst_sexpr::{Form, node_of};
+use pst_value::Key;
+use pst_words::integer_of;
+use std::alloc::{AllocError, Global};
+
+/// The key and the value of an entry `(k v)`, as trees.
+pub fn pair_of(entry: &Form) -> Option<(&Form, &Form)>
+    ensures { MatchOption result (spec.pair_of entry.now ≡ None)
+        (λ pair. spec.pair_of entry.now ≡ Some (pair.0.now, pair.1.now)) }
+{
+    match node_of(entry)? {
+        [key, value] => Some((key, value)),
+        _ => None,
+    }
+}
+
+#[tactic(auto, unfolding(crate::specs::Values::key_word))]
+fn key_word(word: &Text) -> Option<Key>
+    ensures { result ≡ spec.key_word word.now }
+{
+    if word.as_str() == "true" {
+        return Some(Key::Bool(true));
+    }
+    if word.as_str() == "false" {
+        return Some(Key::Bool(false));
+    }
+    Some(Key::Int(integer_of(word)?))
+}
+
+/// The key that a tree spells.
+#[tactic(auto, unfolding(crate::specs::Values::key_of))]
+fn key_of(alloc: Global, form: &Form) -> Result<Option<Key>, AllocError>
+    ensures { IfOk result (λ key. key ≡ spec.key_of form.now) }
+{
+    match form {
+        Form::Word(word) => Ok(key_word(word)),
+        Form::Text(text) => Ok(Some(Key::Text(text.copy(alloc)?))),
+        Form::Node(_) => Ok(None),
+    }
+}
+
+/// The keys of the entries `(k v)` of a map, where each is one.
+pub fn keys_of(alloc: Global, entries: &[Form]) -> Result<Option<Items<Key>>, AllocError>
+    ensures { IfOk result (λ keys. keys ≡ spec.each spec.entry_key entries.now) }
+{
+    let mut keys = Items::new(alloc);
+    for entry in entries {
+        let Some((key, _)) = pair_of(entry) else {
+            return Ok(None);
+        };
+        let Some(key) = key_of(alloc, key)? else {
+            return Ok(None);
+        };
+        keys.push(key)?;
+    }
+    Ok(Some(keys))
+}
