@@ -34,6 +34,12 @@ printf '%s%*s' "$counter" "$((1048576 - ${#counter}))" '' > "$room/spaces"
   echo '  (command (list call)))'
   echo '(case (prefix) (left) (right))'
 } > "$room/turns"
+# A model whose opening state puts 4,096 keys into a map and gets each of them.
+{
+  echo '(model2 keys (state int) (init (let m (fold x (range 0 4096) m (map int int) (put m x x))'
+  echo '  (fold x (range 0 4096) sum 0 (+ sum (get m x))))) (command (list call)))'
+  echo '(case (prefix) (left) (right))'
+} > "$room/keys"
 
 # The mean of so many runs, in milliseconds.
 mean() {
@@ -54,3 +60,4 @@ echo "3,000 runs                              $(mean 10 judge "$room/many") ms"
 echo "1 MiB of spaces                         $(mean 20 judge "$room/spaces") ms"
 echo "a model file of 1 MiB, checked          $(mean 10 check "$room/texts") ms"
 echo "1,000,000 turns                         $(mean 5 judge "$room/turns") ms"
+echo "4,096 puts and gets of a map            $(mean 5 judge "$room/keys") ms"
