@@ -24,6 +24,14 @@ mod limits;
 #[cfg(test)]
 mod lines;
 #[cfg(test)]
+mod map_forms;
+#[cfg(test)]
+mod map_openings;
+#[cfg(test)]
+mod map_values;
+#[cfg(test)]
+mod maps;
+#[cfg(test)]
 mod merges;
 #[cfg(test)]
 mod models;
