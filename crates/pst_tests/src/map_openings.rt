@@ -78,7 +78,8 @@ const EQUALITY: &str = "(= (map int int) (map int int));
   (= (tuple 1 (put (map text int) \"a\" 1)) (tuple 1 (put (map text int) \"a\" 1)))";
 
 /// Maps in maps; and a map that is bound stays what it was.
-const NESTED: &str = "(= 7 (get (get (put (map text (map int int)) \"a\" (put (map int int) 1 7)) \"a\") 1));
+const NESTED: &str =
+    "(= 7 (get (get (put (map text (map int int)) \"a\" (put (map int int) 1 7)) \"a\") 1));
   (let m (put (map text (map int int)) \"a\" (put (map int int) 1 7))
     (= 2 (len (keys (get (put m \"a\" (put (get m \"a\") 2 8)) \"a\")))));
   (not (= (put (map int (map int int)) 1 (map int int)) (map int (map int int))));
@@ -95,7 +96,8 @@ const APPLIED: &str = "(= 8 (f (get (put (map int int) 1 7) 1)));
 
 /// The turns that are left where folds and comprehensions go over maps and their keys. A map has at most
 /// 4,096 keys: one that is there is replaced, and one that was taken out leaves room.
-const TURNS: &str = "(len (keys (fold x (range 0 5) m (map int int) (put m (rem x 2) x)))) => 2 999995;
+const TURNS: &str =
+    "(len (keys (fold x (range 0 5) m (map int int) (put m (rem x 2) x)))) => 2 999995;
   (get (fold x (range 0 5) m (map int int) (put m (rem x 2) x)) 1) => 3 999995;
   (fold k (keys (put (put (map int int) 4 0) 5 0)) a 0 (+ a k)) => 9 999998;
   (len (for ((in k (keys (put (map text int) \"a\" 5)))) k)) => 1 999999;
@@ -180,9 +182,21 @@ fn maps_fault(rt: HostRuntime) -> Result<(), Fail> {
         (INTEGERS, MISSING, "Missing"),
         (INTEGERS, DIV_ZERO, "DivZero"),
         (INTEGERS, TOO_LONG, "TooLong"),
-        (COMPILED_INTEGERS, MISSING, "1 1 casefault 0 init Missing merge -"),
-        (COMPILED_INTEGERS, DIV_ZERO, "1 1 casefault 0 init DivZero merge -"),
-        (COMPILED_INTEGERS, TOO_LONG, "1 1 casefault 0 init TooLong merge -"),
+        (
+            COMPILED_INTEGERS,
+            MISSING,
+            "1 1 casefault 0 init Missing merge -",
+        ),
+        (
+            COMPILED_INTEGERS,
+            DIV_ZERO,
+            "1 1 casefault 0 init DivZero merge -",
+        ),
+        (
+            COMPILED_INTEGERS,
+            TOO_LONG,
+            "1 1 casefault 0 init TooLong merge -",
+        ),
     ];
     let misses = others_of_all(rt.alloc(), &tables)?;
     assert_eq!(rt; misses.as_str(), "");

@@ -83,7 +83,8 @@ const TABLE: Frame = Frame {
     after: "",
 };
 
-const TABLE_ROWS: &str = "(run (prefix (rows)) (left) (right) (replies ((map)) () ())) => 0 1 explained -;
+const TABLE_ROWS: &str =
+    "(run (prefix (rows)) (left) (right) (replies ((map)) () ())) => 0 1 explained -;
   (run (prefix (set \"b\" 2 8) (set \"a\" 1 7) (set \"a\" 0 9) (rows)) (left) (right)
     (replies (true true true (map (\"a\" (map (0 9) (1 7))) (\"b\" (map (2 8))))) () ()))
     => 0 1 explained -;
@@ -148,7 +149,10 @@ fn maps_need_their_head(rt: HostRuntime) -> Result<(), Fail> {
     let alloc = rt.alloc();
     let without = STORE.replace(alloc, "(model2 store", "(model store")?;
     let refused = "2 refused model UnknownForm item 1";
-    assert_eq!(rt; others(alloc, &FILES, without.as_str(), refused)?.as_str(), "");
+    assert_eq!(rt;
+        others(alloc, &FILES, without.as_str(), refused)?.as_str(),
+        ""
+    );
     assert_eq!(rt; others(alloc, &FILES, STORE, "0 ok store")?.as_str(), "");
     Ok(())
 }

@@ -215,7 +215,8 @@ const MAP_OPENINGS_ILL: &str = "(state int) (init (map int int));
   (state int) (init (fold x (map int int) a 0 a))";
 
 /// A map of references is compared in mode post, and its values are references there.
-const MAP_ITEMS_WELL: &str = "(op o ((h (map int (ref int)))) int (pre true) (next s) (post (= h h)));
+const MAP_ITEMS_WELL: &str =
+    "(op o ((h (map int (ref int)))) int (pre true) (next s) (post (= h h)));
   (op o ((h (map int (ref int)))) int (pre (has h 1)) (next s) (post (= r (deref (get h 1)))));
   (op o ((h (map int (ref int)))) int (pre true) (next (len (keys (del h 1)))) (post true));
   (postfun p ((h (map int (ref int)))) bool (= h (map int (ref int))))
