@@ -1,5 +1,6 @@
 //! Cases driven on systems that tests make.
 
+use crate::echo::Echo;
 use crate::hostile::{Liar, NoGet, Odd, ThreeFlags, TwoFlags};
 use crate::models::{COUNTER, MEETING};
 use pst_case::{Run, shape};
@@ -20,6 +21,14 @@ use std::thread::Threads;
 const SAYING: &str = "(model say (state int) (init 0)
   (command (list call (call inc)))
   (op inc () text (pre true) (next s) (post true)))";
+
+/// A model whose operations may answer what they are called with. `values` is called with references, and
+/// `other` has a map of another type as its result.
+const ECHOING: &str = "(model2 echo (state int) (init 0) (command (list call))
+  (op number ((n int)) int (pre true) (next s) (post (= r n)))
+  (op table ((m (map text int))) (map text int) (pre true) (next s) (post (= r m)))
+  (op values ((hs (map int (ref int)))) (map int int) (pre true) (next s) (post true))
+  (op other ((m (map bool int))) (map int int) (pre true) (next s) (post true)))";
 
 fn typed_of(alloc: Global, text: &str) -> Option<Typed> {
     let file = load(alloc, text.as_bytes()).ok()?.ok()?;
@@ -107,6 +116,18 @@ fn odd_answers_misfit(rt: HostRuntime) -> Result<(), Fail> {
     for model in [COUNTER, COUNTER, SAYING] {
         assert!(rt; is_driven_so(&rt, alloc, model, item, &mut odd) == Some(true));
     }
+    Ok(())
+}
+
+/// Arguments are plain also inside of maps, and a map of another type is a misfit.
+#[test]
+fn maps_are_driven(rt: HostRuntime) -> Result<(), Fail> {
+    let alloc = rt.alloc();
+    let mut echo: BoxedSystem = Box::new(alloc, Echo::new(alloc))?;
+    let item = "(run (prefix (number 7) (number 9) (values (map (1 $2) (2 $1))))
+      (left (table (map (\"a\" 1) (\"b\" 2)))) (right (other (map (true 1))))
+      (replies (7 9 (map (1 9) (2 7))) ((map (\"a\" 1) (\"b\" 2))) (misfit)))";
+    assert!(rt; is_driven_so(&rt, alloc, ECHOING, item, &mut echo) == Some(true));
     Ok(())
 }
 

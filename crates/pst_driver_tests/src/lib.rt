@@ -4,6 +4,8 @@
 #[cfg(test)]
 mod driving;
 #[cfg(test)]
+mod echo;
+#[cfg(test)]
 mod hostile;
 #[cfg(test)]
 mod models;

@@ -16,16 +16,13 @@ use pst_trial::Settings;
 use std::{env, io};
 
 /// What a cache of the keys 0, 1 and 2 answers.
-const MODEL: &str = "(model cache (state (list int)) (init (list int))
-  (fun holds ((keys (list int)) (k int)) bool
-    (< 0 (len (for ((in x keys) (when (= x k))) x))))
+const MODEL: &str = "(model2 cache (state (map int bool)) (init (map int bool))
   (command (++ (list call (call clear))
                (++ (for ((in k (range 0 3))) (call add k))
                    (for ((in k (range 0 3))) (call has k)))))
-  (op add ((k int)) bool (pre true)
-    (next (if (holds s k) s (++ s (list int k)))) (post (= r (not (holds s k)))))
-  (op has ((k int)) bool (pre true) (next s) (post (= r (holds s k))))
-  (op clear () bool (pre true) (next (list int)) (post r)))";
+  (op add ((k int)) bool (pre true) (next (put s k true)) (post (= r (not (has s k)))))
+  (op has ((k int)) bool (pre true) (next s) (post (= r (has s k))))
+  (op clear () bool (pre true) (next (map int bool)) (post r)))";
 
 /// 100 trials of cases with at most 12 commands, each driven up to five times.
 fn settings() -> Settings

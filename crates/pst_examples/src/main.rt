@@ -10,7 +10,7 @@ use std::alloc::{AllocError, Global};
 use std::{fs, io};
 
 /// The files: models and files of items.
-const FILES: [&str; 10] = [
+const FILES: [&str; 12] = [
     "cache.model",
     "counter.model",
     "counter.runs",
@@ -20,6 +20,8 @@ const FILES: [&str; 10] = [
     "registry.model",
     "registry.runs",
     "silent.runs",
+    "store.model",
+    "store.runs",
     "tickets.runs",
 ];
 

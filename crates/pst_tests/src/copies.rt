@@ -2,7 +2,7 @@
 ghost use Rattle.std.specs.Prelude.{◌≡◌};
 
 use crate::answers::typed_of;
-use crate::models::{COUNTER, REGISTRY};
+use crate::models::{ATLAS, COUNTER, REGISTRY};
 use pst_case::{Case, History, Run, shape};
 use pst_model::Source;
 use pst_runs::read_runs;
@@ -69,7 +69,12 @@ fn run_is_copied(alloc: Global, model: &Source, run: &Run) -> Result<bool, Alloc
 #[test]
 fn copies_are_equal(rt: HostRuntime) -> Result<(), Fail> {
     let alloc = rt.alloc();
-    let rows: [(&str, &str); 2] = [
+    let rows: [(&str, &str); 3] = [
+        (
+            ATLAS,
+            "(run (prefix (new) (keep (map (\"a\" 1) (\"b\" 2)) (map (1 $1)))) (left (numbers)) (right)
+              (replies (1 2) ((map (1 (list 2)) (3 (list)))) ()))",
+        ),
         (
             COUNTER,
             "(run (prefix) (left (inc)) (right (inc)) (replies () (1) (2)))",

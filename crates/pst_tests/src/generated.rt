@@ -1,7 +1,7 @@
 //! Cases that are generated from given words, and how many words were drawn.
 
 use crate::answers::typed_of;
-use crate::models::{COUNTER, REGISTRY, TOP};
+use crate::models::{COUNTER, REGISTRY, SLOTS, TOP};
 use crate::words::Words;
 use pst_eval::Plain;
 use pst_gen::generate;
@@ -67,7 +67,7 @@ const FEW: &str = "(model few (state int) (init 0)
 #[test]
 fn cases_are_generated(rt: HostRuntime) -> Result<(), Fail> {
     let alloc = rt.alloc();
-    let rows: [Row; 13] = [
+    let rows: [Row; 14] = [
         Row {
             model: COUNTER,
             commands: 4,
@@ -183,6 +183,15 @@ fn cases_are_generated(rt: HostRuntime) -> Result<(), Fail> {
             suffix: 1,
             words: &[0, 0, 2, 2],
             case: "(case (prefix) (left (new)) (right (new)) (suffix (close $2)))",
+            drawn: 4,
+        },
+        Row {
+            model: SLOTS,
+            commands: 3,
+            branches: 2,
+            suffix: 1,
+            words: &[0, 1, 2, 1],
+            case: "(case (prefix) (left (open 1)) (right (open 0)) (suffix (all (map (0 $2) (1 $1)))))",
             drawn: 4,
         },
     ];

@@ -26,6 +26,12 @@ mod lines;
 #[cfg(test)]
 mod map_forms;
 #[cfg(test)]
+mod map_openings;
+#[cfg(test)]
+mod map_values;
+#[cfg(test)]
+mod maps;
+#[cfg(test)]
 mod merges;
 #[cfg(test)]
 mod models;

@@ -48,3 +48,26 @@ pub const KINDS: &str = "(model kinds (state int) (init 0) (command (list call))
   (op pair () (tuple int text) (pre true) (next s) (post true))
   (op numbers () (list int) (pre true) (next s) (post true))
   (op keep ((t text) (p (tuple int bool)) (h (ref int))) int (pre true) (next s) (post true)))";
+
+/// A store of numbers by texts, in a map.
+pub const STORE: &str = "(model2 store (state (map text int)) (init (map text int))
+  (command (list call (call write \"a\" 1) (call look \"a\")))
+  (op write ((k text) (v int)) bool (pre true) (next (put s k v)) (post r))
+  (op look ((k text)) int (pre (has s k)) (next s) (post (= r (get s k))))
+  (op erase ((k text)) bool (pre true) (next (del s k)) (post (= r (has s k))))
+  (op names () (list text) (pre true) (next s) (post (= r (keys s)))))";
+
+/// Handles in numbered slots: a map of references.
+pub const SLOTS: &str = "(model2 slots (state (map int (ref int))) (init (map int (ref int)))
+  (command (list call (call open 0) (call open 1) (call all s)))
+  (op open ((k int)) int (pre true) (next (put s k r)) (post true))
+  (op read ((k int)) int (pre (has s k)) (next s) (post (= r (deref (get s k)))))
+  (op shut ((k int)) bool (pre (has s k)) (next (del s k)) (post r))
+  (op all ((hs (map int (ref int)))) int (pre (= (keys hs) (keys s))) (next s) (post (= hs s))))";
+
+/// Operations with maps as results and as parameters.
+pub const ATLAS: &str = "(model2 atlas (state int) (init 0) (command (list call))
+  (op new () int (pre true) (next s) (post true))
+  (op numbers () (map int (list int)) (pre true) (next s) (post true))
+  (op words () (map text (map bool text)) (pre true) (next s) (post true))
+  (op keep ((m (map text int)) (hs (map int (ref int)))) int (pre true) (next s) (post true)))";

@@ -1,6 +1,6 @@
 //! Models that are printed, and read again.
 
-use crate::models::{COUNTER, DIVIDING, KINDS, MEETING, ONE, REGISTRY, TOP};
+use crate::models::{ATLAS, COUNTER, DIVIDING, KINDS, MEETING, ONE, REGISTRY, SLOTS, STORE, TOP};
 use pst_print::print_model;
 use pst_sexpr::{Tree, read, write};
 use pst_sink::Out;
@@ -21,7 +21,9 @@ fn is_read_again(alloc: Global, text: &str) -> Option<bool> {
 #[test]
 fn printed_models_are_read_again(rt: HostRuntime) -> Result<(), Fail> {
     let alloc = rt.alloc();
-    let models: [&str; 7] = [COUNTER, DIVIDING, TOP, REGISTRY, ONE, MEETING, KINDS];
+    let models: [&str; 10] = [
+        COUNTER, DIVIDING, TOP, REGISTRY, ONE, MEETING, KINDS, STORE, SLOTS, ATLAS,
+    ];
     for model in models {
         assert!(rt; is_read_again(alloc, model) == Some(true), "{model}");
     }
@@ -47,16 +49,33 @@ fn printed(alloc: Global, text: &str) -> Option<String> {
     spelled(alloc, &tree).ok()
 }
 
-/// Integers are printed in their shortest form, callbacks in the order pre, next, post, with one space between trees.
+/// Models and what is printed for them: integers in their shortest form, callbacks in the order pre, next, post,
+/// one space between trees, and the head that the model has. Without maps their words are names.
+const TIDY: [(&str, &str); 3] = [
+    (
+        "(model  m ; a comment
+        (command (list call)) (init (at (tuple -007 \"a\\\"\") 01)) (state int)
+        (op f ((x int)) int (post (= r x)) (pre true) (next (let y -0 (+ s y)))))",
+        "(model m (command (list call)) (init (at (tuple -7 \"a\\\"\") 1)) (state int) (op f ((x int)) int (pre true) (next (let y 0 (+ s y))) (post (= r x))))",
+    ),
+    (
+        "(model2 m(command(list call)) (state (map text (map int int))) (init (put (map text (map int int)) \"\"
+        (put (map int int) 01 -00))) (op put ((k text)) bool (post (= r (has (del s k) k)))
+        (next (put s k (map int int))) (pre (= (keys s) (keys (get s k))))))",
+        "(model2 m (command (list call)) (state (map text (map int int))) (init (put (map text (map int int)) \"\" (put (map int int) 1 0))) (op put ((k text)) bool (pre (= (keys s) (keys (get s k)))) (next (put s k (map int int))) (post (= r (has (del s k) k)))))",
+    ),
+    (
+        "(model m (state int) (init (get (map 01) keys)) (command (list call)) (fun get ((put int)) int (del put has)))",
+        "(model m (state int) (init (get (map 1) keys)) (command (list call)) (fun get ((put int)) int (del put has)))",
+    ),
+];
+
 #[test]
 fn models_are_printed_tidily(rt: HostRuntime) -> Result<(), Fail> {
     let alloc = rt.alloc();
-    let text = "(model  m ; a comment
-        (command (list call)) (init (at (tuple -007 \"a\\\"\") 01)) (state int)
-        (op f ((x int)) int (post (= r x)) (pre true) (next (let y -0 (+ s y)))))";
-    let wanted =
-        "(model m (command (list call)) (init (at (tuple -7 \"a\\\"\") 1)) (state int) (op f ((x int)) int (pre true) (next (let y 0 (+ s y))) (post (= r x))))";
-    let answer = printed(alloc, text).ok_or("no model")?;
-    assert_eq!(rt; answer.as_str(), wanted);
+    for (text, wanted) in TIDY {
+        let answer = printed(alloc, text).ok_or("no model")?;
+        assert_eq!(rt; answer.as_str(), wanted);
+    }
     Ok(())
 }

@@ -2,11 +2,24 @@
 
 use pst_case::renumber_value;
 use pst_items::{Boxed, Items};
-use pst_value::Value;
+use pst_value::{Key, Value};
 use std::alloc::{AllocError, Global};
 use std::test::Fail;
 
-/// A variable, a reference to a variable, a call with a variable, and a variable of no command.
+/// A map of a variable, and of a list of a variable, by the keys 1 and 2.
+fn mapped(alloc: Global, first: u32, second: u32) -> Result<Value, AllocError> {
+    let mut keys = Items::new(alloc);
+    keys.push(Key::Int(1))?;
+    keys.push(Key::Int(2))?;
+    let mut inner = Items::new(alloc);
+    inner.push(Value::Var(second))?;
+    let mut values = Items::new(alloc);
+    values.push(Value::Var(first))?;
+    values.push(Value::List(inner))?;
+    Ok(Value::Map(keys, values))
+}
+
+/// A variable, a reference to a variable, a call with a variable, a map, and a variable of no command.
 fn named(alloc: Global, numbers: [u32; 4]) -> Result<Value, AllocError> {
     let [first, second, third, fourth] = numbers;
     let mut args = Items::new(alloc);
@@ -15,6 +28,7 @@ fn named(alloc: Global, numbers: [u32; 4]) -> Result<Value, AllocError> {
     parts.push(Value::Var(first))?;
     parts.push(Value::Ref(second, Boxed::new(alloc, Value::Var(first))?))?;
     parts.push(Value::Call(0, args))?;
+    parts.push(mapped(alloc, second, third)?)?;
     parts.push(Value::Var(fourth))?;
     Ok(Value::List(parts))
 }

@@ -2,7 +2,7 @@
 ghost use Rattle.std.specs.Prelude.{Bool, List, ℕ, Option, Some};
 
 use crate::answers::typed_of;
-use crate::models::{COUNTER, KINDS, REGISTRY};
+use crate::models::{ATLAS, COUNTER, KINDS, REGISTRY};
 use pst_runs::read_runs;
 use pst_sexpr::read;
 use pst_sink::{Failed, Out, Sink};
@@ -30,8 +30,8 @@ fn is_written(alloc: Global, model: &str, items: &str, want: &str) -> bool {
     }
 }
 
-/// Variables, integers and texts of each kind; replies of each kind.
-const VALUES: [(&str, &str, &str); 4] = [
+/// Variables, integers and texts of each kind; maps; replies of each kind.
+const VALUES: [(&str, &str, &str); 7] = [
     (
         REGISTRY,
         "(case (prefix (new) (close $01)) (left) (right))",
@@ -52,6 +52,23 @@ const VALUES: [(&str, &str, &str); 4] = [
         COUNTER,
         "(run (prefix (inc) (get)) (left (get)) (right) (replies (true not-run) (misfit) ()))",
         "(run (prefix (inc) (get)) (left (get)) (right) (replies (misfit not-run) (misfit) ()))\n",
+    ),
+    (
+        ATLAS,
+        "(case (prefix (new)) (left (keep ( map(\"a\" 01)(\"b\\\"\" -0) ) (map (-07 $01) (007 $0001)))) (right))",
+        "(case (prefix (new)) (left (keep (map (\"a\" 1) (\"b\\\"\" 0)) (map (-7 $1) (7 $1)))) (right))\n",
+    ),
+    (
+        ATLAS,
+        "(run (prefix (numbers) (words)) (left (numbers)) (right (words))
+          (replies ((map (-01 (list)) (00 (list 1 002))) (map (\"\" (map (false \"x\") (true \"\"))) (\"y\" (map))))
+            ((map)) ((map))))",
+        "(run (prefix (numbers) (words)) (left (numbers)) (right (words)) (replies ((map (-1 (list)) (0 (list 1 2))) (map (\"\" (map (false \"x\") (true \"\"))) (\"y\" (map)))) ((map)) ((map))))\n",
+    ),
+    (
+        ATLAS,
+        "(run (prefix (numbers)) (left) (right (words)) (replies ((map (true (list)))) () ((map (\"a\" (map (0 \"x\")))))))",
+        "(run (prefix (numbers)) (left) (right (words)) (replies (misfit) () (misfit)))\n",
     ),
 ];
 
