@@ -19,6 +19,20 @@ const TYPES: Frame = Frame {
     after: ") (init 0) (command (list call)))",
 };
 
+/// Models with maps by their opening expression.
+const MAP_EXPRESSIONS: Frame = Frame {
+    question: Question::Form,
+    before: "(model2 m (state int) (init ",
+    after: ") (command (list call)))",
+};
+
+/// Models with maps by the type of their state.
+const MAP_TYPES: Frame = Frame {
+    question: Question::Form,
+    before: "(model2 m (state ",
+    after: ") (init 0) (command (list call)))",
+};
+
 /// Models by their first items.
 const ITEMS: Frame = Frame {
     question: Question::Check,
@@ -65,14 +79,22 @@ fn others_inside(
 #[test]
 fn depth_of_expressions(rt: HostRuntime) -> Result<(), Fail> {
     let alloc = rt.alloc();
-    let rows: [(usize, &str, &str); 4] = [
-        (63, "s", "read"),
-        (64, "s", "OverLimit item 2"),
-        (64, "X", "UnknownForm item 2"),
-        (64, "9223372036854775808", "OverLimit item 2"),
+    let rows: [(Frame, &str, usize, &str, &str); 6] = [
+        (EXPRESSIONS, "(not ", 63, "s", "read"),
+        (EXPRESSIONS, "(not ", 64, "s", "OverLimit item 2"),
+        (EXPRESSIONS, "(not ", 64, "X", "UnknownForm item 2"),
+        (
+            EXPRESSIONS,
+            "(not ",
+            64,
+            "9223372036854775808",
+            "OverLimit item 2",
+        ),
+        (MAP_EXPRESSIONS, "(keys ", 63, "s", "read"),
+        (MAP_EXPRESSIONS, "(keys ", 64, "s", "OverLimit item 2"),
     ];
-    for (around, innermost, want) in rows {
-        let others = others_inside(alloc, &EXPRESSIONS, "(not ", around, innermost, want)?;
+    for (frame, head, around, innermost, want) in rows {
+        let others = others_inside(alloc, &frame, head, around, innermost, want)?;
         assert_eq!(rt; others.as_str(), "");
     }
     Ok(())
@@ -81,13 +103,16 @@ fn depth_of_expressions(rt: HostRuntime) -> Result<(), Fail> {
 #[test]
 fn depth_of_types(rt: HostRuntime) -> Result<(), Fail> {
     let alloc = rt.alloc();
-    let rows: [(usize, &str, &str); 3] = [
-        (15, "int", "read"),
-        (16, "int", "OverLimit item 1"),
-        (16, "foo", "UnknownForm item 1"),
+    let rows: [(Frame, &str, usize, &str, &str); 6] = [
+        (TYPES, "(list ", 15, "int", "read"),
+        (TYPES, "(list ", 16, "int", "OverLimit item 1"),
+        (TYPES, "(list ", 16, "foo", "UnknownForm item 1"),
+        (MAP_TYPES, "(map int ", 15, "int", "read"),
+        (MAP_TYPES, "(map int ", 16, "int", "OverLimit item 1"),
+        (MAP_TYPES, "(map int ", 16, "foo", "UnknownForm item 1"),
     ];
-    for (around, innermost, want) in rows {
-        let others = others_inside(alloc, &TYPES, "(list ", around, innermost, want)?;
+    for (frame, head, around, innermost, want) in rows {
+        let others = others_inside(alloc, &frame, head, around, innermost, want)?;
         assert_eq!(rt; others.as_str(), "");
     }
     Ok(())
