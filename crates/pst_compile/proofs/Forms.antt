@@ -5,10 +5,11 @@ use Rattle.pst_model.specs.Parts.{Name}
 use Rattle.pst_model.specs.declared.expr.Binary.{Binary as BinaryOperator}
 use Rattle.pst_value.specs.declared.value.Value.{Value}
 use Rattle.pst_meaning.specs.Meaning.{Env, looked_up, Mean, Run, ◌>>=◌, lift, pure, truth}
+use Rattle.pst_operators.specs.Maps as maps
 use Rattle.pst_operators.specs.Operators.{truth_of, bool, binary}
 use Rattle.pst_operators.specs.Outcome.{Outcome, Gives, Faults, Stuck, and_then}
 use Rattle.pst_machine.specs.declared.instruction.Instr.{Instr}
-use Rattle.pst_machine.specs.declared.instruction.Instr.TheVariants.{Const, Move, Take, Binary}
+use Rattle.pst_machine.specs.declared.instruction.Instr.TheVariants.{Const, Move, Take, Binary, Put}
 use Rattle.pst_machine.specs.declared.instruction.FunCode.{FunCode}
 use Rattle.pst_machine.specs.declared.machine.Frame.{Frame}
 use Rattle.pst_machine.specs.Machine.{Regs, read, write, cleared, put, execute, using, advance}
@@ -98,6 +99,32 @@ module _ (code : List FunCode) where
       let first : read regs2 a ≡ Gives v = q'.keeps.at a (below_one r a regs regs1 v q) ∙ q.value in
       put_value f callers (Binary op r a b) r regs regs2 left' (binary op v w) (keeps_then (Below r) regs regs1 regs2 q.keeps (keeps_less (Below r) (Below (r + 1)) regs1 regs2 (more r) q'.keeps))
       (λ p. ap (λ o. put r (and_then o (λ v. and_then (read regs2 b) (binary op v))) (state_at f p regs2 left' callers)) first ∙ ap (λ o. put r (and_then o (binary op v)) (state_at f p regs2 left' callers)) q'.value))))
+
+  pub put_good : (c c' c'' : Coded) (m m' m'' : Mean) → Good code c m → Good code c' m' → Good code c'' m'' → Good code (no_name (λ sc r. load c sc r then load c' sc (r + 1) then load c'' sc (r + 2) then one (Put r (at c sc r) (at c' sc (r + 1)) (at c'' sc (r + 2))))) (λ env turns. and_then (m env turns) (λ x. and_then (m' env x.1) (λ y. and_then (m'' env y.1) (λ z. lift (maps.put x.0 y.0 z.0) z.1))))
+  put_good c c' c'' m m' m'' g g' g'' = good_put _ _ (λ f callers sc r env regs turns h.
+      let a = at c sc r in
+      let b = at c' sc (r + 1) in
+      let d = at c'' sc (r + 2) in
+      let last = one (Put r a b d) in
+      let wide = λ (k : ℕ) (lt : k < r). let le : k < r + 2 = omega arith in le in
+      runs_then code f callers (load c sc r) (load c' sc (r + 1) then load c'' sc (r + 2) then last) regs turns (OperandAt (Below r) r a regs) (ValueAt r regs) (m env turns) (λ x left. and_then (m' env left) (λ y. and_then (m'' env y.1) (λ z. lift (maps.put x y.0 z.0) z.1))) (operand c m g f callers sc r env regs turns h)
+      (λ x left regs1 q.
+      let h1 = holds_keep (Below r) sc env regs regs1 q.keeps h in
+      runs_then code f callers (load c' sc (r + 1)) (load c'' sc (r + 2) then last) regs1 left (OperandAt (Below (r + 1)) (r + 1) b regs1) (ValueAt r regs) (m' env left) (λ y left'. and_then (m'' env left') (λ z. lift (maps.put x y z.0) z.1)) (operand c' m' g' f callers sc (r + 1) env regs1 left (holds_more (Below r) (Below (r + 1)) sc env regs1 (more r) h1))
+      (λ y left' regs2 q'.
+      let k12 : Keeps (Below r) regs1 regs2 = keeps_less (Below r) (Below (r + 1)) regs1 regs2 (more r) q'.keeps in
+      let h2 = holds_more (Below r) (Below (r + 2)) sc env regs2 wide (holds_keep (Below r) sc env regs1 regs2 k12 h1) in
+      runs_then code f callers (load c'' sc (r + 2)) last regs2 left' (OperandAt (Below (r + 2)) (r + 2) d regs2) (ValueAt r regs) (m'' env left') (λ z left''. lift (maps.put x y z) left'') (operand c'' m'' g'' f callers sc (r + 2) env regs2 left' h2)
+      (λ z left'' regs3 q''.
+      let k13 : Keeps (Below r) regs regs3 = keeps_then (Below r) regs regs2 regs3 (keeps_then (Below r) regs regs1 regs2 q.keeps k12) (keeps_less (Below r) (Below (r + 2)) regs2 regs3 wide q''.keeps) in
+      let under : a < r + 1 = below_one r a regs regs1 x q in
+      let first : read regs3 a ≡ Gives x = q''.keeps.at a (omega arith) ∙ q'.keeps.at a under ∙ q.value in
+      let low : b < r + 1 + 1 = below_one (r + 1) b regs1 regs2 y q' in
+      let second : read regs3 b ≡ Gives y = q''.keeps.at b (omega arith) ∙ q'.value in
+      put_value f callers (Put r a b d) r regs regs3 left'' (maps.put x y z) k13
+      (λ p. ap (λ o. put r (and_then o (λ x. and_then (read regs3 b) (λ y. and_then (read regs3 d) (λ z. maps.put x y z)))) (state_at f p regs3 left'' callers)) first
+      ∙ ap (λ o. put r (and_then o (λ y. and_then (read regs3 d) (λ z. maps.put x y z))) (state_at f p regs3 left'' callers)) second
+      ∙ ap (λ o. put r (and_then o (λ z. maps.put x y z)) (state_at f p regs3 left'' callers)) q''.value)))))
 
   pub truth_read : (r : ℕ) (regs : Regs) (v : Value) (t : Bool) → read regs r ≡ Gives v → truth_of v ≡ Gives t → and_then (read regs r) truth_of ≡ Gives t
   truth_read r regs v t e h = ap (λ o. and_then o truth_of) e ∙ h

@@ -3,7 +3,7 @@ use Rattle.std.proofs.Common.{◌≡◌, ◌&&◌, ℕ, ◌+◌, ◌<◌, ◌≤
 use Rattle.std.specs.Prelude.{Bool, true, false, if◌then◌else◌, nat_lt, nat_le, IsTrue}
 use Rattle.std.proofs.lemmas.Bool.Decides.{nat_tests}
 use Rattle.pst_machine.specs.declared.instruction.Instr.{Instr}
-use Rattle.pst_machine.specs.declared.instruction.Instr.TheVariants.{Const, Move, Take, Unary, Binary, At, Tuple, List as MakeList, Call, Append, Jump, Unless, Apply, Loop, Return}
+use Rattle.pst_machine.specs.declared.instruction.Instr.TheVariants.{Const, Move, Take, Unary, Binary, Put, At, Tuple, List as MakeList, Call, Append, Jump, Unless, Apply, Loop, Return}
 use Rattle.pst_machine.specs.declared.instruction.FunCode.{FunCode}
 use Rattle.pst_machine.specs.Lawful.{all_below, instr_fits, body_fits}
 use Rattle.pst_compile.specs.Code.{Block, ◌then◌, nothing, where_true, choice, each}
@@ -27,6 +27,7 @@ placed_wider g hi hi' q (Move d a) le h = tt
 placed_wider g hi hi' q (Take d a) le h = tt
 placed_wider g hi hi' q (Unary op d a) le h = tt
 placed_wider g hi hi' q (Binary op d a b) le h = tt
+placed_wider g hi hi' q (Put d a b c) le h = tt
 placed_wider g hi hi' q (At d a n) le h = tt
 placed_wider g hi hi' q (Tuple d rs) le h = tt
 placed_wider g hi hi' q (MakeList d rs) le h = tt
@@ -117,6 +118,7 @@ instr_fit g fc hi q (Move d a) lt t h = both _ _ (is_lt d fc.registers (omega ar
 instr_fit g fc hi q (Take d a) lt t h = both _ _ (is_lt d fc.registers (omega arith)) (is_lt a fc.registers (omega arith))
 instr_fit g fc hi q (Unary op d a) lt t h = both _ _ (is_lt d fc.registers (omega arith)) (is_lt a fc.registers (omega arith))
 instr_fit g fc hi q (Binary op d a b) lt t h = both _ _ (is_lt d fc.registers (omega arith)) (both _ _ (is_lt a fc.registers (omega arith)) (is_lt b fc.registers (omega arith)))
+instr_fit g fc hi q (Put d a b c) lt t h = both _ _ (is_lt d fc.registers (omega arith)) (both _ _ (is_lt a fc.registers (omega arith)) (both _ _ (is_lt b fc.registers (omega arith)) (is_lt c fc.registers (omega arith))))
 instr_fit g fc hi q (At d a m) lt t h = both _ _ (is_lt d fc.registers (omega arith)) (is_lt a fc.registers (omega arith))
 instr_fit g fc hi q (Tuple d rs) lt t h = both _ _ (is_lt d fc.registers (omega arith)) (rows_fit fc.registers rs (omega arith))
 instr_fit g fc hi q (MakeList d rs) lt t h = both _ _ (is_lt d fc.registers (omega arith)) (rows_fit fc.registers rs (omega arith))

@@ -9,6 +9,7 @@ use Rattle.pst_model.specs.declared.model.Item.{Item}
 use Rattle.pst_model.specs.declared.model.Item.TheVariants as item
 use Rattle.pst_value.specs.declared.value.Value.{Value}
 use Rattle.pst_meaning.specs.Meaning.{Mean, Part, Run, Called, called, applied, mean, part, mean_at, part_at}
+use Rattle.pst_operators.specs.Maps.{map_of}
 use Rattle.pst_operators.specs.Operators.{int, bool, text, list, tuple, item as item_of, unary}
 use Rattle.pst_machine.specs.declared.instruction.Instr.TheVariants.{Unary, At, Tuple, List as MakeList}
 use Rattle.pst_machine.specs.declared.instruction.FunCode.{FunCode}
@@ -18,7 +19,7 @@ use Rattle.pst_compile.specs.Code.{Coded, CodedPart, code_at, coded_part_at, cod
 use Rattle.pst_compile.proofs.Good.{Good}
 use Rattle.pst_compile.proofs.Steps.{Runs, Written}
 use Rattle.pst_compile.proofs.Rules.{runs_stuck}
-use Rattle.pst_compile.proofs.Forms.{const_good, name_good, unary_good, let_good, binary_good, if_good, and_good, or_good}
+use Rattle.pst_compile.proofs.Forms.{const_good, name_good, unary_good, let_good, binary_good, put_good, if_good, and_good, or_good}
 use Rattle.pst_compile.proofs.Rows.{AllGood, row_good, call_good}
 use Rattle.pst_compile.proofs.Visits.{PartGood, PartsGood, for_good, fold_good}
 use Rattle.pst_compile.proofs.Calls.{Calls, apply_good, IsCode, applied_runs}
@@ -66,6 +67,8 @@ module _ (code : List FunCode) (items : List Item) (nums : Name → Option ℕ) 
   layer_good (Expr-F.List type es) = row_good code _ _ MakeList list (λ r rs f p regs turns callers. refl) (all_good es)
   layer_good (Expr-F.For clauses b) = for_good code _ _ _ _ (parts_good clauses) b.1
   layer_good (Expr-F.Fold x e acc i b) = fold_good code x acc _ _ _ _ _ _ e.1 i.1 b.1
+  layer_good (Expr-F.Map k t) = const_good code (map_of [] [])
+  layer_good (Expr-F.Put m k v) = put_good code _ _ _ _ _ _ m.1 k.1 v.1
   layer_good (Expr-F.Call x es) = call_good code (number_of items x) _ _ (all_good es)
   layer_good (Expr-F.Apply f es) = apply_good code nums funs calls f _ _ (all_good es)
 

@@ -111,6 +111,11 @@ module _ (g : ℕ) where
           lawful_then g _ _ (load_lawful _ e.1 sc r) (lawful_then g _ _ (i.1.by sc (r + 1)) (lawful_then g _ _ (one_lawful _ (λ hi q. tt)) (lawful_then g _ _
           (lawful_each g _ _ _ _ (lawful_then g _ _ (b.1.by _ (r + 4)) (one_lawful _ (λ hi q. tt)))) (one_lawful _ (λ hi q. tt)))));
     }
+    layer_lawful (Expr-F.Map k t) = record { by = λ sc r. one_lawful _ (λ hi q. tt) }
+    layer_lawful (Expr-F.Put m k v) = record {
+      by = λ sc r.
+          lawful_then g _ _ (load_lawful _ m.1 sc r) (lawful_then g _ _ (load_lawful _ k.1 sc (r + 1)) (lawful_then g _ _ (load_lawful _ v.1 sc (r + 2)) (one_lawful _ (λ hi q. tt))));
+    }
     layer_lawful (Expr-F.Call x es) = record { by = λ sc r. lawful_then g _ _ (all_lawful _ (exprs_lawful es) sc r) (call_lawful r (number_of items x) _) }
     layer_lawful (Expr-F.Apply f es) = record { by = λ sc r. lawful_then g _ _ (all_lawful _ (exprs_lawful es) sc r) (apply_lawful r (nums f) _ (low f)) }
 

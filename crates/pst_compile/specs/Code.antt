@@ -9,10 +9,11 @@ use Rattle.pst_model.specs.declared.expr.Expr.{Expr, Expr-F, fold-Expr}
 use Rattle.pst_model.specs.declared.model.Item.{Item}
 use Rattle.pst_model.specs.declared.model.Item.TheVariants as item
 use Rattle.pst_model.specs.declared.model.Param.{Param}
+use Rattle.pst_operators.specs.Maps.{map_of}
 use Rattle.pst_operators.specs.Operators.{int, bool, text, list}
 use Rattle.pst_value.specs.declared.value.Value.{Value}
 use Rattle.pst_machine.specs.declared.instruction.Instr.{Instr}
-use Rattle.pst_machine.specs.declared.instruction.Instr.TheVariants.{Const, Move, Take, Unary, Binary, At, Tuple, List as MakeList, Call, Append, Jump, Unless, Apply, Loop, Return}
+use Rattle.pst_machine.specs.declared.instruction.Instr.TheVariants.{Const, Move, Take, Unary, Binary, Put, At, Tuple, List as MakeList, Call, Append, Jump, Unless, Apply, Loop, Return}
 
 -- ---- blocks
 
@@ -170,6 +171,12 @@ abbrev pub binary_code : BinaryOperator → Coded → Coded → Scope → ℕ �
 binary_code op a b sc r =
     load a sc r then load b sc (r + 1) then one (Binary op r (at a sc r) (at b sc (r + 1)))
 
+-- the map, the key and its value, one after another
+abbrev pub put_code : Coded → Coded → Coded → Scope → ℕ → Block
+put_code m k v sc r =
+    load m sc r then load k sc (r + 1) then load v sc (r + 2)
+    then one (Put r (at m sc r) (at k sc (r + 1)) (at v sc (r + 2)))
+
 abbrev pub tuple_code : List Coded → Scope → ℕ → Block
 tuple_code es sc r = load_all es sc r then one (Tuple r (all_at es sc r))
 
@@ -231,6 +238,8 @@ code_at items funs (Expr-F.At e n) = no_name (at_code e n)
 code_at items funs (Expr-F.List type es) = no_name (list_code es)
 code_at items funs (Expr-F.For clauses b) = no_name (for_code clauses b)
 code_at items funs (Expr-F.Fold x e acc i b) = no_name (fold_code x e acc i b)
+code_at items funs (Expr-F.Map k t) = no_name (constant (map_of [] []))
+code_at items funs (Expr-F.Put m k v) = no_name (put_code m k v)
 code_at items funs (Expr-F.Call x es) = no_name (call_code (number_of items x) es)
 code_at items funs (Expr-F.Apply f es) = no_name (apply_code (funs f) es)
 

@@ -10,7 +10,7 @@ use Rattle.pst_model.specs.declared.model.Param.{Param}
 use Rattle.pst_rules.specs.WellTyped.{name_s, name_r}
 use Rattle.pst_machine.specs.declared.instruction.FunCode.{FunCode}
 use Rattle.pst_machine.specs.declared.instruction.Instr.{Instr}
-use Rattle.pst_machine.specs.declared.instruction.Instr.TheVariants.{Const, Move, Take, Unary, Binary, At, Tuple, List as MakeList, Call, Append, Jump, Unless, Apply, Loop, Return}
+use Rattle.pst_machine.specs.declared.instruction.Instr.TheVariants.{Const, Move, Take, Unary, Binary, Put, At, Tuple, List as MakeList, Call, Append, Jump, Unless, Apply, Loop, Return}
 use Rattle.pst_machine.specs.Listing.{code_text}
 use Rattle.pst_compile.specs.Code.{Scope, number, parameter_scope, body_code}
 
@@ -32,6 +32,7 @@ past_instr (Move d a) = max (past d) (past a)
 past_instr (Take d a) = max (past d) (past a)
 past_instr (Unary op d a) = max (past d) (past a)
 past_instr (Binary op d a b) = max (past d) (max (past a) (past b))
+past_instr (Put d a b c) = max (max (past d) (past a)) (max (past b) (past c))
 past_instr (At d a n) = max (past d) (past a)
 past_instr (Tuple d rs) = max (past d) (past_all rs)
 past_instr (MakeList d rs) = max (past d) (past_all rs)

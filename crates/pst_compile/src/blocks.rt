@@ -2,6 +2,7 @@
 
 ghost use Rattle.std.specs.Prelude.{◌≡◌, ◌+◌, ◌++◌, ◌∷◌, [], pos, IfOk};
 ghost use Rattle.pst_machine.specs.declared.instruction.Instr.TheVariants as instr;
+ghost use Rattle.pst_operators.specs.Maps.{map_of};
 ghost use Rattle.pst_operators.specs.Operators.{int};
 ghost use Rattle.pst_compile.specs.Code as spec;
 
@@ -22,6 +23,13 @@ fn place_after(place: usize, count: usize) -> Result<usize, AllocError>
         Some(after) => Ok(after),
         None => Err(AllocError),
     }
+}
+
+/// The map that has no keys.
+pub fn empty_map(alloc: Global) -> Value
+    ensures { result ≡ map_of [] [] }
+{
+    Value::Map(Items::new(alloc), Items::new(alloc))
 }
 
 /// One instruction.

@@ -2,17 +2,18 @@
 
 ghost use Rattle.std.specs.Prelude.{◌≡◌, map, IfOk};
 ghost use Rattle.pst_compile.specs.Code as spec;
-ghost use Rattle.pst_compile.specs.Scopes.{scope_of, code_in, part_in, numbers_in};
+ghost use Rattle.pst_compile.specs.Scopes.{scope_of, code_in, numbers_in};
 ghost use Rattle.pst_model.specs.Parts.{number_of};
 
-use crate::blocks::{Block, counted, either, ended, headed, joined, one, skipped_unless};
+use crate::blocks::{Block, either, empty_map, ended, joined, one, skipped_unless};
+use crate::loops::{put_fold, put_for};
 use crate::names::Names;
-use crate::operands::{Operand, Operands, apply_to, call_to, own_register, put_name, split_first};
+use crate::operands::{Operand, Operands, apply_to, call_to, own_register, put_name};
 use crate::target::Target;
 use pst_items::{Boxed, Items, Text};
 use pst_machine::Instr;
 use pst_meaning::Context;
-use pst_model::{Binary, Clause, Expr, Unary};
+use pst_model::{Binary, Expr, Unary};
 use pst_value::Value;
 use std::alloc::AllocError;
 
@@ -50,6 +51,8 @@ pub fn put(expr: &Expr, context: &Context<'_>, names: &Names<'_>, target: Target
             let operands = load_all(exprs.as_slice(), context, names, target)?;
             ended(operands.code, Instr::List(register, operands.registers))
         }
+        Expr::Map(_, _) => one(alloc, Instr::Const(register, empty_map(alloc))),
+        Expr::Put(map, key, value) => put_entry(map, key, value, context, names, target),
         Expr::Call(name, exprs) => put_call(name, exprs, context, names, target),
         Expr::Apply(name, exprs) => put_apply(name, exprs, context, names, target),
         Expr::For(clauses, body) => put_for(clauses, body, context, names, target),
@@ -145,6 +148,34 @@ fn put_binary(
     let right = load(second.get(), context, names, next)?;
     let last = Instr::Binary(operator, target.register, left.register, right.register);
     joined(left.code, ended(right.code, last)?)
+}
+
+/// The code of a map with a key and its value.
+#[cycle(put)]
+fn put_entry(
+    map: &Boxed<Expr>,
+    key: &Boxed<Expr>,
+    value: &Boxed<Expr>,
+    context: &Context<'_>,
+    names: &Names<'_>,
+    target: Target,
+) -> Block
+    ensures { IfOk result (λ code. code ≡ spec.put_code (code_in context.now map.now)
+        (code_in context.now key.now) (code_in context.now value.now)
+        (scope_of names.now) target.register target.place) }
+{
+    let first = load(map.get(), context, names, target)?;
+    let next = target.after(first.code.len())?.above(1)?;
+    let second = load(key.get(), context, names, next)?;
+    let last = next.after(second.code.len())?.above(1)?;
+    let third = load(value.get(), context, names, last)?;
+    let instr = Instr::Put(
+        target.register,
+        first.register,
+        second.register,
+        third.register,
+    );
+    joined(first.code, joined(second.code, ended(third.code, instr)?)?)
 }
 
 #[cycle(put)]
@@ -270,130 +301,4 @@ fn put_apply(
         operands.code,
         apply_to(name, context, next, operands.registers)?,
     )
-}
-
-/// The code of a comprehension, which appends to the list in the target's register.
-#[cycle(put)]
-fn put_for(
-    clauses: &Items<Clause>,
-    body: &Boxed<Expr>,
-    context: &Context<'_>,
-    names: &Names<'_>,
-    target: Target,
-) -> Block
-    ensures { IfOk result (λ code. code ≡ spec.for_code (map (part_in context.now) clauses.now)
-        (code_in context.now body.now) (scope_of names.now) target.register target.place) }
-{
-    let built = target.register;
-    let next = target.after(1)?.above(1)?;
-    let code = visit(clauses.as_slice(), body.get(), context, names, built, next)?;
-    let empty = Value::List(Items::new(context.alloc));
-    headed(context.alloc, Instr::Const(built, empty), code)
-}
-
-#[cycle(put)]
-fn put_fold(
-    name: &Text,
-    list: &Boxed<Expr>,
-    acc: &Text,
-    first: &Boxed<Expr>,
-    body: &Boxed<Expr>,
-    context: &Context<'_>,
-    names: &Names<'_>,
-    target: Target,
-) -> Block
-    ensures { IfOk result (λ code. code ≡ spec.fold_code name.now (code_in context.now list.now)
-        acc.now (code_in context.now first.now) (code_in context.now body.now)
-        (scope_of names.now) target.register target.place) }
-{
-    let list = load(list.get(), context, names, target)?;
-    let built = target.after(list.code.len())?.above(1)?;
-    let opening = put(first.get(), context, names, built)?;
-    let index = built.after(opening.len())?.above(1)?;
-    let item = index.after(1)?.above(1)?;
-    let inside = item.after(1)?.above(1)?;
-    let outer = Names::With(name.as_bytes(), item.register, &*names);
-    let inner = Names::With(acc.as_bytes(), built.register, &outer);
-    let turn = put(body.get(), context, &inner, inside)?;
-    let turned = ended(turn, Instr::Take(built.register, inside.register))?;
-    let each = counted(context.alloc, list.register, index, turned)?;
-    let rest = ended(each, Instr::Take(target.register, built.register))?;
-    joined(list.code, joined(opening, rest)?)
-}
-
-/// The code of the clauses and the body, which appends to the list in the register `built`.
-#[cycle(put)]
-fn visit(
-    clauses: &[Clause],
-    body: &Expr,
-    context: &Context<'_>,
-    names: &Names<'_>,
-    built: u32,
-    target: Target,
-) -> Block
-    ensures { IfOk result (λ code. code ≡ spec.visit_code (map (part_in context.now) clauses.now)
-        (code_in context.now body.now) built (scope_of names.now) target.register target.place) }
-{
-    match split_first(clauses) {
-        None => {
-            let operand = load(body, context, names, target)?;
-            ended(operand.code, Instr::Append(built, operand.register))
-        }
-        Some((first, rest)) => match first {
-            Clause::In(name, list) => {
-                visit_in(name, list, rest, body, context, names, built, target)
-            }
-            Clause::When(test) => visit_when(test, rest, body, context, names, built, target),
-        },
-    }
-}
-
-/// The code of the other clauses and the body for each item of a list.
-#[cycle(put)]
-fn visit_in(
-    name: &Text,
-    list: &Expr,
-    rest: &[Clause],
-    body: &Expr,
-    context: &Context<'_>,
-    names: &Names<'_>,
-    built: u32,
-    target: Target,
-) -> Block
-    ensures { IfOk result (λ code. code ≡ spec.in_code name.now (code_in context.now list.now)
-        (spec.visit_code (map (part_in context.now) rest.now) (code_in context.now body.now) built)
-        (scope_of names.now) target.register target.place) }
-{
-    let list = load(list, context, names, target)?;
-    let index = target.after(list.code.len())?.above(1)?;
-    let item = index.after(1)?.above(1)?;
-    let inside = item.after(1)?.above(1)?;
-    let inner = Names::With(name.as_bytes(), item.register, &*names);
-    let turn = visit(rest, body, context, &inner, built, inside)?;
-    joined(
-        list.code,
-        counted(context.alloc, list.register, index, turn)?,
-    )
-}
-
-/// The code of the other clauses and the body where a test is true.
-#[cycle(put)]
-fn visit_when(
-    test: &Expr,
-    rest: &[Clause],
-    body: &Expr,
-    context: &Context<'_>,
-    names: &Names<'_>,
-    built: u32,
-    target: Target,
-) -> Block
-    ensures { IfOk result (λ code. code ≡ spec.when_code (code_in context.now test.now)
-        (spec.visit_code (map (part_in context.now) rest.now) (code_in context.now body.now) built)
-        (scope_of names.now) target.register target.place) }
-{
-    let operand = load(test, context, names, target)?;
-    let jump = target.after(operand.code.len())?;
-    let inner = visit(rest, body, context, names, built, jump.after(1)?)?;
-    let code = skipped_unless(context.alloc, operand.register, inner, jump.place)?;
-    joined(operand.code, code)
 }

@@ -51,6 +51,7 @@ fn past_instr(instr: &Instr) -> Result<u32, AllocError>
         | Instr::At(d, a, _)
         | Instr::Append(d, a) => past_both(*d, *a),
         Instr::Binary(_, d, a, b) => Ok(larger(past(*d)?, past_both(*a, *b)?)),
+        Instr::Put(d, a, b, c) => Ok(larger(past_both(*d, *a)?, past_both(*b, *c)?)),
         Instr::Tuple(d, from)
         | Instr::List(d, from)
         | Instr::Call(d, _, from)

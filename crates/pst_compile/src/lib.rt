@@ -10,6 +10,7 @@ mod compiled;
 mod expressions;
 mod frame_size;
 mod functions;
+mod loops;
 mod names;
 mod operands;
 mod target;

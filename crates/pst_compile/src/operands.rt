@@ -52,6 +52,8 @@ pub fn own_register(
         | Expr::List(_, _)
         | Expr::For(_, _)
         | Expr::Fold(_, _, _, _, _)
+        | Expr::Map(_, _)
+        | Expr::Put(_, _, _)
         | Expr::Call(_, _)
         | Expr::Apply(_, _) => Ok(None),
     }

@@ -2,15 +2,15 @@ use Rattle.std.proofs.Common.{◌≡◌, ◌+◌, length, sym, ap, ◌∙◌, ar
 use Rattle.pst_meaning.proofs.Weights.{item_weight}
 use Rattle.pst_compile.specs.Scopes.{scope_of, code_in}
 use Rattle.pst_compile.proofs.Loading.{code_next, registers_next}
-use Rattle.pst_compile.proofs.expressions.+put.Goals as goal
+use Rattle.pst_compile.proofs.+put.Goals as goal
 
-pub load_all-load-requires : goal.load_all-load-requires
-load_all-load-requires t c =
+pub expressions::load_all-load-requires : goal.expressions::load_all-load-requires
+expressions::load_all-load-requires t c =
     let h = rw (sym c.expr-item.is) at (item_weight c.args.exprs.now c.loop-expr.expr-index c.expr-item.result c.loop-expr-test.true) in
     (omega (arith, h), tt)
 
-pub load_all-loop-expr-preserved : goal.load_all-loop-expr-preserved
-load_all-loop-expr-preserved t c =
+pub expressions::load_all-loop-expr-preserved : goal.expressions::load_all-loop-expr-preserved
+expressions::load_all-loop-expr-preserved t c =
     let m = code_in c.args.context.now in
     let sc = scope_of c.args.names.now in
     let r : c.in_ok-next.next.register ≡ c.loop-expr.next.register + 1 = c.in_ok-next.ensures.register ∙ ap (λ n. n + 1) c.in_ok-after.ensures.register in
