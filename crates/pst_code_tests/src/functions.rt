@@ -1,9 +1,9 @@
 //! Functions by hand.
 
-use pst_items::Items;
+use pst_items::{Items, Text};
 use pst_machine::{FunCode, Instr};
-use pst_model::Binary;
-use pst_value::Value;
+use pst_model::{Binary, Unary};
+use pst_value::{Key, Value};
 use std::alloc::{AllocError, Global};
 
 /// Code of one function with these instructions.
@@ -58,6 +58,68 @@ pub fn division(alloc: Global) -> Result<Items<FunCode>, AllocError> {
         Instr::Return(2),
     ];
     one_function(alloc, 0, 3, body)
+}
+
+/// The map that has no keys.
+fn empty_map(alloc: Global) -> Value {
+    Value::Map(Items::new(alloc), Items::new(alloc))
+}
+
+/// The keys 7, 3 and 5 are put into a map, and 7 is deleted: its keys then.
+pub fn kept_keys(alloc: Global) -> Result<Items<FunCode>, AllocError> {
+    let body = [
+        Instr::Const(0, empty_map(alloc)),
+        Instr::Const(1, Value::Int(7)),
+        Instr::Put(0, 0, 1, 1),
+        Instr::Const(2, Value::Int(3)),
+        Instr::Put(0, 0, 2, 1),
+        Instr::Const(3, Value::Int(5)),
+        Instr::Put(0, 0, 3, 1),
+        Instr::Binary(Binary::Del, 0, 0, 1),
+        Instr::Unary(Unary::Keys, 4, 0),
+        Instr::Return(4),
+    ];
+    one_function(alloc, 0, 5, body)
+}
+
+/// The value of key 4 after 9 and then 8 are put there, where 4 is a key of the map.
+pub fn last_put(alloc: Global) -> Result<Items<FunCode>, AllocError> {
+    let body = [
+        Instr::Const(0, empty_map(alloc)),
+        Instr::Const(1, Value::Int(4)),
+        Instr::Const(2, Value::Int(9)),
+        Instr::Put(0, 0, 1, 2),
+        Instr::Const(2, Value::Int(8)),
+        Instr::Put(0, 0, 1, 2),
+        Instr::Binary(Binary::Has, 3, 0, 1),
+        Instr::Unless(3, 9),
+        Instr::Binary(Binary::Get, 3, 0, 1),
+        Instr::Return(3),
+    ];
+    one_function(alloc, 0, 4, body)
+}
+
+/// The value of key 4 of the map that has no keys.
+pub fn missing_key(alloc: Global) -> Result<Items<FunCode>, AllocError> {
+    let body = [
+        Instr::Const(0, empty_map(alloc)),
+        Instr::Const(1, Value::Int(4)),
+        Instr::Binary(Binary::Get, 2, 0, 1),
+        Instr::Return(2),
+    ];
+    one_function(alloc, 0, 3, body)
+}
+
+/// A map of texts.
+pub fn constant_map(alloc: Global) -> Result<Items<FunCode>, AllocError> {
+    let mut keys = Items::new(alloc);
+    keys.push(Key::Text(Text::from_string(String::from_str(alloc, "a")?)))?;
+    keys.push(Key::Text(Text::from_string(String::from_str(alloc, "b")?)))?;
+    let mut values = Items::new(alloc);
+    values.push(Value::Int(-1))?;
+    values.push(Value::List(Items::new(alloc)))?;
+    let body = [Instr::Const(0, Value::Map(keys, values)), Instr::Return(0)];
+    one_function(alloc, 0, 1, body)
 }
 
 /// It returns a register that no instruction has written.

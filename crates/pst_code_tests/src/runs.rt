@@ -1,6 +1,6 @@
 //! Runs of functions by hand.
 
-use crate::functions::{copied_list, division, sum, unwritten};
+use crate::functions::{copied_list, division, kept_keys, last_put, missing_key, sum, unwritten};
 use pst_items::Items;
 use pst_machine::{Code, FunCode, Outcome};
 use pst_value::{Fault, Value};
@@ -121,5 +121,35 @@ fn a_long_list_is_appended(rt: HostRuntime) -> Result<(), Fail> {
     let list = list_argument(alloc, &[1; 60000])?;
     let outcome = outcome_of(alloc, copied_list(alloc)?, list, 100000)?;
     assert!(rt; is_list(&outcome, 60000, 40000));
+    Ok(())
+}
+
+#[test]
+fn the_keys_of_a_map_rise(rt: HostRuntime) -> Result<(), Fail> {
+    let alloc = rt.alloc();
+    let outcome = outcome_of(alloc, kept_keys(alloc)?, Items::new(alloc), 0)?;
+    match outcome {
+        Some(Outcome::Value(value, _)) => {
+            let wanted = list_argument(alloc, &[3, 5])?;
+            assert!(rt; wanted.as_slice().first() == Some(&value));
+        }
+        _ => assert!(rt; false),
+    }
+    Ok(())
+}
+
+#[test]
+fn a_key_has_what_was_put_there_last(rt: HostRuntime) -> Result<(), Fail> {
+    let alloc = rt.alloc();
+    let outcome = outcome_of(alloc, last_put(alloc)?, Items::new(alloc), 0)?;
+    assert!(rt; is_integer(outcome, 8, 0));
+    Ok(())
+}
+
+#[test]
+fn a_key_that_is_missing_faults(rt: HostRuntime) -> Result<(), Fail> {
+    let alloc = rt.alloc();
+    let outcome = outcome_of(alloc, missing_key(alloc)?, Items::new(alloc), 0)?;
+    assert!(rt; matches!(&outcome, Some(Outcome::Fault(Fault::Missing))));
     Ok(())
 }
