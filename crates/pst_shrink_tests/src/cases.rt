@@ -6,34 +6,16 @@ ghost use Rattle.pst_shrink.specs.Weight.{weight};
 
 use pst_case::{Case, Command};
 use pst_items::Items;
-use pst_value::{Key, Value};
+use pst_value::Value;
 use std::alloc::{AllocError, Global};
 
-/// The variable of a digit.
-fn variable_of(digit: u8) -> Value {
-    Value::Var(digit.wrapping_sub(b'0') as u32)
-}
-
-/// The map of two variables, by the keys 1 and 2.
-fn map_of(alloc: Global, first: u8, second: u8) -> Result<Value, AllocError> {
-    let mut keys = Items::new(alloc);
-    keys.push(Key::Int(1))?;
-    keys.push(Key::Int(2))?;
-    let mut values = Items::new(alloc);
-    values.push(variable_of(first))?;
-    values.push(variable_of(second))?;
-    Ok(Value::Map(keys, values))
-}
-
-/// The command of a word: a letter for its operation, and the digits of the variables in its argument, if it
-/// has one: a variable, or a map of two.
+/// The command of a word: a letter for its operation, and a digit for the variable that is its argument, if
+/// it has one.
 fn command_of(alloc: Global, word: &str) -> Result<Command, AllocError> {
     let bytes = word.as_bytes();
     let mut args = Items::new(alloc);
-    match bytes {
-        [_, digit] => args.push(variable_of(*digit))?,
-        [_, first, second] => args.push(map_of(alloc, *first, *second)?)?,
-        _ => {}
+    if let Some(digit) = bytes.get(1) {
+        args.push(Value::Var(digit.wrapping_sub(b'0') as u32))?;
     }
     Ok(Command {
         op: bytes.first().copied().unwrap_or(0) as u32,
