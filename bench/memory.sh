@@ -25,6 +25,8 @@ cc -O1 -shared -fPIC -o "$room/refuse.so" "$room/refuse.c"
 
 { cat "$top/examples/counter.model"; echo '(run (prefix (inc)) (left (inc) (get)) (right (inc)) (replies (1) (2 3) (3)))'; echo '(case (prefix) (left (get)) (right (get)))'; } > "$room/judged"
 { cat "$top/examples/counter.model"; echo '(case (prefix (inc)) (left (get) (get)) (right (get)))'; } > "$room/driven"
+echo '(model one (state int) (init 0) (command (list call (call inc)))
+  (op inc () int (pre true) (next (+ s 1)) (post (= r (+ s 1)))))' > "$room/one"
 
 # Refuses each growth of one call of the program in turn.
 refuse_each() {
@@ -42,7 +44,7 @@ refuse_each() {
     else
       last=0
       case "$answer" in
-        'refused memory' | '1 lost NoMemory' | '1 lost NoThread')
+        'refused memory' | '1 lost NoMemory' | '1 lost NoThread' | campaign*:NoMemory* | campaign*:NoThread*)
           refused=$((refused + 1))
           if [ "$status" != 3 ]; then echo "growth $turn of $*: $answer, with status $status"; failed=1; fi ;;
         *) echo "growth $turn of $*: $answer"; failed=1 ;;
@@ -59,4 +61,11 @@ last=0
 refuse_each judge "$room/judged"
 last=0
 refuse_each run counter "$room/driven"
+last=0
+refuse_each list "$top/examples/counter.model"
+# Each trial of this campaign fails and is shrunk; one that meets a refusal is lost, and the others stay as they are.
+last=0
+refuse_each campaign stuck "$room/one" --seed 7 --trials 3 --commands 1 --repeats 1 --workers 1
+last=0
+refuse_each campaign stuck "$room/one" --seed 7 --trials 3 --commands 1 --repeats 1 --workers 2
 exit "$failed"

@@ -3,23 +3,30 @@
 
 ghost use Rattle.std.specs.Prelude.{◌≡◌, false};
 
+mod explaining;
 mod input;
+mod progress;
+mod refused;
 mod words;
 
 use clap::ArgMatches;
 use clap::error::ErrorKind;
+use progress::Progress;
+use pst_campaign::Unwatched;
 use pst_cli::{
-    Absence, KnownSystem, Status, campaign_text, check_text, judge_text, list_text, refuse_text,
-    run_text,
+    Absence, KnownSystem, Status, campaign_text, check_text, explain_text, judge_text, list_text,
+    refuse_text, run_text,
 };
 use pst_samples::{Counter, Meet, Queue, Racy, Registry, Stuck};
 use pst_sink::{Out, Sink};
 use pst_system::BoxedSystem;
 use std::alloc::{AllocError, Global};
+use std::io::IsTerminal;
 use std::process::ExitCode;
 use std::rt::Runtime;
 use std::sync::Wait;
 use std::thread::Threads;
+use std::time::Clock;
 use std::{env, io};
 
 /// The systems that the words ask for: none where they name none that is known.
@@ -49,13 +56,15 @@ fn drive<W: Sink, R: Threads + Wait>(
     }
 }
 
-/// Runs a campaign with a worker for each of the systems, if there are some.
-fn campaign<W: Sink, R: Threads + Wait + Sync>(
+/// Runs a campaign with a worker for each of the systems, if there are some. Where standard error is a terminal a line
+/// on it tells how far the campaign is, unless the words forbid it.
+fn campaign<W: Sink, R: Threads + Wait + Sync + Eprint + Clock>(
     rt: &R,
     alloc: Global,
     words: &ArgMatches<'_>,
     name: &str,
     systems: Vec<BoxedSystem>,
+    is_terminal: bool,
     input: &[u8],
     out: &mut W,
 ) -> Status
@@ -67,15 +76,21 @@ fn campaign<W: Sink, R: Threads + Wait + Sync>(
     let Some(settings) = words::settings(words) else {
         return Status::Refused;
     };
-    campaign_text(rt, alloc, input, settings, systems, out)
+    if is_terminal && !words.get_flag("quiet") {
+        if let Ok(progress) = Progress::new(rt) {
+            return campaign_text(rt, alloc, input, settings, systems, &progress, out);
+        }
+    }
+    campaign_text(rt, alloc, input, settings, systems, &Unwatched, out)
 }
 
 /// Does what the word says that takes a system.
-fn with_systems<W: Sink, R: Threads + Wait + Sync>(
+fn with_systems<W: Sink, R: Threads + Wait + Sync + Eprint + Clock>(
     rt: &R,
     alloc: Global,
     matches: &ArgMatches<'_>,
     systems: Systems,
+    is_terminal: bool,
     input: &[u8],
     out: &mut W,
 ) -> Status
@@ -87,16 +102,18 @@ fn with_systems<W: Sink, R: Threads + Wait + Sync>(
     let name = words.get_str("SYSTEM").unwrap_or("");
     match systems {
         Ok(systems) if word == "run" => drive(rt, alloc, name, systems, input, out),
-        Ok(systems) => campaign(rt, alloc, words, name, systems, input, out),
+        Ok(systems) => campaign(rt, alloc, words, name, systems, is_terminal, input, out),
         Err(AllocError) => refuse_text(Absence::NoMemory, out),
     }
 }
 
-/// Does what the words say, on standard output.
+/// Does what the words say, on standard output. Beside a refusal a message stands on standard error, unless the
+/// words forbid it.
 fn run<R: Runtime + AllocGlobal + Threads + Wait + Sync>(
     rt: &R,
     matches: &ArgMatches<'_>,
     systems: Systems,
+    is_terminal: bool,
 ) -> Status {
     let Some((word, words)) = matches.subcommand() else {
         return Status::Refused;
@@ -108,12 +125,17 @@ fn run<R: Runtime + AllocGlobal + Threads + Wait + Sync>(
         Err(why) => return refuse_text(why, &mut out),
     };
     let input = bytes.as_slice();
-    match word {
+    let status = match word {
         "check" => check_text(alloc, input, &mut out),
         "list" => list_text(alloc, input, &mut out),
-        "judge" => judge_text(alloc, input, &mut out),
-        _ => with_systems(rt, alloc, matches, systems, input, &mut out),
+        "judge" => judge_text(rt, alloc, input, &mut out),
+        "explain" => explain_text(rt, alloc, input, explaining::width(words), &mut out),
+        _ => with_systems(rt, alloc, matches, systems, is_terminal, input, &mut out),
+    };
+    if status == Status::Refused && !words.get_flag("quiet") {
+        refused::tell(rt, word, words.get_str("FILE"), input);
     }
+    status
 }
 
 /// The known system that the words name, and how many of it they ask for.
@@ -199,5 +221,6 @@ fn main(rt: HostRuntime) -> ExitCode {
             systems = and_one(systems, system);
         }
     }
-    ExitCode::from(run(&rt, &matches, systems).code())
+    let is_terminal = rt.stderr().is_terminal();
+    ExitCode::from(run(&rt, &matches, systems, is_terminal).code())
 }

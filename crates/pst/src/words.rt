@@ -4,7 +4,7 @@ ghost use Rattle.std.specs.Prelude.{IfSome};
 ghost use Rattle.pst_trial.specs.Settings.{AreInRange};
 
 use clap::builder::ValueParser;
-use clap::{Arg, ArgMatches, Command};
+use clap::{Arg, ArgAction, ArgMatches, Command};
 use pst_trial::{
     MAX_BRANCHES, MAX_COMMANDS, MAX_LIMIT, MAX_REPEATS, MAX_SUFFIX, MAX_TRIALS, Settings,
 };
@@ -31,7 +31,8 @@ fn with_file<'a>(
 ) -> Result<Command<'a>, AllocError> {
     Command::new(alloc, name)
         .about(about)
-        .arg(file(alloc, help))
+        .arg(file(alloc, help))?
+        .arg(quiet(alloc))
 }
 
 /// `run`, with the name of a system.
@@ -45,97 +46,109 @@ fn run_command<'a>(alloc: Global) -> Result<Command<'a>, AllocError> {
             "drives the cases behind a model on a system, once each: the runs and their verdicts",
         )
         .arg(system(alloc))?
-        .arg(file)
+        .arg(file)?
+        .arg(quiet(alloc))
 }
 
-/// A number that a campaign takes, at least `low` and at most `high`.
-fn number<'a>(
-    alloc: Global,
-    name: &'a str,
-    low: u32,
-    high: u32,
-    default: &'a str,
-    help: &'a str,
-) -> Arg<'a> {
-    Arg::new(alloc, name)
-        .long(name)
+/// A number of a campaign's plan, which an option of its name gives.
+struct PlanNumber {
+    name: &'static str,
+    least: u64,
+    most: u64,
+    default: &'static str,
+    help: &'static str,
+}
+
+/// The numbers of a campaign's plan, in the order of its help.
+const PLAN_NUMBERS: [PlanNumber; 8] = [
+    PlanNumber {
+        name: "seed",
+        least: 0,
+        most: u64::MAX,
+        default: "0",
+        help: "chooses the random words",
+    },
+    PlanNumber {
+        name: "trials",
+        least: 0,
+        most: MAX_TRIALS as u64,
+        default: "100",
+        help: "how many cases are tried",
+    },
+    PlanNumber {
+        name: "commands",
+        least: 1,
+        most: MAX_COMMANDS as u64,
+        default: "16",
+        help: "the most commands of a case",
+    },
+    PlanNumber {
+        name: "branches",
+        least: 1,
+        most: MAX_BRANCHES as u64,
+        default: "2",
+        help: "the branches that run at once",
+    },
+    PlanNumber {
+        name: "suffix",
+        least: 0,
+        most: MAX_SUFFIX as u64,
+        default: "0",
+        help: "the commands behind the branches",
+    },
+    PlanNumber {
+        name: "repeats",
+        least: 1,
+        most: MAX_REPEATS as u64,
+        default: "5",
+        help: "how often a case is driven",
+    },
+    PlanNumber {
+        name: "workers",
+        least: 1,
+        most: 16,
+        default: "4",
+        help: "how many systems run at once",
+    },
+    PlanNumber {
+        name: "limit",
+        least: 0,
+        most: MAX_LIMIT as u64,
+        default: "1000",
+        help: "the most cases driven to shrink one",
+    },
+];
+
+/// The option that gives a number of a campaign's plan.
+fn plan_option<'a>(alloc: Global, number: &PlanNumber) -> Arg<'a> {
+    Arg::new(alloc, number.name)
+        .long(number.name)
         .value_name("N")
-        .value_parser(ValueParser::Unsigned(low as u64, high as u64))
-        .default_value(default)
-        .help(help)
+        .value_parser(ValueParser::Unsigned(number.least, number.most))
+        .default_value(number.default)
+        .help(number.help)
+}
+
+/// The option that forbids the line of progress.
+fn quiet<'a>(alloc: Global) -> Arg<'a> {
+    Arg::new(alloc, "quiet")
+        .long("quiet")
+        .action(ArgAction::SetTrue)
+        .help("writes no line of progress to the terminal")
 }
 
 /// `campaign`, with the name of a system and the numbers of its plan.
 fn campaign_command<'a>(alloc: Global) -> Result<Command<'a>, AllocError> {
-    let seed = Arg::new(alloc, "seed")
-        .long("seed")
-        .value_name("N")
-        .value_parser(ValueParser::Unsigned(0, u64::MAX))
-        .default_value("0")
-        .help("chooses the random words");
-    let trials = number(
-        alloc,
-        "trials",
-        0,
-        MAX_TRIALS,
-        "100",
-        "how many cases are tried",
-    );
-    let commands = number(
-        alloc,
-        "commands",
-        1,
-        MAX_COMMANDS,
-        "16",
-        "the most commands of a case",
-    );
-    let branches = number(
-        alloc,
-        "branches",
-        1,
-        MAX_BRANCHES,
-        "2",
-        "the branches that run at once",
-    );
-    let suffix = number(
-        alloc,
-        "suffix",
-        0,
-        MAX_SUFFIX,
-        "0",
-        "the commands behind the branches",
-    );
-    let repeats = number(
-        alloc,
-        "repeats",
-        1,
-        MAX_REPEATS,
-        "5",
-        "how often a case is driven",
-    );
-    let workers = number(alloc, "workers", 1, 16, "4", "how many systems run at once");
-    let limit = number(
-        alloc,
-        "limit",
-        0,
-        MAX_LIMIT,
-        "1000",
-        "the most cases driven to shrink one",
-    );
-    Command::new(alloc, "campaign")
+    let mut command = Command::new(alloc, "campaign")
         .about(
             "generates cases of a model, drives them on a system and shrinks those that fail: a report",
         )
         .arg(system(alloc))?
-        .arg(file(alloc, "the model; standard input where it is absent"))?
-        .arg(seed)?
-        .arg(trials)?
-        .arg(commands)?
-        .arg(branches)?
-        .arg(suffix)?
-        .arg(repeats)?
-        .arg(workers)?
-        .arg(limit)
+        .arg(file(alloc, "the model; standard input where it is absent"))?;
+    for number in &PLAN_NUMBERS {
+        command = command.arg(plan_option(alloc, number))?;
+    }
+    command.arg(quiet(alloc))
 }
 
 /// The words that the program takes.
@@ -161,12 +174,14 @@ pub fn command<'a>(alloc: Global) -> Result<Command<'a>, AllocError> {
     let run = run_command(alloc)?;
     let campaign = campaign_command(alloc)?;
     Command::new(alloc, "pst")
+        .version("0.1.0")
         .about("a tester of systems against models")
         .subcommand_required(true)
         .arg_required_else_help(true)
         .subcommand(check)?
         .subcommand(list)?
         .subcommand(judge)?
+        .subcommand(crate::explaining::command(alloc)?)?
         .subcommand(run)?
         .subcommand(campaign)
 }

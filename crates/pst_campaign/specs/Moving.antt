@@ -15,11 +15,13 @@ use Rattle.pst_trial.specs.RecordView.{RecordView}
 use Rattle.pst_trial.proofs.Sounding.{sound_moves}
 use Rattle.pst_trial.specs.Steadiness.{steady_of}
 
-pub gives_before : {A B : Answers} {F G : Fails} {R S : ResetFails} → AreKept A B F G R S → (p : PlanView) (k : ℕ) (e : Entry RecordView)
+pub gives_before : {A B : Answers} {F G : Fails} {R S : ResetFails} → AreKept A B F G R S
+    → (p : PlanView) (k : ℕ) (e : Entry RecordView)
     → MayGive A F R p k e → MayGive B G S p k e
 gives_before kept p k Undrawn h = h
 gives_before kept p k Held h = h
-gives_before kept p k (Done r) h = (h.0, h.1, sound_moves _ _ (λ v d. ((steady_of kept).driving v d).0) p k r.outcome h.2)
+gives_before kept p k (Done r) h =
+    (h.0, h.1, sound_moves _ _ (λ v d. ((steady_of kept).driving v d).0) p k r.outcome h.2)
 gives_before kept p k (Lost ResetFailed) h = (h.0, (kept.resetting h.0).0 h.1)
 gives_before kept p k (Lost NoThread) h = h
 gives_before kept p k (Lost NoMemory) h = h

@@ -11,7 +11,8 @@ pub record IsFresh {R : Type 0} (table : TableId) (seat : SeatView R) : Type 0 w
   pub unused : seat.ends ≡ []
 
 -- a seat at this table that drew until it was answered None, and ended each of its numbers as it may be given
-pub record IsWorked {R : Type 0} (may_give : ℕ → Entry R → Type 0) (table : TableId) (seat : SeatView R) : Type 0 where
+pub record IsWorked {R : Type 0} (may_give : ℕ → Entry R → Type 0) (table : TableId) (seat : SeatView R) :
+    Type 0 where
   pub place : seat.table ≡ table
   pub marked : seat.marked ≡ true
   pub rests : seat.held ≡ None

@@ -5,8 +5,10 @@ ghost use Rattle.pst_campaign.specs.Entries.{MayGive};
 ghost use Rattle.pst_campaign.specs.Working.{AllGiven, IsCampaignFault};
 
 use crate::fault::CampaignFault;
+use crate::plans::Watched;
 use crate::runner::TrialRunner;
 use crate::threads::work_at_once;
+use crate::watch::Watch;
 use pst_ledger::{Closed, Ledger, Numbered};
 use pst_system::{BoxedSystem, System};
 use pst_trial::{Plan, Record, may_share_records};
@@ -46,15 +48,17 @@ pub(crate) fn campaign_with<
 
 /// Runs all trials of a plan, with one worker for each system: each worker has a thread of its own, and one for which no
 /// thread can be started works on the calling thread. They share one ledger. Which worker runs which trial is left open.
-/// The systems are dropped at the end. The call waits for as long as the calls of the systems do.
+/// The systems are dropped at the end. The call waits for as long as the calls of the systems do. `watch` is called
+/// for each trial that has ended, and when all have.
 ///
 /// `NoSystem` where no system is handed in, and `TooMany` where more than 16 are; `NoMemory` where memory is refused
 /// before the first trial. A trial that has a fault leaves its number `Lost`.
-pub fn campaign<H: Threads + Wait + Sync>(
+pub fn campaign<K: Watch + Sync, H: Threads + Wait + Sync>(
     rt: &H,
     alloc: Global,
     plan: Arc<Plan>,
     systems: Vec<BoxedSystem>,
+    watch: &K,
 ) -> Result<Closed<Record>, CampaignFault>
     ensures count { IfOk result (λ closed. length closed ≡ (arc_value plan).settings.trials) }
     ensures given { IfOk result (AllGiven
@@ -65,5 +69,8 @@ pub fn campaign<H: Threads + Wait + Sync>(
 {
     let trials = plan.settings().trials as u64;
     may_share_records();
-    campaign_with(rt, alloc, &plan, trials, systems)
+    let watched = Watched { plan: &plan, watch };
+    let ended = campaign_with(rt, alloc, &watched, trials, systems);
+    watch.campaign_ended();
+    ended
 }

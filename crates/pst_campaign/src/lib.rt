@@ -6,8 +6,10 @@ mod fault;
 mod plans;
 mod runner;
 mod threads;
+mod watch;
 mod working;
 
 pub use campaigns::campaign;
 pub use fault::CampaignFault;
+pub use watch::{Unwatched, Watch};
 pub use working::work;

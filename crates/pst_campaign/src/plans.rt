@@ -6,6 +6,7 @@ ghost use Rattle.pst_ledger.specs.declared.entry.Entry.TheVariants.{Done, Lost};
 ghost use Rattle.pst_system.specs.Kept.{AreKept};
 
 use crate::runner::TrialRunner;
+use crate::watch::Watch;
 use pst_ledger::Cause;
 use pst_system::{BoxedSystem, System};
 use pst_trial::{Plan, Record, TrialFault, trial};
@@ -48,17 +49,24 @@ fn run_trial<H: Threads + Wait>(
     }
 }
 
-impl TrialRunner<Record, BoxedSystem> for Arc<Plan> {
+/// A plan whose trials are watched.
+#[derive(Drop)]
+pub(crate) struct Watched<'a, K> {
+    pub plan: &'a Arc<Plan>,
+    pub watch: &'a K,
+}
+
+impl<'a, K: Watch> TrialRunner<Record, BoxedSystem> for Watched<'a, K> {
     ghost use Rattle.std.specs.Arc.{arc_value};
     ghost use Rattle.pst_campaign.specs.Moving.{gives_before};
     ghost use Rattle.pst_campaign.specs.Entries.{MayGive};
     ghost use Rattle.pst_system.specs.Kept.{AreKept};
     ghost use Rattle.pst_trial.specs.Steadiness.{kept_same, kept_on};
 
-    ghost trials = { λ p. (arc_value p).settings.trials };
+    ghost trials = { λ w. (arc_value w.plan.now).settings.trials };
 
-    ghost may_give = { λ p s k e. MayGive ((System-box s).answers s.value) ((System-box s).fails s.value)
-        ((System-box s).reset_fails s.value) (arc_value p) k e };
+    ghost may_give = { λ w s k e. MayGive ((System-box s).answers s.value) ((System-box s).fails s.value)
+        ((System-box s).reset_fails s.value) (arc_value w.plan.now) k e };
 
     ghost keeps = { λ s t. AreKept ((System-box t).answers t.value) ((System-box s).answers s.value)
         ((System-box t).fails t.value) ((System-box s).fails s.value)
@@ -71,12 +79,14 @@ impl TrialRunner<Record, BoxedSystem> for Arc<Plan> {
         number: u64,
         system: &mut BoxedSystem,
     ) -> Result<Record, Cause> {
-        run_trial(rt, alloc, self, number, system)
+        let ended = run_trial(rt, alloc, self.plan, number, system);
+        self.watch.trial_ended(&ended);
+        ended
     }
 
     ghost keeps_refl = { λ s. kept_same _ _ _ };
 
     ghost keeps_trans = { λ s t u p q. kept_on q p };
 
-    ghost moves = { λ p s t kept k e. gives_before kept (arc_value p) k e };
+    ghost moves = { λ w s t kept k e. gives_before kept (arc_value w.plan.now) k e };
 }

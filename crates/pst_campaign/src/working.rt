@@ -6,7 +6,9 @@ ghost use Rattle.pst_campaign.specs.Workers.{IsFresh, IsWorked};
 ghost use Rattle.pst_campaign.specs.Working.{Adds};
 ghost use Rattle.pst_system.specs.Kept.{AreKept};
 
+use crate::plans::Watched;
 use crate::runner::TrialRunner;
+use crate::watch::Unwatched;
 use pst_ledger::{Ledger, Numbered, Seat};
 use pst_system::{BoxedSystem, System};
 use pst_trial::{Plan, Record, may_share_records};
@@ -88,5 +90,9 @@ pub fn work<H: Threads + Wait + Sync>(
     ensures kept { AreKept (answers system.new) (answers system.old) (fails system.new) (fails system.old) (reset_fails system.new) (reset_fails system.old) }
 {
     may_share_records();
-    work_with(rt, alloc, plan, ledger, seat, system)
+    let watched = Watched {
+        plan,
+        watch: &Unwatched,
+    };
+    work_with(rt, alloc, &watched, ledger, seat, system)
 }

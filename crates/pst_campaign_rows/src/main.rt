@@ -3,6 +3,7 @@
 #![tactic(auto)]
 
 use anyhow::bail;
+use pst_campaign::Unwatched;
 use pst_cli::campaign_text;
 use pst_samples::{Flags, Pair, Side, Stuck};
 use pst_sink::Out;
@@ -53,6 +54,7 @@ fn print_report<R: Threads + Wait + Sync + Print + AllocGlobal>(
         model.as_bytes(),
         settings,
         systems,
+        &Unwatched,
         &mut out,
     );
     let text = String::from_utf8(out.into_inner())?;

@@ -1,15 +1,16 @@
--- Runs that are judged one after another.
-use Rattle.std.proofs.Common.{◌≡◌, ◌≤◌, ◌<◌, ◌++◌, ℕ, zero, suc, true, List, [], ◌∷◌, length, get_or, drop, Option, Some, None, IfSome, sym, subst, arith}
-use Rattle.std.proofs.Math.ListN.{drop_of_length-le}
-use Rattle.std.proofs.lemmas.List.{append-nil}
+-- Runs that are judged.
+use Rattle.std.proofs.Common.{◌≡◌, ◌<◌, ℕ, zero, suc, true, List, [], ◌∷◌, length, get_or, Option, Some, None, IfSome, sym, subst, arith}
+use Rattle.std.specs.Prelude.{All}
+use Rattle.std.specs.List.{AllZip}
 use Rattle.pst_case.specs.Matches.{matches}
 use Rattle.pst_case.specs.declared.case.Case.{Case}
 use Rattle.pst_case.specs.declared.history.History.{History}
 use Rattle.pst_case.specs.declared.history.Run.{Run}
 use Rattle.pst_cli.specs.Output.{AreJudged}
-use Rattle.pst_judge.specs.Judgement.{MatchesIfAny, HistoryMatches}
+use Rattle.pst_judge.specs.Judgement.{MatchesIfAny, HistoryMatches, IsJudgement}
 use Rattle.pst_judge.specs.declared.judgement.Judged.{Judged}
 use Rattle.pst_model.specs.declared.model.Source.{Source}
+use Rattle.pst_rejudge.specs.Judging.{MayBeJudged}
 use Rattle.pst_runs.specs.Lawful.{IsLawful, AreLawful}
 
 module _ (m : Source) where
@@ -26,12 +27,18 @@ module _ (m : Source) where
   matches_if_any c None h = tt
   matches_if_any c (Some history) h = h
 
-  pub history_matches : (run : Run) → IsLawful m run → HistoryMatches m run
+  history_matches : (run : Run) → IsLawful m run → HistoryMatches m run
   history_matches run l = matches_if_any run.shaped.case run.history l.matching
 
-  -- what is told of the runs so far completes itself where no run is left
-  pub all_judged : (runs : List Run) (i : ℕ) (told : List Judged) → length runs ≤ i → ((later : List Judged) → AreJudged m (drop i runs) later → AreJudged m runs (told ++ later)) → AreJudged m runs told
-  all_judged runs i told h f =
-      let none : drop i runs ≡ [] = drop_of_length-le runs h in
-      let P : List Run → Type 0 = λ rs. AreJudged m rs [] in
-      subst (AreJudged m runs) (append-nil told) (f [] (subst P (sym none) tt))
+  -- the runs of a file may be judged
+  pub may_be_judged : (runs : List Run) → AreLawful m runs → All (MayBeJudged m) runs
+  may_be_judged runs l i d h =
+      let run = lawful_at runs i d h l in
+      (run.model, history_matches (get_or runs i d) run)
+
+  -- what is judged place by place is judged in order
+  pub are_judged : (runs : List Run) (all : List Judged) → AllZip (IsJudgement m) runs all → AreJudged m runs all
+  are_judged [] [] h = tt
+  are_judged [] (j ∷ js) h = h
+  are_judged (run ∷ runs) [] h = h
+  are_judged (run ∷ runs) (j ∷ js) h = (h.0, are_judged runs js h.1)

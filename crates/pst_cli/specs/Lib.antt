@@ -1,6 +1,7 @@
 -- what the public contracts cite
 pub mod Absent
 pub mod CampaignOutput
+pub mod ExplainOutput
 pub mod Known
 pub mod ListOutput
 pub mod OneOutput

@@ -11,7 +11,8 @@ use Rattle.pst_sexpr.specs.declared.form.Form.{Form}
 
 -- the listing of a well-typed model, or its first refusal
 pub data IsListOutput (input text : List ℕ) (status : Status) : Type 0 where
-  accepted : (m : Source) (trees : List Form) → Holds input m trees → text ≡ listing_of m.items → status ≡ Accepted
+  accepted : (m : Source) (trees : List Form) → Holds input m trees → text ≡ listing_of m.items
+      → status ≡ Accepted
       → IsListOutput input text status
   refused : (refusal : Refusal) → IsRefusal input refusal → text ≡ refusal_line refusal → status ≡ Refused
       → IsListOutput input text status

@@ -26,8 +26,10 @@ ok_line m = codes "ok " ++ m.name ++ line_end
 
 -- `ok NAME` for a well-typed model, or its first refusal
 pub data IsCheckOutput (input text : List ℕ) (status : Status) : Type 0 where
-  accepted : (m : Source) (trees : List Form) → Holds input m trees → text ≡ ok_line m → status ≡ Accepted → IsCheckOutput input text status
-  refused : (refusal : Refusal) → IsRefusal input refusal → text ≡ refusal_line refusal → status ≡ Refused → IsCheckOutput input text status
+  accepted : (m : Source) (trees : List Form) → Holds input m trees → text ≡ ok_line m → status ≡ Accepted
+      → IsCheckOutput input text status
+  refused : (refusal : Refusal) → IsRefusal input refusal → text ≡ refusal_line refusal → status ≡ Refused
+      → IsCheckOutput input text status
 
 -- ---- `pst judge`
 
@@ -68,8 +70,11 @@ status_of js = if list_all is_good js then Accepted else Failed
 
 -- a line for each item, from 1; or the first refusal, that of the runs being the last
 pub data IsJudgeOutput (input text : List ℕ) (status : Status) : Type 0 where
-  judged : (m : Source) (trees : List Form) (runs : List Run) (js : List Judged) → Holds input m trees → runs_of m (items_of trees) ≡ Ok runs → AreJudged m runs js →
+  judged : (m : Source) (trees : List Form) (runs : List Run) (js : List Judged) → Holds input m trees
+      → runs_of m (items_of trees) ≡ Ok runs → AreJudged m runs js →
       text ≡ item_lines 1 js → status ≡ status_of js → IsJudgeOutput input text status
-  run_refused : (m : Source) (trees : List Form) (fault : RunFault) → Holds input m trees → runs_of m (items_of trees) ≡ Err fault →
+  run_refused : (m : Source) (trees : List Form) (fault : RunFault) → Holds input m trees
+      → runs_of m (items_of trees) ≡ Err fault →
       text ≡ run_line fault → status ≡ Refused → IsJudgeOutput input text status
-  refused : (refusal : Refusal) → IsRefusal input refusal → text ≡ refusal_line refusal → status ≡ Refused → IsJudgeOutput input text status
+  refused : (refusal : Refusal) → IsRefusal input refusal → text ≡ refusal_line refusal → status ≡ Refused
+      → IsJudgeOutput input text status

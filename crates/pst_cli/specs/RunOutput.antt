@@ -63,7 +63,8 @@ module _ (m : Source) (answers : Answers) (fails : Fails) (reset_fails : ResetFa
         → IsReported number c text status
 
   -- the report of each item, the first of which has the number, and the worst of a status and theirs
-  pub data AreReported : (number : ℕ) (so_far : Status) (runs : List Run) (text : List ℕ) (status : Status) → Type 0 where
+  pub data AreReported : (number : ℕ) (so_far : Status) (runs : List Run) (text : List ℕ) (status : Status)
+      → Type 0 where
     none : (number : ℕ) (so_far : Status) → AreReported number so_far [] [] so_far
     next : (number : ℕ) (so_far ending status : Status) (run : Run) (runs : List Run) (lines text : List ℕ)
         → IsReported number run.shaped.case lines ending
@@ -73,7 +74,8 @@ module _ (m : Source) (answers : Answers) (fails : Fails) (reset_fails : ResetFa
 module _ (answers : Answers) (fails : Fails) (reset_fails : ResetFails) where
   -- the report of each item, from 1; or the first refusal, that of the runs being the last
   pub data IsRunOutput (input text : List ℕ) (status : Status) : Type 0 where
-    reported : (m : Source) (trees : List Form) (runs : List Run) → Holds input m trees → runs_of m (items_of trees) ≡ Ok runs
+    reported : (m : Source) (trees : List Form) (runs : List Run) → Holds input m trees
+        → runs_of m (items_of trees) ≡ Ok runs
         → AreReported m answers fails reset_fails 1 Accepted runs text status
         → IsRunOutput input text status
     run_refused : (m : Source) (trees : List Form) (fault : RunFault) → Holds input m trees

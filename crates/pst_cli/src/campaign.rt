@@ -15,7 +15,7 @@ ghost use Rattle.pst_trial.specs.Settings.{AreInRange};
 use crate::output::{Output, send};
 use crate::refusal::refusal_output;
 use crate::status::Status;
-use pst_campaign::{CampaignFault, campaign};
+use pst_campaign::{CampaignFault, Watch, campaign};
 use pst_ledger::Closed;
 use pst_load::{ModelFile, load};
 use pst_report::{CampaignStatus, campaign_status, report};
@@ -89,12 +89,13 @@ fn plan_of(alloc: Global, typed: Typed, settings: Settings) -> Result<Arc<Plan>,
 }
 
 /// Runs the trials of a model, and gives the report of what came of each number, or why the campaign did not start.
-fn output_for<R: Threads + Wait + Sync>(
+fn output_for<K: Watch + Sync, R: Threads + Wait + Sync>(
     rt: &R,
     alloc: Global,
     typed: Typed,
     settings: Settings,
     systems: Vec<BoxedSystem>,
+    watch: &K,
 ) -> Result<Output, AllocError>
     requires { AreInRange settings }
     ensures { IfOk result (λ output. IsOutputFor
@@ -103,19 +104,20 @@ fn output_for<R: Threads + Wait + Sync>(
         settings systems.items typed output.text.items output.status) }
 {
     let plan = plan_of(alloc, typed, settings)?;
-    match campaign(rt, alloc, plan.clone()?, systems) {
+    match campaign(rt, alloc, plan.clone()?, systems, watch) {
         Ok(closed) => report_output(alloc, &plan, &closed),
         Err(fault) => not_started(alloc, fault),
     }
 }
 
 /// The output for the model that the input begins with, or the first refusal.
-fn campaign_output<R: Threads + Wait + Sync>(
+fn campaign_output<K: Watch + Sync, R: Threads + Wait + Sync>(
     rt: &R,
     alloc: Global,
     input: &[u8],
     settings: Settings,
     systems: Vec<BoxedSystem>,
+    watch: &K,
 ) -> Result<Output, AllocError>
     requires { AreInRange settings }
     ensures { IfOk result (λ output. IsCampaignOutput
@@ -126,7 +128,7 @@ fn campaign_output<R: Threads + Wait + Sync>(
     match load(alloc, input)? {
         Ok(file) => {
             let ModelFile { typed, trees: _ } = file;
-            output_for(rt, alloc, typed, settings, systems)
+            output_for(rt, alloc, typed, settings, systems, watch)
         }
         Err(refusal) => refusal_output(alloc, &refusal),
     }
@@ -136,17 +138,19 @@ fn campaign_output<R: Threads + Wait + Sync>(
 /// status. It writes the report of what came of each number; where the input is refused, its first refusal
 /// alone; where the campaign is refused for the number of its systems, `refused campaign KIND` alone; where
 /// memory is refused to it, or to the campaign before its first trial, `refused memory` alone. The trees behind
-/// the model are not read. The systems are dropped at the end.
+/// the model are not read. The systems are dropped at the end. `watch` is called for each trial that has ended,
+/// and when all have, before anything is written.
 ///
 /// The settings must be in their ranges. The status is `Lost` where a number is lost, else `Failed` where a
 /// trial did not pass, else `Accepted`; `Refused` where the input is refused; `Lost` where the campaign or
 /// memory was refused or the writer failed. The call waits for as long as the calls of the systems do.
-pub fn campaign_text<W: Sink, R: Threads + Wait + Sync>(
+pub fn campaign_text<W: Sink, K: Watch + Sync, R: Threads + Wait + Sync>(
     rt: &R,
     alloc: Global,
     input: &[u8],
     settings: Settings,
     systems: Vec<BoxedSystem>,
+    watch: &K,
     sink: &mut W,
 ) -> Status
     requires ranges { AreInRange settings }
@@ -156,7 +160,7 @@ pub fn campaign_text<W: Sink, R: Threads + Wait + Sync>(
         ((System-box s).reset_fails s.value)) settings systems.items input.now)
         (W.taken sink.old) (W.taken sink.new) (W.broken sink.new) result }
 {
-    match campaign_output(rt, alloc, input, settings, systems) {
+    match campaign_output(rt, alloc, input, settings, systems, watch) {
         Ok(output) => send(output.text.as_slice(), output.status, sink),
         Err(AllocError) => send(b"refused memory\n", Status::Lost, sink),
     }

@@ -1,7 +1,7 @@
 //! `pst judge`.
 ghost use Rattle.std.specs.Prelude.{◌≡◌, false, IfOk, MatchResult, string_bytes};
 ghost use Rattle.std.specs.List.{list_all};
-ghost use Rattle.pst_cli.specs.Output.{AreJudged, IsJudgeOutput, is_good, item_line, item_lines, run_line, status_of};
+ghost use Rattle.pst_cli.specs.Output.{IsJudgeOutput, is_good, item_line, item_lines, run_line, status_of};
 ghost use Rattle.pst_cli.specs.Sending.{Prints};
 ghost use Rattle.pst_cli.specs.declared.status.Status.TheVariants.{Refused};
 ghost use Rattle.pst_runs.specs.Items.{runs_of};
@@ -10,16 +10,18 @@ ghost use Rattle.pst_runs.specs.Lawful.{AreLawful};
 use crate::compiled::load_compiled;
 use crate::output::{Output, send};
 use crate::refusal::refusal_output;
+use crate::sharing::may_share_compiled;
 use crate::status::Status;
 use pst_case::{CaseFaultKind, Run};
-use pst_eval::Callbacks;
-use pst_judge::{Judged, Verdict, judge_one};
+use pst_judge::{Judged, Verdict};
 use pst_load::items_of;
+use pst_rejudge::rejudge;
 use pst_rules::Typed;
 use pst_runs::{RunFault, RunFaultKind, read_runs};
 use pst_sexpr::Tree;
 use pst_sink::Sink;
 use std::alloc::{AllocError, Global};
+use std::thread::Threads;
 
 /// The runs that trees spell, or why the first refused one is refused.
 pub fn runs_in(
@@ -43,22 +45,6 @@ pub fn runs_in(
     }
 }
 
-/// The judgement of each run, in order.
-fn judge_all<C: Callbacks>(
-    callbacks: &C,
-    alloc: Global,
-    runs: &[Run],
-) -> Result<Vec<Judged>, AllocError>
-    requires { AreLawful (C.model callbacks.now) runs.now }
-    ensures { IfOk result (λ all. AreJudged (C.model callbacks.now) runs.now all.items) }
-{
-    let mut all = Vec::new(alloc);
-    for run in runs {
-        all.push(judge_one(callbacks, alloc, run)?)?;
-    }
-    Ok(all)
-}
-
 /// Whether the item is explained or valid.
 pub fn is_good(judged: &Judged) -> bool
     ensures { result ≡ is_good judged.now }
@@ -76,7 +62,7 @@ fn are_good(all: &[Judged]) -> bool
 }
 
 /// Accepted where all items are explained or valid, and else failed.
-fn status_of(all: &[Judged]) -> Status
+pub fn status_of(all: &[Judged]) -> Status
     ensures { result ≡ status_of all.now }
 {
     if are_good(all) {
@@ -125,7 +111,11 @@ pub fn refused_run(alloc: Global, fault: &RunFault) -> Result<Output, AllocError
 }
 
 /// The lines of the items behind the model, or the first refusal.
-fn judge_output(alloc: Global, input: &[u8]) -> Result<Output, AllocError>
+fn judge_output<R: Threads + Sync>(
+    rt: &R,
+    alloc: Global,
+    input: &[u8],
+) -> Result<Output, AllocError>
     ensures { IfOk result (λ output. IsJudgeOutput input.now output.text.items output.status) }
 {
     let file = match load_compiled(alloc, input)? {
@@ -135,7 +125,8 @@ fn judge_output(alloc: Global, input: &[u8]) -> Result<Output, AllocError>
     let items = items_of(file.trees.as_slice());
     match runs_in(alloc, file.compiled.typed(), items)? {
         Ok(runs) => {
-            let all = judge_all(&file.compiled, alloc, runs.as_slice())?;
+            may_share_compiled();
+            let all = rejudge(rt, &file.compiled, alloc, runs.as_slice())?;
             let text = item_lines(alloc, all.as_slice())?;
             Ok(Output::new(text, status_of(all.as_slice())))
         }
@@ -143,14 +134,20 @@ fn judge_output(alloc: Global, input: &[u8]) -> Result<Output, AllocError>
     }
 }
 
-/// Judges the items behind the model that the input begins with: writes a line `NUMBER VERDICT` for each, from 1, or the first
-/// refusal alone, and answers the status. Where memory is refused, `refused memory` alone is written.
-pub fn judge_text<W: Sink>(alloc: Global, input: &[u8], sink: &mut W) -> Status
+/// Judges the items behind the model that the input begins with, several at once: writes a line `NUMBER VERDICT`
+/// for each, from 1, in the order of the items, or the first refusal alone, and answers the status. Nothing is
+/// written before all items are judged: where memory is refused to any of them, `refused memory` stands alone.
+pub fn judge_text<W: Sink, R: Threads + Sync>(
+    rt: &R,
+    alloc: Global,
+    input: &[u8],
+    sink: &mut W,
+) -> Status
     requires { W.broken sink.old ≡ false }
     ensures { Prints (IsJudgeOutput input.now)
         (W.taken sink.old) (W.taken sink.new) (W.broken sink.new) result }
 {
-    match judge_output(alloc, input) {
+    match judge_output(rt, alloc, input) {
         Ok(output) => send(output.text.as_slice(), output.status, sink),
         Err(AllocError) => send(b"refused memory\n", Status::Lost, sink),
     }

@@ -70,13 +70,15 @@ pub record PreFits (m : Source) (op : ℕ) (s : Value) (args : List Value) (free
   pub arguments : args_fit m free vars op args ≡ true
 
 -- what `next` may be asked
-pub record NextFits (m : Source) (op : ℕ) (s : Value) (args : List Value) (r : Value) (free vars : List Ty) : Type 0 where
+pub record NextFits (m : Source) (op : ℕ) (s : Value) (args : List Value) (r : Value) (free vars : List Ty) :
+    Type 0 where
   pub state : is_state m free vars s ≡ true
   pub arguments : args_fit m free vars op args ≡ true
   pub result : ref_fits m free vars op r ≡ true
 
 -- what `post` may be asked: no variable stands open
-pub record PostFits (m : Source) (op : ℕ) (s : Value) (args : List Value) (r : Value) (vars : List Ty) : Type 0 where
+pub record PostFits (m : Source) (op : ℕ) (s : Value) (args : List Value) (r : Value) (vars : List Ty) :
+    Type 0 where
   pub state : is_state m [] vars s ≡ true
   pub arguments : args_fit m [] vars op args ≡ true
   pub result : result_fits m [] vars op r ≡ true

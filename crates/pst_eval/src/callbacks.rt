@@ -27,21 +27,28 @@ pub trait Callbacks {
 
     /// The calls to pick from in a state, as a list.
     fn command(&self, alloc: Global, state: &Value) -> Answer
-        requires { (free : List Ty) × (vars : List Ty) × (is_state (model self.now) free vars state.now ≡ true) }
+        requires { (free : List Ty) × (vars : List Ty)
+            × (is_state (model self.now) free vars state.now ≡ true) }
         ensures says { IfOk result (λ a. Says (command_of (model self.now) state.now) a) }
-        ensures fits { IfOk result (λ a. (free vars : List Ty) → is_state (model self.now) free vars state.now ≡ true → Given (model self.now) free vars (ty.List ty.Call) a) };
+        ensures fits { IfOk result
+            (λ a. (free vars : List Ty) → is_state (model self.now) free vars state.now ≡ true
+            → Given (model self.now) free vars (ty.List ty.Call) a) };
 
     /// The precondition of a call in a state, as a truth value.
     fn pre(&self, alloc: Global, op: u32, state: &Value, arguments: &[Value]) -> Answer
-        requires { (free : List Ty) × (vars : List Ty) × PreFits (model self.now) op state.now arguments.now free vars }
+        requires { (free : List Ty) × (vars : List Ty)
+            × PreFits (model self.now) op state.now arguments.now free vars }
         ensures says { IfOk result (λ a. Says (pre_of (model self.now) op state.now arguments.now) a) }
         ensures fits { IfOk result (λ a. Given (model self.now) [] [] ty.Bool a) };
 
     /// The state after a call, where `r` is the variable of the call or the reference to its result.
     fn next(&self, alloc: Global, op: u32, state: &Value, arguments: &[Value], r: &Value) -> Answer
-        requires { (free : List Ty) × (vars : List Ty) × NextFits (model self.now) op state.now arguments.now r.now free vars }
+        requires { (free : List Ty) × (vars : List Ty)
+            × NextFits (model self.now) op state.now arguments.now r.now free vars }
         ensures says { IfOk result (λ a. Says (next_of (model self.now) op state.now arguments.now r.now) a) }
-        ensures fits { IfOk result (λ a. (free vars : List Ty) → NextFits (model self.now) op state.now arguments.now r.now free vars → GivenState (model self.now) free vars a) };
+        ensures fits { IfOk result
+            (λ a. (free vars : List Ty) → NextFits (model self.now) op state.now arguments.now r.now free vars
+            → GivenState (model self.now) free vars a) };
 
     /// The postcondition of a call, on the state before it and its plain result, as a truth value. No variable stands open in the values.
     fn post(&self, alloc: Global, op: u32, state: &Value, arguments: &[Value], r: &Value) -> Answer

@@ -9,6 +9,7 @@ mod cache;
 
 use anyhow::bail;
 use cache::Cache;
+use pst_campaign::Unwatched;
 use pst_cli::{Status, campaign_text};
 use pst_sink::Out;
 use pst_system::BoxedSystem;
@@ -48,7 +49,8 @@ fn main(rt: HostRuntime) -> anyhow::Result<()> {
         caches.push(Box::new(alloc, Cache::new(rt, alloc, is_racy))?)?;
     }
     let mut out = Out::new(io::writer(&rt));
-    match campaign_text(&rt, alloc, MODEL.as_bytes(), settings(), caches, &mut out) {
+    let input = MODEL.as_bytes();
+    match campaign_text(&rt, alloc, input, settings(), caches, &Unwatched, &mut out) {
         Status::Accepted | Status::Failed => Ok(()),
         Status::Refused | Status::Lost => bail!("the campaign did not end"),
     }

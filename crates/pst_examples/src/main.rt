@@ -7,6 +7,7 @@ ghost use Rattle.std.specs.Prelude.{◌≡◌, false};
 use pst_cli::{Status, check_text, judge_text};
 use pst_sink::Out;
 use std::alloc::{AllocError, Global};
+use std::thread::Threads;
 use std::{fs, io};
 
 /// The files: models and files of items.
@@ -41,9 +42,9 @@ fn said(alloc: Global, text: &str) -> Result<String, AllocError> {
 
 /// What is said of a file of items: whether the lines of its verdicts are those of its comments, and the lines
 /// where they are not.
-fn judged(alloc: Global, text: &str) -> Result<String, AllocError> {
+fn judged<R: Threads + Sync>(rt: &R, alloc: Global, text: &str) -> Result<String, AllocError> {
     let mut out = Out::new(Vec::new(alloc));
-    let status = judge_text(alloc, text.as_bytes(), &mut out);
+    let status = judge_text(rt, alloc, text.as_bytes(), &mut out);
     let written = out.into_inner();
     let said = said(alloc, text)?;
     if written.as_slice() == said.as_bytes() {
@@ -77,7 +78,7 @@ fn main(rt: HostRuntime) -> io::Result<()> {
         let answer = if name.ends_with(".model") {
             checked(alloc, text.as_str())?
         } else {
-            judged(alloc, text.as_str())?
+            judged(&rt, alloc, text.as_str())?
         };
         print!(rt; "{name}: {answer}")?;
     }

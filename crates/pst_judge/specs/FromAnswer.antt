@@ -4,7 +4,7 @@ use Rattle.pst_eval.specs.declared.place.Place.{Place}
 use Rattle.pst_grid.specs.Answers.{IsAnswer}
 use Rattle.pst_grid.specs.declared.answer.SomeAnswer.{SomeAnswer}
 use Rattle.pst_grid.specs.declared.answer.SomeAnswer.TheVariants.{Found, Faulted as FaultedWord, Nothing}
-use Rattle.pst_judge.specs.Replay.{branch_turn}
+use Rattle.pst_judge.specs.Replay.{Asking, branch_turn_asking}
 use Rattle.pst_judge.specs.Running.{last_events}
 use Rattle.pst_judge.specs.declared.events.Event.{Event}
 use Rattle.pst_judge.specs.declared.verdicts.Verdict.{Verdict}
@@ -21,11 +21,11 @@ verdict_of prefix (Nothing far) = Unexplained (prefix + far)
 -- the verdict of a search over the merges of branches with these events, from a state that so many events
 -- lead to, and with these events behind each merge
 abbrev pub IsVerdictOfSearch :
-    Source → (branches : List (List Event)) → (suffix : List Event) → (lengths : List ℕ) → (prefix : ℕ)
+    Source → Asking → (branches : List (List Event)) → (suffix : List Event) → (lengths : List ℕ) → (prefix : ℕ)
     → Value → Verdict → Type 0
-IsVerdictOfSearch m branches suffix lengths prefix s v =
+IsVerdictOfSearch m asked branches suffix lengths prefix s v =
     (answer : SomeAnswer Place)
-    × IsAnswer (branch_turn m branches) (last_events m suffix) lengths s answer
+    × IsAnswer (branch_turn_asking m asked branches) (last_events m asked suffix) lengths s answer
     × (v ≡ verdict_of prefix answer)
 
 -- a fact of the events that an answer counts, where it finds no merge

@@ -7,7 +7,7 @@ use Rattle.pst_grid.specs.declared.answer.Ending.{Ending}
 use Rattle.pst_grid.specs.declared.answer.Ending.TheVariants.{AllTrue, StopsAt}
 use Rattle.pst_grid.specs.declared.answer.Turn.{Turn}
 use Rattle.pst_grid.specs.declared.answer.Turn.TheVariants.{Next, Stop}
-use Rattle.pst_judge.specs.Replay.{EventFits, event_turn, event_at, branch_lengths, run_events}
+use Rattle.pst_judge.specs.Replay.{Asking, EventFits, turn_asking, event_at, branch_lengths, run_asking}
 use Rattle.pst_judge.specs.declared.events.Event.{Event}
 use Rattle.pst_judge.specs.declared.running.EventsEnd.{EventsEnd}
 use Rattle.pst_judge.specs.declared.running.EventsEnd.TheVariants.{Through, Stopped}
@@ -26,13 +26,14 @@ end_after (Next s) rest = counted (rest s)
 end_after (Stop why) rest = Stopped 0 why
 
 -- how events end from a state
-abbrev pub events_end : Source → List Event → Value → EventsEnd
-events_end m [] s = Through s
-events_end m (e ∷ es) s = end_after (event_turn m s e) (λ next. events_end m es next)
+abbrev pub events_end : Source → Asking → List Event → Value → EventsEnd
+events_end m asked [] s = Through s
+events_end m asked (e ∷ es) s =
+    end_after (turn_asking m asked s e) (λ next. events_end m asked es next)
 
 -- how the run ends whose last events these are
-abbrev pub last_events : Source → List Event → Value → Ending Place
-last_events m es s = run_events m es s (λ last. AllTrue)
+abbrev pub last_events : Source → Asking → List Event → Value → Ending Place
+last_events m asked es s = run_asking m asked es s (λ last. AllTrue)
 
 -- how the run ends whose last events end so
 abbrev pub ending_of : EventsEnd → Ending Place

@@ -8,17 +8,17 @@ ghost use Rattle.pst_judge.specs.Real.{FaultsOnlyInPost};
 ghost use Rattle.pst_judge.specs.Replay.{branch_events, branch_lengths, suffix_events};
 ghost use Rattle.pst_judge.specs.Running.{IsRealState};
 ghost use Rattle.pst_judge.specs.Validity.{IsValid};
-ghost use Rattle.pst_judge.specs.Verdict.{first_broken, IsVerdict, IsJudged};
+ghost use Rattle.pst_judge.specs.Verdict.{first_broken, IsVerdict, IsVerdictAsking, IsJudgedAsking};
 ghost use Rattle.pst_rules.specs.WellTyped.{WellModel};
 
-use crate::events::{branches_events, number_behind, part_events};
+use crate::condition::{Condition, Postconditions};
+use crate::history_events::{branches_of, prefix_of};
 use crate::running::{EventsEnd, run_events};
-use crate::search::{Branches, search};
+use crate::search::search;
 use crate::verdicts::Verdict;
 use pst_case::{History, Shaped};
 use pst_eval::{Callback, Callbacks, Place};
 use pst_grid::Why;
-use pst_items::Items;
 use pst_value::Value;
 use std::alloc::{AllocError, Global};
 
@@ -35,8 +35,9 @@ fn first_broken(number: u32, results: &[Option<Value>]) -> Option<u32>
 }
 
 /// The verdict on a history whose replies are all values, from the state after the prefix.
-fn after_prefix<C: Callbacks>(
+fn after_prefix<C: Callbacks, A: Condition>(
     callbacks: &C,
+    condition: &A,
     alloc: Global,
     shaped: &Shaped,
     history: &History,
@@ -48,32 +49,18 @@ fn after_prefix<C: Callbacks>(
     requires results { results.now ≡ recorded history.now }
     requires answered { first_broken 1 (recorded history.now) ≡ None }
     requires state { IsRealState (C.model callbacks.now) shaped.now.case state.now }
-    ensures { let c = shaped.now.case in IfOk result
-        (IsVerdictOfSearch (C.model callbacks.now) (branch_events c history.now) (suffix_events c history.now)
-        (branch_lengths c) (length c.prefix) state.now) }
+    ensures { let c = shaped.now.case in let m = C.model callbacks.now in IfOk result
+        (IsVerdictOfSearch m (A.asked condition.now m) (branch_events c history.now)
+        (suffix_events c history.now) (branch_lengths c) (length c.prefix) state.now) }
 {
-    let case = shaped.case();
-    let prefix = case.prefix.len();
-    let number = 1 + prefix as u32;
-    let commands = case.branches.as_slice();
-    let replies = history.branches.as_slice();
-    let events = branches_events(alloc, results, number, commands, replies, Items::new(alloc))?;
-    let number = number_behind(number, commands);
-    let commands = case.suffix.as_slice();
-    let replies = history.suffix.as_slice();
-    let suffix = part_events(alloc, results, number, commands, replies, Items::new(alloc))?;
-    let branches = Branches {
-        callbacks,
-        shaped,
-        events,
-        suffix,
-    };
-    search(alloc, &branches, state, prefix)
+    let branches = branches_of(callbacks, condition, alloc, shaped, history, results)?;
+    search(alloc, &branches, state, shaped.case().prefix.len())
 }
 
 /// The verdict on a history whose replies are all values.
-fn judged<C: Callbacks>(
+fn judged<C: Callbacks, A: Condition>(
     callbacks: &C,
+    condition: &A,
     alloc: Global,
     shaped: &Shaped,
     history: &History,
@@ -83,7 +70,8 @@ fn judged<C: Callbacks>(
     requires matches { matches (C.model callbacks.now) shaped.now.case history.now ≡ true }
     requires results { results.now ≡ recorded history.now }
     requires answered { first_broken 1 (recorded history.now) ≡ None }
-    ensures { IfOk result (IsJudged (C.model callbacks.now) shaped.now.case history.now) }
+    ensures { let m = C.model callbacks.now in IfOk result
+        (IsJudgedAsking m (A.asked condition.now m) shaped.now.case history.now) }
 {
     let (state, _) = match callbacks.init(alloc)? {
         Ok(opening) => opening,
@@ -95,13 +83,45 @@ fn judged<C: Callbacks>(
             }));
         }
     };
-    let commands = shaped.case().prefix.as_slice();
-    let replies = history.prefix.as_slice();
-    let prefix = part_events(alloc, results, 1, commands, replies, Items::new(alloc))?;
-    match run_events(callbacks, alloc, state, prefix.as_slice())? {
-        EventsEnd::Through(last) => after_prefix(callbacks, alloc, shaped, history, results, &last),
+    let prefix = prefix_of(alloc, shaped, history, results)?;
+    match run_events(callbacks, condition, alloc, state, prefix.as_slice())? {
+        EventsEnd::Through(last) => {
+            after_prefix(callbacks, condition, alloc, shaped, history, results, &last)
+        }
         EventsEnd::Stopped(at, Why::False) => Ok(Verdict::Unexplained(at)),
         EventsEnd::Stopped(_, Why::Fault(place)) => Ok(Verdict::Faulted(place)),
+    }
+}
+
+/// The verdict on a history of a case where a condition is asked of each event, by the model of the
+/// callbacks.
+///
+/// It is [`verdict`] with the condition in place of each event's postcondition. `AllocError` where memory is
+/// refused.
+pub fn verdict_asking<C: Callbacks, A: Condition>(
+    callbacks: &C,
+    condition: &A,
+    alloc: Global,
+    shaped: &Shaped,
+    history: &History,
+) -> Result<Verdict, AllocError>
+    requires model { shaped.now.model ≡ C.model callbacks.now }
+    requires matches { matches (C.model callbacks.now) shaped.now.case history.now ≡ true }
+    ensures { let m = C.model callbacks.now in IfOk result
+        (IsVerdictAsking m (A.asked condition.now m) shaped.now.case history.now) }
+{
+    let _case = shaped.case();
+    let results = history.recorded(alloc)?;
+    match first_broken(1, results.as_slice()) {
+        Some(number) => Ok(Verdict::Broken(number)),
+        None => judged(
+            callbacks,
+            condition,
+            alloc,
+            shaped,
+            history,
+            results.as_slice(),
+        ),
     }
 }
 
@@ -125,9 +145,5 @@ pub fn verdict<C: Callbacks>(
         → IsValid (C.model callbacks.now) shaped.now.case → FaultsOnlyInPost v) }
 {
     let _case = shaped.case();
-    let results = history.recorded(alloc)?;
-    match first_broken(1, results.as_slice()) {
-        Some(number) => Ok(Verdict::Broken(number)),
-        None => judged(callbacks, alloc, shaped, history, results.as_slice()),
-    }
+    verdict_asking(callbacks, &Postconditions, alloc, shaped, history)
 }

@@ -5,6 +5,7 @@ ghost use Rattle.pst_grid.specs.Turns.{OnStop};
 ghost use Rattle.pst_judge.specs.Running.{events_end, last_events, EventsFit, OnThrough, OnStopped};
 ghost use Rattle.pst_value.specs.declared.ty.Ty.{Ty};
 
+use crate::condition::Condition;
 use crate::events::Event;
 use crate::replay::event_turn;
 use pst_eval::{Callbacks, Place};
@@ -22,15 +23,17 @@ pub enum EventsEnd {
 }
 
 /// Replays events from a state.
-pub fn run_events<C: Callbacks>(
+pub fn run_events<C: Callbacks, A: Condition>(
     callbacks: &C,
+    condition: &A,
     alloc: Global,
     state: Value,
     events: &[Event],
 ) -> Result<EventsEnd, AllocError>
     requires { (vars : List Ty) × (is_state (C.model callbacks.now) [] vars state ≡ true)
         × EventsFit (C.model callbacks.now) vars events.now }
-    ensures end { IfOk result (λ end. end ≡ events_end (C.model callbacks.now) events.now state) }
+    ensures end { IfOk result (λ end. end ≡ events_end (C.model callbacks.now)
+        (A.asked condition.now (C.model callbacks.now)) events.now state) }
     ensures state { IfOk result (λ end. (vars : List Ty)
         → is_state (C.model callbacks.now) [] vars state ≡ true
         → EventsFit (C.model callbacks.now) vars events.now
@@ -40,9 +43,9 @@ pub fn run_events<C: Callbacks>(
     let Some((event, events)) = split_first(events) else {
         return Ok(EventsEnd::Through(state));
     };
-    match event_turn(callbacks, alloc, &state, event)? {
+    match event_turn(callbacks, condition, alloc, &state, event)? {
         Turn::Stop(why) => Ok(EventsEnd::Stopped(0, why)),
-        Turn::Next(next) => match run_events(callbacks, alloc, next, events)? {
+        Turn::Next(next) => match run_events(callbacks, condition, alloc, next, events)? {
             EventsEnd::Through(last) => Ok(EventsEnd::Through(last)),
             EventsEnd::Stopped(at, why) => Ok(EventsEnd::Stopped(at + 1, why)),
         },
@@ -51,18 +54,20 @@ pub fn run_events<C: Callbacks>(
 
 /// Replays the last events of a run from a state: how the run ends.
 #[tactic(auto, using(crate::proofs::Shifted::last_is))]
-pub fn run_last<C: Callbacks>(
+pub fn run_last<C: Callbacks, A: Condition>(
     callbacks: &C,
+    condition: &A,
     alloc: Global,
     state: Value,
     events: &[Event],
 ) -> Result<Ending<Place>, AllocError>
     requires { (vars : List Ty) × (is_state (C.model callbacks.now) [] vars state ≡ true)
         × EventsFit (C.model callbacks.now) vars events.now }
-    ensures ending { IfOk result (λ ending. ending ≡ last_events (C.model callbacks.now) events.now state) }
+    ensures ending { IfOk result (λ ending. ending ≡ last_events (C.model callbacks.now)
+        (A.asked condition.now (C.model callbacks.now)) events.now state) }
     ensures within { IfOk result (λ ending. OnStop ending (λ at. at < length events.now)) }
 {
-    match run_events(callbacks, alloc, state, events)? {
+    match run_events(callbacks, condition, alloc, state, events)? {
         EventsEnd::Through(_) => Ok(Ending::AllTrue),
         EventsEnd::Stopped(at, why) => Ok(Ending::StopsAt(at, why)),
     }

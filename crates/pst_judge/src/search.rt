@@ -5,6 +5,7 @@ ghost use Rattle.pst_judge.specs.FromAnswer.{IsVerdictOfSearch, OnNothing, verdi
 ghost use Rattle.pst_judge.specs.Replay.{branch_lengths};
 ghost use Rattle.pst_judge.specs.Running.{BranchesFit, EventsFit, IsRealState};
 
+use crate::condition::Condition;
 use crate::events::Event;
 use crate::replay::event_turn;
 use crate::running::run_last;
@@ -19,17 +20,18 @@ use std::alloc::{AllocError, Global};
 /// The events of the branches of a case, to be stepped through, and those of its suffix, which run when all
 /// branches have ended.
 #[derive(Drop)]
-pub struct Branches<'a, C> {
+pub struct Branches<'a, C, A> {
     pub callbacks: &'a C,
+    pub condition: &'a A,
     pub shaped: &'a Shaped,
     pub events: Items<Items<Event>>,
     pub suffix: Items<Event>,
 }
 
-impl<'a, C: Callbacks> Steps for Branches<'a, C> {
+impl<'a, C: Callbacks, A: Condition> Steps for Branches<'a, C, A> {
     ghost use Rattle.std.specs.Prelude.{◌≡◌, Some, length};
     ghost use Rattle.pst_case.specs.Shape.{result_types};
-    ghost use Rattle.pst_judge.specs.Replay.{EventFits, branch_turn, event_at};
+    ghost use Rattle.pst_judge.specs.Replay.{EventFits, branch_turn_asking, event_at};
     ghost use Rattle.pst_judge.specs.Running.{EventsFit, IsRealState, last_events};
     ghost use Rattle.pst_judge.specs.declared.events.Event.{Event};
     ghost use Rattle.pst_value.proofs.Exact.{same_value-Decides};
@@ -45,9 +47,11 @@ impl<'a, C: Callbacks> Steps for Branches<'a, C> {
         (e : Event) × (event_at b.events branch index ≡ Some e)
         × EventFits m (result_types m b.shaped.now.case) e };
 
-    ghost turn = { λ b s branch index. branch_turn (C.model b.callbacks.now) b.events s branch index };
+    ghost turn = { λ b s branch index. let m = C.model b.callbacks.now in
+        branch_turn_asking m (A.asked b.condition.now m) b.events s branch index };
 
-    ghost rest = { λ b s. last_events (C.model b.callbacks.now) b.suffix s };
+    ghost rest = { λ b s. let m = C.model b.callbacks.now in
+        last_events m (A.asked b.condition.now m) b.suffix s };
 
     ghost most_rest = { λ b. length b.suffix };
 
@@ -64,12 +68,18 @@ impl<'a, C: Callbacks> Steps for Branches<'a, C> {
         let Some(event) = events.get(index) else {
             unreachable!()
         };
-        event_turn(self.callbacks, alloc, state, event)
+        event_turn(self.callbacks, self.condition, alloc, state, event)
     }
 
     fn run_rest(&self, alloc: Global, state: &Value) -> Result<(Ending<Place>, usize), AllocError> {
         let start = state.copy(alloc)?;
-        match run_last(self.callbacks, alloc, start, self.suffix.as_slice())? {
+        match run_last(
+            self.callbacks,
+            self.condition,
+            alloc,
+            start,
+            self.suffix.as_slice(),
+        )? {
             Ending::AllTrue => Ok((Ending::AllTrue, self.suffix.len())),
             Ending::StopsAt(at, why) => Ok((Ending::StopsAt(at, why), at + 1)),
         }
@@ -83,10 +93,7 @@ impl<'a, C: Callbacks> Steps for Branches<'a, C> {
 }
 
 /// How many commands each branch has.
-pub(crate) fn lengths_of(
-    alloc: Global,
-    branches: &[Items<Command>],
-) -> Result<Vec<usize>, AllocError>
+pub fn lengths_of(alloc: Global, branches: &[Items<Command>]) -> Result<Vec<usize>, AllocError>
     ensures { IfOk result (λ lengths. lengths.items ≡ map length branches.now) }
 {
     let mut lengths = Vec::new(alloc);
@@ -109,9 +116,9 @@ fn verdict_of(prefix: usize, answer: SomeAnswer<Place>) -> Verdict
 }
 
 /// Searches the merges of the branches, from the state after the prefix, with the suffix behind each.
-pub fn search<C: Callbacks>(
+pub fn search<C: Callbacks, A: Condition>(
     alloc: Global,
-    branches: &Branches<'_, C>,
+    branches: &Branches<'_, C, A>,
     state: &Value,
     prefix: usize,
 ) -> Result<Verdict, AllocError>
@@ -123,8 +130,8 @@ pub fn search<C: Callbacks>(
     requires prefix { prefix ≤ 64 }
     requires lengths { sum (branch_lengths branches.now.shaped.now.case) ≤ 16 }
     requires suffix { length branches.now.suffix ≤ 8 }
-    ensures { let b = branches.now in IfOk result
-        (IsVerdictOfSearch (C.model b.callbacks.now) b.events b.suffix (branch_lengths b.shaped.now.case)
+    ensures { let b = branches.now in let m = C.model b.callbacks.now in IfOk result
+        (IsVerdictOfSearch m (A.asked b.condition.now m) b.events b.suffix (branch_lengths b.shaped.now.case)
         prefix state.now) }
 {
     let lengths = lengths_of(alloc, branches.shaped.case().branches.as_slice())?;

@@ -23,7 +23,9 @@ pub struct ModelFile {
 
 /// The trees of a file.
 fn trees_of(alloc: Global, input: &[u8]) -> Result<Result<Vec<Tree>, Refusal>, AllocError>
-    ensures { IfOk result (λ read. MatchResult read (λ trees. IsFile input.now trees.items) (λ refusal. IsRefusal input.now refusal)) }
+    ensures { IfOk result
+        (λ read. MatchResult read (λ trees. IsFile input.now trees.items)
+        (λ refusal. IsRefusal input.now refusal)) }
 {
     match read(alloc, input) {
         Ok(trees) => Ok(Ok(trees)),
@@ -53,7 +55,9 @@ fn model_in(alloc: Global, trees: &[Tree]) -> Result<Result<Model, SyntaxFault>,
 
 /// The model where it is well typed, and else the number of its least item that is not.
 fn typed_of(alloc: Global, model: Model) -> Result<Result<Typed, usize>, AllocError>
-    ensures { IfOk result (λ checked. MatchResult checked (λ typed. (typed ≡ model) × WellModel model) (λ number. IsIll model number)) }
+    ensures { IfOk result
+        (λ checked. MatchResult checked (λ typed. (typed ≡ model) × WellModel model)
+        (λ number. IsIll model number)) }
 {
     match check(alloc, model) {
         Ok(typed) => Ok(Ok(typed)),

@@ -8,4 +8,6 @@ mod printer;
 mod types;
 mod words;
 
+pub use expressions::expr_form;
 pub use printer::print_model;
+pub use types::ty_form;

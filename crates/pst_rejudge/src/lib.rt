@@ -25,6 +25,7 @@ pub fn rejudge<C: Callbacks + Sync, R: Threads + Sync>(
     ensures { IfOk result (λ all. AllZip (IsJudgement (C.model callbacks.now)) runs.now all.items) }
 {
     runs.par_iter()
+        .with_min_len(1)
         .map(
             |run: &Run| -> Result<Judged, AllocError>
                 requires { MayBeJudged (C.model callbacks.now) run.now }

@@ -25,7 +25,8 @@ is_state m free vars v = is_state_in m free vars v (state_of m.items)
 
 abbrev pub args_fit_in : (m : Source) (free vars : List Ty) → Option Op → List Value → Bool
 args_fit_in m free vars None args = false
-args_fit_in m free vars (Some o) args = fit_each (map (fits free vars (parameters_of m.items)) args) (types_of o.params)
+args_fit_in m free vars (Some o) args =
+    fit_each (map (fits free vars (parameters_of m.items)) args) (types_of o.params)
 
 -- whether there is the operation, and the arguments fit its parameters' types
 unfoldable pub args_fit : Source → (free vars : List Ty) → ℕ → List Value → Bool

@@ -35,7 +35,8 @@ or_value None other = other
 -- the reply to a command that a tree spells: a word for a reply, or a value without a variable
 unfoldable pub reply_of : Source → Command → Form → Option Reply
 reply_of m c form =
-    or_value (reply_word (word_of form)) (and_then (value_of (in_replies m) form) (λ v. Some (answered m c v)))
+    or_value (reply_word (word_of form))
+    (and_then (value_of (in_replies m) form) (λ v. Some (answered m c v)))
 
 -- ---- lists of replies
 

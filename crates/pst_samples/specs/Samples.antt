@@ -34,7 +34,8 @@ IsOfRegistry c = IsBare (codes "new") c ⊎ IsNumbered (codes "close") c ⊎ IsN
 -- `registry`: an integer to `new` and `read`, a truth value to `close`
 abbrev pub registry_answers : RealCall → Value → Type 0
 registry_answers c v =
-    (IsBare (codes "new") c × IsInt v) ⊎ (IsNumbered (codes "close") c × IsBool v) ⊎ (IsNumbered (codes "read") c × IsInt v)
+    (IsBare (codes "new") c × IsInt v) ⊎ (IsNumbered (codes "close") c × IsBool v)
+    ⊎ (IsNumbered (codes "read") c × IsInt v)
 
 -- `registry`: other calls are refused, and its own can be refused memory
 abbrev pub registry_fails : RealCall → CallFault → Type 0
@@ -43,7 +44,8 @@ registry_fails c NoMemory = IsOfRegistry c
 
 -- `queue`: true to `put`, a list of at most one integer to `take`
 abbrev pub queue_answers : RealCall → Value → Type 0
-queue_answers c v = (IsNumbered (codes "put") c × (v ≡ form.Bool true)) ⊎ (IsBare (codes "take") c × IsListOfAtMostOneInt v)
+queue_answers c v =
+    (IsNumbered (codes "put") c × (v ≡ form.Bool true)) ⊎ (IsBare (codes "take") c × IsListOfAtMostOneInt v)
 
 -- `queue`: each call can be refused but `take`, and its own can be refused memory
 abbrev pub queue_fails : RealCall → CallFault → Type 0

@@ -6,20 +6,48 @@ ghost use Rattle.pst_shrink.specs.Weight.{weight};
 
 use pst_case::{Case, Command};
 use pst_items::Items;
-use pst_value::Value;
+use pst_value::{Key, Value};
 use std::alloc::{AllocError, Global};
 
-/// The command of a word: a letter for its operation, and a digit for the variable that is its argument, if
-/// it has one.
-fn command_of(alloc: Global, word: &str) -> Result<Command, AllocError> {
-    let bytes = word.as_bytes();
+/// The variable of a digit.
+fn variable_of(digit: u8) -> Value {
+    Value::Var(digit.wrapping_sub(b'0') as u32)
+}
+
+/// The map of two variables, by the keys 1 and 2.
+fn map_of(alloc: Global, first: u8, second: u8) -> Result<Value, AllocError> {
+    let mut keys = Items::new(alloc);
+    keys.push(Key::Int(1))?;
+    keys.push(Key::Int(2))?;
+    let mut values = Items::new(alloc);
+    values.push(variable_of(first))?;
+    values.push(variable_of(second))?;
+    Ok(Value::Map(keys, values))
+}
+
+/// The arguments that the digits of variables spell: none, a variable, or a map of two.
+fn args_of(alloc: Global, digits: &[u8]) -> Result<Items<Value>, AllocError> {
     let mut args = Items::new(alloc);
-    if let Some(digit) = bytes.get(1) {
-        args.push(Value::Var(digit.wrapping_sub(b'0') as u32))?;
-    }
+    let Some(first) = digits.first() else {
+        return Ok(args);
+    };
+    let value = match digits.get(1) {
+        Some(second) => map_of(alloc, *first, *second)?,
+        None => variable_of(*first),
+    };
+    args.push(value)?;
+    Ok(args)
+}
+
+/// The command of a word: a letter for its operation, and the digits of the variables in its argument.
+fn command_of(alloc: Global, word: &str) -> Result<Command, AllocError> {
+    let (op, digits) = match word.as_bytes().split_first() {
+        Some((op, digits)) => (*op, digits),
+        None => (0, word.as_bytes()),
+    };
     Ok(Command {
-        op: bytes.first().copied().unwrap_or(0) as u32,
-        args,
+        op: op as u32,
+        args: args_of(alloc, digits)?,
     })
 }
 

@@ -66,3 +66,16 @@ fn a_suffix(rt: HostRuntime) -> Result<(), Fail> {
     assert_candidates(&rt, rt.alloc(), "n | n | u1 > u2 n u5 u9", &expected)?;
     Ok(())
 }
+
+/// Each variable in a map follows its command.
+#[test]
+fn variables_in_a_map(rt: HostRuntime) -> Result<(), Fail> {
+    let expected = [
+        "| n | n > u12",
+        "n | n | n",
+        "n n | | n > u23",
+        "n n | n | > u32",
+    ];
+    assert_candidates(&rt, rt.alloc(), "n | n | n > u23", &expected)?;
+    Ok(())
+}

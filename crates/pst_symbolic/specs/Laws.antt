@@ -19,7 +19,8 @@ abbrev pub EnvFits : Source → (free vars : List Ty) → Env → Context → Ty
 EnvFits m free vars [] [] = Unit {0}
 EnvFits m free vars [] (c ∷ G) = ⊥
 EnvFits m free vars (b ∷ env) [] = ⊥
-EnvFits m free vars (b ∷ env) (c ∷ G) = (b.0 ≡ c.0) × (fits_in m free vars b.1 c.1 ≡ true) × EnvFits m free vars env G
+EnvFits m free vars (b ∷ env) (c ∷ G) =
+    (b.0 ≡ c.0) × (fits_in m free vars b.1 c.1 ≡ true) × EnvFits m free vars env G
 
 -- what an expression means by the operations of the model and by the functions among these items
 abbrev pub mean_over : Source → List Item → Expr → Mean
@@ -37,23 +38,28 @@ SymbolicEqualsReal =
     → (G : Context) (e : Expr) (T : Ty) → IsPlainOver m before G e T
     → (free vars : List Ty) (env : Env) → EnvFits m free vars env G
     → (results : List (Option Value)) (turns : ℕ)
-    → (mean_over m before e (substituted_in results env) turns ≡ substituted_outcome results (mean_over m before e env turns))
+    → (mean_over m before e (substituted_in results env) turns
+    ≡ substituted_outcome results (mean_over m before e env turns))
     × (mean_over m before e env turns ≢ Stuck)
 
 -- the opening state stays as it is, whatever results are put in
 abbrev pub InitIsReal : Type 0
-InitIsReal = (m : Source) → WellModel m → (results : List (Option Value)) → substituted_outcome results (init_of m) ≡ init_of m
+InitIsReal =
+    (m : Source) → WellModel m → (results : List (Option Value))
+    → substituted_outcome results (init_of m) ≡ init_of m
 
 -- the calls from a real state are those from the symbolic one, with results for their variables
 abbrev pub CommandIsReal : Type 0
 CommandIsReal =
-    (m : Source) → WellModel m → (results : List (Option Value)) (free vars : List Ty) (s : Value) → is_state m free vars s ≡ true
+    (m : Source) → WellModel m → (results : List (Option Value)) (free vars : List Ty) (s : Value)
+    → is_state m free vars s ≡ true
     → command_of m (substituted results s) ≡ substituted_outcome results (command_of m s)
 
 -- the precondition answers the same on real values as on symbolic ones
 abbrev pub PreIsReal : Type 0
 PreIsReal =
-    (m : Source) → WellModel m → (results : List (Option Value)) (free vars : List Ty) (op : ℕ) (s : Value) (args : List Value)
+    (m : Source) → WellModel m
+    → (results : List (Option Value)) (free vars : List Ty) (op : ℕ) (s : Value) (args : List Value)
     → PreFits m op s args free vars
     → pre_of m op (substituted results s) (map (substituted results) args) ≡ pre_of m op s args
 
@@ -61,6 +67,9 @@ PreIsReal =
 -- it becomes the reference to that result)
 abbrev pub NextIsReal : Type 0
 NextIsReal =
-    (m : Source) → WellModel m → (results : List (Option Value)) (free vars : List Ty) (op : ℕ) (s : Value) (args : List Value) (r : Value)
+    (m : Source) → WellModel m
+    → (results : List (Option Value)) (free vars : List Ty) (op : ℕ) (s : Value) (args : List Value)
+    (r : Value)
     → NextFits m op s args r free vars
-    → next_of m op (substituted results s) (map (substituted results) args) (substituted results r) ≡ substituted_outcome results (next_of m op s args r)
+    → next_of m op (substituted results s) (map (substituted results) args) (substituted results r)
+    ≡ substituted_outcome results (next_of m op s args r)

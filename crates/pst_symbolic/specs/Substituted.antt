@@ -8,7 +8,8 @@ use Rattle.pst_value.specs.declared.value.Value.{Value}
 -- the bindings, with results for the variables in their values
 abbrev pub substituted_in : List (Option Value) → Env → Env
 substituted_in results [] = []
-substituted_in results (binding ∷ outer) = (binding.0, substituted results binding.1) ∷ substituted_in results outer
+substituted_in results (binding ∷ outer) =
+    (binding.0, substituted results binding.1) ∷ substituted_in results outer
 
 -- the outcome, with another value for its value; a fault and the turns left stay
 abbrev pub mapped : {A B : Type 0} → (A → B) → Outcome (A × ℕ) → Outcome (B × ℕ)

@@ -17,7 +17,8 @@ abbrev pub ResetFails : Type 1
 ResetFails = CallFault → Type 0
 
 -- the three relations of a system admit the same as before
-pub record AreKept (answers before : Answers) (fails failed : Fails) (reset_fails reset_failed : ResetFails) : Type 0 where
+pub record AreKept (answers before : Answers) (fails failed : Fails) (reset_fails reset_failed : ResetFails) :
+    Type 0 where
   pub answering : (c : RealCall) (v : Value) → answers c v ↔ before c v
   pub failing : (c : RealCall) (f : CallFault) → fails c f ↔ failed c f
   pub resetting : (f : CallFault) → reset_fails f ↔ reset_failed f

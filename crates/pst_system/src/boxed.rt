@@ -19,7 +19,8 @@ pub fn call_box(system: &BoxedSystem, call: &RealCall) -> Result<Value, CallFaul
 /// Takes the system in a box back to its opening state. The three relations stay.
 pub fn reset_box(system: &mut BoxedSystem) -> Result<(), CallFault>
     ensures fault { IfErr result (λ f. reset_fails system.old f) }
-    ensures kept { AreKept (answers system.new) (answers system.old) (fails system.new) (fails system.old) (reset_fails system.new) (reset_fails system.old) }
+    ensures kept { AreKept (answers system.new) (answers system.old) (fails system.new) (fails system.old)
+        (reset_fails system.new) (reset_fails system.old) }
 {
     system.reset()
 }

@@ -26,7 +26,8 @@ pub trait System: Drop + Send + Sync {
     /// Goes back to the opening state. The three relations stay.
     fn reset(&mut self) -> Result<(), CallFault>
         ensures fault { IfErr result (λ f. reset_fails self.old f) }
-        ensures kept { AreKept (answers self.new) (answers self.old) (fails self.new) (fails self.old) (reset_fails self.new) (reset_fails self.old) };
+        ensures kept { AreKept (answers self.new) (answers self.old) (fails self.new) (fails self.old)
+            (reset_fails self.new) (reset_fails self.old) };
 
     /// Makes a call: its answer, or why there is none.
     fn call(&self, call: &RealCall) -> Result<Value, CallFault>

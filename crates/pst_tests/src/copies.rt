@@ -3,7 +3,7 @@ ghost use Rattle.std.specs.Prelude.{◌≡◌};
 
 use crate::answers::typed_of;
 use crate::models::{ATLAS, COUNTER, REGISTRY};
-use pst_case::{Case, History, Run, shape};
+use pst_case::{Run, shape};
 use pst_model::Source;
 use pst_runs::read_runs;
 use pst_sexpr::read;
@@ -20,46 +20,15 @@ fn is_copied(alloc: Global, model: &str, item: &str) -> Option<bool> {
     run_is_copied(alloc, typed.source(), &Run { shaped, history }).ok()
 }
 
-/// Whether copies of a case, of its commands and of their arguments are equal.
-fn case_is_copied(alloc: Global, case: &Case) -> Result<bool, AllocError> {
-    for command in case.prefix.as_slice() {
-        if command.copy(alloc)? != *command {
-            return Ok(false);
-        }
-        for value in command.args.as_slice() {
-            if value.copy(alloc)? != *value {
-                return Ok(false);
-            }
-        }
-    }
-    Ok(case.copy(alloc)? == *case)
-}
-
-/// Whether copies of a history and of its replies are equal.
-fn history_is_copied(alloc: Global, history: &History) -> Result<bool, AllocError> {
-    for branch in history.branches.as_slice() {
-        for reply in branch.as_slice() {
-            if reply.copy(alloc)? != *reply {
-                return Ok(false);
-            }
-        }
-    }
-    Ok(history.copy(alloc)? == *history)
-}
-
-/// Whether a copy of a run is equal, and so are those of its parts.
+/// Whether a copy of a run is equal, and so are those of its case and of its shaped case.
 fn run_is_copied(alloc: Global, model: &Source, run: &Run) -> Result<bool, AllocError>
     requires { run.now.shaped.model ≡ model.now }
 {
     let copy = run.copy(alloc, model)?;
     let shaped = run.shaped.copy(alloc, model)?;
-    let history_stands = match &run.history {
-        Some(history) => history_is_copied(alloc, history)?,
-        None => true,
-    };
+    let case = run.shaped.case().copy(alloc)?;
     Ok(
-        history_stands
-            && case_is_copied(alloc, run.shaped.case())?
+        case == *run.shaped.case()
             && shaped.case() == run.shaped.case()
             && copy.shaped.case() == run.shaped.case()
             && copy.history == run.history,

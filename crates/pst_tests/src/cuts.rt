@@ -1,6 +1,6 @@
-//! Files that are cut, too deep or too large.
+//! Files that are cut, and bytes that no file may have.
 
-use crate::answers::{check_answer, trees_answer};
+use crate::answers::trees_answer;
 use crate::models::COUNTER;
 use std::alloc::{AllocError, Global};
 use std::test::Fail;
@@ -57,55 +57,11 @@ fn cut_at_each_byte(rt: HostRuntime) -> Result<(), Fail> {
     Ok(())
 }
 
-/// So many opening brackets.
-fn opened(alloc: Global, count: usize) -> Result<String, AllocError> {
-    let bytes = vec![in alloc; b'('; count]?;
-    trees_answer(alloc, bytes.as_slice())
-}
-
+/// Bytes that no file may have.
 #[test]
-fn too_deep(rt: HostRuntime) -> Result<(), Fail> {
+fn control_bytes(rt: HostRuntime) -> Result<(), Fail> {
     let alloc = rt.alloc();
-    assert_eq!(rt; opened(alloc, 100)?.as_str(), "UnclosedNode at 99");
-    assert_eq!(rt; opened(alloc, 101)?.as_str(), "TooDeep at 100");
-    Ok(())
-}
-
-/// What is answered for the counter, filled up with spaces to so many bytes.
-fn filled(alloc: Global, length: usize) -> Result<String, AllocError> {
-    let mut bytes = Vec::from_slice(alloc, COUNTER.as_bytes())?;
-    bytes.resize(length, b' ')?;
-    check_answer(alloc, bytes.as_slice())
-}
-
-#[test]
-fn too_large(rt: HostRuntime) -> Result<(), Fail> {
-    let alloc = rt.alloc();
-    let refused = "2 refused read TooLarge at 1048576";
-    assert_eq!(rt; filled(alloc, 1_048_576)?.as_str(), "0 ok counter");
-    assert_eq!(rt; filled(alloc, 1_048_577)?.as_str(), refused);
-    Ok(())
-}
-
-/// The first fault of a file, and no fault of comments and spaces.
-#[test]
-fn first_faults(rt: HostRuntime) -> Result<(), Fail> {
-    let alloc = rt.alloc();
-    let rows: [(&str, &str); 13] = [
-        ("", "0 trees"),
-        (" ;(\n", "0 trees"),
-        ("a(b)\"c\"\"d\"e", "5 trees"),
-        ("(a (b) (c", "UnclosedNode at 7"),
-        ("a ;)\n b)", "StrayClose at 7"),
-        ("\"\\a", "BadByte at 2"),
-        ("\"\\)", "BadByte at 2"),
-        ("a\x00", "BadByte at 1"),
-        ("\"a\n\"", "BadByte at 2"),
-        ("(;)", "UnclosedNode at 0"),
-        ("\"a\\", "UnclosedText at 0"),
-        ("\x7f", "BadByte at 0"),
-        ("(\"a\"\")\"", "UnclosedNode at 0"),
-    ];
+    let rows: [(&str, &str); 2] = [("a\x00", "BadByte at 1"), ("\x7f", "BadByte at 0")];
     for (text, want) in rows {
         let answer = trees_answer(alloc, text.as_bytes())?;
         assert_eq!(rt; answer.as_str(), want);

@@ -14,16 +14,15 @@ struct Command {
 }
 
 impl Command {
-    /// No command of any branch.
-    const NONE: Command = Command {
-        branch: usize::MAX,
-        index: usize::MAX,
-    };
-
-    fn at(branch: usize, index: usize) -> Command {
+    /// The command of a branch's number and its place there.
+    fn at(place: (usize, usize)) -> Command {
+        let (branch, index) = place;
         Command { branch, index }
     }
 }
+
+/// The place of no command.
+const NONE: (usize, usize) = (usize::MAX, usize::MAX);
 
 /// A lamp, which is off at first. One command turns it on and one turns it off, one is true only where it is on, and one
 /// faults where it is off. All other commands are true, and leave it. When all branches have ended it may be asked for again: this
@@ -111,111 +110,127 @@ impl Steps for Lamp {
 }
 
 impl Lamp {
-    fn new(on: Command, off: Command, asks: Command, needs: Command) -> Lamp {
+    /// The lamp of commands at these places, in the order of its fields.
+    fn new(commands: [(usize, usize); 4], asks_last: bool) -> Lamp {
+        let [on, off, asks, needs] = commands;
         Lamp {
-            on,
-            off,
-            asks,
-            needs,
-            asks_last: false,
+            on: Command::at(on),
+            off: Command::at(off),
+            asks: Command::at(asks),
+            needs: Command::at(needs),
+            asks_last,
             steps_made: Cell::new(0),
         }
     }
-
-    /// The lamp, asked for when all branches have ended.
-    fn asked_last(mut self) -> Lamp {
-        self.asks_last = true;
-        self
-    }
-}
-
-// Two branches of eight and four of four. All events are true, or all but the last of the last branch.
-#[test]
-fn steps_are_counted(rt: HostRuntime) -> Result<(), Fail> {
-    let alloc = rt.alloc();
-    let two = [8, 8];
-    let four = [4, 4, 4, 4];
-    let cases = [
-        (two.as_slice(), Command::at(1, 7), 162),
-        (four.as_slice(), Command::at(3, 3), 2500),
-    ];
-    for (lengths, last, most) in cases {
-        let steps = Lamp::new(Command::NONE, Command::NONE, last, Command::NONE);
-        let (answer, made) = some(alloc, &steps, lengths, &false)?;
-        assert!(rt;
-            matches!(answer, SomeAnswer::Nothing { far: 15 }),
-            "{answer:?}"
-        );
-        assert!(rt; made <= most, "{made} steps");
-        assert_eq!(rt; made, steps.steps_made.get());
-
-        let steps = Lamp::new(Command::NONE, Command::NONE, Command::NONE, Command::NONE);
-        let (answer, made) = every(alloc, &steps, lengths, &false)?;
-        assert!(rt; matches!(answer, EveryAnswer::All), "{answer:?}");
-        assert!(rt; made <= most, "{made} steps");
-        assert_eq!(rt; made, steps.steps_made.get());
-    }
-    Ok(())
-}
-
-// One branch turns the lamp on and the other off: where it is asked for last, only the merge that turns it on last is true to its
-// end, and the other one comes to its end before it is false.
-#[test]
-fn each_end_is_asked(rt: HostRuntime) -> Result<(), Fail> {
-    let alloc = rt.alloc();
-    let none = Command::NONE;
-    let lamp = Lamp::new(Command::at(0, 0), Command::at(1, 0), none, none).asked_last();
-    let (answer, _) = some(alloc, &lamp, &[1, 1], &false)?;
-    assert!(rt;
-        matches!(&answer, SomeAnswer::Found { word } if word.as_slice() == [1, 0].as_slice()),
-        "{answer:?}"
-    );
-    let (answer, _) = some_plainly(alloc, &lamp, &[1, 1], &false)?;
-    assert!(rt;
-        matches!(&answer, SomeAnswer::Found { word } if word.as_slice() == [1, 0].as_slice()),
-        "{answer:?}"
-    );
-    let (answer, _) = every(alloc, &lamp, &[1, 1], &false)?;
-    assert!(rt;
-        matches!(&answer, EveryAnswer::Not { word, at: 2, why: Why::False } if word.as_slice() == [0, 1].as_slice()),
-        "{answer:?}"
-    );
-    let dark = Lamp::new(none, none, none, none).asked_last();
-    let (answer, _) = some(alloc, &dark, &[2, 1], &false)?;
-    assert!(rt;
-        matches!(answer, SomeAnswer::Nothing { far: 3 }),
-        "{answer:?}"
-    );
-    let (answer, _) = some(alloc, &dark, &[0, 0], &false)?;
-    assert!(rt;
-        matches!(answer, SomeAnswer::Nothing { far: 0 }),
-        "{answer:?}"
-    );
-    Ok(())
 }
 
 /// What `some` and `every` answer of branches of these lengths.
-#[derive(Drop)]
+#[derive(Clone, Copy, Drop)]
 struct Case {
     lengths: &'static [usize],
     // In the order of the lamp's fields.
-    commands: [Command; 4],
+    commands: [(usize, usize); 4],
+    asks_last: bool,
     some: &'static str,
     every: &'static str,
 }
 
-const NONE: Command = Command::NONE;
+const CASES: [Case; 11] = [
+    Case {
+        lengths: &[],
+        commands: [NONE, NONE, NONE, NONE],
+        asks_last: false,
+        some: "Found { word: [] }",
+        every: "All",
+    },
+    Case {
+        lengths: &[1, 2],
+        commands: [NONE, NONE, NONE, NONE],
+        asks_last: false,
+        some: "Found { word: [0, 1, 1] }",
+        every: "All",
+    },
+    Case {
+        lengths: &[2, 1],
+        commands: [NONE, NONE, (0, 1), NONE],
+        asks_last: false,
+        some: "Nothing { far: 2 }",
+        every: "Not { word: [0, 0, 1], at: 1, why: False }",
+    },
+    // The place after one command of each branch is met with the lamp off, which fails, and then with it on.
+    Case {
+        lengths: &[1, 2],
+        commands: [(0, 0), (1, 0), (1, 1), NONE],
+        asks_last: false,
+        some: "Found { word: [1, 0, 1] }",
+        every: "Not { word: [0, 1, 1], at: 2, why: False }",
+    },
+    // The same place is met with the lamp on, where all is true, and then with it off.
+    Case {
+        lengths: &[1, 2],
+        commands: [(1, 0), (0, 0), (1, 1), NONE],
+        asks_last: false,
+        some: "Found { word: [0, 1, 1] }",
+        every: "Not { word: [1, 0, 1], at: 2, why: False }",
+    },
+    // A true merge counts more than a lesser one that faults.
+    Case {
+        lengths: &[1, 1],
+        commands: [(1, 0), NONE, NONE, (0, 0)],
+        asks_last: false,
+        some: "Found { word: [1, 0] }",
+        every: "Not { word: [0, 1], at: 0, why: Fault(0) }",
+    },
+    // The least merge is false, and the greatest faults sooner than the least that faults.
+    Case {
+        lengths: &[1, 3],
+        commands: [(1, 0), (1, 1), (0, 0), (1, 2)],
+        asks_last: false,
+        some: "Faulted { word: [1, 0, 1, 1], at: 3, fault: 2 }",
+        every: "Not { word: [0, 1, 1, 1], at: 0, why: False }",
+    },
+    Case {
+        lengths: &[1, 1, 1],
+        commands: [(2, 0), NONE, (1, 0), NONE],
+        asks_last: false,
+        some: "Found { word: [0, 2, 1] }",
+        every: "Not { word: [0, 1, 2], at: 1, why: False }",
+    },
+    // Where the lamp is asked for last, only the interleaving that turns it on last is true to its end, and the other one comes to its end before
+    // it is false.
+    Case {
+        lengths: &[1, 1],
+        commands: [(0, 0), (1, 0), NONE, NONE],
+        asks_last: true,
+        some: "Found { word: [1, 0] }",
+        every: "Not { word: [0, 1], at: 2, why: False }",
+    },
+    Case {
+        lengths: &[2, 1],
+        commands: [NONE, NONE, NONE, NONE],
+        asks_last: true,
+        some: "Nothing { far: 3 }",
+        every: "Not { word: [0, 0, 1], at: 3, why: False }",
+    },
+    Case {
+        lengths: &[0, 0],
+        commands: [NONE, NONE, NONE, NONE],
+        asks_last: true,
+        some: "Nothing { far: 0 }",
+        every: "Not { word: [], at: 0, why: False }",
+    },
+];
 
+/// Whether the searches answer so over branches of these lengths.
 fn is_answered_over(alloc: Global, case: &Case, lengths: &[usize]) -> Result<bool, AllocError>
     requires { sum lengths.now + 1 < 2 ^ 32 }
 {
-    let [on, off, asks, needs] = case.commands;
-    let steps = Lamp::new(on, off, asks, needs);
-    let (answer, _) = some(alloc, &steps, lengths, &false)?;
-    let (plain, _) = some_plainly(alloc, &steps, lengths, &false)?;
-    let (every_answer, _) = every(alloc, &steps, lengths, &false)?;
+    let lamp = Lamp::new(case.commands, case.asks_last);
+    let (some_answer, _) = some(alloc, &lamp, lengths, &false)?;
+    let (plain, _) = some_plainly(alloc, &lamp, lengths, &false)?;
+    let (every_answer, _) = every(alloc, &lamp, lengths, &false)?;
     Ok(
-        format!(in alloc; "{answer:?}")?.as_str() == case.some
+        format!(in alloc; "{some_answer:?}")?.as_str() == case.some
             && format!(in alloc; "{plain:?}")?.as_str() == case.some
             && format!(in alloc; "{every_answer:?}")?.as_str() == case.every,
     )
@@ -235,83 +250,41 @@ fn is_answered(alloc: Global, case: &Case) -> Result<bool, AllocError> {
 
 #[test]
 fn answers_of_small_branches(rt: HostRuntime) -> Result<(), Fail> {
-    let alloc = rt.alloc();
-    let cases: [Case; 8] = [
-        Case {
-            lengths: &[],
-            commands: [NONE, NONE, NONE, NONE],
-            some: "Found { word: [] }",
-            every: "All",
-        },
-        Case {
-            lengths: &[1, 2],
-            commands: [NONE, NONE, NONE, NONE],
-            some: "Found { word: [0, 1, 1] }",
-            every: "All",
-        },
-        Case {
-            lengths: &[2, 1],
-            commands: [NONE, NONE, Command::at(0, 1), NONE],
-            some: "Nothing { far: 2 }",
-            every: "Not { word: [0, 0, 1], at: 1, why: False }",
-        },
-        // The place after one command of each branch is met with the lamp off, which fails, and then with it on.
-        Case {
-            lengths: &[1, 2],
-            commands: [
-                Command::at(0, 0),
-                Command::at(1, 0),
-                Command::at(1, 1),
-                NONE,
-            ],
-            some: "Found { word: [1, 0, 1] }",
-            every: "Not { word: [0, 1, 1], at: 2, why: False }",
-        },
-        // The same place is met with the lamp on, where all is true, and then with it off.
-        Case {
-            lengths: &[1, 2],
-            commands: [
-                Command::at(1, 0),
-                Command::at(0, 0),
-                Command::at(1, 1),
-                NONE,
-            ],
-            some: "Found { word: [0, 1, 1] }",
-            every: "Not { word: [1, 0, 1], at: 2, why: False }",
-        },
-        // A true merge counts more than a lesser one that faults.
-        Case {
-            lengths: &[1, 1],
-            commands: [Command::at(1, 0), NONE, NONE, Command::at(0, 0)],
-            some: "Found { word: [1, 0] }",
-            every: "Not { word: [0, 1], at: 0, why: Fault(0) }",
-        },
-        // The least merge is false, and the greatest faults sooner than the least that faults.
-        Case {
-            lengths: &[1, 3],
-            commands: [
-                Command::at(1, 0),
-                Command::at(1, 1),
-                Command::at(0, 0),
-                Command::at(1, 2),
-            ],
-            some: "Faulted { word: [1, 0, 1, 1], at: 3, fault: 2 }",
-            every: "Not { word: [0, 1, 1, 1], at: 0, why: False }",
-        },
-        Case {
-            lengths: &[1, 1, 1],
-            commands: [Command::at(2, 0), NONE, Command::at(1, 0), NONE],
-            some: "Found { word: [0, 2, 1] }",
-            every: "Not { word: [0, 1, 2], at: 1, why: False }",
-        },
-    ];
-    for case in &cases {
-        assert!(rt;
-            is_answered(alloc, case)?,
-            "branches of {:?}: {}",
-            case.lengths,
-            case.some
-        );
+    for case in CASES {
+        assert!(rt; is_answered(rt.alloc(), &case)?, "{}", case.some);
     }
+    Ok(())
+}
+
+/// Whether `some` finds nothing in at most so many steps where the last event of one command is false, and `every` holds in as few
+/// where all events are true. The lamp counts its steps as the searches do.
+fn is_counted(
+    alloc: Global,
+    lengths: &[usize],
+    last: (usize, usize),
+    most: usize,
+) -> Result<bool, AllocError>
+    requires { sum lengths.now + 1 < 2 ^ 32 }
+{
+    let dark = Lamp::new([NONE, NONE, last, NONE], false);
+    let (nothing, tried) = some(alloc, &dark, lengths, &false)?;
+    let lit = Lamp::new([NONE, NONE, NONE, NONE], false);
+    let (all, seen) = every(alloc, &lit, lengths, &false)?;
+    Ok(
+        matches!(nothing, SomeAnswer::Nothing { far: 15 })
+            && matches!(all, EveryAnswer::All)
+            && tried <= most
+            && seen <= most
+            && tried == dark.steps_made.get()
+            && seen == lit.steps_made.get(),
+    )
+}
+
+// Two branches of eight and four of four. All events are true, or all but the last of the last branch.
+#[test]
+fn steps_are_counted(rt: HostRuntime) -> Result<(), Fail> {
+    let alloc = rt.alloc();
+    assert!(rt; is_counted(alloc, &[8, 8], (1, 7), 162)?);
+    assert!(rt; is_counted(alloc, &[4, 4, 4, 4], (3, 3), 2500)?);
     Ok(())
 }

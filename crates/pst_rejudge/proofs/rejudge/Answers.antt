@@ -7,7 +7,7 @@ use Rattle.pst_rejudge.proofs.rejudge.Goals as goal
 
 pub returns : goal.returns
 returns g c =
-    let slice = ap (λ it. it.slice.now) c.map.ensures.base ∙ c.par_iter.ensures in
+    let slice = ap (λ it. it.base.slice.now) c.map.ensures.base ∙ ap (λ it. it.slice.now) c.with_min_len.ensures.base ∙ c.par_iter.ensures in
     let judged = IsJudgement (g.C.Callbacks.model c.map.result.f.0.now) in
     let all = c.in_ok-collect.ensures in
     let chain = all.1 in

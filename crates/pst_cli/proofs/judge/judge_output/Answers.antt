@@ -1,5 +1,6 @@
 use Rattle.std.proofs.Common.{◌≡◌, List, Ok, Err, sym, ap, ◌∙◌, subst}
 use Rattle.pst_case.specs.declared.history.Run.{Run}
+use Rattle.pst_cli.proofs.Judging.{may_be_judged, are_judged}
 use Rattle.pst_cli.proofs.Reporting.{if_ok_both}
 use Rattle.pst_cli.specs.Head.{refusal_line}
 use Rattle.pst_cli.specs.Output.{AreJudged, IsJudgeOutput, item_lines, status_of, run_line, judged, run_refused, refused}
@@ -7,18 +8,26 @@ use Rattle.pst_cli.specs.declared.output.Output.{Output}
 use Rattle.pst_cli.specs.declared.status.Status.TheVariants.{Refused}
 use Rattle.pst_load.specs.Loading.{items_of}
 use Rattle.pst_runs.specs.Items.{runs_of}
+use Rattle.pst_runs.specs.Lawful.{AreLawful}
 use Rattle.pst_cli.proofs.judge.judge_output.Goals as goal
 
 pub returns-in-Err : goal.returns-in-Err
-returns-in-Err c =
+returns-in-Err g c =
     let HasText : Output → Type 0 = λ o. o.text.items ≡ refusal_line c.in-Err.refusal in
     let IsRefused : Output → Type 0 = λ o. o.status ≡ Refused in
     let IsSo : Output → Type 0 = λ o. IsJudgeOutput c.args.input.now o.text.items o.status in
     if_ok_both HasText IsRefused IsSo (λ o t s. refused c.in-Err.refusal (rw c.in-Err.is at c.in_ok-file.ensures) t s)
     c.refusal_output.result c.refusal_output.ensures.text c.refusal_output.ensures.status
 
+pub rejudge-requires-after_bounds : goal.rejudge-requires-after_bounds
+rejudge-requires-after_bounds g c κs within =
+    let OfRuns : List Run → Type 0 = λ rs. AreLawful c.in-Ok.file.compiled rs in
+    may_be_judged c.in-Ok.file.compiled _
+    (subst OfRuns (sym c.as_slice-in-Ok-2.ensures.value)
+    (rw (c.typed.ensures, c.in-Ok-2.is) at c.in_ok-runs.ensures.lawful))
+
 pub returns-in-Ok-2 : goal.returns-in-Ok-2
-returns-in-Ok-2 c =
+returns-in-Ok-2 g c =
     let m = c.in-Ok.file.compiled in
     let trees = c.in-Ok.file.trees.items in
     let runs = c.in-Ok-2.runs.items in
@@ -27,12 +36,12 @@ returns-in-Ok-2 c =
     let read : runs_of m c.items_of-items.result.now ≡ Ok runs = rw (c.typed.ensures, c.in-Ok-2.is) at c.in_ok-runs.ensures.runs in
     let OfRuns : List Run → Type 0 = λ rs. AreJudged m rs all in
     judged m trees runs all (rw c.in-Ok.is at c.in_ok-file.ensures) (ap (runs_of m) items ∙ read)
-    (subst OfRuns c.as_slice-in-Ok-2.ensures.value c.in_ok-all-in-Ok-2.ensures)
+    (subst OfRuns c.as_slice-in-Ok-2.ensures.value (are_judged m _ all c.in_ok-all-in-Ok-2.ensures))
     (c.new.ensures.text ∙ c.in_ok-text-in-Ok-2.ensures ∙ ap (item_lines 1) c.as_slice-in-Ok-2-2.ensures.value)
     (c.new.ensures.status ∙ c.status_of.ensures ∙ ap status_of c.as_slice-in-Ok-2-3.ensures.value)
 
 pub returns : goal.returns
-returns c =
+returns g c =
     let m = c.in-Ok.file.compiled in
     let trees = c.in-Ok.file.trees.items in
     let items : items_of trees ≡ c.items_of-items.result.now = ap items_of (sym c.as_slice.ensures.value) ∙ sym c.items_of-items.ensures in

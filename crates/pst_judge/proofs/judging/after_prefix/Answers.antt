@@ -1,81 +1,32 @@
-use Rattle.std.proofs.Common.{◌≡◌, ◌+◌, length, ap, ◌∙◌, arith}
-use Rattle.pst_case.specs.Shape.{joined, before_suffix}
-use Rattle.pst_judge.proofs.Fitted.{branches_are, suffix_fits, suffix_few, prefix_within, branches_within, suffix_within, lengths_within}
+use Rattle.std.proofs.Common.{◌≡◌, length, ap, ◌∙◌, arith}
+use Rattle.pst_judge.proofs.Fitted.{branches_are, suffix_fits, suffix_few, prefix_within, lengths_within}
 use Rattle.pst_judge.proofs.judging.after_prefix.Goals as goal
 
-pub overflow_cast-number : goal.overflow_cast-number
-overflow_cast-number g c =
-    let h = prefix_within (g.C.Callbacks.model c.args.callbacks.now) c.args.shaped.now.case c.requires.shape in
-    let n : c.len-prefix.result ≡ length c.args.shaped.now.case.prefix = c.len-prefix.ensures ∙ ap (λ x. length x.prefix) c.case-case.ensures.same in
-    omega (arith, h, n)
-
-pub overflow_add-number : goal.overflow_add-number
-overflow_add-number g c =
-    let h = prefix_within (g.C.Callbacks.model c.args.callbacks.now) c.args.shaped.now.case c.requires.shape in
-    let n : c.len-prefix.result ≡ length c.args.shaped.now.case.prefix = c.len-prefix.ensures ∙ ap (λ x. length x.prefix) c.case-case.ensures.same in
-    omega (arith, h, n)
-
-pub branches_events-requires : goal.branches_events-requires
-branches_events-requires g c =
-    let h = prefix_within (g.C.Callbacks.model c.args.callbacks.now) c.args.shaped.now.case c.requires.shape in
-    let k = branches_within (g.C.Callbacks.model c.args.callbacks.now) c.args.shaped.now.case c.requires.shape in
-    let n : c.len-prefix.result ≡ length c.args.shaped.now.case.prefix = c.len-prefix.ensures ∙ ap (λ x. length x.prefix) c.case-case.ensures.same in
-    let b : length (joined c.as_slice-commands.result.now) ≡ length (joined c.args.shaped.now.case.branches) = ap (λ x. length (joined x)) c.as_slice-commands.ensures ∙ ap (λ x. length (joined x.branches)) c.case-case.ensures.same in
-    omega (arith, h, k, n, b)
-
-pub number_behind-number-requires : goal.number_behind-number-requires
-number_behind-number-requires g c =
-    let h = prefix_within (g.C.Callbacks.model c.args.callbacks.now) c.args.shaped.now.case c.requires.shape in
-    let k = branches_within (g.C.Callbacks.model c.args.callbacks.now) c.args.shaped.now.case c.requires.shape in
-    let n : c.len-prefix.result ≡ length c.args.shaped.now.case.prefix = c.len-prefix.ensures ∙ ap (λ x. length x.prefix) c.case-case.ensures.same in
-    let b : length (joined c.as_slice-commands.result.now) ≡ length (joined c.args.shaped.now.case.branches) = ap (λ x. length (joined x)) c.as_slice-commands.ensures ∙ ap (λ x. length (joined x.branches)) c.case-case.ensures.same in
-    omega (arith, h, k, n, b)
-
-pub part_events-requires : goal.part_events-requires
-part_events-requires g c =
-    let h = prefix_within (g.C.Callbacks.model c.args.callbacks.now) c.args.shaped.now.case c.requires.shape in
-    let k = branches_within (g.C.Callbacks.model c.args.callbacks.now) c.args.shaped.now.case c.requires.shape in
-    let w = suffix_within (g.C.Callbacks.model c.args.callbacks.now) c.args.shaped.now.case c.requires.shape in
-    let n : c.len-prefix.result ≡ length c.args.shaped.now.case.prefix = c.len-prefix.ensures ∙ ap (λ x. length x.prefix) c.case-case.ensures.same in
-    let b : length (joined c.as_slice-commands.result.now) ≡ length (joined c.args.shaped.now.case.branches) = ap (λ x. length (joined x)) c.as_slice-commands.ensures ∙ ap (λ x. length (joined x.branches)) c.case-case.ensures.same in
-    let s : length c.as_slice-commands-2.result.now ≡ length c.args.shaped.now.case.suffix = ap (λ x. length x) c.as_slice-commands-2.ensures ∙ ap (λ x. length x.suffix) c.case-case.ensures.same in
-    omega (arith, h, k, w, n, b, s, c.number_behind-number.ensures)
+pub search-requires-clause-state : goal.search-requires-clause-state
+search-requires-clause-state g c = rw (c.in_ok-branches.ensures.callbacks, c.in_ok-branches.ensures.shaped) c.requires.state
 
 pub search-requires-clause-commands : goal.search-requires-clause-commands
 search-requires-clause-commands g c =
-    let e = rw (c.new.ensures, c.as_slice-commands.ensures, c.as_slice-replies.ensures, c.requires.results, c.len-prefix.ensures, c.case-case.ensures.same) at c.in_ok-events.ensures in
-    rw e (branches_are (g.C.Callbacks.model c.args.callbacks.now) c.args.shaped.now.case c.args.history.now c.requires.shape c.requires.matches c.requires.answered)
+    rw (c.in_ok-branches.ensures.events, c.in_ok-branches.ensures.callbacks, c.in_ok-branches.ensures.shaped) (branches_are (g.C.Callbacks.model c.args.callbacks.now) c.args.shaped.now.case c.args.history.now c.requires.shape c.requires.matches c.requires.answered)
 
 pub search-requires-clause-events : goal.search-requires-clause-events
 search-requires-clause-events g c =
-    let n : c.len-prefix.result ≡ length c.args.shaped.now.case.prefix = c.len-prefix.ensures ∙ ap (λ x. length x.prefix) c.case-case.ensures.same in
-    let b : length (joined c.as_slice-commands.result.now) ≡ length (joined c.args.shaped.now.case.branches) = ap (λ x. length (joined x)) c.as_slice-commands.ensures ∙ ap (λ x. length (joined x.branches)) c.case-case.ensures.same in
-    let number : c.number_behind-number.result ≡ 1 + before_suffix c.args.shaped.now.case = omega (arith, n, b, c.number_behind-number.ensures) in
-    let e = rw (c.new-2.ensures, c.as_slice-commands-2.ensures, c.as_slice-replies-2.ensures, c.requires.results, number, c.case-case.ensures.same) at c.in_ok-suffix.ensures in
-    rw e (suffix_fits (g.C.Callbacks.model c.args.callbacks.now) c.args.shaped.now.case c.args.history.now c.requires.shape c.requires.matches c.requires.answered)
+    rw (c.in_ok-branches.ensures.suffix, c.in_ok-branches.ensures.callbacks, c.in_ok-branches.ensures.shaped) (suffix_fits (g.C.Callbacks.model c.args.callbacks.now) c.args.shaped.now.case c.args.history.now c.requires.shape c.requires.matches c.requires.answered)
 
 pub search-requires-clause-prefix : goal.search-requires-clause-prefix
 search-requires-clause-prefix g c =
     let h = prefix_within (g.C.Callbacks.model c.args.callbacks.now) c.args.shaped.now.case c.requires.shape in
-    let n : c.len-prefix.result ≡ length c.args.shaped.now.case.prefix = c.len-prefix.ensures ∙ ap (λ x. length x.prefix) c.case-case.ensures.same in
+    let n : c.len.result ≡ length c.args.shaped.now.case.prefix = c.len.ensures ∙ ap (λ x. length x.prefix) c.case.ensures.same in
     omega (arith, h, n)
 
 pub search-requires-clause-lengths : goal.search-requires-clause-lengths
-search-requires-clause-lengths g c = lengths_within (g.C.Callbacks.model c.args.callbacks.now) c.args.shaped.now.case c.requires.shape
+search-requires-clause-lengths g c = rw c.in_ok-branches.ensures.shaped (lengths_within (g.C.Callbacks.model c.args.callbacks.now) c.args.shaped.now.case c.requires.shape)
 
 pub search-requires-clause-suffix : goal.search-requires-clause-suffix
 search-requires-clause-suffix g c =
-    let n : c.len-prefix.result ≡ length c.args.shaped.now.case.prefix = c.len-prefix.ensures ∙ ap (λ x. length x.prefix) c.case-case.ensures.same in
-    let b : length (joined c.as_slice-commands.result.now) ≡ length (joined c.args.shaped.now.case.branches) = ap (λ x. length (joined x)) c.as_slice-commands.ensures ∙ ap (λ x. length (joined x.branches)) c.case-case.ensures.same in
-    let number : c.number_behind-number.result ≡ 1 + before_suffix c.args.shaped.now.case = omega (arith, n, b, c.number_behind-number.ensures) in
-    let e = rw (c.new-2.ensures, c.as_slice-commands-2.ensures, c.as_slice-replies-2.ensures, c.requires.results, number, c.case-case.ensures.same) at c.in_ok-suffix.ensures in
-    rw e (suffix_few (g.C.Callbacks.model c.args.callbacks.now) c.args.shaped.now.case c.args.history.now c.requires.shape c.requires.matches c.requires.answered)
+    rw c.in_ok-branches.ensures.suffix (suffix_few (g.C.Callbacks.model c.args.callbacks.now) c.args.shaped.now.case c.args.history.now c.requires.shape c.requires.matches c.requires.answered)
 
 pub returns : goal.returns
 returns g c =
-    let n : c.len-prefix.result ≡ length c.args.shaped.now.case.prefix = c.len-prefix.ensures ∙ ap (λ x. length x.prefix) c.case-case.ensures.same in
-    let b : length (joined c.as_slice-commands.result.now) ≡ length (joined c.args.shaped.now.case.branches) = ap (λ x. length (joined x)) c.as_slice-commands.ensures ∙ ap (λ x. length (joined x.branches)) c.case-case.ensures.same in
-    let number : c.number_behind-number.result ≡ 1 + before_suffix c.args.shaped.now.case = omega (arith, n, b, c.number_behind-number.ensures) in
-    let e = rw (c.new.ensures, c.as_slice-commands.ensures, c.as_slice-replies.ensures, c.requires.results, c.len-prefix.ensures, c.case-case.ensures.same) at c.in_ok-events.ensures in
-    let s = rw (c.new-2.ensures, c.as_slice-commands-2.ensures, c.as_slice-replies-2.ensures, c.requires.results, number, c.case-case.ensures.same) at c.in_ok-suffix.ensures in
-    rw (e, s, n) at c.search.ensures
+    let n : c.len.result ≡ length c.args.shaped.now.case.prefix = c.len.ensures ∙ ap (λ x. length x.prefix) c.case.ensures.same in
+    rw (c.in_ok-branches.ensures.events, c.in_ok-branches.ensures.suffix, c.in_ok-branches.ensures.callbacks, c.in_ok-branches.ensures.condition, c.in_ok-branches.ensures.shaped, n) at c.search.ensures

@@ -1,6 +1,6 @@
-use Rattle.std.proofs.Common.{◌≡◌, [], length, ap, sym, ◌∙◌, arith}
+use Rattle.std.proofs.Common.{◌≡◌, [], ap, sym, ◌∙◌}
 use Rattle.pst_case.specs.Shape.{result_types}
-use Rattle.pst_judge.proofs.Fitted.{prefix_fits, prefix_length, prefix_within}
+use Rattle.pst_judge.proofs.Fitted.{prefix_fits, prefix_length}
 use Rattle.pst_judge.proofs.Furthest.{if_ok_map}
 use Rattle.pst_judge.proofs.FromReplay.{init_faults, prefix_false, prefix_faults, prefix_through}
 use Rattle.pst_judge.specs.declared.running.EventsEnd.TheVariants.{Stopped}
@@ -8,52 +8,46 @@ use Rattle.pst_judge.proofs.judging.judged.Goals as goal
 
 pub returns-in-Err : goal.returns-in-Err
 returns-in-Err g c =
-    init_faults (g.C.Callbacks.model c.args.callbacks.now) c.args.shaped.now.case c.args.history.now c.in-Err.fault (rw c.in-Err.is at c.in_ok-opening.ensures.says)
-
-pub part_events-requires : goal.part_events-requires
-part_events-requires g c =
-    let h = prefix_within (g.C.Callbacks.model c.args.callbacks.now) c.args.shaped.now.case c.requires.shape in
-    let n : length c.as_slice-commands.result.now ≡ length c.args.shaped.now.case.prefix = ap length c.as_slice-commands.ensures ∙ ap (λ x. length x.prefix) c.case.ensures.same in
-    omega (arith, h, n)
+    let m = g.C.Callbacks.model c.args.callbacks.now in
+    let asked = g.A.Condition.asked c.args.condition.now m in
+    init_faults m asked c.args.shaped.now.case c.args.history.now c.in-Err.fault (rw c.in-Err.is at c.in_ok-opening.ensures.says)
 
 pub run_events-requires : goal.run_events-requires
 run_events-requires g c =
     let m = g.C.Callbacks.model c.args.callbacks.now in
     let ts = result_types m c.args.shaped.now.case in
-    let e = rw (c.new.ensures, c.as_slice-commands.ensures, c.as_slice-replies.ensures, c.requires.results, c.case.ensures.same) at c.in_ok-prefix.ensures in
     let f = prefix_fits m c.args.shaped.now.case c.args.history.now c.requires.shape c.requires.matches c.requires.answered in
-    (ts, rw c.in-Ok.is at (c.in_ok-opening.ensures.fits [] ts), rw (c.as_slice.ensures, e) f)
+    (ts, rw c.in-Ok.is at (c.in_ok-opening.ensures.fits [] ts), rw (c.as_slice.ensures, c.in_ok-prefix.ensures) f)
 
 pub after_prefix-requires-clause-state : goal.after_prefix-requires-clause-state
 after_prefix-requires-clause-state g c =
     let m = g.C.Callbacks.model c.args.callbacks.now in
     let ts = result_types m c.args.shaped.now.case in
-    let e = rw (c.new.ensures, c.as_slice-commands.ensures, c.as_slice-replies.ensures, c.requires.results, c.case.ensures.same) at c.in_ok-prefix.ensures in
     let f = prefix_fits m c.args.shaped.now.case c.args.history.now c.requires.shape c.requires.matches c.requires.answered in
     let s = rw c.in-Ok.is at (c.in_ok-opening.ensures.fits [] ts) in
-    rw c.in-Through.is at (c.in_ok-last.ensures.state ts s (rw (c.as_slice.ensures, e) f))
+    rw c.in-Through.is at (c.in_ok-last.ensures.state ts s (rw (c.as_slice.ensures, c.in_ok-prefix.ensures) f))
 
 pub returns-in-Through : goal.returns-in-Through
 returns-in-Through g c =
     let m = g.C.Callbacks.model c.args.callbacks.now in
-    let e = rw (c.new.ensures, c.as_slice-commands.ensures, c.as_slice-replies.ensures, c.requires.results, c.case.ensures.same) at c.in_ok-prefix.ensures in
+    let asked = g.A.Condition.asked c.args.condition.now m in
     let says = rw c.in-Ok.is at c.in_ok-opening.ensures.says in
-    let end = rw (c.as_slice.ensures, e) at c.in_ok-last.ensures.end in
+    let end = rw (c.as_slice.ensures, c.in_ok-prefix.ensures) at c.in_ok-last.ensures.end in
     let l = prefix_length m c.args.shaped.now.case c.args.history.now c.requires.shape c.requires.matches c.requires.answered in
-    if_ok_map _ _ c.after_prefix.result (λ v a. prefix_through m c.args.shaped.now.case c.args.history.now c.in-Ok.opening c.in-Through.last v says (sym end ∙ c.in-Through.is) l a) c.after_prefix.ensures
+    if_ok_map _ _ c.after_prefix.result (λ v a. prefix_through m asked c.args.shaped.now.case c.args.history.now c.in-Ok.opening c.in-Through.last v says (sym end ∙ c.in-Through.is) l a) c.after_prefix.ensures
 
 pub returns-in-Stopped-default-False : goal.returns-in-Stopped-default-False
 returns-in-Stopped-default-False g c =
     let m = g.C.Callbacks.model c.args.callbacks.now in
-    let e = rw (c.new.ensures, c.as_slice-commands.ensures, c.as_slice-replies.ensures, c.requires.results, c.case.ensures.same) at c.in_ok-prefix.ensures in
+    let asked = g.A.Condition.asked c.args.condition.now m in
     let says = rw c.in-Ok.is at c.in_ok-opening.ensures.says in
-    let end = rw (c.as_slice.ensures, e) at c.in_ok-last.ensures.end in
-    prefix_false m c.args.shaped.now.case c.args.history.now c.in-Ok.opening c.in-Stopped-default-False.at says (sym end ∙ c.in-Stopped-default-False.is ∙ ap (λ w. Stopped c.in-Stopped-default-False.at w) c.in-Stopped-default-False.field-1-is)
+    let end = rw (c.as_slice.ensures, c.in_ok-prefix.ensures) at c.in_ok-last.ensures.end in
+    prefix_false m asked c.args.shaped.now.case c.args.history.now c.in-Ok.opening c.in-Stopped-default-False.at says (sym end ∙ c.in-Stopped-default-False.is ∙ ap (λ w. Stopped c.in-Stopped-default-False.at w) c.in-Stopped-default-False.field-1-is)
 
 pub returns : goal.returns
 returns g c =
     let m = g.C.Callbacks.model c.args.callbacks.now in
-    let e = rw (c.new.ensures, c.as_slice-commands.ensures, c.as_slice-replies.ensures, c.requires.results, c.case.ensures.same) at c.in_ok-prefix.ensures in
+    let asked = g.A.Condition.asked c.args.condition.now m in
     let says = rw c.in-Ok.is at c.in_ok-opening.ensures.says in
-    let end = rw (c.as_slice.ensures, e) at c.in_ok-last.ensures.end in
-    rw c.in-Stopped-default-Fault.place-is (prefix_faults m c.args.shaped.now.case c.args.history.now c.in-Ok.opening c.in-Stopped-default-Fault.field-0 c.in-Stopped-default-Fault.place says (sym end ∙ c.in-Stopped-default-Fault.is ∙ ap (λ w. Stopped c.in-Stopped-default-Fault.field-0 w) c.in-Stopped-default-Fault.field-1-is))
+    let end = rw (c.as_slice.ensures, c.in_ok-prefix.ensures) at c.in_ok-last.ensures.end in
+    rw c.in-Stopped-default-Fault.place-is (prefix_faults m asked c.args.shaped.now.case c.args.history.now c.in-Ok.opening c.in-Stopped-default-Fault.field-0 c.in-Stopped-default-Fault.place says (sym end ∙ c.in-Stopped-default-Fault.is ∙ ap (λ w. Stopped c.in-Stopped-default-Fault.field-0 w) c.in-Stopped-default-Fault.field-1-is))

@@ -1,5 +1,5 @@
 use Rattle.pst_judge.proofs.Furthest.{far_counts}
-use Rattle.pst_judge.specs.Replay.{branch_turn, branch_lengths}
+use Rattle.pst_judge.specs.Replay.{branch_turn_asking, branch_lengths}
 use Rattle.pst_judge.proofs.search.search.Goals as goal
 
 pub some-requires-clause-state : goal.some-requires-clause-state
@@ -12,7 +12,8 @@ pub verdict_of-requires : goal.verdict_of-requires
 verdict_of-requires g c =
     let a = rw (c.as_slice-2.ensures.value, c.in_ok-lengths.ensures, c.as_slice.ensures, c.case.ensures.same) at c.in_ok-answer.ensures.answer in
     let m = g.C.Callbacks.model c.args.branches.now.callbacks.now in
-    far_counts m c.args.branches.now.suffix (branch_turn m c.args.branches.now.events) (branch_lengths c.args.branches.now.shaped.now.case) c.args.state.now c.args.prefix c.in_ok-answer.answer a c.requires.prefix c.requires.lengths c.requires.suffix
+    let asked = g.A.Condition.asked c.args.branches.now.condition.now m in
+    far_counts m asked c.args.branches.now.suffix (branch_turn_asking m asked c.args.branches.now.events) (branch_lengths c.args.branches.now.shaped.now.case) c.args.state.now c.args.prefix c.in_ok-answer.answer a c.requires.prefix c.requires.lengths c.requires.suffix
 
 pub returns : goal.returns
 returns g c =

@@ -1,0 +1,131 @@
+//! `pst explain`.
+ghost use Rattle.std.specs.Prelude.{◌≡◌, false, IfOk};
+ghost use Rattle.pst_cli.specs.ExplainOutput.{IsExplainOutput};
+ghost use Rattle.pst_cli.specs.Output.{AreJudged};
+ghost use Rattle.pst_cli.specs.Sending.{Prints};
+ghost use Rattle.pst_runs.specs.Lawful.{AreLawful};
+
+use crate::compiled::load_compiled;
+use crate::judge::{refused_run, runs_in, status_of};
+use crate::output::{Output, send};
+use crate::refusal::refusal_output;
+use crate::sharing::may_share_compiled;
+use crate::status::Status;
+use pst_case::Run;
+use pst_compile::Compiled;
+use pst_explain::{explain_item, first_lines};
+use pst_judge::Judged;
+use pst_load::items_of;
+use pst_rejudge::rejudge;
+use pst_sink::Sink;
+use std::alloc::{AllocError, Global};
+use std::thread::Threads;
+
+/// Where an explanation stands: the number of its item, the lines on which this item and those behind it begin, and the
+/// width of lines.
+#[derive(Clone, Copy, Drop)]
+struct Setting<'a> {
+    number: usize,
+    lines: &'a [usize],
+    width: usize,
+}
+
+/// Adds the explanations of items, an empty line before each but the first.
+fn add_items(
+    alloc: Global,
+    compiled: &Compiled,
+    setting: Setting<'_>,
+    runs: &[Run],
+    all: &[Judged],
+    mut text: Vec<u8>,
+) -> Result<Vec<u8>, AllocError>
+    requires lawful { AreLawful compiled.now runs.now }
+    requires judged { AreJudged compiled.now runs.now all.now }
+{
+    let Some((run, runs)) = runs.split_first() else {
+        return Ok(text);
+    };
+    let Some((judged, all)) = all.split_first() else {
+        return Ok(text);
+    };
+    let Setting {
+        number,
+        lines,
+        width,
+    } = setting;
+    let line = lines.first().copied().unwrap_or(0);
+    if !text.is_empty() {
+        text.push(b'\n')?;
+    }
+    let typed = compiled.typed();
+    let item = explain_item(compiled, alloc, typed, run, judged, number, line, width)?;
+    text.extend_from_slice(item.as_slice())?;
+    let behind = Setting {
+        number: number.saturating_add(1),
+        lines: lines.get(1..).unwrap_or(&[]),
+        width,
+    };
+    add_items(alloc, compiled, behind, runs, all, text)
+}
+
+/// The explanations of the items behind the model, or the first refusal.
+fn explain_output<R: Threads + Sync>(
+    rt: &R,
+    alloc: Global,
+    input: &[u8],
+    width: usize,
+) -> Result<Output, AllocError>
+    ensures { IfOk result (λ output. IsExplainOutput input.now output.text.items output.status) }
+{
+    let file = match load_compiled(alloc, input)? {
+        Ok(file) => file,
+        Err(refusal) => return refusal_output(alloc, &refusal),
+    };
+    let items = items_of(file.trees.as_slice());
+    match runs_in(alloc, file.compiled.typed(), items)? {
+        Ok(runs) => {
+            may_share_compiled();
+            let all = rejudge(rt, &file.compiled, alloc, runs.as_slice())?;
+            let lines = first_lines(alloc, input)?;
+            let setting = Setting {
+                number: 1,
+                lines: lines.get(1..).unwrap_or(&[]),
+                width,
+            };
+            let text = add_items(
+                alloc,
+                &file.compiled,
+                setting,
+                runs.as_slice(),
+                all.as_slice(),
+                Vec::new(alloc),
+            )?;
+            Ok(Output {
+                text,
+                status: status_of(all.as_slice()),
+            })
+        }
+        Err(fault) => refused_run(alloc, &fault),
+    }
+}
+
+/// Explains the verdicts on the items behind the model that the input begins with: writes for each, in the order of the
+/// items, the line of its verdict with the line of the file where it begins, and below it why the verdict is so, in lines
+/// of the width; or the first refusal alone, as `judge_text` does. The status is that of `judge_text`. Where memory is
+/// refused, `refused memory` alone is written.
+pub fn explain_text<W: Sink, R: Threads + Sync>(
+    rt: &R,
+    alloc: Global,
+    input: &[u8],
+    width: usize,
+    sink: &mut W,
+) -> Status
+    requires { W.broken sink.old ≡ false }
+    ensures { Prints (IsExplainOutput input.now)
+        (W.taken sink.old) (W.taken sink.new) (W.broken sink.new) result }
+{
+    match explain_output(rt, alloc, input, width) {
+        Ok(output) => send(output.text.as_slice(), output.status, sink),
+        Err(AllocError) => send(b"refused memory\n", Status::Lost, sink),
+    }
+}

@@ -1,0 +1,21 @@
+//! What threads may share: compiled models. The functions do nothing, and their contracts say it of the parts.
+ghost use Rattle.std.specs.Thread.{IsSync};
+ghost use Rattle.pst_compile.specs.contracts.compiled.Compiled.{the_row as compiled_row};
+
+use pst_compile::Compiled;
+use pst_machine::Code;
+use pst_rules::Typed;
+
+/// What is `Sync` may be shared by threads.
+fn may_share<T: Sync>()
+    ensures { IsSync T.row }
+{}
+
+/// Compiled models may be shared by threads.
+pub(crate) fn may_share_compiled()
+    ensures { IsSync compiled_row }
+{
+    may_share::<Typed>();
+    may_share::<Code>();
+    may_share::<Compiled>()
+}

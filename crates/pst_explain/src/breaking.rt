@@ -1,0 +1,58 @@
+//! Items with a reply that is no value.
+
+use crate::calls::Call;
+use crate::forms::add_form;
+use crate::order::call_numbered;
+use crate::page::Page;
+use crate::parts::add_parts;
+use crate::scene::Scene;
+use crate::spelling::add;
+use crate::told::operation;
+use pst_case::Reply;
+use pst_print::ty_form;
+use std::alloc::{AllocError, Global};
+
+/// What the reply says of a command.
+fn meaning(reply: &Reply) -> &'static str {
+    match reply {
+        Reply::Value(_) => "has a value",
+        Reply::Misfit => "has the reply misfit: it answered something else than",
+        Reply::Failed => "has the reply failed: the call was refused, and did not answer",
+        Reply::NotRun => "has the reply not-run: it was not called, and did not answer",
+    }
+}
+
+/// Which reply a command has, and the type that was wanted.
+fn broken_sentence(
+    alloc: Global,
+    scene: &Scene<'_>,
+    call: &Call<'_>,
+    reply: &Reply,
+) -> Result<Vec<u8>, AllocError> {
+    let mut text = call.text(alloc, scene.model)?;
+    add(&mut text, " ")?;
+    add(&mut text, meaning(reply))?;
+    if let Some(operation) = operation(scene, call) {
+        add(&mut text, " a value of type ")?;
+        add_form(&mut text, &ty_form(alloc, &operation.result)?)?;
+    }
+    add(&mut text, ".")?;
+    Ok(text)
+}
+
+/// Adds which reply is no value, and the run.
+pub fn add_broken(
+    page: &mut Page,
+    alloc: Global,
+    scene: &Scene<'_>,
+    number: u32,
+) -> Result<(), AllocError> {
+    if let Some(call) = call_numbered(scene.all.as_slice(), number) {
+        if let Some(reply) = call.reply {
+            let sentence = broken_sentence(alloc, scene, &call, reply)?;
+            page.add_sentence(alloc, 2, sentence.as_slice())?;
+        }
+    }
+    page.add_sentence(alloc, 2, b"The run, with * before this command:")?;
+    add_parts(page, alloc, scene, &[number])
+}

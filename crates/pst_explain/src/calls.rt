@@ -1,0 +1,162 @@
+//! The commands of a case with their places and replies.
+
+use crate::letters::letter;
+use crate::spelling::{add, add_command, add_number, add_reply, add_variable};
+use pst_case::{Case, Command, History, Reply};
+use pst_items::Items;
+use pst_model::Source;
+use std::alloc::{AllocError, Global};
+
+/// A part of a case.
+#[derive(Clone, Copy, Debug, PartialEq, Eq, Drop)]
+pub enum Part {
+    Prefix,
+    /// A branch, from 0.
+    Branch(usize),
+    Suffix,
+}
+
+/// A command of a case.
+#[derive(Clone, Copy, Drop)]
+pub struct Call<'a> {
+    /// The part that it stands in.
+    pub part: Part,
+    /// Its place in its part, from 1.
+    pub place: usize,
+    /// Its number in the case, from 1.
+    pub number: u32,
+    pub command: &'a Command,
+    /// What was recorded of it, where the case was run.
+    pub reply: Option<&'a Reply>,
+}
+
+/// The commands of a case, part by part.
+#[derive(Drop)]
+pub struct Calls<'a> {
+    pub prefix: Vec<Call<'a>>,
+    pub branches: Vec<Vec<Call<'a>>>,
+    pub suffix: Vec<Call<'a>>,
+}
+
+/// The commands of a part whose first command has the number.
+fn part_calls<'a>(
+    alloc: Global,
+    part: Part,
+    first: u32,
+    commands: &'a [Command],
+    replies: &'a [Reply],
+) -> Result<Vec<Call<'a>>, AllocError> {
+    let mut calls = Vec::new(alloc);
+    let mut number = first;
+    for (index, command) in commands.iter().enumerate() {
+        calls.push(Call {
+            part,
+            place: index.saturating_add(1),
+            number,
+            command,
+            reply: replies.get(index),
+        })?;
+        number = number.saturating_add(1);
+    }
+    Ok(calls)
+}
+
+/// The number behind the commands, the first of which has the number.
+fn behind(first: u32, commands: &[Command]) -> u32 {
+    let mut number = first;
+    for _command in commands {
+        number = number.saturating_add(1);
+    }
+    number
+}
+
+/// The commands of the branches, and the number behind them.
+fn branch_calls<'a>(
+    alloc: Global,
+    first: u32,
+    branches: &'a [Items<Command>],
+    replies: &'a [Items<Reply>],
+) -> Result<(Vec<Vec<Call<'a>>>, u32), AllocError> {
+    let mut calls = Vec::new(alloc);
+    let mut number = first;
+    for (index, branch) in branches.iter().enumerate() {
+        let commands = branch.as_slice();
+        let answers = match replies.get(index) {
+            Some(answers) => answers.as_slice(),
+            None => &[],
+        };
+        calls.push(part_calls(alloc, Part::Branch(index), number, commands, answers)?)?;
+        number = behind(number, commands);
+    }
+    Ok((calls, number))
+}
+
+/// The commands of a case with what was recorded of them.
+pub fn calls_with<'a>(
+    alloc: Global,
+    case: &'a Case,
+    prefix: &'a [Reply],
+    branches: &'a [Items<Reply>],
+    suffix: &'a [Reply],
+) -> Result<Calls<'a>, AllocError> {
+    let commands = case.prefix.as_slice();
+    let number = behind(1, commands);
+    let prefix = part_calls(alloc, Part::Prefix, 1, commands, prefix)?;
+    let (branches, number) = branch_calls(alloc, number, case.branches.as_slice(), branches)?;
+    let suffix = part_calls(alloc, Part::Suffix, number, case.suffix.as_slice(), suffix)?;
+    Ok(Calls {
+        prefix,
+        branches,
+        suffix,
+    })
+}
+
+/// The commands of a case, with their replies where there are some.
+pub fn calls_of<'a>(
+    alloc: Global,
+    case: &'a Case,
+    history: &'a Option<History>,
+) -> Result<Calls<'a>, AllocError> {
+    match history {
+        Some(history) => calls_with(
+            alloc,
+            case,
+            history.prefix.as_slice(),
+            history.branches.as_slice(),
+            history.suffix.as_slice(),
+        ),
+        None => calls_with(alloc, case, &[], &[], &[]),
+    }
+}
+
+impl<'a> Call<'a> {
+    /// Adds the place of the command, as `P1`, `L2` or `X1`.
+    pub fn add_place(&self, out: &mut Vec<u8>, alloc: Global) -> Result<(), AllocError> {
+        out.push(match self.part {
+            Part::Prefix => b'P',
+            Part::Branch(branch) => letter(branch),
+            Part::Suffix => b'X',
+        })?;
+        add_number(out, alloc, self.place)
+    }
+
+    /// The place of the command and its spelling, as `L2 (put 1)`.
+    pub fn text(&self, alloc: Global, model: &Source) -> Result<Vec<u8>, AllocError> {
+        let mut out = Vec::new(alloc);
+        self.add_place(&mut out, alloc)?;
+        add(&mut out, " ")?;
+        add_command(&mut out, alloc, model, self.command)?;
+        Ok(out)
+    }
+
+    /// The text, and behind it the reply; the variable of the command where there is none.
+    pub fn with_reply(&self, alloc: Global, model: &Source) -> Result<Vec<u8>, AllocError> {
+        let mut out = self.text(alloc, model)?;
+        add(&mut out, " -> ")?;
+        match self.reply {
+            Some(reply) => add_reply(&mut out, alloc, model, reply)?,
+            None => add_variable(&mut out, alloc, self.number)?,
+        }
+        Ok(out)
+    }
+}

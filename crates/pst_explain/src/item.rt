@@ -1,0 +1,133 @@
+//! The explanation of an item.
+ghost use Rattle.std.specs.Prelude.{◌≡◌, true};
+ghost use Rattle.pst_case.specs.Matches.{matches};
+ghost use Rattle.pst_judge.specs.Judgement.{HistoryMatches, IsJudgement};
+ghost use Rattle.pst_judge.specs.Verdict.{IsVerdict};
+ghost use Rattle.pst_judge.specs.declared.verdicts.Verdict.TheVariants as verdict;
+ghost use Rattle.pst_model.specs.Parts.{parameters_of};
+
+use crate::breaking::add_broken;
+use crate::calls::Part;
+use crate::cores::add_core;
+use crate::explaining::add_explained;
+use crate::faulting::add_fault;
+use crate::invalid::add_invalid;
+use crate::order::call_numbered;
+use crate::page::Page;
+use crate::scene::{Scene, scene_of};
+use crate::spelling::{add, add_number};
+use crate::unexplained::add_unexplained;
+use pst_case::{History, Run};
+use pst_eval::{Callbacks, Place};
+use pst_judge::{Judged, Verdict};
+use pst_paths::faulting;
+use pst_rules::Typed;
+use std::alloc::{AllocError, Global};
+
+/// Adds why a callback faults: the interleaving in which it does, and a core.
+fn add_faulted<C: Callbacks>(
+    page: &mut Page,
+    callbacks: &C,
+    alloc: Global,
+    scene: &Scene<'_>,
+    history: &History,
+    place: Place,
+) -> Result<(), AllocError>
+    requires model { scene.now.model.now ≡ C.model callbacks.now }
+    requires types { scene.now.ops ≡ parameters_of scene.now.model.now.items }
+    requires shaped { scene.now.run.now.shaped.model ≡ C.model callbacks.now }
+    requires matches { matches (C.model callbacks.now) scene.now.run.now.shaped.case history.now ≡ true }
+    requires verdict { IsVerdict (C.model callbacks.now) scene.now.run.now.shaped.case history.now
+        (verdict.Faulted place) }
+{
+    let mut word = faulting(callbacks, alloc, &scene.run.shaped, history)?;
+    if let Some(call) = call_numbered(scene.all.as_slice(), place.command) {
+        if let Part::Branch(branch) = call.part {
+            word.push(branch)?;
+        }
+    }
+    add_fault(page, callbacks, alloc, scene, word.as_slice(), place)?;
+    add_core(page, callbacks, alloc, scene, history)
+}
+
+/// Adds the explanation of a verdict.
+fn add_verdict<C: Callbacks>(
+    page: &mut Page,
+    callbacks: &C,
+    alloc: Global,
+    scene: &Scene<'_>,
+    history: &History,
+    verdict: &Verdict,
+) -> Result<(), AllocError>
+    requires model { scene.now.model.now ≡ C.model callbacks.now }
+    requires types { scene.now.ops ≡ parameters_of scene.now.model.now.items }
+    requires shaped { scene.now.run.now.shaped.model ≡ C.model callbacks.now }
+    requires matches { matches (C.model callbacks.now) scene.now.run.now.shaped.case history.now ≡ true }
+    requires verdict { IsVerdict (C.model callbacks.now) scene.now.run.now.shaped.case history.now
+        verdict.now }
+{
+    match verdict {
+        Verdict::Explained(word) => add_explained(
+            page,
+            callbacks,
+            alloc,
+            scene,
+            history,
+            word.as_slice(),
+        ),
+        Verdict::Faulted(place) => add_faulted(page, callbacks, alloc, scene, history, *place),
+        Verdict::Unexplained(far) => add_unexplained(page, callbacks, alloc, scene, history, *far),
+        Verdict::Broken(number) => add_broken(page, alloc, scene, *number),
+    }
+}
+
+/// The first line of an item: what `pst judge` says of it, and the line of the file where it begins.
+fn add_heading(
+    page: &mut Page,
+    alloc: Global,
+    number: usize,
+    line: usize,
+    judged: &Judged,
+) -> Result<(), AllocError> {
+    let out = &mut page.text;
+    add_number(out, alloc, number)?;
+    add(out, " ")?;
+    let words = judged.text(alloc)?;
+    add(out, words.as_str())?;
+    add(out, " (line ")?;
+    add_number(out, alloc, line)?;
+    add(out, ")\n")
+}
+
+/// The explanation of an item of the model, in lines of at most `width` bytes as far as sentences allow: `judged` is its
+/// judgement, `number` its number, and `line` the line of the file where it begins.
+pub fn explain_item<C: Callbacks>(
+    callbacks: &C,
+    alloc: Global,
+    typed: &Typed,
+    run: &Run,
+    judged: &Judged,
+    number: usize,
+    line: usize,
+    width: usize,
+) -> Result<Vec<u8>, AllocError>
+    requires model { typed.now ≡ C.model callbacks.now }
+    requires shaped { run.now.shaped.model ≡ C.model callbacks.now }
+    requires matches { HistoryMatches (C.model callbacks.now) run.now }
+    requires judged { IsJudgement (C.model callbacks.now) run.now judged.now }
+{
+    let mut page = Page::new(alloc, width);
+    add_heading(&mut page, alloc, number, line, judged)?;
+    let scene = scene_of(alloc, typed, run)?;
+    match judged {
+        Judged::Verdict(verdict) => {
+            if let Some(history) = &run.history {
+                add_verdict(&mut page, callbacks, alloc, &scene, history, verdict)?;
+            }
+        }
+        Judged::Valid => {}
+        Judged::Invalid(why) => add_invalid(&mut page, callbacks, alloc, &scene, why)?,
+    }
+    let Page { text, width: _ } = page;
+    Ok(text)
+}

@@ -1,0 +1,64 @@
+//! The lines on which the trees of a file begin.
+
+use std::alloc::{AllocError, Global};
+
+/// Where a byte stands.
+#[derive(Clone, Copy, Debug, Drop, PartialEq, Eq)]
+enum Mode {
+    /// Between trees or in a word.
+    Plain,
+    /// In a text.
+    Quoted,
+    /// In a text, behind `\`.
+    Escaped,
+    /// In a comment.
+    Comment,
+}
+
+/// Where the byte behind this one stands.
+fn mode_after(mode: Mode, byte: u8) -> Mode {
+    match mode {
+        Mode::Plain => match byte {
+            b'"' => Mode::Quoted,
+            b';' => Mode::Comment,
+            _ => Mode::Plain,
+        },
+        Mode::Quoted => match byte {
+            b'"' => Mode::Plain,
+            b'\\' => Mode::Escaped,
+            _ => Mode::Quoted,
+        },
+        Mode::Escaped => Mode::Quoted,
+        Mode::Comment => match byte {
+            b'\n' => Mode::Plain,
+            _ => Mode::Comment,
+        },
+    }
+}
+
+/// For each node that stands in no other, in a file that is read without a fault, the line on which it begins, from 1.
+/// `AllocError` where memory is refused.
+pub fn first_lines(alloc: Global, bytes: &[u8]) -> Result<Vec<usize>, AllocError> {
+    let mut lines = Vec::new(alloc);
+    let mut mode = Mode::Plain;
+    let mut line = 1usize;
+    let mut open = 0usize;
+    for byte in bytes {
+        if mode == Mode::Plain {
+            if *byte == b'(' {
+                if open == 0 {
+                    lines.push(line)?;
+                }
+                open = open.saturating_add(1);
+            }
+            if *byte == b')' {
+                open = open.saturating_sub(1);
+            }
+        }
+        if *byte == b'\n' {
+            line = line.saturating_add(1);
+        }
+        mode = mode_after(mode, *byte);
+    }
+    Ok(lines)
+}

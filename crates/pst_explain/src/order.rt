@@ -1,0 +1,133 @@
+//! The commands of a case in the order of an interleaving.
+
+use crate::calls::{Call, Calls};
+use std::alloc::{AllocError, Global};
+
+/// How many of the letters are the branch.
+fn count_of(word: &[usize], branch: usize) -> usize {
+    let mut count = 0usize;
+    for letter in word {
+        if *letter == branch {
+            count = count.saturating_add(1);
+        }
+    }
+    count
+}
+
+/// The command that the letter behind the word stands for.
+fn call_behind<'a>(calls: &Calls<'a>, word: &[usize], branch: usize) -> Option<Call<'a>> {
+    let commands = calls.branches.get(branch)?;
+    commands.get(count_of(word, branch)).copied()
+}
+
+fn add_calls<'a>(order: &mut Vec<Call<'a>>, calls: &[Call<'a>]) -> Result<(), AllocError> {
+    for call in calls {
+        order.push(*call)?;
+    }
+    Ok(())
+}
+
+/// The commands of the prefix, those of the branches in the order of the word, and those of the suffix.
+pub fn in_order<'a>(
+    alloc: Global,
+    calls: &Calls<'a>,
+    word: &[usize],
+) -> Result<Vec<Call<'a>>, AllocError> {
+    let mut order = Vec::new(alloc);
+    add_calls(&mut order, calls.prefix.as_slice())?;
+    let mut before = Vec::new(alloc);
+    for branch in word {
+        if let Some(call) = call_behind(calls, before.as_slice(), *branch) {
+            order.push(call)?;
+        }
+        before.push(*branch)?;
+    }
+    add_calls(&mut order, calls.suffix.as_slice())?;
+    Ok(order)
+}
+
+/// The next command of each branch behind the word.
+fn next_of_branches<'a>(
+    alloc: Global,
+    calls: &Calls<'a>,
+    word: &[usize],
+) -> Result<Vec<Call<'a>>, AllocError> {
+    let mut next = Vec::new(alloc);
+    for branch in 0..calls.branches.len() {
+        if let Some(call) = call_behind(calls, word, branch) {
+            next.push(call)?;
+        }
+    }
+    Ok(next)
+}
+
+/// The commands that may come after so many events of the prefix, the word and the suffix: the next one of the prefix,
+/// or of each branch, or of the suffix.
+pub fn next_calls<'a>(
+    alloc: Global,
+    calls: &Calls<'a>,
+    word: &[usize],
+    count: usize,
+) -> Result<Vec<Call<'a>>, AllocError> {
+    let mut next = Vec::new(alloc);
+    if let Some(call) = calls.prefix.get(count) {
+        next.push(*call)?;
+        return Ok(next);
+    }
+    let next = next_of_branches(alloc, calls, word)?;
+    if !next.is_empty() {
+        return Ok(next);
+    }
+    let before = calls.prefix.len().saturating_add(word.len());
+    let mut next = next;
+    if let Some(call) = calls.suffix.get(count.saturating_sub(before)) {
+        next.push(*call)?;
+    }
+    Ok(next)
+}
+
+/// The command of the number.
+pub fn call_numbered<'a>(calls: &[Call<'a>], number: u32) -> Option<Call<'a>> {
+    for call in calls {
+        if call.number == number {
+            return Some(*call);
+        }
+    }
+    None
+}
+
+/// How many commands stand before that of the number; all, where there is none of it.
+pub fn count_before(calls: &[Call<'_>], number: u32) -> usize {
+    let mut count = 0usize;
+    for call in calls {
+        if call.number == number {
+            return count;
+        }
+        count = count.saturating_add(1);
+    }
+    count
+}
+
+/// All commands, by their numbers.
+pub fn all_calls<'a>(alloc: Global, calls: &Calls<'a>) -> Result<Vec<Call<'a>>, AllocError> {
+    let mut all = Vec::new(alloc);
+    add_calls(&mut all, calls.prefix.as_slice())?;
+    for branch in &calls.branches {
+        add_calls(&mut all, branch.as_slice())?;
+    }
+    add_calls(&mut all, calls.suffix.as_slice())?;
+    Ok(all)
+}
+
+/// The first so many of the commands.
+pub fn first_calls<'a>(
+    alloc: Global,
+    calls: &[Call<'a>],
+    count: usize,
+) -> Result<Vec<Call<'a>>, AllocError> {
+    let mut first = Vec::new(alloc);
+    for call in calls.iter().take(count) {
+        first.push(*call)?;
+    }
+    Ok(first)
+}

@@ -1,0 +1,82 @@
+//! Lines of a width.
+
+use crate::cutting::cut;
+use std::alloc::{AllocError, Global};
+
+/// The text so far, and the width of its lines.
+#[derive(Drop)]
+pub struct Page {
+    pub text: Vec<u8>,
+    pub width: usize,
+}
+
+impl Page {
+    /// An empty page.
+    pub fn new(alloc: Global, width: usize) -> Page {
+        Page {
+            text: Vec::new(alloc),
+            width,
+        }
+    }
+
+    /// Adds so many spaces.
+    pub fn add_spaces(&mut self, count: usize) -> Result<(), AllocError> {
+        for _space in 0..count {
+            self.text.push(b' ')?;
+        }
+        Ok(())
+    }
+
+    /// Adds a line that stands in by so many spaces; it is cut in the middle where it does not fit.
+    pub fn add_line(
+        &mut self,
+        alloc: Global,
+        indent: usize,
+        line: &[u8],
+    ) -> Result<(), AllocError> {
+        self.add_spaces(indent)?;
+        let line = cut(alloc, line, self.width.saturating_sub(indent))?;
+        self.text.extend_from_slice(line.as_slice())?;
+        self.text.push(b'\n')?;
+        Ok(())
+    }
+
+    /// Adds a word of a sentence, on a new line where it does not fit, and answers the column behind it. Column 0: it is
+    /// the first.
+    fn add_word(&mut self, indent: usize, column: usize, word: &[u8]) -> Result<usize, AllocError> {
+        let end = column.saturating_add(1).saturating_add(word.len());
+        if column > 0 && end <= self.width {
+            self.text.push(b' ')?;
+            self.text.extend_from_slice(word)?;
+            return Ok(end);
+        }
+        if column > 0 {
+            self.text.push(b'\n')?;
+        }
+        self.add_spaces(indent)?;
+        self.text.extend_from_slice(word)?;
+        Ok(indent.saturating_add(word.len()).max(1))
+    }
+
+    /// Adds a sentence that stands in by so many spaces, with a new line before each word that does not fit.
+    pub fn add_sentence(
+        &mut self,
+        alloc: Global,
+        indent: usize,
+        sentence: &[u8],
+    ) -> Result<(), AllocError> {
+        let mut column = 0usize;
+        let mut word = Vec::new(alloc);
+        for byte in sentence {
+            if *byte == b' ' {
+                column = self.add_word(indent, column, word.as_slice())?;
+                word.clear();
+            } else {
+                word.push(*byte)?;
+            }
+        }
+        self.add_word(indent, column, word.as_slice())?;
+        self.text.push(b'\n')?;
+        Ok(())
+    }
+}

@@ -1,0 +1,154 @@
+//! The spelling of values and of calls.
+
+use crate::forms::add_quoted;
+use pst_case::{Command, Reply};
+use pst_model::{Source, operation_of};
+use pst_value::{Key, Value};
+use std::alloc::{AllocError, Global};
+
+/// Adds a text.
+pub fn add(out: &mut Vec<u8>, text: &str) -> Result<(), AllocError> {
+    out.extend_from_slice(text.as_bytes())
+}
+
+/// Adds a number.
+pub fn add_number(out: &mut Vec<u8>, alloc: Global, number: usize) -> Result<(), AllocError> {
+    let text = format!(in alloc; "{number}")?;
+    add(out, text.as_str())
+}
+
+fn add_integer(out: &mut Vec<u8>, alloc: Global, number: i64) -> Result<(), AllocError> {
+    let text = format!(in alloc; "{number}")?;
+    add(out, text.as_str())
+}
+
+/// Adds the variable of a command.
+pub fn add_variable(out: &mut Vec<u8>, alloc: Global, number: u32) -> Result<(), AllocError> {
+    let text = format!(in alloc; "${number}")?;
+    add(out, text.as_str())
+}
+
+fn add_truth(out: &mut Vec<u8>, holds: bool) -> Result<(), AllocError> {
+    add(out, if holds { "true" } else { "false" })
+}
+
+fn add_key(out: &mut Vec<u8>, alloc: Global, key: &Key) -> Result<(), AllocError> {
+    match key {
+        Key::Int(number) => add_integer(out, alloc, *number),
+        Key::Bool(holds) => add_truth(out, *holds),
+        Key::Text(text) => add_quoted(out, text.as_bytes()),
+    }
+}
+
+/// Adds the name of an operation, by its number from 0.
+pub fn add_operation(out: &mut Vec<u8>, model: &Source, number: u32) -> Result<(), AllocError> {
+    match operation_of(model.items.as_slice(), number as usize) {
+        Some(operation) => add(out, operation.name.as_str()),
+        None => Ok(()),
+    }
+}
+
+/// Adds a value as items spell it; a reference as `$n=` and the value that it names; a call as its operation and its
+/// arguments.
+#[cycle(value)]
+pub fn add_value(
+    out: &mut Vec<u8>,
+    alloc: Global,
+    model: &Source,
+    value: &Value,
+) -> Result<(), AllocError> {
+    match value {
+        Value::Int(number) => add_integer(out, alloc, *number),
+        Value::Bool(holds) => add_truth(out, *holds),
+        Value::Text(text) => add_quoted(out, text.as_bytes()),
+        Value::Tuple(parts) => {
+            add(out, "(tuple")?;
+            add_values(out, alloc, model, parts.as_slice())
+        }
+        Value::List(parts) => {
+            add(out, "(list")?;
+            add_values(out, alloc, model, parts.as_slice())
+        }
+        Value::Map(keys, values) => {
+            add(out, "(map")?;
+            add_entries(out, alloc, model, keys.as_slice(), values.as_slice())
+        }
+        Value::Var(number) => add_variable(out, alloc, *number),
+        Value::Ref(number, value) => {
+            add_variable(out, alloc, *number)?;
+            add(out, "=")?;
+            add_value(out, alloc, model, value.get())
+        }
+        Value::Call(operation, args) => {
+            add(out, "(")?;
+            add_operation(out, model, *operation)?;
+            add_values(out, alloc, model, args.as_slice())
+        }
+    }
+}
+
+/// Adds values, a space before each, and the bracket that closes them.
+#[cycle(value)]
+fn add_values(
+    out: &mut Vec<u8>,
+    alloc: Global,
+    model: &Source,
+    values: &[Value],
+) -> Result<(), AllocError> {
+    for value in values {
+        add(out, " ")?;
+        add_value(out, alloc, model, value)?;
+    }
+    add(out, ")")
+}
+
+/// Adds the entries of a map, a space before each, and the bracket that closes them.
+#[cycle(value)]
+fn add_entries(
+    out: &mut Vec<u8>,
+    alloc: Global,
+    model: &Source,
+    keys: &[Key],
+    values: &[Value],
+) -> Result<(), AllocError> {
+    let mut rest = keys;
+    for value in values {
+        let Some((key, others)) = rest.split_first() else {
+            return add(out, ")");
+        };
+        add(out, " (")?;
+        add_key(out, alloc, key)?;
+        add(out, " ")?;
+        add_value(out, alloc, model, value)?;
+        add(out, ")")?;
+        rest = others;
+    }
+    add(out, ")")
+}
+
+/// Adds a command as items spell it.
+pub fn add_command(
+    out: &mut Vec<u8>,
+    alloc: Global,
+    model: &Source,
+    command: &Command,
+) -> Result<(), AllocError> {
+    add(out, "(")?;
+    add_operation(out, model, command.op)?;
+    add_values(out, alloc, model, command.args.as_slice())
+}
+
+/// Adds a reply as items spell it.
+pub fn add_reply(
+    out: &mut Vec<u8>,
+    alloc: Global,
+    model: &Source,
+    reply: &Reply,
+) -> Result<(), AllocError> {
+    match reply {
+        Reply::Value(value) => add_value(out, alloc, model, value),
+        Reply::Misfit => add(out, "misfit"),
+        Reply::Failed => add(out, "failed"),
+        Reply::NotRun => add(out, "not-run"),
+    }
+}

@@ -1,0 +1,124 @@
+//! The replies of a run.
+
+use crate::command::{Part, commands_of, place_of};
+use crate::items::head_of;
+use crate::judged::{Judged, noted, problem};
+use crate::problem::{below, text};
+use crate::text::{count, short_text};
+use pst_model::Source;
+use pst_sexpr::{Form, node_of};
+use std::alloc::Global;
+
+/// The place of the part of the replies among the parts of a run, and its lists.
+fn lists_of(form: &Form) -> Option<(usize, &[Form])> {
+    let mut place: usize = 0;
+    for part in node_of(form)? {
+        if let Some(head) = head_of(part) {
+            if head.as_str() == "replies" {
+                let (_, lists) = node_of(part)?.split_first()?;
+                return Some((place, lists));
+            }
+        }
+        place = place.saturating_add(1);
+    }
+    None
+}
+
+/// The replies of a part that are too many or too few.
+fn count_of(
+    alloc: Global,
+    path: &[usize],
+    place: usize,
+    number: usize,
+    part: &Part<'_>,
+    list: &Form,
+) -> Judged {
+    let commands = part.commands.len();
+    let replies = node_of(list).unwrap_or(&[]).len();
+    if commands == replies {
+        return Ok(None);
+    }
+    let at = below(path, alloc, place)?;
+    let at = below(at.as_slice(), alloc, number.saturating_add(1))?;
+    let called = part.called;
+    let has = count(alloc, commands, "command")?;
+    let given = if replies == 1 {
+        text(alloc, "1 reply")?
+    } else {
+        format!(in alloc; "{replies} replies")?
+    };
+    problem(
+        alloc,
+        at.as_slice(),
+        format!(in alloc; "{called}: {given} for {has}")?,
+    )
+}
+
+/// A run of which a part has another number of replies than of commands.
+pub fn no_fit(alloc: Global, path: &[usize], form: &Form) -> Judged {
+    let parts = commands_of(alloc, form)?;
+    let Some((place, lists)) = lists_of(form) else {
+        return Ok(None);
+    };
+    if lists.len() != parts.len() {
+        let at = below(path, alloc, place)?;
+        let found = count(alloc, lists.len(), "list")?;
+        let wanted = count(alloc, parts.len(), "part")?;
+        return noted(
+            alloc,
+            at.as_slice(),
+            format!(in alloc; "{found} of replies for {wanted}")?,
+            text(
+                alloc,
+                "the replies of the prefix come first, then those of each branch, then those of the suffix",
+            )?,
+        );
+    }
+    let mut number: usize = 0;
+    for (part, list) in parts.iter().zip(lists.iter()) {
+        if let Some(found) = count_of(alloc, path, place, number, part, list)? {
+            return Ok(Some(found));
+        }
+        number = number.saturating_add(1);
+    }
+    Ok(None)
+}
+
+/// A tree that spells no reply.
+pub fn bad_reply(
+    alloc: Global,
+    source: &Source,
+    path: &[usize],
+    form: &Form,
+    command: usize,
+) -> Judged {
+    let parts = commands_of(alloc, form)?;
+    let (Some((place, lists)), Some((number, offset))) = (lists_of(form), place_of(&parts, command))
+    else {
+        return Ok(None);
+    };
+    let at = below(path, alloc, place)?;
+    let at = below(at.as_slice(), alloc, number.saturating_add(1))?;
+    let at = below(at.as_slice(), alloc, offset)?;
+    let replies = match lists.get(number) {
+        Some(list) => node_of(list).unwrap_or(&[]),
+        None => &[],
+    };
+    let Some(reply) = replies.get(offset) else {
+        return Ok(None);
+    };
+    let shown = short_text(alloc, reply)?;
+    let maps = if source.has_maps {
+        ", (map (k v) ..) with rising keys"
+    } else {
+        ""
+    };
+    noted(
+        alloc,
+        at.as_slice(),
+        format!(in alloc; "`{shown}` spells no reply")?,
+        format!(in alloc;
+            "a reply is an integer, true, false, a text, (tuple v ..), (list v ..){maps}, misfit, failed or not-run"
+        )?,
+    )
+}

@@ -1,0 +1,101 @@
+//! What a tree of a model has to be.
+
+use crate::problem::below;
+use pst_items::Text;
+use pst_sexpr::Form;
+use std::alloc::{AllocError, Global};
+
+/// What a tree has to be.
+#[derive(Clone, Copy, Drop)]
+pub enum Role<'a> {
+    /// An expression, with so many levels left.
+    Expression(usize),
+    /// A type, with so many levels left.
+    Type(usize),
+    /// The type of the items of a list that is written out.
+    ItemType,
+    /// A clause of a comprehension, whose expression has so many levels left.
+    Clause(usize),
+    /// A bound name.
+    Bound,
+    /// A bound name beside another one.
+    Beside(&'a Text),
+    /// A parameter, behind others.
+    Parameter(&'a [Form]),
+    /// The name of an operation where it is used.
+    Operation,
+    /// A callback of an operation, behind others.
+    Callback(&'a [Form]),
+}
+
+/// A tree that is still to be judged.
+#[derive(Drop)]
+pub struct Task<'a> {
+    pub path: Vec<usize>,
+    pub form: &'a Form,
+    pub role: Role<'a>,
+}
+
+/// The trees that are still to be judged, the next one last.
+#[derive(Drop)]
+pub struct Tasks<'a> {
+    alloc: Global,
+    tasks: Vec<Task<'a>>,
+    /// The tasks that were added behind one another since the last one was taken.
+    fresh: Vec<Task<'a>>,
+}
+
+impl<'a> Tasks<'a> {
+    /// No trees.
+    pub fn new(alloc: Global) -> Tasks<'a> {
+        Tasks {
+            alloc,
+            tasks: Vec::new(alloc),
+            fresh: Vec::new(alloc),
+        }
+    }
+
+    /// The allocator.
+    pub fn alloc(&self) -> Global {
+        self.alloc
+    }
+
+    /// One more tree, which is judged behind those that were added since the last one was taken.
+    pub fn add(
+        &mut self,
+        path: &[usize],
+        number: usize,
+        form: &'a Form,
+        role: Role<'a>,
+    ) -> Result<(), AllocError> {
+        let path = below(path, self.alloc, number)?;
+        self.fresh.push(Task { path, form, role })?;
+        Ok(())
+    }
+
+    /// Trees from a number on, which all have to be the same.
+    pub fn add_all(
+        &mut self,
+        path: &[usize],
+        from: usize,
+        forms: &'a [Form],
+        role: Role<'a>,
+    ) -> Result<(), AllocError> {
+        let mut number = from;
+        for form in forms {
+            self.add(path, number, form, role)?;
+            number = number.saturating_add(1);
+        }
+        Ok(())
+    }
+
+    /// The next tree.
+    pub fn take(&mut self) -> Result<Option<Task<'a>>, AllocError> {
+        for _ in 0..self.fresh.len() {
+            if let Some(task) = self.fresh.pop() {
+                self.tasks.push(task)?;
+            }
+        }
+        Ok(self.tasks.pop())
+    }
+}

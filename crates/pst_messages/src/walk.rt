@@ -1,0 +1,261 @@
+//! The first tree of a model's item that is refused: each tree is judged before its parts, and these from left
+//! to right.
+
+use crate::expressions::{arity, as_expression, small_parts};
+use crate::forms::{is_of_maps, type_form};
+use crate::judged::{Judged, bound, foreign, is_name, noted, problem};
+use crate::problem::{below, text};
+use crate::roles::{Role, Task, Tasks};
+use crate::text::short_text;
+use pst_sexpr::{Form, node_of, word_of};
+use pst_syntax::MAX_NAME;
+use std::alloc::Global;
+
+/// A tree as a type.
+fn as_type<'a>(
+    tasks: &mut Tasks<'a>,
+    has_maps: bool,
+    path: &[usize],
+    form: &'a Form,
+    room: usize,
+) -> Judged {
+    let alloc = tasks.alloc();
+    let Some(parts) = node_of(form) else {
+        return word_type(alloc, path, form);
+    };
+    let head = match parts.first() {
+        Some(first) => word_of(first),
+        None => None,
+    };
+    let Some(head) = head else {
+        return no_type(alloc, path, form);
+    };
+    let Some(shown) = type_form(head.as_str()) else {
+        return no_type(alloc, path, form);
+    };
+    let rest = parts.get(1..).unwrap_or(&[]);
+    if is_of_maps(head.as_str()) && !has_maps {
+        return noted(
+            alloc,
+            path,
+            text(alloc, "this language has no maps")?,
+            text(
+                alloc,
+                "hint: a model with maps begins with `(model2 NAME ..)`",
+            )?,
+        );
+    }
+    if rest.len() < shown.least || rest.len() > shown.most {
+        return arity(alloc, path, shown, rest.len());
+    }
+    if let Some(found) = small_parts(alloc, path, head.as_str(), rest)? {
+        return Ok(Some(found));
+    }
+    if room == 0 {
+        return problem(
+            alloc,
+            path,
+            text(alloc, "more than 16 types in one another")?,
+        );
+    }
+    if head.as_str() == "map" {
+        if let Some(value) = rest.get(1) {
+            tasks.add(path, 2, value, Role::Type(room - 1))?;
+        }
+        return Ok(None);
+    }
+    tasks.add_all(path, 1, rest, Role::Type(room - 1))?;
+    Ok(None)
+}
+
+/// A tree as the type of the items of a list that is written out.
+fn as_item_type<'a>(
+    tasks: &mut Tasks<'a>,
+    has_maps: bool,
+    path: &[usize],
+    form: &'a Form,
+) -> Judged {
+    let alloc = tasks.alloc();
+    match as_type(tasks, has_maps, path, form, 16)? {
+        Some(found) => {
+            let hint = "hint: a list begins with the type of its items: `(list int 1 2)`";
+            Ok(Some(found.with(text(alloc, hint)?)?))
+        }
+        None => Ok(None),
+    }
+}
+
+/// A word or a text as a type.
+fn word_type(alloc: Global, path: &[usize], form: &Form) -> Judged {
+    let Some(word) = word_of(form) else {
+        return no_type(alloc, path, form);
+    };
+    let word = word.as_str();
+    if word == "int" || word == "bool" || word == "text" || word == "call" {
+        return Ok(None);
+    }
+    if let Some(shown) = type_form(word) {
+        let written = shown.written;
+        let what = format!(in alloc; "the type is written `{written}`")?;
+        return problem(alloc, path, what);
+    }
+    let what = format!(in alloc; "`{word}` is no type")?;
+    foreign(alloc, path, word, what)
+}
+
+/// A tree that is no type, where a type has to stand.
+fn no_type(alloc: Global, path: &[usize], form: &Form) -> Judged {
+    let shown = short_text(alloc, form)?;
+    noted(
+        alloc,
+        path,
+        format!(in alloc; "`{shown}` is no type")?,
+        text(
+            alloc,
+            "types are int, bool, text, (tuple T ..), (list T), (ref T), call, and (map K V) in model2",
+        )?,
+    )
+}
+
+/// A tree as a clause of a comprehension.
+fn as_clause<'a>(tasks: &mut Tasks<'a>, path: &[usize], form: &'a Form, room: usize) -> Judged {
+    let alloc = tasks.alloc();
+    let parts = node_of(form).unwrap_or(&[]);
+    let head = match parts.first() {
+        Some(first) => word_of(first),
+        None => None,
+    };
+    match (head, parts) {
+        (Some(head), [_, name, list]) if head.as_str() == "in" => {
+            tasks.add(path, 1, name, Role::Bound)?;
+            tasks.add(path, 2, list, Role::Expression(room))?;
+            Ok(None)
+        }
+        (Some(head), [_, test]) if head.as_str() == "when" => {
+            tasks.add(path, 1, test, Role::Expression(room))?;
+            Ok(None)
+        }
+        _ => noted(
+            alloc,
+            path,
+            text(alloc, "a clause is `(in NAME LIST)` or `(when TEST)`")?,
+            text(
+                alloc,
+                "it is written `(for ((in x LIST) (when TEST)) BODY)`",
+            )?,
+        ),
+    }
+}
+
+/// A name of an operation where it is used.
+fn as_operation(alloc: Global, path: &[usize], form: &Form) -> Judged {
+    match word_of(form) {
+        Some(word) if is_name(word) && word.len() <= MAX_NAME => Ok(None),
+        _ => problem(
+            alloc,
+            path,
+            text(alloc, "the name of an operation has to stand here")?,
+        ),
+    }
+}
+
+/// A parameter behind others.
+fn as_parameter<'a>(
+    tasks: &mut Tasks<'a>,
+    has_maps: bool,
+    path: &[usize],
+    form: &'a Form,
+    before: &[Form],
+) -> Judged {
+    let alloc = tasks.alloc();
+    let Some([name, ty]) = node_of(form) else {
+        return problem(alloc, path, text(alloc, "a parameter is `(NAME TYPE)`")?);
+    };
+    let at = below(path, alloc, 0)?;
+    if let Some(found) = bound(alloc, has_maps, at.as_slice(), name, None)? {
+        return Ok(Some(found));
+    }
+    for other in before {
+        if let (Some([first, _]), Some(word)) = (node_of(other), word_of(name)) {
+            if *first == *name {
+                let name = word.as_str();
+                let what = format!(in alloc; "two parameters have the name `{name}`")?;
+                return problem(alloc, at.as_slice(), what);
+            }
+        }
+    }
+    tasks.add(path, 1, ty, Role::Type(16))?;
+    Ok(None)
+}
+
+/// The head of a callback.
+fn callback_head(form: &Form) -> Option<&str> {
+    let [first, _] = node_of(form)? else {
+        return None;
+    };
+    let word = word_of(first)?.as_str();
+    if word == "pre" || word == "next" || word == "post" {
+        Some(word)
+    } else {
+        None
+    }
+}
+
+/// A callback behind others.
+fn as_callback<'a>(
+    tasks: &mut Tasks<'a>,
+    path: &[usize],
+    form: &'a Form,
+    before: &[Form],
+) -> Judged {
+    let alloc = tasks.alloc();
+    let (Some(head), Some([_, body])) = (callback_head(form), node_of(form)) else {
+        return noted(
+            alloc,
+            path,
+            text(alloc, "a callback is `(pre E)`, `(next E)` or `(post E)`")?,
+            text(
+                alloc,
+                "an operation is `(op NAME ((p T) ..) T (pre E) (next E) (post E))`",
+            )?,
+        );
+    };
+    for other in before {
+        if callback_head(other) == Some(head) {
+            let what = format!(in alloc; "the operation has two callbacks `{head}`")?;
+            return problem(alloc, path, what);
+        }
+    }
+    tasks.add(path, 1, body, Role::Expression(64))?;
+    Ok(None)
+}
+
+/// One tree.
+fn judge<'a>(tasks: &mut Tasks<'a>, has_maps: bool, task: &Task<'a>) -> Judged {
+    let alloc = tasks.alloc();
+    let path = task.path.as_slice();
+    match task.role {
+        Role::Expression(room) => as_expression(tasks, has_maps, path, task.form, room),
+        Role::Type(room) => as_type(tasks, has_maps, path, task.form, room),
+        Role::ItemType => as_item_type(tasks, has_maps, path, task.form),
+        Role::Clause(room) => as_clause(tasks, path, task.form, room),
+        Role::Bound => bound(alloc, has_maps, path, task.form, None),
+        Role::Beside(other) => bound(alloc, has_maps, path, task.form, Some(other)),
+        Role::Parameter(before) => as_parameter(tasks, has_maps, path, task.form, before),
+        Role::Operation => as_operation(alloc, path, task.form),
+        Role::Callback(before) => as_callback(tasks, path, task.form, before),
+    }
+}
+
+/// The first of the trees that is refused.
+pub fn first_problem(mut tasks: Tasks<'_>, has_maps: bool) -> Judged {
+    for _ in 0..20_001 {
+        let Some(task) = tasks.take()? else {
+            return Ok(None);
+        };
+        if let Some(found) = judge(&mut tasks, has_maps, &task)? {
+            return Ok(Some(found));
+        }
+    }
+    Ok(None)
+}

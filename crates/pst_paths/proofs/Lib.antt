@@ -1,0 +1,4 @@
+pub mod Marks
+pub mod Reaching
+pub mod LeastFault
+pub mod Along

@@ -1,0 +1,107 @@
+//! The item that is probably not closed, where a `)` is missing.
+
+use crate::scan::{State, after, is_bracket, is_space};
+use crate::span::Span;
+
+/// An item that is probably not closed.
+#[derive(Clone, Copy, Debug, PartialEq, Eq, Drop)]
+pub struct Unclosed {
+    /// Its bracket.
+    pub item: Span,
+    /// The bracket of the item that begins a line while the first is still open, if there is one.
+    pub next: Option<Span>,
+}
+
+/// The items of a model.
+const OF_MODELS: [&str; 6] = ["state", "init", "command", "fun", "postfun", "op"];
+
+/// The items of a file.
+const OF_FILES: [&str; 4] = ["model", "model2", "case", "run"];
+
+/// Whether the bytes begin with the word and a byte that ends it.
+fn begins_with(bytes: &[u8], word: &str) -> bool {
+    match bytes.strip_prefix(word.as_bytes()) {
+        Some(rest) => match rest.first() {
+            Some(byte) => is_space(*byte) || *byte == b'(' || *byte == b')',
+            None => true,
+        },
+        None => false,
+    }
+}
+
+/// How many nodes an item stands in, by the bytes behind its bracket: an item of a file in none, an item of a
+/// model in one. `None`: it is no item.
+fn level_of(bytes: &[u8]) -> Option<usize> {
+    for word in OF_FILES {
+        if begins_with(bytes, word) {
+            return Some(0);
+        }
+    }
+    for word in OF_MODELS {
+        if begins_with(bytes, word) {
+            return Some(1);
+        }
+    }
+    None
+}
+
+/// Whether nothing but white space stands between a place and the line end before it.
+fn begins_line(input: &[u8], at: usize) -> bool {
+    for back in 0..at.min(input.len()) {
+        let before = at - 1 - back;
+        match input.get(before) {
+            Some(b'\n') => return true,
+            Some(b' ') | Some(b'\t') | Some(b'\r') => {}
+            _ => return false,
+        }
+    }
+    true
+}
+
+/// The level of the item whose bracket stands at a place, where it begins a line.
+fn item_level(input: &[u8], at: usize) -> Option<usize> {
+    let behind = input.get(at.saturating_add(1)..)?;
+    let level = level_of(behind)?;
+    if begins_line(input, at) {
+        Some(level)
+    } else {
+        None
+    }
+}
+
+/// The bytes of the bracket at a place.
+fn bracket(at: usize) -> Span {
+    Span {
+        start: at,
+        end: at.saturating_add(1),
+    }
+}
+
+/// The item that is probably not closed: the last one that was begun when an item begins a line inside more
+/// nodes than it may stand in; else the last that was begun at all.
+pub fn open_item(input: &[u8]) -> Option<Unclosed> {
+    let mut state = State::Between;
+    let mut depth: usize = 0;
+    let mut last: Option<usize> = None;
+    for at in 0..input.len() {
+        let byte = input[at];
+        if is_bracket(state, byte, b'(') {
+            let level = item_level(input, at);
+            if let Some(level) = level {
+                if let (true, Some(item)) = (depth > level, last) {
+                    return Some(Unclosed {
+                        item: bracket(item),
+                        next: Some(bracket(at)),
+                    });
+                }
+                last = Some(at);
+            }
+            depth = depth.saturating_add(1);
+        } else if is_bracket(state, byte, b')') {
+            depth = depth.saturating_sub(1);
+        }
+        state = after(state, byte);
+    }
+    let item = bracket(last?);
+    Some(Unclosed { item, next: None })
+}

@@ -1,0 +1,122 @@
+//! The line of a place, as it is shown.
+
+use crate::span::Span;
+use std::alloc::{AllocError, Global};
+
+/// The most bytes of a line that are shown.
+const WIDTH: usize = 80;
+
+/// How many bytes before a place are shown of a line that is cut.
+const BEFORE: usize = 30;
+
+/// A place in a file, and how its line is shown.
+#[derive(Drop)]
+pub struct Place {
+    /// The number of the line, from 1: one more than the line ends before the place.
+    pub line: usize,
+    /// The number of the byte in its line, from 1. A tab is one byte.
+    pub column: usize,
+    /// The line, or what is shown of it.
+    pub text: String,
+    /// Blanks, and a `^` below each byte of the place.
+    pub marks: String,
+}
+
+/// The number of line ends before a place, and the place behind the last of them.
+fn line_of(input: &[u8], start: usize) -> (usize, usize) {
+    let mut count: usize = 0;
+    let mut begin: usize = 0;
+    for at in 0..input.len() {
+        if at >= start {
+            break;
+        }
+        if input[at] == b'\n' {
+            count = count.saturating_add(1);
+            begin = at.saturating_add(1);
+        }
+    }
+    (count, begin)
+}
+
+/// The place of the next line end, or of the `\r` before it, or the end of the input.
+fn line_end(input: &[u8], from: usize) -> usize {
+    let mut end = input.len();
+    for at in from..input.len() {
+        if input[at] == b'\n' {
+            end = at;
+            break;
+        }
+    }
+    let last = end.saturating_sub(1);
+    if last >= from && input.get(last) == Some(&b'\r') {
+        last
+    } else {
+        end
+    }
+}
+
+/// A byte as it is shown: a tab as a blank, and one that is not printable as `?`.
+fn shown_byte(byte: u8) -> char {
+    if byte == b'\t' {
+        ' '
+    } else if b' ' <= byte && byte <= b'~' {
+        char::from(byte)
+    } else {
+        '?'
+    }
+}
+
+/// The bytes from one place on and before another, as they are shown.
+fn shown_bytes(alloc: Global, input: &[u8], from: usize, end: usize) -> Result<String, AllocError> {
+    let mut text = String::new(alloc);
+    for at in from..end.min(input.len()) {
+        text.push(shown_byte(input[at]))?;
+    }
+    Ok(text)
+}
+
+/// A character so many times, behind a text.
+fn push_many(text: &mut String, mark: char, count: usize) -> Result<(), AllocError> {
+    for _ in 0..count.min(2 * WIDTH) {
+        text.push(mark)?;
+    }
+    Ok(())
+}
+
+/// The place of bytes, with their line. Of a line that is longer than 80 bytes a part is shown, with `...` where
+/// it is cut. What goes on in further lines is underlined to the end of the first.
+pub fn place_of(alloc: Global, input: &[u8], span: Span) -> Result<Place, AllocError> {
+    let (ends, begin) = line_of(input, span.start);
+    let end = line_end(input, begin);
+    let is_long = end.saturating_sub(begin) > WIDTH;
+    let offset = span.start.saturating_sub(begin);
+    let from = if is_long && offset > BEFORE {
+        span.start.saturating_sub(BEFORE)
+    } else {
+        begin
+    };
+    let to = if is_long {
+        end.min(from.saturating_add(WIDTH))
+    } else {
+        end
+    };
+    let mut text = String::new(alloc);
+    let mut marks = String::new(alloc);
+    if from > begin {
+        text.push_str("...")?;
+        marks.push_str("   ")?;
+    }
+    text.push_str(shown_bytes(alloc, input, from, to)?.as_str())?;
+    if to < end {
+        text.push_str("...")?;
+    }
+    push_many(&mut marks, ' ', span.start.saturating_sub(from))?;
+    let last = span.end.min(to);
+    push_many(&mut marks, '^', last.saturating_sub(span.start).max(1))?;
+    Ok(Place {
+        line: ends.saturating_add(1),
+        column: offset.saturating_add(1),
+        text,
+        marks,
+    })
+}

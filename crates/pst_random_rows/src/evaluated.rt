@@ -1,0 +1,46 @@
+//! The opening state of a model, by both evaluators.
+
+use pst_compile::compile;
+use pst_eval::{Callbacks, Plain};
+use pst_rules::Typed;
+use pst_sexpr::read;
+use pst_syntax::read_model;
+use pst_typing::check;
+use pst_value::{Fault, Value};
+use std::alloc::{AllocError, Global};
+
+/// The well-typed model that a text begins with.
+fn typed_of(alloc: Global, text: &str) -> Option<Typed> {
+    let trees = read(alloc, text.as_bytes()).ok()?;
+    let model = read_model(alloc, trees.as_slice()).ok()?;
+    check(alloc, model).ok()
+}
+
+/// A value with the turns left, or a fault.
+type Outcome = Result<(Value, u32), Fault>;
+
+/// `value` where both are the same value with as many turns left, and the name of the fault where both are the same fault.
+fn agreed(one: &Outcome, other: &Outcome) -> &'static str {
+    match one {
+        Ok((value, turns)) => match other {
+            Ok((same, left)) if value == same && turns == left => "value",
+            _ => "different",
+        },
+        Err(fault) => match other {
+            Err(same) if fault == same => fault.name(),
+            _ => "different",
+        },
+    }
+}
+
+/// What both evaluators give for the opening state of the model that a text begins with.
+pub fn outcome_of(alloc: Global, text: &str) -> Result<&'static str, AllocError> {
+    let Some(typed) = typed_of(alloc, text) else {
+        return Ok("not well typed");
+    };
+    let plain = Plain::new(&typed).init(alloc)?;
+    let Ok(compiled) = compile(alloc, typed) else {
+        return Ok("not compiled");
+    };
+    Ok(agreed(&plain, &compiled.init(alloc)?))
+}

@@ -1,0 +1,113 @@
+//! Random expressions.
+
+use crate::forms::{BODY, BOUND, FORMS, LEAST, TAKEN};
+use rand_core::Rng;
+use rand_pcg::Pcg64;
+use std::alloc::{AllocError, Global};
+
+/// How many forms with parts are built for a model.
+const STEPS: u32 = 40;
+
+/// How many bytes an expression has at most.
+const MOST_BYTES: usize = 1_200;
+
+/// A word below a number, which is not 0.
+fn below(words: &mut Pcg64, most: usize) -> usize {
+    match words.next_u64().checked_rem(most as u64) {
+        Some(rest) => rest as usize,
+        None => 0,
+    }
+}
+
+/// The first of the expressions that has the type of the letter.
+fn first_of<'a>(built: &'a [String], letter: &str) -> Option<&'a str> {
+    for expression in built {
+        if let Some(text) = expression.as_str().strip_prefix(letter) {
+            return Some(text);
+        }
+    }
+    None
+}
+
+/// An expression of the type of the letter: rather one that was built late.
+fn chosen<'a>(built: &'a [String], words: &mut Pcg64, letter: &str) -> &'a str {
+    let one = below(words, built.len());
+    let start = one.max(below(words, built.len())).min(built.len());
+    let (front, back) = built.split_at(start);
+    match first_of(back, letter) {
+        Some(text) => text,
+        None => first_of(front, letter).unwrap_or("0"),
+    }
+}
+
+/// The form with an expression for each part.
+fn filled(
+    alloc: Global,
+    built: &[String],
+    words: &mut Pcg64,
+    form: &str,
+) -> Result<String, AllocError> {
+    let mut text = String::new(alloc);
+    for (index, piece) in form.split('@').enumerate() {
+        if index == 0 {
+            text.push_str(piece)?;
+        } else if let Some((letter, rest)) = piece.split_at_checked(1) {
+            text.push_str(chosen(built, words, letter))?;
+            text.push_str(rest)?;
+        }
+    }
+    Ok(text)
+}
+
+/// The least expressions.
+fn least(alloc: Global) -> Result<Vec<String>, AllocError> {
+    let mut built = Vec::new(alloc);
+    for form in LEAST {
+        built.push(String::from_str(alloc, form)?)?;
+    }
+    Ok(built)
+}
+
+/// Builds further expressions. Applications are among them only where they may be.
+fn build(
+    alloc: Global,
+    built: &mut Vec<String>,
+    words: &mut Pcg64,
+    may_apply: bool,
+) -> Result<(), AllocError> {
+    for _ in 0..STEPS {
+        let form = FORMS
+            .get(below(words, FORMS.len()))
+            .copied()
+            .unwrap_or("i0");
+        let text = filled(alloc, built.as_slice(), words, form)?;
+        if text.len() <= MOST_BYTES && (may_apply || !text.as_str().contains("(f ")) {
+            built.push(text)?;
+        }
+    }
+    Ok(())
+}
+
+/// A random expression over the names that `bound` binds.
+fn expression(
+    alloc: Global,
+    words: &mut Pcg64,
+    may_apply: bool,
+    bound: &str,
+) -> Result<String, AllocError> {
+    let mut built = least(alloc)?;
+    build(alloc, &mut built, words, may_apply)?;
+    filled(alloc, built.as_slice(), words, bound)
+}
+
+/// The text of a model whose opening expression is random, and its function. In a model that takes all turns another
+/// expression with a million turns comes first.
+pub fn model_text(alloc: Global, words: &mut Pcg64, is_taken: bool) -> Result<String, AllocError> {
+    let bound = if is_taken { TAKEN } else { BOUND };
+    let init = expression(alloc, words, true, bound)?;
+    let body = expression(alloc, words, false, BODY)?;
+    format!(in alloc;
+        "(model2 m (state int) (init {init}) (command (list call)) (op o ((i int)) int (pre true) (next s) (post true))
+          (fun f ((i int) (k int)) int {body}))"
+    )
+}

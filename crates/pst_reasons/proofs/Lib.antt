@@ -1,0 +1,4 @@
+pub mod Among
+pub mod Fewer
+pub mod Numbered
+pub mod FewerAsked

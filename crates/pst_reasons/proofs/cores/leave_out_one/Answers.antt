@@ -1,0 +1,16 @@
+use Rattle.std.proofs.Common.{◌≡◌}
+use Rattle.pst_reasons.proofs.FewerAsked.{kept_impossible, kept_needed, left_needed}
+use Rattle.pst_reasons.proofs.cores.leave_out_one.Goals as goal
+
+pub returns-in_default-clause-needed : goal.returns-in_default-clause-needed
+returns-in_default-clause-needed g c =
+    left_needed (g.C.Callbacks.model c.args.callbacks.now) c.args.shaped.now.case c.args.history.now c.args.first.now c.args.core.items c.args.number c.requires.needed
+
+pub returns-clause-impossible : goal.returns-clause-impossible
+returns-clause-impossible g c =
+    rw c.in_ok-insert.ensures.items (kept_impossible (g.C.Callbacks.model c.args.callbacks.now) c.args.shaped.now.case c.args.history.now c.args.first.now c.args.core.items c.args.number c.requires.impossible)
+
+pub returns-clause-needed : goal.returns-clause-needed
+returns-clause-needed g c =
+    let merge = rw (c.in-Some.is, c.as_slice.ensures.value) at c.in_ok-merge.ensures in
+    rw c.in_ok-insert.ensures.items (kept_needed (g.C.Callbacks.model c.args.callbacks.now) c.args.shaped.now.case c.args.history.now c.args.first.now c.args.core.items c.args.number c.requires.needed (_, merge.0))

@@ -1,0 +1,55 @@
+//! The postconditions of a few commands, asked alone.
+ghost use Rattle.std.specs.Prelude.{◌≡◌, ◌++◌};
+ghost use Rattle.pst_reasons.specs.Reasons.{is_among};
+
+use crate::numbers::split_first;
+use pst_eval::Callbacks;
+use pst_judge::{Condition, Event, Postconditions};
+use pst_value::{Fault, Value};
+use std::alloc::{AllocError, Global};
+
+/// The postconditions of the commands with these numbers. Those of other commands are taken as true.
+#[derive(Clone, Copy, Drop)]
+pub struct Asked<'a> {
+    /// Numbers of commands.
+    pub first: &'a [u32],
+    /// More numbers of commands.
+    pub rest: &'a [u32],
+}
+
+fn is_among(number: u32, numbers: &[u32]) -> bool
+    ensures { result ≡ is_among number numbers.now }
+{
+    let Some((first, rest)) = split_first(numbers) else {
+        return false;
+    };
+    *first == number || is_among(number, rest)
+}
+
+/// Whether a number is among the first ones or among the rest.
+#[tactic(auto, using(crate::proofs::Among::among_append))]
+fn is_asked(number: u32, first: &[u32], rest: &[u32]) -> bool
+    ensures { result ≡ is_among number (first.now ++ rest.now) }
+{
+    is_among(number, first) || is_among(number, rest)
+}
+
+impl<'a> Condition for Asked<'a> {
+    ghost use Rattle.std.specs.Prelude.{◌++◌};
+    ghost use Rattle.pst_reasons.specs.Reasons.{asks};
+
+    ghost asked = { λ a m s e. asks (a.first.now ++ a.rest.now) m s e };
+
+    fn ask<C: Callbacks>(
+        &self,
+        callbacks: &C,
+        alloc: Global,
+        state: &Value,
+        event: &Event,
+    ) -> Result<Result<bool, Fault>, AllocError> {
+        if is_asked(event.number, self.first, self.rest) {
+            return Postconditions.ask(callbacks, alloc, state, event);
+        }
+        Ok(Ok(true))
+    }
+}

@@ -1,0 +1,145 @@
+//! Cores: answers that cannot all be right.
+ghost use Rattle.std.specs.Prelude.{◌≡◌, ◌++◌, ◌∷◌, [], true, None, IfOk, MatchOption};
+ghost use Rattle.pst_case.specs.Matches.{matches};
+ghost use Rattle.pst_case.specs.Recorded.{recorded};
+ghost use Rattle.pst_judge.specs.Verdict.{first_broken};
+ghost use Rattle.pst_reasons.specs.Reasons.{IsCore, IsImpossible, IsLeastTrue, IsNeeded, IsUnexplained, is_among, without};
+
+use crate::asked::Asked;
+use crate::numbers::{commands_in, no_numbers, numbers_to, split_last, without};
+use pst_case::{History, Shaped};
+use pst_eval::Callbacks;
+use pst_judge::{Verdict, verdict_asking};
+use std::alloc::{AllocError, Global};
+
+/// The least merge that is true to its end where the postconditions of the commands with these numbers are
+/// asked, if there is one.
+fn true_merge<C: Callbacks>(
+    callbacks: &C,
+    alloc: Global,
+    shaped: &Shaped,
+    history: &History,
+    first: &[u32],
+    rest: &[u32],
+) -> Result<Option<Vec<usize>>, AllocError>
+    requires model { shaped.now.model ≡ C.model callbacks.now }
+    requires matches { matches (C.model callbacks.now) shaped.now.case history.now ≡ true }
+    requires answered { first_broken 1 (recorded history.now) ≡ None }
+    ensures { let m = C.model callbacks.now in let numbers = first.now ++ rest.now in IfOk result
+        (λ merge. MatchOption merge (IsImpossible m shaped.now.case history.now numbers)
+        (λ word. IsLeastTrue m shaped.now.case history.now numbers word.items)) }
+{
+    let asked = Asked { first, rest };
+    match verdict_asking(callbacks, &asked, alloc, shaped, history)? {
+        Verdict::Explained(word) => Ok(Some(word)),
+        Verdict::Faulted(_) => Ok(None),
+        Verdict::Unexplained(_) => Ok(None),
+        Verdict::Broken(_) => unreachable!(),
+    }
+}
+
+/// Leaves out a number without which the others stay impossible: it is gone, or it stands before the core.
+fn leave_out_one<C: Callbacks>(
+    callbacks: &C,
+    alloc: Global,
+    shaped: &Shaped,
+    history: &History,
+    first: &[u32],
+    number: u32,
+    mut core: Vec<u32>,
+) -> Result<Vec<u32>, AllocError>
+    requires model { shaped.now.model ≡ C.model callbacks.now }
+    requires matches { matches (C.model callbacks.now) shaped.now.case history.now ≡ true }
+    requires answered { first_broken 1 (recorded history.now) ≡ None }
+    requires impossible { IsImpossible (C.model callbacks.now) shaped.now.case history.now
+        ((first.now ++ number ∷ []) ++ core.items) }
+    requires needed { IsNeeded (C.model callbacks.now) shaped.now.case history.now (first.now ++ number ∷ [])
+        core.items }
+    ensures impossible { IfOk result (λ core. IsImpossible (C.model callbacks.now) shaped.now.case history.now
+        (first.now ++ core.items)) }
+    ensures needed { IfOk result (λ core. IsNeeded (C.model callbacks.now) shaped.now.case history.now first.now
+        core.items) }
+{
+    let merge = true_merge(callbacks, alloc, shaped, history, first, core.as_slice())?;
+    let Some(_word) = merge else {
+        return Ok(core);
+    };
+    core.insert(0, number)?;
+    Ok(core)
+}
+
+/// Leaves out, from the greatest down, each of the first numbers without which the others stay impossible.
+fn leave_out<C: Callbacks>(
+    callbacks: &C,
+    alloc: Global,
+    shaped: &Shaped,
+    history: &History,
+    first: &[u32],
+    core: Vec<u32>,
+) -> Result<Vec<u32>, AllocError>
+    requires model { shaped.now.model ≡ C.model callbacks.now }
+    requires matches { matches (C.model callbacks.now) shaped.now.case history.now ≡ true }
+    requires answered { first_broken 1 (recorded history.now) ≡ None }
+    requires impossible { IsImpossible (C.model callbacks.now) shaped.now.case history.now
+        (first.now ++ core.items) }
+    requires needed { IsNeeded (C.model callbacks.now) shaped.now.case history.now first.now core.items }
+    ensures { IfOk result
+        (λ core. IsCore (C.model callbacks.now) shaped.now.case history.now core.items) }
+{
+    let Some((number, first)) = split_last(first) else {
+        return Ok(core);
+    };
+    let core = leave_out_one(callbacks, alloc, shaped, history, first, *number, core)?;
+    leave_out(callbacks, alloc, shaped, history, first, core)
+}
+
+/// A core of a history that no interleaving explains: the numbers, in rising order, of commands of which no
+/// interleaving makes all postconditions true, and of which each with one command less has one that does.
+///
+/// The commands are gone through from the last to the first, and each is left out without which the others
+/// are still impossible. So of several cores it is the one of the least commands. Other commands may have
+/// answered anything. The core is empty where every interleaving faults in `init` or `next`, whatever was
+/// answered. It takes one search for each command. `AllocError` where memory is refused.
+pub fn core<C: Callbacks>(
+    callbacks: &C,
+    alloc: Global,
+    shaped: &Shaped,
+    history: &History,
+) -> Result<Vec<u32>, AllocError>
+    requires model { shaped.now.model ≡ C.model callbacks.now }
+    requires matches { matches (C.model callbacks.now) shaped.now.case history.now ≡ true }
+    requires answered { first_broken 1 (recorded history.now) ≡ None }
+    requires unexplained { IsUnexplained (C.model callbacks.now) shaped.now.case history.now }
+    ensures { IfOk result
+        (λ core. IsCore (C.model callbacks.now) shaped.now.case history.now core.items) }
+{
+    let numbers = numbers_to(alloc, commands_in(shaped))?;
+    let core = no_numbers(alloc);
+    leave_out(callbacks, alloc, shaped, history, numbers.as_slice(), core)
+}
+
+/// The least merge that is true to its end where the postconditions of a core are asked, but for one
+/// command's. `AllocError` where memory is refused.
+pub fn merge_without<C: Callbacks>(
+    callbacks: &C,
+    alloc: Global,
+    shaped: &Shaped,
+    history: &History,
+    core: &[u32],
+    number: u32,
+) -> Result<Vec<usize>, AllocError>
+    requires model { shaped.now.model ≡ C.model callbacks.now }
+    requires matches { matches (C.model callbacks.now) shaped.now.case history.now ≡ true }
+    requires answered { first_broken 1 (recorded history.now) ≡ None }
+    requires core { IsCore (C.model callbacks.now) shaped.now.case history.now core.now }
+    requires member { is_among number core.now ≡ true }
+    ensures { IfOk result (λ word. IsLeastTrue (C.model callbacks.now) shaped.now.case history.now
+        (without number core.now) word.items) }
+{
+    let others = without(number, core, no_numbers(alloc))?;
+    let others = others.as_slice();
+    let Some(word) = true_merge(callbacks, alloc, shaped, history, others, &[])? else {
+        unreachable!()
+    };
+    Ok(word)
+}

@@ -1,0 +1,86 @@
+//! Lists of the numbers of commands.
+ghost use Rattle.std.specs.Prelude.{◌≡◌, ◌+◌, ◌++◌, ◌≤◌, [], ◌∷◌, IfOk, MatchOption, length};
+ghost use Rattle.pst_case.specs.Shape.{joined};
+ghost use Rattle.pst_reasons.specs.Reasons.{number_of_commands, numbers_to, without};
+
+use pst_case::{Command, Shaped};
+use pst_items::Items;
+use std::alloc::{AllocError, Global};
+
+/// The numbers from 1 up to the last one.
+pub(crate) fn numbers_to(alloc: Global, last: u32) -> Result<Vec<u32>, AllocError>
+    ensures { IfOk result (λ numbers. numbers.items ≡ numbers_to last) }
+{
+    if last == 0 {
+        return Ok(Vec::new(alloc));
+    }
+    let mut numbers = numbers_to(alloc, last - 1)?;
+    numbers.push(last)?;
+    Ok(numbers)
+}
+
+/// No number.
+pub(crate) fn no_numbers(alloc: Global) -> Vec<u32>
+    ensures { result.items ≡ [] }
+{
+    Vec::new(alloc)
+}
+
+pub(crate) fn split_first(numbers: &[u32]) -> Option<(&u32, &[u32])>
+    ensures { MatchOption result (numbers.now ≡ []) (λ p. numbers.now ≡ p.0.now ∷ p.1.now) }
+{
+    numbers.split_first()
+}
+
+pub(crate) fn split_last(numbers: &[u32]) -> Option<(&u32, &[u32])>
+    ensures { MatchOption result (numbers.now ≡ []) (λ p. numbers.now ≡ p.1.now ++ p.0.now ∷ []) }
+{
+    numbers.split_last()
+}
+
+/// The numbers but one, behind others.
+pub(crate) fn without(
+    number: u32,
+    numbers: &[u32],
+    mut others: Vec<u32>,
+) -> Result<Vec<u32>, AllocError>
+    ensures { IfOk result (λ all. all.items ≡ others.items ++ without number numbers.now) }
+{
+    let Some((first, rest)) = split_first(numbers) else {
+        return Ok(others);
+    };
+    if *first != number {
+        others.push(*first)?;
+    }
+    without(number, rest, others)
+}
+
+fn split_parts(branches: &[Items<Command>]) -> Option<(&Items<Command>, &[Items<Command>])>
+    ensures { MatchOption result (branches.now ≡ []) (λ p. (branches.now ≡ p.0.now ∷ p.1.now)
+        × (length (joined branches.now) ≡ length p.0.now + length (joined p.1.now))) }
+{
+    branches.split_first()
+}
+
+/// How many commands branches have in all.
+pub fn letters_in(branches: &[Items<Command>]) -> usize
+    requires { length (joined branches.now) ≤ 16 }
+    ensures { result ≡ length (joined branches.now) }
+{
+    let Some((branch, branches)) = split_parts(branches) else {
+        return 0;
+    };
+    branch.len() + letters_in(branches)
+}
+
+/// How many commands a case has.
+pub(crate) fn commands_in(shaped: &Shaped) -> u32
+    ensures { result ≡ number_of_commands shaped.now.case }
+{
+    let case = shaped.case();
+    let prefix = case.prefix.len();
+    let branches = case.branches.as_slice();
+    let letters = letters_in(branches);
+    let suffix = case.suffix.len();
+    (prefix + letters + suffix) as u32
+}

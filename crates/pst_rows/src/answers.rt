@@ -1,0 +1,68 @@
+//! The answers of the libraries for a text, in words.
+
+use crate::generated::generate_answer;
+use crate::items::{alone_answer, judge_answer, runs_answer, valid_answer, write_answer};
+use crate::models::{
+    check_answer, form_answer, list_answer, opening_answer, print_answer, trees_answer,
+};
+use crate::questions::Question;
+use std::alloc::{AllocError, Global};
+use std::thread::Threads;
+
+/// A text, and what stands before it and after it.
+#[derive(Clone, Copy, Drop)]
+pub struct Asked<'a> {
+    pub before: &'a str,
+    pub text: &'a str,
+    pub after: &'a str,
+}
+
+/// The whole of what is asked, with a space between what stands before and the text.
+fn whole_of(alloc: Global, asked: &Asked<'_>) -> Result<String, AllocError> {
+    let mut whole = String::from_str(alloc, asked.before)?;
+    if !asked.before.is_empty() {
+        whole.push_str(" ")?;
+    }
+    whole.push_str(asked.text)?;
+    whole.push_str(asked.after)?;
+    Ok(whole)
+}
+
+/// The answer to a question about a whole text.
+fn answer_whole<R: Threads + Sync>(
+    rt: &R,
+    alloc: Global,
+    question: Question,
+    text: &str,
+) -> Result<String, AllocError> {
+    match question {
+        Question::Trees => trees_answer(alloc, text),
+        Question::Form => form_answer(alloc, text),
+        Question::Check => check_answer(alloc, text),
+        Question::Print => print_answer(alloc, text),
+        Question::List => list_answer(alloc, text),
+        Question::Opening => opening_answer(alloc, text),
+        Question::Runs => runs_answer(alloc, text),
+        Question::Alone => alone_answer(alloc, text),
+        Question::Valid => valid_answer(alloc, text),
+        Question::Judge => judge_answer(rt, alloc, text),
+        Question::Write | Question::Generate => Ok(String::new(alloc)),
+    }
+}
+
+/// The answer to a question.
+pub fn answer_to<R: Threads + Sync>(
+    rt: &R,
+    alloc: Global,
+    question: Question,
+    asked: &Asked<'_>,
+) -> Result<String, AllocError> {
+    match question {
+        Question::Write => write_answer(alloc, asked.before, asked.text),
+        Question::Generate => generate_answer(alloc, asked.before, asked.text),
+        _ => {
+            let whole = whole_of(alloc, asked)?;
+            answer_whole(rt, alloc, question, whole.as_str())
+        }
+    }
+}

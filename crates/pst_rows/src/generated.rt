@@ -1,0 +1,99 @@
+//! The answers about generated cases.
+ghost use Rattle.std.specs.Prelude.{◌≡◌};
+
+use crate::models::{spelling_of, typed_of};
+use crate::words::Words;
+use pst_case::Run;
+use pst_eval::Plain;
+use pst_gen::generate;
+use pst_judge::Valid;
+use pst_rules::Typed;
+use pst_write::run_tree;
+use std::alloc::{AllocError, Global};
+
+/// How many commands, branches and commands of a suffix are asked for.
+#[derive(Clone, Copy, Drop)]
+struct Sizes {
+    commands: u32,
+    branches: u32,
+    suffix: u32,
+}
+
+/// The sizes that a text names, in the ranges that `generate` takes.
+fn sizes_of(text: &str) -> Option<Sizes> {
+    let mut parts = text.split(' ');
+    let commands: u32 = parts.next()?.parse().ok()?;
+    let branches: u32 = parts.next()?.parse().ok()?;
+    let suffix: u32 = parts.next()?.parse().ok()?;
+    Some(Sizes {
+        commands,
+        branches,
+        suffix,
+    })
+}
+
+/// The numbers in a text.
+fn numbers_of(alloc: Global, text: &str) -> Result<Vec<u64>, AllocError> {
+    let mut numbers = Vec::new(alloc);
+    for word in text.trim().split(' ') {
+        numbers.push(word.parse().unwrap_or(0))?;
+    }
+    Ok(numbers)
+}
+
+/// The spelling of a valid case.
+fn case_text(alloc: Global, typed: &Typed, valid: Valid) -> Result<String, AllocError>
+    requires { valid.model ≡ typed.now }
+{
+    let run = Run {
+        shaped: valid.into_shaped(),
+        history: None,
+    };
+    spelling_of(alloc, &run_tree(alloc, typed, &run)?)
+}
+
+/// The case that is generated from words and how many were drawn, or the fault.
+fn generated(
+    alloc: Global,
+    typed: &Typed,
+    sizes: Sizes,
+    words: &mut Words<'_>,
+) -> Result<String, AllocError> {
+    let Sizes {
+        commands,
+        branches,
+        suffix,
+    } = sizes;
+    if commands == 0 || commands > 64 || branches == 0 || branches > 4 || suffix > 8 {
+        return String::from_str(alloc, "out of range");
+    }
+    let plain = Plain::new(typed);
+    match generate(&plain, alloc, typed, words, commands, branches, suffix)? {
+        Ok(valid) => case_text(alloc, typed, valid),
+        Err(fault) => {
+            let command = fault.command;
+            let callback = fault.callback.name();
+            let fault = fault.fault.name();
+            format!(in alloc; "{command} {callback} {fault}")
+        }
+    }
+}
+
+/// The case that is generated of a model and the number of words drawn. The text is `COMMANDS BRANCHES SUFFIX, WORD WORD ..`.
+pub fn generate_answer(alloc: Global, model: &str, text: &str) -> Result<String, AllocError> {
+    let Some(typed) = typed_of(alloc, model) else {
+        return String::from_str(alloc, "no model");
+    };
+    let (head, rest) = text.split_once(",").unwrap_or((text, ""));
+    let Some(sizes) = sizes_of(head) else {
+        return String::from_str(alloc, "no sizes");
+    };
+    let numbers = numbers_of(alloc, rest)?;
+    let mut words = Words {
+        words: numbers.as_slice(),
+        drawn: 0,
+    };
+    let answer = generated(alloc, &typed, sizes, &mut words)?;
+    let drawn = words.drawn;
+    format!(in alloc; "{answer} {drawn} drawn")
+}

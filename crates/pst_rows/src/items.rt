@@ -1,0 +1,162 @@
+//! The answers about cases and runs.
+
+use crate::models::{lines_of, output_answer, text_of, typed_of};
+use pst_case::{Run, shape};
+use pst_cli::judge_text;
+use pst_eval::Plain;
+use pst_judge::{judge_one, valid, verdict};
+use pst_load::{items_of, load};
+use pst_rules::Typed;
+use pst_runs::read_runs;
+use pst_sexpr::read;
+use pst_sink::Out;
+use pst_write::write_runs;
+use std::alloc::{AllocError, Global};
+use std::thread::Threads;
+
+/// What `pst judge` answers: its status and its lines.
+pub fn judge_answer<R: Threads + Sync>(
+    rt: &R,
+    alloc: Global,
+    text: &str,
+) -> Result<String, AllocError> {
+    let mut sink = Out::new(Vec::new(alloc));
+    let status = judge_text(rt, alloc, text.as_bytes(), &mut sink);
+    output_answer(alloc, status, sink.into_inner().as_slice())
+}
+
+/// The verdict on a run, `case` for a case.
+fn verdict_answer(alloc: Global, typed: &Typed, run: Run) -> Result<String, AllocError> {
+    let Run { shaped, history } = run;
+    let Some(history) = history else {
+        return String::from_str(alloc, "case");
+    };
+    let Ok(shaped) = shape(alloc, typed, shaped.into_case()) else {
+        return String::from_str(alloc, "no shape");
+    };
+    if !history.matches(typed, &shaped) {
+        return String::from_str(alloc, "no match");
+    }
+    verdict(&Plain::new(typed), alloc, &shaped, &history)?.text(alloc)
+}
+
+/// The verdicts, one after another.
+fn verdicts_answer(alloc: Global, typed: &Typed, runs: Vec<Run>) -> Result<String, AllocError> {
+    let mut verdicts = String::new(alloc);
+    for run in runs {
+        if !verdicts.is_empty() {
+            verdicts.push_str(", ")?;
+        }
+        verdicts.push_str(verdict_answer(alloc, typed, run)?.as_str())?;
+    }
+    Ok(verdicts)
+}
+
+/// The verdicts on the items of a file, or the refusal of an item.
+pub fn runs_answer(alloc: Global, text: &str) -> Result<String, AllocError> {
+    let Ok(file) = load(alloc, text.as_bytes())? else {
+        return String::from_str(alloc, "no model");
+    };
+    match read_runs(alloc, &file.typed, items_of(file.trees.as_slice())) {
+        Ok(runs) => verdicts_answer(alloc, &file.typed, runs),
+        Err(fault) => {
+            let run = fault.run;
+            let command = fault.command;
+            let kind = fault.kind.name();
+            format!(in alloc; "{run} {command} {kind}")
+        }
+    }
+}
+
+/// The judgement of one item alone.
+fn judged_alone(alloc: Global, typed: &Typed, run: Run) -> Result<String, AllocError> {
+    let Run { shaped, history } = run;
+    let Ok(shaped) = shape(alloc, typed, shaped.into_case()) else {
+        return String::from_str(alloc, "no shape");
+    };
+    if let Some(recorded) = &history {
+        if !recorded.matches(typed, &shaped) {
+            return String::from_str(alloc, "no match");
+        }
+    }
+    judge_one(&Plain::new(typed), alloc, &Run { shaped, history })?.text(alloc)
+}
+
+/// The judgements of runs, one after another and numbered.
+fn lines_alone(alloc: Global, typed: &Typed, runs: Vec<Run>) -> Result<String, AllocError> {
+    let mut lines = String::new(alloc);
+    for (index, run) in runs.into_iter().enumerate() {
+        if index > 0 {
+            lines.push_str(", ")?;
+        }
+        let number = index.saturating_add(1);
+        let judged = judged_alone(alloc, typed, run)?;
+        let line = format!(in alloc; "{number} {judged}")?;
+        lines.push_str(line.as_str())?;
+    }
+    Ok(lines)
+}
+
+/// The judgements of the items of a file, each alone.
+pub fn alone_answer(alloc: Global, text: &str) -> Result<String, AllocError> {
+    let Ok(file) = load(alloc, text.as_bytes())? else {
+        return String::from_str(alloc, "no model");
+    };
+    match read_runs(alloc, &file.typed, items_of(file.trees.as_slice())) {
+        Ok(runs) => lines_alone(alloc, &file.typed, runs),
+        Err(_) => String::from_str(alloc, "no items"),
+    }
+}
+
+/// What is written of items over a model.
+fn written(alloc: Global, typed: &Typed, items: &str) -> Option<String> {
+    let trees = read(alloc, items.as_bytes()).ok()?;
+    let Ok(runs) = read_runs(alloc, typed, trees.as_slice()) else {
+        return None;
+    };
+    let mut sink = Out::new(Vec::new(alloc));
+    write_runs(alloc, typed, runs.as_slice(), &mut sink).ok()?;
+    text_of(alloc, sink.into_inner().as_slice()).ok()
+}
+
+/// What is written of items over a model, with `, ` between the lines. What is written of that is to be the same.
+pub fn write_answer(alloc: Global, model: &str, items: &str) -> Result<String, AllocError> {
+    let Some(typed) = typed_of(alloc, model) else {
+        return String::from_str(alloc, "no model");
+    };
+    let Some(once) = written(alloc, &typed, items) else {
+        return String::from_str(alloc, "not written");
+    };
+    match written(alloc, &typed, once.as_str()) {
+        Some(again) if again.as_str() == once.as_str() => lines_of(alloc, once.as_bytes()),
+        _ => format!(in alloc; "not written again: {once}"),
+    }
+}
+
+/// Whether the last item of a text is valid, or the reason why it is not. A valid case stays what it was.
+fn validity(alloc: Global, text: &str) -> Option<&'static str> {
+    let file = load(alloc, text.as_bytes()).ok()?.ok()?;
+    let typed = &file.typed;
+    let mut runs = read_runs(alloc, typed, items_of(file.trees.as_slice())).ok()?;
+    let case = runs.pop()?.shaped.into_case();
+    let wanted = case.copy(alloc).ok()?;
+    let shaped = shape(alloc, typed, case).ok()?;
+    match valid(&Plain::new(typed), alloc, shaped) {
+        Ok(accepted) => {
+            let copy = accepted.copy(alloc, typed.source()).ok()?;
+            let is_kept = *copy.shaped().case() == wanted;
+            let shaped = accepted.into_shaped();
+            Some(if is_kept && *shaped.case() == wanted {
+                "valid"
+            } else {
+                "changed"
+            })
+        }
+        Err((_, why)) => Some(why.name()),
+    }
+}
+
+/// Whether the last item of a text is valid, or the reason why it is not.
+pub fn valid_answer(alloc: Global, text: &str) -> Result<String, AllocError> {
+    String::from_str(alloc, validity(alloc, text).unwrap_or("no case"))
+}

@@ -1,0 +1,140 @@
+//! The answers about trees and models.
+
+use pst_cli::{Status, check_text, list_text};
+use pst_compile::compile;
+use pst_eval::{Callbacks, Plain};
+use pst_load::load;
+use pst_print::print_model;
+use pst_rules::Typed;
+use pst_sexpr::{Tree, read, write};
+use pst_sink::Out;
+use pst_syntax::{Model, read_model};
+use pst_value::Value;
+use std::alloc::{AllocError, Global};
+
+/// The number of trees that a text spells, or the first fault.
+pub fn trees_answer(alloc: Global, text: &str) -> Result<String, AllocError> {
+    match read(alloc, text.as_bytes()) {
+        Ok(trees) => {
+            let count = trees.len();
+            format!(in alloc; "{count} trees")
+        }
+        Err(fault) => format!(in alloc; "{fault}"),
+    }
+}
+
+/// `read` where the trees begin with a model, and else the fault.
+fn model_answer(alloc: Global, trees: &[Tree]) -> Result<String, AllocError> {
+    match read_model(alloc, trees) {
+        Ok(_) => String::from_str(alloc, "read"),
+        Err(fault) => format!(in alloc; "{fault}"),
+    }
+}
+
+/// `read` where the text begins with a model, and else the fault.
+pub fn form_answer(alloc: Global, text: &str) -> Result<String, AllocError> {
+    match read(alloc, text.as_bytes()) {
+        Ok(trees) => model_answer(alloc, trees.as_slice()),
+        Err(fault) => format!(in alloc; "{fault}"),
+    }
+}
+
+/// Bytes as a text.
+pub fn text_of(alloc: Global, bytes: &[u8]) -> Result<String, AllocError> {
+    match std::str::from_utf8(bytes) {
+        Ok(text) => String::from_str(alloc, text),
+        Err(_) => String::from_str(alloc, "no text"),
+    }
+}
+
+/// The lines, with `, ` between them.
+pub fn lines_of(alloc: Global, bytes: &[u8]) -> Result<String, AllocError> {
+    let text = text_of(alloc, bytes)?;
+    text.as_str().trim().replace(alloc, "\n", ", ")
+}
+
+/// A status, and the lines that were written, with `, ` between them.
+pub fn output_answer(alloc: Global, status: Status, bytes: &[u8]) -> Result<String, AllocError> {
+    let status = status.code();
+    let lines = lines_of(alloc, bytes)?;
+    format!(in alloc; "{status} {lines}")
+}
+
+/// What `pst check` answers: its status and its line.
+pub fn check_answer(alloc: Global, text: &str) -> Result<String, AllocError> {
+    let mut sink = Out::new(Vec::new(alloc));
+    let status = check_text(alloc, text.as_bytes(), &mut sink);
+    output_answer(alloc, status, sink.into_inner().as_slice())
+}
+
+/// What `pst list` answers: its status, and whether lines were written where it is 0, or the line of the refusal.
+pub fn list_answer(alloc: Global, text: &str) -> Result<String, AllocError> {
+    let mut sink = Out::new(Vec::new(alloc));
+    let status = list_text(alloc, text.as_bytes(), &mut sink);
+    let written = sink.into_inner();
+    match status {
+        Status::Accepted if written.len() > 1 => String::from_str(alloc, "0 some lines"),
+        _ => output_answer(alloc, status, written.as_slice()),
+    }
+}
+
+/// The model that a text begins with.
+fn parsed_of(alloc: Global, text: &str) -> Option<Model> {
+    let trees = read(alloc, text.as_bytes()).ok()?;
+    read_model(alloc, trees.as_slice()).ok()
+}
+
+/// The spelling of a tree.
+pub fn spelling_of(alloc: Global, tree: &Tree) -> Result<String, AllocError> {
+    let mut sink = Out::new(Vec::new(alloc));
+    let _ = write(tree, &mut sink);
+    text_of(alloc, sink.into_inner().as_slice())
+}
+
+/// What is printed for the model that a text begins with.
+pub fn print_answer(alloc: Global, text: &str) -> Result<String, AllocError> {
+    let Some(model) = parsed_of(alloc, text) else {
+        return String::from_str(alloc, "no model");
+    };
+    let printed = spelling_of(alloc, &print_model(alloc, &model)?)?;
+    let is_kept = match parsed_of(alloc, printed.as_str()) {
+        Some(again) => *again.source() == *model.source(),
+        None => false,
+    };
+    if is_kept {
+        Ok(printed)
+    } else {
+        format!(in alloc; "another model: {printed}")
+    }
+}
+
+/// The well-typed model that a text begins with.
+pub fn typed_of(alloc: Global, text: &str) -> Option<Typed> {
+    let file = load(alloc, text.as_bytes()).ok()?.ok()?;
+    Some(file.typed)
+}
+
+/// The opening state by these callbacks, an integer, and the turns left; or the fault.
+fn opening_by<C: Callbacks>(alloc: Global, callbacks: &C) -> Result<String, AllocError> {
+    match callbacks.init(alloc)? {
+        Ok((Value::Int(number), turns)) => format!(in alloc; "{number} {turns}"),
+        Ok(_) => String::from_str(alloc, "no integer"),
+        Err(fault) => String::from_str(alloc, fault.name()),
+    }
+}
+
+/// The opening state of a text's model by the plain evaluator and by compiled code, which are to answer alike.
+pub fn opening_answer(alloc: Global, text: &str) -> Result<String, AllocError> {
+    let Some(typed) = typed_of(alloc, text) else {
+        return String::from_str(alloc, "no model");
+    };
+    let plain = opening_by(alloc, &Plain::new(&typed))?;
+    let Ok(compiled) = compile(alloc, typed) else {
+        return String::from_str(alloc, "not compiled");
+    };
+    let answer = opening_by(alloc, &compiled)?;
+    if answer.as_str() == plain.as_str() {
+        return Ok(answer);
+    }
+    format!(in alloc; "{plain}, and {answer} by compiled code")
+}
