@@ -1,6 +1,5 @@
 -- The beginning of the least merge that faults.
-use Rattle.std.proofs.Common.{◌≡◌, ℕ, ◌+◌, List, [], length, take, drop, Option, Some, None, refl, sym, ap, ◌∙◌, subst}
-use Rattle.std.proofs.lemmas.List.{take-append-drop}
+use Rattle.std.proofs.Common.{◌≡◌, ℕ, ◌+◌, ◌-◌, ◌≤◌, ◌<◌, List, [], length, take, Option, Some, None, refl, sym, ap, ◌∙◌, arith}
 use Rattle.pst_case.specs.Recorded.{recorded}
 use Rattle.pst_case.specs.declared.case.Case.{Case}
 use Rattle.pst_case.specs.declared.history.History.{History}
@@ -11,19 +10,22 @@ use Rattle.pst_grid.specs.Merges.{IsLeast}
 use Rattle.pst_grid.specs.declared.answer.Ending.{Ending}
 use Rattle.pst_grid.specs.declared.answer.SomeAnswer.{SomeAnswer}
 use Rattle.pst_grid.specs.declared.answer.SomeAnswer.TheVariants.{Found, Faulted as FaultedWord, Nothing}
+use Rattle.pst_grid.specs.declared.answer.Ending.TheVariants.{StopsAt}
 use Rattle.pst_grid.specs.declared.answer.Turn.{Turn}
+use Rattle.pst_grid.specs.declared.answer.Why.{Why}
 use Rattle.pst_grid.specs.declared.answer.Why.TheVariants.{Fault}
 use Rattle.pst_judge.proofs.Shifted.{shifted, shifted-true, shifted-stops, from_fault}
 use Rattle.pst_judge.specs.Replay.{post_asked, replayed, branch_turn, branch_lengths, prefix_events, branch_events, suffix_ending}
 use Rattle.pst_judge.specs.Running.{events_end}
 use Rattle.pst_judge.specs.Verdict.{first_broken, IsJudged, IsVerdict, IsVerdictOf, FaultsAt}
-use Rattle.pst_judge.specs.declared.running.EventsEnd.TheVariants.{Through}
+use Rattle.pst_judge.specs.declared.running.EventsEnd.TheVariants.{Through, Stopped}
 use Rattle.pst_judge.specs.declared.verdicts.Verdict.TheVariants.{Faulted}
 use Rattle.pst_model.specs.declared.model.Source.{Source}
-use Rattle.pst_operators.specs.Outcome.{Gives}
-use Rattle.pst_paths.proofs.Reaching.{replayed_through}
+use Rattle.pst_operators.specs.Outcome.{Gives, Faults as FaultsWith}
+use Rattle.pst_paths.proofs.Reaching.{replayed_through, prefix_stopped, unopened}
 use Rattle.pst_paths.specs.Marked.{MayFault, BeginsFault, true_letters}
 use Rattle.pst_paths.specs.Paths.{IsFaulting}
+use Rattle.pst_value.specs.declared.fault.Fault.{Fault as ValueFault}
 use Rattle.pst_value.specs.declared.value.Value.{Value}
 
 module _ (turn : Value → ℕ → ℕ → Turn Value Place) (rest : Value → Ending Place) (lengths : List ℕ) (s : Value) (may : MayFault turn rest lengths s) where
@@ -34,7 +36,7 @@ module _ (turn : Value → ℕ → ℕ → Turn Value Place) (rest : Value → E
   not_nothing n k = k.1 may.1.0 may.1.1
 
   begins_fault : (word : _) (at : ℕ) (p : Place) → IsAnswer turn rest lengths s (FaultedWord word at p) → BeginsFault turn rest lengths s (take at word.items)
-  begins_fault word at p k = (word.items, at, k.1.0, refl)
+  begins_fault word at p k = (word.items, at, p, k.1.0, k.1.1, refl)
 
   pub answer_begins : (a : SomeAnswer Place) → IsAnswer turn rest lengths s a → BeginsFault turn rest lengths s (true_letters a)
   answer_begins (Found word) k = absurd (not_found word k)
@@ -50,9 +52,21 @@ pub from_verdict : (m : Source) (c : Case) (h : History) (place : Place) → IsV
 from_verdict m c h place v = from_option m c h place (first_broken 1 (recorded h)) v
 
 module _ (m : Source) (c : Case) (h : History) (place : Place) (judged : IsJudged m c h (Faulted place)) where
-  -- nothing begins each merge
-  pub begins_empty : IsFaulting m c h []
-  begins_empty = (judged.1.0, judged.1.1)
+  -- where all merges stop before the branches, there are no letters
+  stopped_early : (n : ℕ) (why : Why Place) → ((w : List ℕ) → replayed m c h w ≡ StopsAt n why) → n ≤ length c.prefix → IsFaulting m c h []
+  stopped_early n why all early =
+      let w = judged.1.0 in
+      let faults = judged.1.1 in
+      let same : StopsAt n why ≡ StopsAt faults.0.1.0 (Fault faults.0.1.1) = sym (all w) ∙ faults.0.1.2 in
+      let at : n ≡ faults.0.1.0 = cc in
+      let none : faults.0.1.0 - length c.prefix ≡ 0 = omega (arith, at, early) in
+      (w, faults.0.1.0, faults.0.1.1, faults, faults.0.1.2, sym (ap (λ left. take left w) none))
+
+  pub init_stops : (k : ValueFault) → init_of m ≡ FaultsWith k → IsFaulting m c h []
+  init_stops k e = stopped_early 0 _ (unopened m c h k e) (omega arith)
+
+  pub prefix_stops : (p : Value × ℕ) (n : ℕ) (why : Why Place) → init_of m ≡ Gives p → events_end m (post_asked m) (prefix_events c h) p.0 ≡ Stopped n why → n < length c.prefix → IsFaulting m c h []
+  prefix_stops p n why e k early = stopped_early n why (prefix_stopped m c h p n why e k) (omega (arith, early))
 
   module _ (p : Value × ℕ) (s : Value) (e : init_of m ≡ Gives p) (k : events_end m (post_asked m) (prefix_events c h) p.0 ≡ Through s) (l : length (prefix_events c h) ≡ length c.prefix) where
     abbrev n : ℕ
@@ -79,7 +93,8 @@ module _ (m : Source) (c : Case) (h : History) (place : Place) (judged : IsJudge
     pub is_faulting : (word : List ℕ) → BeginsFault (branch_turn m (branch_events c h)) (suffix_ending m c h) (branch_lengths c) s word → IsFaulting m c h word
     is_faulting word b =
         let w = b.0 in
-        let least : IsLeast (FaultsAt m c h) w = (to_replay w b.2.0, λ v f. b.2.1 v (to_faults v f)) in
-        let P : List ℕ → Type 0 = λ x. IsFaulting m c h x in
-        let Q : List ℕ → Type 0 = λ x. IsLeast (FaultsAt m c h) x in
-        subst P (sym b.3) (drop b.1 w, subst Q (sym (take-append-drop b.1 w)) least)
+        let at = b.1 in
+        let p = b.2 in
+        let least : IsLeast (FaultsAt m c h) w = (to_replay w b.3.0, λ v f. b.3.1 v (to_faults v f)) in
+        let left : (n + at) - n ≡ at = omega arith in
+        (w, n + at, p, least, all w ∙ ap (shifted n) b.4 ∙ shifted-stops n at (Fault p), b.5 ∙ sym (ap (λ k. take k w) left))

@@ -1,5 +1,5 @@
 -- The beginning of the merges that come furthest.
-use Rattle.std.proofs.Common.{◌≡◌, ℕ, zero, suc, ◌+◌, ◌≤◌, List, [], ◌∷◌, ◌++◌, length, take, drop, ◌⊎◌, inl, inr, Option, Some, None, refl, sym, ap, ◌∙◌, subst, arith}
+use Rattle.std.proofs.Common.{◌≡◌, ℕ, zero, suc, ◌+◌, ◌-◌, ◌≤◌, ◌<◌, List, [], ◌∷◌, ◌++◌, length, take, drop, ◌⊎◌, inl, inr, Option, Some, None, refl, sym, ap, ◌∙◌, subst, arith}
 use Rattle.std.proofs.lemmas.List.{take-append-drop, length-take-le, take_all, append-nil}
 use Rattle.std.proofs.lemmas.Bool.Decides.{nat_tests}
 use Rattle.pst_case.specs.declared.case.Case.{Case}
@@ -7,8 +7,8 @@ use Rattle.pst_case.specs.declared.history.History.{History}
 use Rattle.pst_eval.specs.Callbacks.{init_of}
 use Rattle.pst_eval.specs.declared.place.Callback.TheVariants.{Init}
 use Rattle.pst_eval.specs.declared.place.Place.{Place}
-use Rattle.pst_grid.specs.Answers.{IsAnswer, ending}
-use Rattle.pst_grid.specs.Merges.{IsMerge, times, none_done}
+use Rattle.pst_grid.specs.Answers.{IsAnswer, Ends as EndsFrom, ending}
+use Rattle.pst_grid.specs.Merges.{IsMerge, IsLeast, IsUpTo, times, none_done}
 use Rattle.pst_grid.specs.declared.answer.Ending.{Ending}
 use Rattle.pst_grid.specs.declared.answer.Ending.TheVariants.{AllTrue, StopsAt}
 use Rattle.pst_grid.specs.declared.answer.SomeAnswer.{SomeAnswer}
@@ -16,18 +16,19 @@ use Rattle.pst_grid.specs.declared.answer.SomeAnswer.TheVariants.{Found, Faulted
 use Rattle.pst_grid.specs.declared.answer.Turn.{Turn}
 use Rattle.pst_grid.specs.declared.answer.Why.{Why}
 use Rattle.pst_grid.specs.declared.answer.Why.TheVariants.{False, Fault}
+use Rattle.pst_judge.proofs.FromSearch.{first_merge, first_is_merge, first_is_least}
 use Rattle.pst_judge.proofs.Shifted.{shifted, shifted-true, shifted-stops, from_false, runs_through, runs_stopped}
 use Rattle.pst_judge.specs.Replay.{post_asked, replayed, replayed_asking, from_opening, run_events, branch_turn, branch_lengths, prefix_events, branch_events, suffix_ending}
 use Rattle.pst_judge.specs.Running.{events_end}
 use Rattle.pst_case.specs.Recorded.{recorded}
-use Rattle.pst_judge.specs.Verdict.{first_broken, IsJudged, IsVerdict, IsVerdictOf}
+use Rattle.pst_judge.specs.Verdict.{first_broken, Ends, IsJudged, IsVerdict, IsVerdictOf}
 use Rattle.pst_judge.specs.declared.running.EventsEnd.TheVariants.{Through, Stopped}
 use Rattle.pst_judge.specs.declared.verdicts.Verdict.TheVariants.{Unexplained}
 use Rattle.pst_model.specs.declared.model.Source.{Source}
 use Rattle.pst_operators.specs.Outcome.{Gives, Faults}
 use Rattle.pst_paths.proofs.Marks.{run_marked, turn_marked, rest_marked, marked_true, marked_fault, to_fault, at_mark, begins_true}
 use Rattle.pst_paths.specs.Marked.{IsReached, BeginsOne, marked_ending, true_letters}
-use Rattle.pst_paths.specs.Paths.{IsFurthest}
+use Rattle.pst_paths.specs.Paths.{IsFurthest, StopsAllAt}
 use Rattle.pst_paths.specs.declared.marked.Left.{Left}
 use Rattle.pst_value.specs.declared.fault.Fault.{Fault as ValueFault}
 use Rattle.pst_value.specs.declared.value.Value.{Value}
@@ -57,7 +58,9 @@ module _ (turn : Value → ℕ → ℕ → Turn Value Place) (rest : Value → E
   begins_one word at x k =
       let q = marked_fault (Some far) (ending turn rest lengths s word.items) at x (sym (marked_is word.items) ∙ k.1.1) in
       let same = at_mark far at q.1 in
-      (word.items, (k.1.0.0.0, q.0 ∙ ap (λ n. StopsAt n False) same), ap (λ n. take n word.items) same)
+      let stops = q.0 ∙ ap (λ n. StopsAt n False) same in
+      let least : (v : List ℕ) → EndsFrom turn rest lengths s (StopsAt far False) v → IsUpTo word.items v = λ v e. k.1.0.1 v (e.0, (far, tt, marked_is v ∙ ap (marked_ending (Some far)) e.1 ∙ to_fault far)) in
+      (word.items, ((k.1.0.0.0, stops), least), ap (λ n. take n word.items) same)
 
   pub answer_begins : (a : SomeAnswer (Unit {0})) → IsMarkedAnswer a → BeginsOne turn rest lengths s far (true_letters a)
   answer_begins (Found word) k = absurd (not_found word k)
@@ -87,11 +90,6 @@ short_or_long (suc n) (suc k) = at (short_or_long n k)
     at (inl h) = inl (omega (arith, h))
     at (inr h) = inr (omega (arith, h))
 
-length_take : (n : ℕ) (w : List ℕ) → length (take n w) ≤ n
-length_take zero w = omega arith
-length_take (suc n) [] = omega arith
-length_take (suc n) (a ∷ w) = let h = length_take n w in omega (arith, h)
-
 -- a verdict of so many true events is that of the replays of all merges
 from_option : (m : Source) (c : Case) (h : History) (far : ℕ) (o : Option ℕ) → IsVerdictOf m c h o (Unexplained far) → (o ≡ None) × IsJudged m c h (Unexplained far)
 from_option m c h far (Some n) e = absurd (cc)
@@ -108,6 +106,14 @@ module _ (m : Source) (c : Case) (h : History) where
   pub opened : (p : Value × ℕ) → init_of m ≡ Gives p → (w : List ℕ) → replayed m c h w ≡ run_events m (prefix_events c h) p.0 (after_prefix w)
   unfolding replayed_asking
   opened p e w = ap (λ o. from_opening o (λ s. run_events m (prefix_events c h) s (after_prefix w))) e
+
+  pub unopened : (k : ValueFault) → init_of m ≡ Faults k → (w : List ℕ) → replayed m c h w ≡ StopsAt 0 (Fault (record { command = 0; callback = Init; fault = k }))
+  unfolding replayed_asking
+  unopened k e w = ap (λ o. from_opening o (λ s. run_events m (prefix_events c h) s (after_prefix w))) e
+
+  -- where the prefix stops, all merges stop there
+  pub prefix_stopped : (p : Value × ℕ) (n : ℕ) (why : Why Place) → init_of m ≡ Gives p → events_end m (post_asked m) (prefix_events c h) p.0 ≡ Stopped n why → (w : List ℕ) → replayed m c h w ≡ StopsAt n why
+  prefix_stopped p n why e k w = opened p e w ∙ runs_stopped m (post_asked m) (after_prefix w) (prefix_events c h) p.0 n why k
 
   pub replayed_through : (p : Value × ℕ) (s : Value) → init_of m ≡ Gives p → events_end m (post_asked m) (prefix_events c h) p.0 ≡ Through s → length (prefix_events c h) ≡ length c.prefix
       → (w : List ℕ) → replayed m c h w ≡ shifted (length c.prefix) (after_prefix w s)
@@ -126,20 +132,23 @@ module _ (m : Source) (c : Case) (h : History) (far : ℕ) (judged : IsJudged m 
   abbrev rest_of : List ℕ → Value → Ending Place
   rest_of w s = ending turn rest lengths s w
 
-  unopened : (k : ValueFault) → init_of m ≡ Faults k → (w : List ℕ) → replayed m c h w ≡ StopsAt 0 (Fault (record { command = 0; callback = Init; fault = k }))
-  unfolding replayed_asking
-  unopened k e w = ap (λ o. from_opening o (λ s. run_events m (prefix_events c h) s (rest_of w))) e
-
   -- `init` gives a state
   pub init_gives : (k : ValueFault) → init_of m ≡ Faults k → ⊥
-  init_gives k e = let v = judged.2 in let q = sym (unopened k e v.0) ∙ v.1.1 in cc
+  init_gives k e = let v = judged.2 in let q = sym (unopened m c h k e v.0) ∙ v.1.1 in cc
 
-  -- where the prefix stops, all merges stop there
-  pub prefix_stops : (p : Value × ℕ) (n : ℕ) (why : Why Place) → init_of m ≡ Gives p → events_end m (post_asked m) (prefix_events c h) p.0 ≡ Stopped n why → IsFurthest m c h far []
-  prefix_stops p n why e k =
-      let all : (w : List ℕ) → replayed m c h w ≡ StopsAt n why = λ w. opened m c h p e w ∙ runs_stopped m (post_asked m) (rest_of w) (prefix_events c h) p.0 n why k in
+  -- and there are no letters
+  pub prefix_stops : (p : Value × ℕ) (n : ℕ) (why : Why Place) → init_of m ≡ Gives p → events_end m (post_asked m) (prefix_events c h) p.0 ≡ Stopped n why → n < length c.prefix → IsFurthest m c h far []
+  prefix_stops p n why e k early =
+      let all : (w : List ℕ) → replayed m c h w ≡ StopsAt n why = prefix_stopped m c h p n why e k in
       let v = judged.2 in
-      (((v.0, v.1.0), λ more merge. all more ∙ sym (all v.0) ∙ v.1.1), inl refl)
+      let there : (w : List ℕ) → replayed m c h w ≡ StopsAt far False = λ w. all w ∙ sym (all v.0) ∙ v.1.1 in
+      let same : StopsAt n why ≡ StopsAt far False = sym (all v.0) ∙ v.1.1 in
+      let at : n ≡ far = cc in
+      let none : far - length c.prefix ≡ 0 = omega (arith, at, early) in
+      let first = first_merge lengths in (
+        (first, ((first_is_merge lengths, there first), λ w other. first_is_least lengths w other.0), sym (ap (λ left. take left first) none)),
+        ((v.0, v.1.0), λ more merge. there more),
+      )
 
   module _ (p : Value × ℕ) (s : Value) (e : init_of m ≡ Gives p) (k : events_end m (post_asked m) (prefix_events c h) p.0 ≡ Through s) (l : length (prefix_events c h) ≡ length c.prefix) where
     all : (w : List ℕ) → replayed m c h w ≡ shifted (length c.prefix) (rest_of w s)
@@ -192,16 +201,27 @@ module _ (m : Source) (c : Case) (h : History) (far : ℕ) (judged : IsJudged m 
             let same : u ≡ w = ap (λ x. x ++ more) whole ∙ ap (λ x. w ++ x) none ∙ append-nil w in
             ap (replayed m c h) same ∙ all w ∙ ap (shifted (length c.prefix)) stops ∙ shifted-stops (length c.prefix) left False ∙ ap (λ n. StopsAt n False) sum
 
+    -- what stops behind the prefix, and what stops
+    stops_behind : (left : ℕ) → length c.prefix + left ≡ far → (w : List ℕ) → rest_of w s ≡ StopsAt left False → replayed m c h w ≡ StopsAt far False
+    stops_behind left sum w is = all w ∙ ap (shifted (length c.prefix)) is ∙ shifted-stops (length c.prefix) left False ∙ ap (λ n. StopsAt n False) sum
+
+    stops_from : (left : ℕ) → length c.prefix + left ≡ far → (w : List ℕ) → replayed m c h w ≡ StopsAt far False → rest_of w s ≡ StopsAt left False
+    stops_from left sum w is =
+        let q = from_false (length c.prefix) (rest_of w s) far (sym (all w) ∙ is) in
+        let z = q.2 in
+        let same : q.0 ≡ left = omega (arith, z, sum) in
+        q.1 ∙ ap (λ n. StopsAt n False) same
+
     pub is_furthest : (left : ℕ) → length c.prefix + left ≡ far → (word : List ℕ) → BeginsOne turn rest lengths s left word → IsFurthest m c h far word
     is_furthest left sum word b =
-        let P : List ℕ → Type 0 = λ x. IsFurthest m c h far x in
+        let P : List ℕ → Type 0 = λ x. StopsAllAt m c h far x in
         let w = b.0 in
         let Q : List ℕ → Type 0 = λ x. IsMerge lengths x in
-        let short = length_take left w in
-        subst P (sym b.2) (
-          (
-            (drop left w, subst Q (sym (take-append-drop left w)) b.1.0),
-            λ more other. stops_there left sum w more b.1.0 b.1.1 other,
+        let rest_is : far - length c.prefix ≡ left = omega (arith, sum) in
+        let least : IsLeast (Ends m c h (StopsAt far False)) w = ((b.1.0.0, stops_behind left sum w b.1.0.1), λ v e. b.1.1 v (e.0, stops_from left sum v e.1)) in (
+          (w, least, b.2 ∙ sym (ap (λ n. take n w) rest_is)),
+          subst P (sym b.2) (
+            (drop left w, subst Q (sym (take-append-drop left w)) b.1.0.0),
+            λ more other. stops_there left sum w more b.1.0.0 b.1.0.1 other,
           ),
-          inr (omega (arith, short, sum)),
         )

@@ -1,6 +1,6 @@
 -- Runs whose false event at a mark faults, and which fault nowhere else.
 use Rattle.std.specs.Prelude.{◌≡◌, ℕ, zero, suc, ◌==◌, Bool, false, if◌then◌else◌, List, [], take, Option, Some, None}
-use Rattle.pst_grid.specs.Answers.{Ends, Faults}
+use Rattle.pst_grid.specs.Answers.{Ends, Faults, ending}
 use Rattle.pst_grid.specs.Merges.{IsLeast}
 use Rattle.pst_grid.specs.declared.answer.Ending.{Ending}
 use Rattle.pst_grid.specs.declared.answer.Ending.TheVariants.{AllTrue, StopsAt}
@@ -52,10 +52,10 @@ module _ (turn : Value → ℕ → ℕ → Turn Value Place) (rest : Value → E
       ((w : List ℕ) → Ends turn rest lengths s AllTrue w → ⊥)
       × ((w : List ℕ) × Ends turn rest lengths s (StopsAt far False) w)
 
-  -- the letters of the true events of a merge that stops so
+  -- the letters of the true events of the least merge that stops so
   abbrev pub BeginsOne : ℕ → List ℕ → Type 0
   BeginsOne far word =
-      (w : List ℕ) × Ends turn rest lengths s (StopsAt far False) w × (word ≡ take far w)
+      (w : List ℕ) × IsLeast (Ends turn rest lengths s (StopsAt far False)) w × (word ≡ take far w)
 
   -- no merge is true to its end, and one faults
   abbrev pub MayFault : Type 0
@@ -66,4 +66,7 @@ module _ (turn : Value → ℕ → ℕ → Turn Value Place) (rest : Value → E
   -- the letters of the true events of the least merge that faults
   abbrev pub BeginsFault : List ℕ → Type 0
   BeginsFault word =
-      (w : List ℕ) × (n : ℕ) × IsLeast (Faults turn rest lengths s) w × (word ≡ take n w)
+      (w : List ℕ) × (n : ℕ) × (p : Place)
+      × IsLeast (Faults turn rest lengths s) w
+      × (ending turn rest lengths s w ≡ StopsAt n (Fault p))
+      × (word ≡ take n w)

@@ -74,10 +74,10 @@ fn after_prefix<C: Callbacks>(
     first_letters(alloc, &branches, &state)
 }
 
-/// The beginning of the least merge that faults, of a history whose verdict is a fault: the letters of its
-/// true events. It is empty where `init` or an event of the prefix faults. `AllocError` where memory is refused.
+/// The beginning of the least merge that faults, of a history whose verdict is a fault: the letters of its true events.
 ///
-/// The contract says that the word begins that merge. How long the word is, no clause says.
+/// It has all letters where an event of the suffix faults, and none where `init` or an event of the prefix does.
+/// `AllocError` where memory is refused.
 pub fn faulting<C: Callbacks>(
     callbacks: &C,
     alloc: Global,

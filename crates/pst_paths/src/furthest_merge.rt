@@ -82,14 +82,11 @@ fn after_prefix<C: Callbacks>(
     first_letters(alloc, &branches, state, far)
 }
 
-/// The beginning of the merges that come furthest, of a history that is unexplained after so many true
-/// events: the letters of their true events, and all letters where the suffix is not true.
+/// The beginning of the merges that come furthest, of a history that is unexplained after so many true events: the
+/// letters of the true events of the least merge that comes so far.
 ///
-/// Each merge that begins so stops after `far` true events: each next command is false there. It is empty
-/// where the prefix is not true. `AllocError` where memory is refused.
-///
-/// The contract says that each merge that begins so stops there, and that the word has no letter but those of
-/// true events. Which of several such words it is, no clause says.
+/// It has all letters where the suffix is not true, and none where the prefix is not. Each merge that begins so stops
+/// after `far` true events: each next command is false there. `AllocError` where memory is refused.
 pub fn furthest<C: Callbacks>(
     callbacks: &C,
     alloc: Global,

@@ -2,3 +2,4 @@ pub mod Among
 pub mod Fewer
 pub mod Numbered
 pub mod FewerAsked
+pub mod Rising

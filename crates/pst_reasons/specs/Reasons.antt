@@ -1,5 +1,5 @@
 -- Why no interleaving explains the replies of a history.
-use Rattle.std.specs.Prelude.{◌≡◌, ◌==◌, ◌||◌, ℕ, zero, suc, ◌+◌, Bool, true, false, if◌then◌else◌, List, [], ◌∷◌, ◌++◌, length}
+use Rattle.std.specs.Prelude.{◌≡◌, ◌==◌, ◌||◌, ℕ, zero, suc, ◌+◌, ◌<◌, ◌≤◌, Bool, true, false, if◌then◌else◌, List, [], ◌∷◌, ◌++◌, length}
 use Rattle.pst_case.specs.Shape.{before_suffix}
 use Rattle.pst_case.specs.declared.case.Case.{Case}
 use Rattle.pst_case.specs.declared.history.History.{History}
@@ -25,6 +25,11 @@ without number (n ∷ numbers) = if n == number then without number numbers else
 abbrev pub numbers_to : ℕ → List ℕ
 numbers_to zero = []
 numbers_to (suc last) = numbers_to last ++ suc last ∷ []
+
+-- the numbers rise, each above the one before it; all are above the first bound, and up to the last
+abbrev pub AreRising : ℕ → ℕ → List ℕ → Type 0
+AreRising low last [] = Unit {0}
+AreRising low last (n ∷ numbers) = (low < n) × (n ≤ last) × AreRising n last numbers
 
 -- how many commands a case has
 abbrev pub number_of_commands : Case → ℕ

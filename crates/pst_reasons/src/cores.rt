@@ -3,7 +3,7 @@ ghost use Rattle.std.specs.Prelude.{◌≡◌, ◌++◌, ◌∷◌, [], true, No
 ghost use Rattle.pst_case.specs.Matches.{matches};
 ghost use Rattle.pst_case.specs.Recorded.{recorded};
 ghost use Rattle.pst_judge.specs.Verdict.{first_broken};
-ghost use Rattle.pst_reasons.specs.Reasons.{IsCore, IsImpossible, IsLeastTrue, IsNeeded, IsUnexplained, is_among, without};
+ghost use Rattle.pst_reasons.specs.Reasons.{AreRising, IsCore, IsImpossible, IsLeastTrue, IsNeeded, IsUnexplained, is_among, number_of_commands, without};
 
 use crate::asked::Asked;
 use crate::numbers::{commands_in, no_numbers, numbers_to, split_last, without};
@@ -55,10 +55,14 @@ fn leave_out_one<C: Callbacks>(
         ((first.now ++ number ∷ []) ++ core.items) }
     requires needed { IsNeeded (C.model callbacks.now) shaped.now.case history.now (first.now ++ number ∷ [])
         core.items }
+    requires rising { AreRising 0 (number_of_commands shaped.now.case)
+        ((first.now ++ number ∷ []) ++ core.items) }
     ensures impossible { IfOk result (λ core. IsImpossible (C.model callbacks.now) shaped.now.case history.now
         (first.now ++ core.items)) }
     ensures needed { IfOk result (λ core. IsNeeded (C.model callbacks.now) shaped.now.case history.now first.now
         core.items) }
+    ensures rising { IfOk result (λ core. AreRising 0 (number_of_commands shaped.now.case)
+        (first.now ++ core.items)) }
 {
     let merge = true_merge(callbacks, alloc, shaped, history, first, core.as_slice())?;
     let Some(_word) = merge else {
@@ -83,8 +87,10 @@ fn leave_out<C: Callbacks>(
     requires impossible { IsImpossible (C.model callbacks.now) shaped.now.case history.now
         (first.now ++ core.items) }
     requires needed { IsNeeded (C.model callbacks.now) shaped.now.case history.now first.now core.items }
-    ensures { IfOk result
+    requires rising { AreRising 0 (number_of_commands shaped.now.case) (first.now ++ core.items) }
+    ensures core { IfOk result
         (λ core. IsCore (C.model callbacks.now) shaped.now.case history.now core.items) }
+    ensures rising { IfOk result (λ core. AreRising 0 (number_of_commands shaped.now.case) core.items) }
 {
     let Some((number, first)) = split_last(first) else {
         return Ok(core);
@@ -110,8 +116,9 @@ pub fn core<C: Callbacks>(
     requires matches { matches (C.model callbacks.now) shaped.now.case history.now ≡ true }
     requires answered { first_broken 1 (recorded history.now) ≡ None }
     requires unexplained { IsUnexplained (C.model callbacks.now) shaped.now.case history.now }
-    ensures { IfOk result
+    ensures core { IfOk result
         (λ core. IsCore (C.model callbacks.now) shaped.now.case history.now core.items) }
+    ensures rising { IfOk result (λ core. AreRising 0 (number_of_commands shaped.now.case) core.items) }
 {
     let numbers = numbers_to(alloc, commands_in(shaped))?;
     let core = no_numbers(alloc);

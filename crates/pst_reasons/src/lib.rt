@@ -7,4 +7,4 @@ mod numbers;
 
 pub use asked::Asked;
 pub use cores::{core, merge_without};
-pub use numbers::letters_in;
+pub use numbers::{letters_in, without};

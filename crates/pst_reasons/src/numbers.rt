@@ -38,12 +38,8 @@ pub(crate) fn split_last(numbers: &[u32]) -> Option<(&u32, &[u32])>
     numbers.split_last()
 }
 
-/// The numbers but one, behind others.
-pub(crate) fn without(
-    number: u32,
-    numbers: &[u32],
-    mut others: Vec<u32>,
-) -> Result<Vec<u32>, AllocError>
+/// The numbers but one, behind others. `AllocError` where memory is refused.
+pub fn without(number: u32, numbers: &[u32], mut others: Vec<u32>) -> Result<Vec<u32>, AllocError>
     ensures { IfOk result (λ all. all.items ≡ others.items ++ without number numbers.now) }
 {
     let Some((first, rest)) = split_first(numbers) else {

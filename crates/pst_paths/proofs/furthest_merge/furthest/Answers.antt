@@ -45,7 +45,9 @@ returns-in-Stopped g c =
     let v = from_verdict m c.args.shaped.now.case c.args.history.now c.args.far c.requires.verdict in
     let says = rw c.in-Ok.is at c.in_ok-opening.ensures.says in
     let end = rw (c.as_slice-2.ensures, c.in_ok-prefix.ensures) at c.in_ok-run_events.ensures.end in
-    rw c.new.ensures.items (prefix_stops m c.args.shaped.now.case c.args.history.now c.args.far v.1 c.in-Ok.opening c.in-Stopped.field-0 c.in-Stopped.field-1 says (sym end ∙ c.in-Stopped.is))
+    let l = prefix_length m c.args.shaped.now.case c.args.history.now (rw c.requires.model at c.case-case.ensures.shape) c.requires.matches v.0 in
+    let within = rw (c.in-Stopped.is, c.as_slice-2.ensures, c.in_ok-prefix.ensures) at c.in_ok-run_events.ensures.within in
+    rw c.new.ensures.items (prefix_stops m c.args.shaped.now.case c.args.history.now c.args.far v.1 c.in-Ok.opening c.in-Stopped.field-0 c.in-Stopped.field-1 says (sym end ∙ c.in-Stopped.is) (omega (arith, within, l)))
 
 pub after_prefix-requires-clause-reached : goal.after_prefix-requires-clause-reached
 after_prefix-requires-clause-reached g c =

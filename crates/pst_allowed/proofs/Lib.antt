@@ -1,0 +1,5 @@
+pub mod Posts
+pub mod OneAnswer
+pub mod Asking
+pub mod Unnamed
+pub mod Equality
