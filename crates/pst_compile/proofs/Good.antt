@@ -1,5 +1,5 @@
 -- What is said of the code of an expression, and of its parts.
-use Rattle.std.proofs.Common.{◌≡◌, ℕ, ◌+◌, ◌<◌, List, [], ◌∷◌, Option, Some, None, refl, sym, ◌∙◌, subst, arith}
+use Rattle.std.proofs.Common.{◌≡◌, ℕ, ◌+◌, ◌<◌, ◌≤◌, List, [], ◌∷◌, Option, Some, None, refl, sym, ◌∙◌, subst, arith}
 use Rattle.std.specs.Prelude.{Bool, true, false, if◌then◌else◌}
 use Rattle.std.specs.Str.{bytes_eq}
 use Rattle.pst_model.specs.Parts.{Name}
@@ -85,6 +85,23 @@ value_written r regs regs1 regs2 v h e =
 pub value_after : (r : ℕ) (regs regs1 regs2 : Regs) (v : Value) → Keeps (Below r) regs regs1 → ValueAt r regs1 v regs2 → ValueAt r regs v regs2
 value_after r regs regs1 regs2 v h q = record { keeps = keeps_then (Below r) regs regs1 regs2 h q.keeps; value = q.value }
 
+-- the value is in register d, and the others below r are as they were
+pub record OverAt (d r : ℕ) (regs : Regs) (v : Value) (regs' : Regs) : Type 0 where
+  pub keeps : Keeps (But d r) regs regs'
+  pub value : read regs' d ≡ Gives v
+
+pub keeps_but : (d r : ℕ) (a b : Regs) → Keeps (Below r) a b → Keeps (But d r) a b
+keeps_but d r a b h = keeps_less (But d r) (Below r) a b (λ k o. o.0) h
+
+pub over_written : (d r : ℕ) (regs regs1 : Regs) (v : Value) → Keeps (But d r) regs regs1 → OverAt d r regs v (write regs1 d v)
+over_written d r regs regs1 v h = record { keeps = keeps_write (But d r) regs regs1 d v (λ o. o.1 refl) h; value = read_write regs1 d v }
+
+-- what is above r may change before
+pub over_after : (d r s : ℕ) (regs regs1 regs2 : Regs) (v : Value) → r ≤ s → Keeps (Below r) regs regs1 → OverAt d s regs1 v regs2 → OverAt d r regs v regs2
+over_after d r s regs regs1 regs2 v le h q =
+    let wide = λ (k : ℕ) (o : But d r k). let lt = o.0 in let both : But d s k = (omega (arith, lt, le), o.1) in both in
+    record { keeps = keeps_then (But d r) regs regs1 regs2 (keeps_but d r regs regs1 h) (keeps_less (But d r) (But d s) regs1 regs2 wide q.keeps); value = q.value }
+
 -- a register that is the given one, or one of names
 pub data Low (ok : ℕ → Type 0) (r k : ℕ) : Type 0 where
   IsHere : k ≡ r → Low ok r k
@@ -107,6 +124,7 @@ module _ (code : List FunCode) where
   -- the code does what the expression means, and that of a name what the name means
   pub record Good (c : Coded) (m : Mean) : Type 0 where
     pub by : (f : ℕ) (callers : List Frame) (sc : Scope) (r : ℕ) (env : Env) (regs : Regs) (turns : ℕ) → Holds (Below r) sc env regs → Runs code f callers (c.put sc r) regs turns (ValueAt r regs) (m env turns)
+    pub over : (f : ℕ) (callers : List Frame) (sc : Scope) (d r : ℕ) (env : Env) (regs : Regs) (turns : ℕ) → d < r → Holds (Below r) sc env regs → Runs code f callers (c.overwrite sc d r) regs turns (OverAt d r regs) (m env turns)
     pub named : (x : Name) → c.name ≡ Some x → (env : Env) (turns : ℕ) → m env turns ≡ lift (looked_up env x) turns
 
   value_operand : (ok : ℕ → Type 0) (r : ℕ) (regs : Regs) (v : Value) (regs' : Regs) → ValueAt r regs v regs' → OperandAt ok r r regs v regs'

@@ -9,7 +9,7 @@ use Rattle.pst_model.specs.declared.model.Item.{Item}
 use Rattle.pst_model.specs.declared.model.Item.TheVariants as item
 use Rattle.pst_machine.specs.declared.instruction.Instr.{Instr}
 use Rattle.pst_machine.specs.declared.instruction.Instr.TheVariants.{Move, Call, Apply}
-use Rattle.pst_compile.specs.Code.{Block, one, ◌then◌, Scope, Coded, CodedPart, own, unless_own, load, load_all, visit_code, find, move_from, apply_to, call_to, code_at, coded_part_at, code as code_of, part_code, functions, number}
+use Rattle.pst_compile.specs.Code.{Block, one, ◌then◌, Scope, Coded, CodedPart, own, unless_own, load, load_all, visit_code, find, move_from, apply_to, call_to, no_name, to_either, code_at, coded_part_at, code as code_of, part_code, functions, number}
 use Rattle.pst_compile.proofs.Lawful.{Placed, Lawful, lawful_nothing, lawful_then, lawful_where, lawful_choice, lawful_each}
 
 module _ (g : ℕ) where
@@ -18,6 +18,15 @@ module _ (g : ℕ) where
 
   pub record LawfulCode (c : Coded) : Type 0 where
     pub by : (sc : Scope) (r : ℕ) → Lawful g (c.put sc r)
+    pub over : (sc : Scope) (d r : ℕ) → Lawful g (c.overwrite sc d r)
+
+  -- code that is no name's
+  moved_lawful : (c : Scope → ℕ → Block) → ((sc : Scope) (r : ℕ) → Lawful g (c sc r)) → LawfulCode (no_name c)
+  moved_lawful c h = record { by = h; over = λ sc d r. lawful_then g _ _ (h sc r) (one_lawful _ (λ hi q. tt)) }
+
+  -- code whose last instruction may write to another register than r
+  either_lawful : (c : Scope → ℕ → ℕ → Block) → ((sc : Scope) (d r : ℕ) → Lawful g (c sc d r)) → LawfulCode (to_either c)
+  either_lawful c h = record { by = λ sc r. h sc r r; over = h }
 
   unless_lawful : (a : Option ℕ) (b : Block) → Lawful g b → Lawful g (unless_own a b)
   unless_lawful None b h = h
@@ -92,32 +101,34 @@ module _ (g : ℕ) where
     LayerLawful x = LawfulCode (code_at items nums (map-Expr Clause Expr CodedPart Coded (part_code items nums) (code_of items nums) x))
 
     layer_lawful : (y : Expr-F AClause AnExpr) → LayerLawful (plain y)
-    layer_lawful (Expr-F.Int n) = record { by = λ sc r. one_lawful _ (λ hi q. tt) }
-    layer_lawful (Expr-F.Bool b) = record { by = λ sc r. one_lawful _ (λ hi q. tt) }
-    layer_lawful (Expr-F.Text t) = record { by = λ sc r. one_lawful _ (λ hi q. tt) }
-    layer_lawful (Expr-F.Name x) = record { by = λ sc r. move_lawful r (find sc x) }
-    layer_lawful (Expr-F.Let x e b) = record { by = λ sc r. lawful_then g _ _ (load_lawful _ e.1 sc r) (lawful_then g _ _ (b.1.by _ (r + 1)) (one_lawful _ (λ hi q. tt))) }
-    layer_lawful (Expr-F.If c a b) = record { by = λ sc r. lawful_then g _ _ (load_lawful _ c.1 sc r) (lawful_choice g _ _ _ (a.1.by sc r) (b.1.by sc r)) }
-    layer_lawful (Expr-F.And a b) = record { by = λ sc r. lawful_then g _ _ (a.1.by sc r) (lawful_where g _ _ (b.1.by sc r)) }
-    layer_lawful (Expr-F.Or a b) = record { by = λ sc r. lawful_then g _ _ (a.1.by sc r) (lawful_choice g _ _ _ (lawful_nothing g) (b.1.by sc r)) }
-    layer_lawful (Expr-F.Unary op e) = record { by = λ sc r. lawful_then g _ _ (load_lawful _ e.1 sc r) (one_lawful _ (λ hi q. tt)) }
-    layer_lawful (Expr-F.Binary op a b) = record { by = λ sc r. lawful_then g _ _ (load_lawful _ a.1 sc r) (lawful_then g _ _ (load_lawful _ b.1 sc (r + 1)) (one_lawful _ (λ hi q. tt))) }
-    layer_lawful (Expr-F.Tuple es) = record { by = λ sc r. lawful_then g _ _ (all_lawful _ (exprs_lawful es) sc r) (one_lawful _ (λ hi q. tt)) }
-    layer_lawful (Expr-F.At e n) = record { by = λ sc r. lawful_then g _ _ (load_lawful _ e.1 sc r) (one_lawful _ (λ hi q. tt)) }
-    layer_lawful (Expr-F.List type es) = record { by = λ sc r. lawful_then g _ _ (all_lawful _ (exprs_lawful es) sc r) (one_lawful _ (λ hi q. tt)) }
-    layer_lawful (Expr-F.For clauses b) = record { by = λ sc r. lawful_then g _ _ (one_lawful _ (λ hi q. tt)) (visit_lawful _ _ (parts_lawful clauses) b.1 r sc (r + 1)) }
-    layer_lawful (Expr-F.Fold x e acc i b) = record {
-      by = λ sc r.
-          lawful_then g _ _ (load_lawful _ e.1 sc r) (lawful_then g _ _ (i.1.by sc (r + 1)) (lawful_then g _ _ (one_lawful _ (λ hi q. tt)) (lawful_then g _ _
-          (lawful_each g _ _ _ _ (lawful_then g _ _ (b.1.by _ (r + 4)) (one_lawful _ (λ hi q. tt)))) (one_lawful _ (λ hi q. tt)))));
+    layer_lawful (Expr-F.Int n) = moved_lawful _ (λ sc r. one_lawful _ (λ hi q. tt))
+    layer_lawful (Expr-F.Bool b) = moved_lawful _ (λ sc r. one_lawful _ (λ hi q. tt))
+    layer_lawful (Expr-F.Text t) = moved_lawful _ (λ sc r. one_lawful _ (λ hi q. tt))
+    layer_lawful (Expr-F.Name x) = record { by = λ sc r. move_lawful r (find sc x); over = λ sc d r. move_lawful d (find sc x) }
+    layer_lawful (Expr-F.Let x e b) = record {
+      by = λ sc r. lawful_then g _ _ (load_lawful _ e.1 sc r) (lawful_then g _ _ (b.1.by _ (r + 1)) (one_lawful _ (λ hi q. tt)));
+      over = λ sc d r. lawful_then g _ _ (load_lawful _ e.1 sc r) (b.1.over _ d (r + 1));
     }
-    layer_lawful (Expr-F.Map k t) = record { by = λ sc r. one_lawful _ (λ hi q. tt) }
-    layer_lawful (Expr-F.Put m k v) = record {
-      by = λ sc r.
-          lawful_then g _ _ (load_lawful _ m.1 sc r) (lawful_then g _ _ (load_lawful _ k.1 sc (r + 1)) (lawful_then g _ _ (load_lawful _ v.1 sc (r + 2)) (one_lawful _ (λ hi q. tt))));
+    layer_lawful (Expr-F.If c a b) = record {
+      by = λ sc r. lawful_then g _ _ (load_lawful _ c.1 sc r) (lawful_choice g _ _ _ (a.1.by sc r) (b.1.by sc r));
+      over = λ sc d r. lawful_then g _ _ (load_lawful _ c.1 sc r) (lawful_choice g _ _ _ (a.1.over sc d r) (b.1.over sc d r));
     }
-    layer_lawful (Expr-F.Call x es) = record { by = λ sc r. lawful_then g _ _ (all_lawful _ (exprs_lawful es) sc r) (call_lawful r (number_of items x) _) }
-    layer_lawful (Expr-F.Apply f es) = record { by = λ sc r. lawful_then g _ _ (all_lawful _ (exprs_lawful es) sc r) (apply_lawful r (nums f) _ (low f)) }
+    layer_lawful (Expr-F.And a b) = moved_lawful _ (λ sc r. lawful_then g _ _ (a.1.by sc r) (lawful_where g _ _ (b.1.by sc r)))
+    layer_lawful (Expr-F.Or a b) = moved_lawful _ (λ sc r. lawful_then g _ _ (a.1.by sc r) (lawful_choice g _ _ _ (lawful_nothing g) (b.1.by sc r)))
+    layer_lawful (Expr-F.Unary op e) = moved_lawful _ (λ sc r. lawful_then g _ _ (load_lawful _ e.1 sc r) (one_lawful _ (λ hi q. tt)))
+    layer_lawful (Expr-F.Binary op a b) = either_lawful _ (λ sc d r. lawful_then g _ _ (load_lawful _ a.1 sc r) (lawful_then g _ _ (load_lawful _ b.1 sc (r + 1)) (one_lawful _ (λ hi q. tt))))
+    layer_lawful (Expr-F.Tuple es) = moved_lawful _ (λ sc r. lawful_then g _ _ (all_lawful _ (exprs_lawful es) sc r) (one_lawful _ (λ hi q. tt)))
+    layer_lawful (Expr-F.At e n) = moved_lawful _ (λ sc r. lawful_then g _ _ (load_lawful _ e.1 sc r) (one_lawful _ (λ hi q. tt)))
+    layer_lawful (Expr-F.List type es) = moved_lawful _ (λ sc r. lawful_then g _ _ (all_lawful _ (exprs_lawful es) sc r) (one_lawful _ (λ hi q. tt)))
+    layer_lawful (Expr-F.For clauses b) = moved_lawful _ (λ sc r. lawful_then g _ _ (one_lawful _ (λ hi q. tt)) (visit_lawful _ _ (parts_lawful clauses) b.1 r sc (r + 1)))
+    layer_lawful (Expr-F.Fold x e acc i b) = moved_lawful _ (λ sc r.
+        lawful_then g _ _ (load_lawful _ e.1 sc r) (lawful_then g _ _ (i.1.by sc (r + 1)) (lawful_then g _ _ (one_lawful _ (λ hi q. tt)) (lawful_then g _ _
+        (lawful_each g _ _ _ _ (b.1.over _ (r + 1) (r + 4))) (one_lawful _ (λ hi q. tt))))))
+    layer_lawful (Expr-F.Map k t) = moved_lawful _ (λ sc r. one_lawful _ (λ hi q. tt))
+    layer_lawful (Expr-F.Put m k v) = either_lawful _ (λ sc d r.
+        lawful_then g _ _ (load_lawful _ m.1 sc r) (lawful_then g _ _ (load_lawful _ k.1 sc (r + 1)) (lawful_then g _ _ (load_lawful _ v.1 sc (r + 2)) (one_lawful _ (λ hi q. tt)))))
+    layer_lawful (Expr-F.Call x es) = moved_lawful _ (λ sc r. lawful_then g _ _ (all_lawful _ (exprs_lawful es) sc r) (call_lawful r (number_of items x) _))
+    layer_lawful (Expr-F.Apply f es) = moved_lawful _ (λ sc r. lawful_then g _ _ (all_lawful _ (exprs_lawful es) sc r) (apply_lawful r (nums f) _ (low f)))
 
     abbrev PlainPart : Clause-F AClause AnExpr → Clause-F Clause Expr
     PlainPart y = map-Clause AClause AnExpr Clause Expr (λ c. c.0) (λ e. e.0) y

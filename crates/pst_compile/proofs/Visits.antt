@@ -10,14 +10,14 @@ use Rattle.pst_operators.specs.Outcome.{Outcome, Gives, Faults, Stuck, and_then,
 use Rattle.pst_machine.specs.declared.instruction.Instr.TheVariants.{Const, Take, Append}
 use Rattle.pst_machine.specs.declared.instruction.FunCode.{FunCode}
 use Rattle.pst_machine.specs.declared.machine.Frame.{Frame}
-use Rattle.pst_machine.specs.Machine.{Regs, read, write, cleared, put}
+use Rattle.pst_machine.specs.Machine.{Regs, read, write, put}
 use Rattle.pst_compile.specs.Code.{Block, one, ◌then◌, where_true, each, Scope, Coded, CodedPart, load, at, visit_code, no_name}
-use Rattle.pst_compile.proofs.Regs.{read_write, read_other, read_cleared}
+use Rattle.pst_compile.proofs.Regs.{read_write, read_other}
 use Rattle.pst_compile.proofs.Shapes.{truth_quiet, items_quiet, items_is, items_list}
 use Rattle.pst_compile.proofs.Steps.{state_at, one_step, before, there, obeys, Runs, runs_weaken, runs_then, runs_follow, runs_put, Written}
 use Rattle.pst_compile.proofs.Rules.{runs_quiet, runs_nothing, runs_where, runs_each}
-use Rattle.pst_compile.proofs.Good.{Below, But, Keeps, keeps_all, keeps_then, keeps_less, keeps_write, Holds, holds_keep, holds_more, holds_with, ValueAt, OperandAt, Low, IsHere, IsOwn, below_one, Good, operand_runs}
-use Rattle.pst_compile.proofs.Forms.{truth_read, taken, take_runs, good_put, operand, more}
+use Rattle.pst_compile.proofs.Good.{Below, But, Keeps, keeps_all, keeps_then, keeps_less, keeps_write, Holds, holds_keep, holds_more, holds_with, ValueAt, OverAt, OperandAt, Low, IsHere, IsOwn, below_one, Good, operand_runs}
+use Rattle.pst_compile.proofs.Forms.{truth_read, taken, good_put, operand, more}
 
 module _ (code : List FunCode) where
   abbrev pub PartGood : CodedPart → Part → Type 0
@@ -174,27 +174,25 @@ module _ (code : List FunCode) where
     keeps : Keeps (Below r) regs regs'
     value : read regs' (r + 1) ≡ Gives v
 
-  fold_turn : (x acc : Name) (cb : Coded) (mb : Mean) → Good code cb mb → (f : ℕ) (callers : List Frame) (sc : Scope) (r a : ℕ) → a < r + 1 → (env : Env) (regs : Regs) → Holds (Below r) sc env regs → (items : List Value) (w b : Value) (left : ℕ) (regs3 : Regs) (n : ℕ) → FoldAt r regs b regs3 → read regs3 a ≡ Gives (list items) → read regs3 (r + 2) ≡ Gives (int (pos n)) → read regs3 (r + 3) ≡ Gives w → Runs code f callers (cb.put ((acc, r + 1) ∷ (x, r + 3) ∷ sc) (r + 4) then one (Take (r + 1) (r + 4))) regs3 left (λ b' regs'. FoldAt r regs b' regs' × (read regs' a ≡ Gives (list items)) × (read regs' (r + 2) ≡ Gives (int (pos n)))) (mb ((acc, b) ∷ (x, w) ∷ env) left)
+  fold_turn : (x acc : Name) (cb : Coded) (mb : Mean) → Good code cb mb → (f : ℕ) (callers : List Frame) (sc : Scope) (r a : ℕ) → a < r + 1 → (env : Env) (regs : Regs) → Holds (Below r) sc env regs → (items : List Value) (w b : Value) (left : ℕ) (regs3 : Regs) (n : ℕ) → FoldAt r regs b regs3 → read regs3 a ≡ Gives (list items) → read regs3 (r + 2) ≡ Gives (int (pos n)) → read regs3 (r + 3) ≡ Gives w → Runs code f callers (cb.overwrite ((acc, r + 1) ∷ (x, r + 3) ∷ sc) (r + 1) (r + 4)) regs3 left (λ b' regs'. FoldAt r regs b' regs' × (read regs' a ≡ Gives (list items)) × (read regs' (r + 2) ≡ Gives (int (pos n)))) (mb ((acc, b) ∷ (x, w) ∷ env) left)
   fold_turn x acc cb mb gb f callers sc r a under env regs h items w b left regs3 n i ha hi hd =
       let wide = λ (k : ℕ) (lt : k < r). let le : k < r + 4 = omega arith in le in
       let outer = holds_more (Below r) (Below (r + 4)) sc env regs3 wide (holds_keep (Below r) sc env regs regs3 i.keeps h) in
       let inner = holds_with (Below (r + 4)) ((x, r + 3) ∷ sc) ((x, w) ∷ env) regs3 acc (r + 1) b (omega arith) i.value (holds_with (Below (r + 4)) sc env regs3 x (r + 3) w (omega arith) hd outer) in
       let sc' : Scope = (acc, r + 1) ∷ (x, r + 3) ∷ sc in
       let env' : Env = (acc, b) ∷ (x, w) ∷ env in
-      runs_follow code f callers (cb.put sc' (r + 4)) (one (Take (r + 1) (r + 4))) regs3 left (ValueAt (r + 4) regs3) _ (mb env' left) (gb.by f callers sc' (r + 4) env' regs3 left inner)
-      (λ v left' regs4 q.
-      let c4 = cleared regs4 (r + 4) in
-      let same = λ (k : ℕ) (lt : k < r + 4) (ne : k ≡ r + 1 → ⊥). let e : read (write c4 (r + 1) v) k ≡ read regs3 k = read_other c4 (r + 1) v k ne ∙ read_cleared regs4 (r + 4) k (λ z. absurd (omega arith)) ∙ q.keeps.at k lt in e in
-      take_runs code f callers (r + 1) (r + 4) regs4 left' v _ q.value (
-        record { keeps = record { at = λ k lt. same k (wide k lt) (λ z. absurd (omega arith)) ∙ i.keeps.at k lt }; value = read_write c4 (r + 1) v },
-        same a (omega arith) (λ z. absurd (omega arith)) ∙ ha,
-        same (r + 2) (omega arith) (λ z. absurd (omega arith)) ∙ hi,
+      runs_weaken code f callers (cb.overwrite sc' (r + 1) (r + 4)) regs3 left (OverAt (r + 1) (r + 4) regs3) _ (mb env' left)
+      (λ v regs4 q. (
+        record { keeps = record { at = λ k lt. q.keeps.at k (wide k lt, λ z. absurd (omega arith)) ∙ i.keeps.at k lt }; value = q.value },
+        q.keeps.at a (omega arith, λ z. absurd (omega arith)) ∙ ha,
+        q.keeps.at (r + 2) (omega arith, λ z. absurd (omega arith)) ∙ hi,
       ))
+      (gb.over f callers sc' (r + 1) (r + 4) env' regs3 left (omega arith) inner)
 
-  pub fold_good : (x acc : Name) (c ci cb : Coded) (m mi mb : Mean) → Good code c m → Good code ci mi → Good code cb mb → Good code (no_name (λ sc r. load c sc r then ci.put sc (r + 1) then one (Const (r + 2) (int (pos 0))) then each (r + 3) (at c sc r) (r + 2) (cb.put ((acc, r + 1) ∷ (x, r + 3) ∷ sc) (r + 4) then one (Take (r + 1) (r + 4))) then one (Take r (r + 1)))) (λ env. m env >>= (λ v. lift (items_of v) >>= (λ vs. mi env >>= fold_over mb x acc env vs)))
+  pub fold_good : (x acc : Name) (c ci cb : Coded) (m mi mb : Mean) → Good code c m → Good code ci mi → Good code cb mb → Good code (no_name (λ sc r. load c sc r then ci.put sc (r + 1) then one (Const (r + 2) (int (pos 0))) then each (r + 3) (at c sc r) (r + 2) (cb.overwrite ((acc, r + 1) ∷ (x, r + 3) ∷ sc) (r + 1) (r + 4)) then one (Take r (r + 1)))) (λ env. m env >>= (λ v. lift (items_of v) >>= (λ vs. mi env >>= fold_over mb x acc env vs)))
   fold_good x acc c ci cb m mi mb g gi gb = good_put code _ _ (λ f callers sc r env regs turns h.
       let a = at c sc r in
-      let body = cb.put ((acc, r + 1) ∷ (x, r + 3) ∷ sc) (r + 4) then one (Take (r + 1) (r + 4)) in
+      let body = cb.overwrite ((acc, r + 1) ∷ (x, r + 3) ∷ sc) (r + 1) (r + 4) in
       let last = each (r + 3) a (r + 2) body then one (Take r (r + 1)) in
       let looping = one (Const (r + 2) (int (pos 0))) then last in
       runs_then code f callers (load c sc r) (ci.put sc (r + 1) then looping) regs turns (OperandAt (Below r) r a regs) (ValueAt r regs) (m env turns) (λ v. lift (items_of v) >>= (λ vs. mi env >>= fold_over mb x acc env vs)) (operand code c m g f callers sc r env regs turns h)

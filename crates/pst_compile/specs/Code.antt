@@ -99,10 +99,12 @@ call_to r (Some number) rs = if nat_lt number (2 ^ 32) then one (Call r number r
 
 -- ---- operands
 
--- The code of an expression leaves its value in a register, and changes none below it. That of a name may be
--- left out, where the name's own register serves.
+-- The code of an expression leaves its value in a register, and changes none below it. It may also leave the
+-- value in a register d below, in place of what that held, and then changes no other one below r. The code of
+-- a name may be left out, where the name's own register serves.
 pub record Coded : Type 0 where
   pub put : Scope → ℕ → Block
+  pub overwrite : Scope → (d r : ℕ) → Block
   pub name : Option Name
 
 abbrev pub CodedPart : Type 0
@@ -150,8 +152,14 @@ name_code x sc r = move_from r (find sc x)
 abbrev pub let_code : Name → Coded → Coded → Scope → ℕ → Block
 let_code x e b sc r = load e sc r then b.put ((x, at e sc r) ∷ sc) (r + 1) then one (Take r (r + 1))
 
+abbrev pub overwriting_let : Name → Coded → Coded → Scope → (d r : ℕ) → Block
+overwriting_let x e b sc d r = load e sc r then b.overwrite ((x, at e sc r) ∷ sc) d (r + 1)
+
 abbrev pub if_code : Coded → Coded → Coded → Scope → ℕ → Block
 if_code c a b sc r = load c sc r then choice (at c sc r) (a.put sc r) (b.put sc r)
+
+abbrev pub overwriting_if : Coded → Coded → Coded → Scope → (d r : ℕ) → Block
+overwriting_if c a b sc d r = load c sc r then choice (at c sc r) (a.overwrite sc d r) (b.overwrite sc d r)
 
 -- the second only where the first is true
 abbrev pub and_code : Coded → Coded → Scope → ℕ → Block
@@ -167,15 +175,16 @@ unary_code op e sc r = load e sc r then one (Unary op r (at e sc r))
 abbrev pub at_code : Coded → ℕ → Scope → ℕ → Block
 at_code e n sc r = load e sc r then one (At r (at e sc r) n)
 
-abbrev pub binary_code : BinaryOperator → Coded → Coded → Scope → ℕ → Block
-binary_code op a b sc r =
-    load a sc r then load b sc (r + 1) then one (Binary op r (at a sc r) (at b sc (r + 1)))
+-- the value goes to register d, which is r or one below
+abbrev pub binary_code : BinaryOperator → Coded → Coded → Scope → (d r : ℕ) → Block
+binary_code op a b sc d r =
+    load a sc r then load b sc (r + 1) then one (Binary op d (at a sc r) (at b sc (r + 1)))
 
--- the map, the key and its value, one after another
-abbrev pub put_code : Coded → Coded → Coded → Scope → ℕ → Block
-put_code m k v sc r =
+-- the map, the key and its value, one after another: the new map goes to register d, which is r or one below
+abbrev pub put_code : Coded → Coded → Coded → Scope → (d r : ℕ) → Block
+put_code m k v sc d r =
     load m sc r then load k sc (r + 1) then load v sc (r + 2)
-    then one (Put r (at m sc r) (at k sc (r + 1)) (at v sc (r + 2)))
+    then one (Put d (at m sc r) (at k sc (r + 1)) (at v sc (r + 2)))
 
 abbrev pub tuple_code : List Coded → Scope → ℕ → Block
 tuple_code es sc r = load_all es sc r then one (Tuple r (all_at es sc r))
@@ -208,38 +217,48 @@ visit_code (Clause-F.When e ∷ rest) body built sc r = when_code e (visit_code 
 abbrev pub for_code : List CodedPart → Coded → Scope → ℕ → Block
 for_code clauses b sc r = one (Const r (list [])) then visit_code clauses b r sc (r + 1)
 
--- what is built is in register r + 1, the index in r + 2 and the item in r + 3
+-- what is built is in register r + 1, the index in r + 2 and the item in r + 3: each turn overwrites the first
 abbrev pub fold_code : Name → Coded → Name → Coded → Coded → Scope → ℕ → Block
 fold_code x e acc i b sc r =
     load e sc r then i.put sc (r + 1) then one (Const (r + 2) (int (pos 0)))
-    then each (r + 3) (at e sc r) (r + 2)
-    (b.put ((acc, r + 1) ∷ (x, r + 3) ∷ sc) (r + 4) then one (Take (r + 1) (r + 4)))
+    then each (r + 3) (at e sc r) (r + 2) (b.overwrite ((acc, r + 1) ∷ (x, r + 3) ∷ sc) (r + 1) (r + 4))
     then one (Take r (r + 1))
 
 -- ---- expressions
 
+-- the value goes to register r, and moves from there to d
+abbrev pub moved : (Scope → ℕ → Block) → Scope → (d r : ℕ) → Block
+moved put sc d r = put sc r then one (Take d r)
+
 abbrev pub no_name : (Scope → ℕ → Block) → Coded
-no_name put = record { put = put; name = None }
+no_name put = record { put = put; overwrite = moved put; name = None }
+
+-- the code of a form whose last instruction may write its value to another register than r
+abbrev pub to_either : (Scope → (d r : ℕ) → Block) → Coded
+to_either put = record { put = λ sc r. put sc r r; overwrite = put; name = None }
 
 -- the code of an expression, by that of its parts
 abbrev pub code_at : List Item → (Name → Option ℕ) → Expr-F CodedPart Coded → Coded
 code_at items funs (Expr-F.Int n) = no_name (constant (int n))
 code_at items funs (Expr-F.Bool b) = no_name (constant (bool b))
 code_at items funs (Expr-F.Text t) = no_name (constant (text t))
-code_at items funs (Expr-F.Name x) = record { put = name_code x; name = Some x }
-code_at items funs (Expr-F.Let x e b) = no_name (let_code x e b)
-code_at items funs (Expr-F.If c a b) = no_name (if_code c a b)
+code_at items funs (Expr-F.Name x) =
+    record { put = name_code x; overwrite = λ sc d r. name_code x sc d; name = Some x }
+code_at items funs (Expr-F.Let x e b) =
+    record { put = let_code x e b; overwrite = overwriting_let x e b; name = None }
+code_at items funs (Expr-F.If c a b) =
+    record { put = if_code c a b; overwrite = overwriting_if c a b; name = None }
 code_at items funs (Expr-F.And a b) = no_name (and_code a b)
 code_at items funs (Expr-F.Or a b) = no_name (or_code a b)
 code_at items funs (Expr-F.Unary op e) = no_name (unary_code op e)
-code_at items funs (Expr-F.Binary op a b) = no_name (binary_code op a b)
+code_at items funs (Expr-F.Binary op a b) = to_either (binary_code op a b)
 code_at items funs (Expr-F.Tuple es) = no_name (tuple_code es)
 code_at items funs (Expr-F.At e n) = no_name (at_code e n)
 code_at items funs (Expr-F.List type es) = no_name (list_code es)
 code_at items funs (Expr-F.For clauses b) = no_name (for_code clauses b)
 code_at items funs (Expr-F.Fold x e acc i b) = no_name (fold_code x e acc i b)
 code_at items funs (Expr-F.Map k t) = no_name (constant (map_of [] []))
-code_at items funs (Expr-F.Put m k v) = no_name (put_code m k v)
+code_at items funs (Expr-F.Put m k v) = to_either (put_code m k v)
 code_at items funs (Expr-F.Call x es) = no_name (call_code (number_of items x) es)
 code_at items funs (Expr-F.Apply f es) = no_name (apply_code (funs f) es)
 

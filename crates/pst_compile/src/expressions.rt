@@ -38,7 +38,9 @@ pub fn put(expr: &Expr, context: &Context<'_>, names: &Names<'_>, target: Target
             let operand = load(tuple.get(), context, names, target)?;
             ended(operand.code, Instr::At(register, operand.register, *item))
         }
-        Expr::Binary(operator, a, b) => put_binary(*operator, a, b, context, names, target),
+        Expr::Binary(operator, a, b) => {
+            put_binary(*operator, a, b, context, names, register, target)
+        }
         Expr::Let(name, bound, body) => put_let(name, bound, body, context, names, target),
         Expr::If(test, then, other) => put_if(test, then, other, context, names, target),
         Expr::And(first, second) => put_and(first, second, context, names, target),
@@ -52,7 +54,7 @@ pub fn put(expr: &Expr, context: &Context<'_>, names: &Names<'_>, target: Target
             ended(operands.code, Instr::List(register, operands.registers))
         }
         Expr::Map(_, _) => one(alloc, Instr::Const(register, empty_map(alloc))),
-        Expr::Put(map, key, value) => put_entry(map, key, value, context, names, target),
+        Expr::Put(map, key, value) => put_entry(map, key, value, context, names, register, target),
         Expr::Call(name, exprs) => put_call(name, exprs, context, names, target),
         Expr::Apply(name, exprs) => put_apply(name, exprs, context, names, target),
         Expr::For(clauses, body) => put_for(clauses, body, context, names, target),
@@ -131,50 +133,48 @@ fn put_unary(
     )
 }
 
+/// The code of an operator, whose value goes to the register `dest`.
 #[cycle(put)]
-fn put_binary(
+pub fn put_binary(
     operator: Binary,
     first: &Boxed<Expr>,
     second: &Boxed<Expr>,
     context: &Context<'_>,
     names: &Names<'_>,
+    dest: u32,
     target: Target,
 ) -> Block
     ensures { IfOk result (λ code. code ≡ spec.binary_code operator (code_in context.now first.now)
-        (code_in context.now second.now) (scope_of names.now) target.register target.place) }
+        (code_in context.now second.now) (scope_of names.now) dest target.register target.place) }
 {
     let left = load(first.get(), context, names, target)?;
     let next = target.after(left.code.len())?.above(1)?;
     let right = load(second.get(), context, names, next)?;
-    let last = Instr::Binary(operator, target.register, left.register, right.register);
+    let last = Instr::Binary(operator, dest, left.register, right.register);
     joined(left.code, ended(right.code, last)?)
 }
 
-/// The code of a map with a key and its value.
+/// The code of a map with a key and its value, which goes to the register `dest`.
 #[cycle(put)]
-fn put_entry(
+pub fn put_entry(
     map: &Boxed<Expr>,
     key: &Boxed<Expr>,
     value: &Boxed<Expr>,
     context: &Context<'_>,
     names: &Names<'_>,
+    dest: u32,
     target: Target,
 ) -> Block
     ensures { IfOk result (λ code. code ≡ spec.put_code (code_in context.now map.now)
         (code_in context.now key.now) (code_in context.now value.now)
-        (scope_of names.now) target.register target.place) }
+        (scope_of names.now) dest target.register target.place) }
 {
     let first = load(map.get(), context, names, target)?;
     let next = target.after(first.code.len())?.above(1)?;
     let second = load(key.get(), context, names, next)?;
     let last = next.after(second.code.len())?.above(1)?;
     let third = load(value.get(), context, names, last)?;
-    let instr = Instr::Put(
-        target.register,
-        first.register,
-        second.register,
-        third.register,
-    );
+    let instr = Instr::Put(dest, first.register, second.register, third.register);
     joined(first.code, joined(second.code, ended(third.code, instr)?)?)
 }
 

@@ -13,6 +13,7 @@ mod functions;
 mod loops;
 mod names;
 mod operands;
+mod overwriting;
 mod target;
 
 pub use compiled::{Compiled, compile, listing};

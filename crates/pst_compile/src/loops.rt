@@ -8,6 +8,7 @@ use crate::blocks::{Block, counted, ended, headed, joined, skipped_unless};
 use crate::expressions::{load, put};
 use crate::names::Names;
 use crate::operands::split_first;
+use crate::overwriting::overwrite;
 use crate::target::Target;
 use pst_items::{Boxed, Items, Text};
 use pst_machine::Instr;
@@ -58,9 +59,8 @@ pub fn put_fold(
     let inside = item.after(1)?.above(1)?;
     let outer = Names::With(name.as_bytes(), item.register, &*names);
     let inner = Names::With(acc.as_bytes(), built.register, &outer);
-    let turn = put(body.get(), context, &inner, inside)?;
-    let turned = ended(turn, Instr::Take(built.register, inside.register))?;
-    let each = counted(context.alloc, list.register, index, turned)?;
+    let turn = overwrite(body.get(), context, &inner, built.register, inside)?;
+    let each = counted(context.alloc, list.register, index, turn)?;
     let rest = ended(each, Instr::Take(target.register, built.register))?;
     joined(list.code, joined(opening, rest)?)
 }

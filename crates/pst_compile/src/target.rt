@@ -12,6 +12,17 @@ pub struct Target {
 }
 
 impl Target {
+    /// At the same place, with this register.
+    pub fn to(self, register: u32) -> Target
+        ensures register { result.register ≡ register }
+        ensures place { result.place ≡ self.place }
+    {
+        Target {
+            register,
+            place: self.place,
+        }
+    }
+
     /// At a place so many instructions further on.
     ///
     /// `AllocError`: such a place has no number, and no memory holds such code.

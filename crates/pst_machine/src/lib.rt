@@ -7,6 +7,7 @@
 
 mod check;
 mod code;
+mod in_place;
 mod instruction;
 mod listing;
 mod machine;

@@ -40,6 +40,15 @@ decreases-expressions::put_apply l = 4 * total (map weight l.exprs.now) + 3
 abbrev pub decreases-expressions::load_all : goal.decreases-expressions::load_all
 decreases-expressions::load_all l = 4 * total (map weight l.exprs.now) + 2
 
+abbrev pub decreases-overwriting::overwrite : goal.decreases-overwriting::overwrite
+decreases-overwriting::overwrite l = 4 * weight l.expr.now + 1
+
+abbrev pub decreases-overwriting::overwrite_by_let : goal.decreases-overwriting::overwrite_by_let
+decreases-overwriting::overwrite_by_let l = 4 * (weight l.bound.now + weight l.body.now) + 3
+
+abbrev pub decreases-overwriting::overwrite_by_if : goal.decreases-overwriting::overwrite_by_if
+decreases-overwriting::overwrite_by_if l = 4 * (weight l.test.now + weight l.then.now + weight l.other.now) + 3
+
 abbrev pub decreases-loops::put_for : goal.decreases-loops::put_for
 decreases-loops::put_for l = 4 * (total (map clause_weight l.clauses.now) + weight l.body.now) + 3
 

@@ -1,0 +1,105 @@
+//! The code of expressions whose value goes to a register in place of what it holds.
+//!
+//! A fold keeps what it has built in one register, which its body may read. Each turn overwrites that register
+//! by its last instruction, so that the machine changes a map or a list in place where it is the first operand.
+
+ghost use Rattle.std.specs.Prelude.{◌≡◌, IfOk};
+ghost use Rattle.pst_compile.specs.Code as spec;
+ghost use Rattle.pst_compile.specs.Scopes.{scope_of, code_in};
+
+use crate::blocks::{Block, either, ended, joined};
+use crate::expressions::{load, put, put_binary, put_entry};
+use crate::names::Names;
+use crate::operands::put_name;
+use crate::target::Target;
+use pst_items::{Boxed, Text};
+use pst_machine::Instr;
+use pst_meaning::Context;
+use pst_model::Expr;
+
+/// The code of an expression, which leaves its value in the register `dest` in place of what that held. It
+/// changes no other register below the target's.
+#[cycle(put)]
+pub fn overwrite(
+    expr: &Expr,
+    context: &Context<'_>,
+    names: &Names<'_>,
+    dest: u32,
+    target: Target,
+) -> Block
+    ensures { IfOk result (λ code. code ≡ (code_in context.now expr.now).overwrite
+        (scope_of names.now) dest target.register target.place) }
+{
+    match expr {
+        Expr::Name(name) => put_name(name, context.alloc, names, target.to(dest)),
+        Expr::Binary(operator, a, b) => put_binary(*operator, a, b, context, names, dest, target),
+        Expr::Put(map, key, value) => put_entry(map, key, value, context, names, dest, target),
+        Expr::Let(name, bound, body) => {
+            overwrite_by_let(name, bound, body, context, names, dest, target)
+        }
+        Expr::If(test, then, other) => {
+            overwrite_by_if(test, then, other, context, names, dest, target)
+        }
+        Expr::Int(_)
+        | Expr::Bool(_)
+        | Expr::Text(_)
+        | Expr::And(_, _)
+        | Expr::Or(_, _)
+        | Expr::Unary(_, _)
+        | Expr::Tuple(_)
+        | Expr::At(_, _)
+        | Expr::List(_, _)
+        | Expr::For(_, _)
+        | Expr::Fold(_, _, _, _, _)
+        | Expr::Map(_, _)
+        | Expr::Call(_, _)
+        | Expr::Apply(_, _) => {
+            let code = put(expr, context, names, target)?;
+            ended(code, Instr::Take(dest, target.register))
+        }
+    }
+}
+
+#[cycle(put)]
+fn overwrite_by_let(
+    name: &Text,
+    bound: &Boxed<Expr>,
+    body: &Boxed<Expr>,
+    context: &Context<'_>,
+    names: &Names<'_>,
+    dest: u32,
+    target: Target,
+) -> Block
+    ensures { IfOk result (λ code. code ≡ spec.overwriting_let name.now (code_in context.now bound.now)
+        (code_in context.now body.now) (scope_of names.now) dest target.register target.place) }
+{
+    let first = load(bound.get(), context, names, target)?;
+    let next = target.after(first.code.len())?.above(1)?;
+    let inner = Names::With(name.as_bytes(), first.register, &*names);
+    let second = overwrite(body.get(), context, &inner, dest, next)?;
+    joined(first.code, second)
+}
+
+#[cycle(put)]
+fn overwrite_by_if(
+    test: &Boxed<Expr>,
+    then: &Boxed<Expr>,
+    other: &Boxed<Expr>,
+    context: &Context<'_>,
+    names: &Names<'_>,
+    dest: u32,
+    target: Target,
+) -> Block
+    ensures { IfOk result (λ code. code ≡ spec.overwriting_if (code_in context.now test.now)
+        (code_in context.now then.now) (code_in context.now other.now)
+        (scope_of names.now) dest target.register target.place) }
+{
+    let operand = load(test.get(), context, names, target)?;
+    let jump = target.after(operand.code.len())?;
+    let start = jump.after(1)?;
+    let first = overwrite(then.get(), context, names, dest, start)?;
+    let middle = start.after(first.len())?.after(1)?;
+    let second = overwrite(other.get(), context, names, dest, middle)?;
+    let both = either(context.alloc, operand.register, first, second, jump.place)?;
+    joined(operand.code, both)
+}
