@@ -7,7 +7,7 @@ use crate::page::Page;
 use crate::parts::add_parts;
 use crate::scene::Scene;
 use crate::spelling::add;
-use crate::told::operation;
+use crate::texts::operation;
 use pst_case::Reply;
 use pst_print::ty_form;
 use std::alloc::{AllocError, Global};

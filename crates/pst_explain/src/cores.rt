@@ -5,6 +5,7 @@ ghost use Rattle.pst_case.specs.Recorded.{recorded};
 ghost use Rattle.pst_judge.specs.Verdict.{first_broken};
 ghost use Rattle.pst_reasons.specs.Reasons.{IsUnexplained};
 
+use crate::allowing::add_allowed;
 use crate::calls::Call;
 use crate::order::call_numbered;
 use crate::page::Page;
@@ -12,7 +13,7 @@ use crate::parts::add_parts;
 use crate::scene::Scene;
 use crate::spelling::{add, add_reply};
 use crate::table::{Table, two};
-use crate::told::{expression_text, operation, text_of};
+use crate::texts::{expression_text, operation, text_of};
 use pst_case::History;
 use pst_eval::Callbacks;
 use pst_reasons::core;
@@ -42,19 +43,46 @@ fn postcondition_text(
     Ok(text)
 }
 
-/// Adds the commands of the core, what they answered, and their postconditions.
-fn add_answers(
-    page: &mut Page,
+/// The row of a command of a core: what it answered, its postcondition, and what the model allows.
+fn answer_row<C: Callbacks>(
+    callbacks: &C,
     alloc: Global,
     scene: &Scene<'_>,
+    history: &History,
     core: &[u32],
-) -> Result<(), AllocError> {
+    call: &Call<'_>,
+    line: usize,
+) -> Result<Vec<Vec<u8>>, AllocError>
+    requires model { scene.now.model.now ≡ C.model callbacks.now }
+    requires shaped { scene.now.run.now.shaped.model ≡ C.model callbacks.now }
+    requires matches { matches (C.model callbacks.now) scene.now.run.now.shaped.case history.now ≡ true }
+    requires answered { first_broken 1 (recorded history.now) ≡ None }
+{
+    let left = answered(alloc, scene, call)?;
+    let mut row = two(alloc, left, postcondition_text(alloc, scene, call)?)?;
+    add_allowed(&mut row, callbacks, alloc, scene, history, core, call, line)?;
+    Ok(row)
+}
+
+/// Adds the commands of the core, what they answered, their postconditions, and what the model allows.
+fn add_answers<C: Callbacks>(
+    page: &mut Page,
+    callbacks: &C,
+    alloc: Global,
+    scene: &Scene<'_>,
+    history: &History,
+    core: &[u32],
+) -> Result<(), AllocError>
+    requires model { scene.now.model.now ≡ C.model callbacks.now }
+    requires shaped { scene.now.run.now.shaped.model ≡ C.model callbacks.now }
+    requires matches { matches (C.model callbacks.now) scene.now.run.now.shaped.case history.now ≡ true }
+    requires answered { first_broken 1 (recorded history.now) ≡ None }
+{
     let mut table = Table::new(alloc);
+    let line = page.width.saturating_sub(6);
     for number in core {
         if let Some(call) = call_numbered(scene.all.as_slice(), *number) {
-            let left = answered(alloc, scene, &call)?;
-            let right = postcondition_text(alloc, scene, &call)?;
-            table.add_row(two(alloc, left, right)?)?;
+            table.add_row(answer_row(callbacks, alloc, scene, history, core, &call, line)?)?;
         }
     }
     table.write_or_stack(page, alloc, 4)
@@ -87,6 +115,7 @@ pub fn add_core<C: Callbacks>(
     scene: &Scene<'_>,
     history: &History,
 ) -> Result<(), AllocError>
+    requires model { scene.now.model.now ≡ C.model callbacks.now }
     requires shaped { scene.now.run.now.shaped.model ≡ C.model callbacks.now }
     requires matches { matches (C.model callbacks.now) scene.now.run.now.shaped.case history.now ≡ true }
     requires answered { first_broken 1 (recorded history.now) ≡ None }
@@ -95,14 +124,14 @@ pub fn add_core<C: Callbacks>(
     let core = core(callbacks, alloc, &scene.run.shaped, history)?;
     let core = core.as_slice();
     page.add_sentence(alloc, 2, opening_sentence(core.len()).as_bytes())?;
-    add_answers(page, alloc, scene, core)?;
+    add_answers(page, callbacks, alloc, scene, history, core)?;
     if core.is_empty() {
         page.add_sentence(alloc, 2, b"The run:")?;
     } else {
         if are_in_prefix(scene, core) {
             page.add_sentence(alloc, 2, b"The prefix alone shows it: no race is needed.")?;
         }
-        page.add_sentence(alloc, 2, b"The run, with * before what is told above:")?;
+        page.add_sentence(alloc, 2, b"The run, with * before what is reported above:")?;
     }
     add_parts(page, alloc, scene, core)
 }

@@ -3,13 +3,12 @@ ghost use Rattle.std.specs.Prelude.{◌≡◌, true, None};
 ghost use Rattle.pst_case.specs.Matches.{matches};
 ghost use Rattle.pst_case.specs.Recorded.{recorded};
 ghost use Rattle.pst_judge.specs.Verdict.{first_broken};
-ghost use Rattle.pst_model.specs.Parts.{parameters_of};
 
 use crate::calls::Call;
 use crate::order::in_order;
 use crate::page::Page;
 use crate::scene::Scene;
-use crate::told::{add_states, joined};
+use crate::texts::{add_states, joined};
 use crate::walk::{PreAnswer, precondition};
 use pst_case::History;
 use pst_eval::Callbacks;
@@ -19,20 +18,16 @@ use pst_value::Value;
 use std::alloc::{AllocError, Global};
 
 /// Adds a line where the precondition of the command is not true on the state before it.
-fn add_precondition<C: Callbacks>(
+fn add_precondition(
     page: &mut Page,
-    callbacks: &C,
     alloc: Global,
     scene: &Scene<'_>,
     state: &Value,
     call: &Call<'_>,
-) -> Result<(), AllocError>
-    requires model { scene.now.model.now ≡ C.model callbacks.now }
-    requires types { scene.now.ops ≡ parameters_of scene.now.model.now.items }
-{
+) -> Result<(), AllocError> {
     let text = call.text(alloc, scene.model)?;
     let text = text.as_slice();
-    let sentence = match precondition(callbacks, alloc, scene, state, call)? {
+    let sentence = match precondition(alloc, scene, state, call)? {
         PreAnswer::Holds => return Ok(()),
         PreAnswer::Fails => joined(
             alloc,
@@ -65,8 +60,6 @@ pub fn add_explained<C: Callbacks>(
     history: &History,
     word: &[usize],
 ) -> Result<(), AllocError>
-    requires model { scene.now.model.now ≡ C.model callbacks.now }
-    requires types { scene.now.ops ≡ parameters_of scene.now.model.now.items }
     requires shaped { scene.now.run.now.shaped.model ≡ C.model callbacks.now }
     requires matches { matches (C.model callbacks.now) scene.now.run.now.shaped.case history.now ≡ true }
     requires answered { first_broken 1 (recorded history.now) ≡ None }
@@ -82,7 +75,7 @@ pub fn add_explained<C: Callbacks>(
     )?;
     add_states(page, alloc, scene, order.as_slice(), states.as_slice())?;
     for (call, state) in order.iter().zip(states.as_slice()) {
-        add_precondition(page, callbacks, alloc, scene, state, call)?;
+        add_precondition(page, alloc, scene, state, call)?;
     }
     Ok(())
 }

@@ -1,35 +1,34 @@
 //! Items in which a callback faults.
-ghost use Rattle.std.specs.Prelude.{◌≡◌};
-ghost use Rattle.pst_model.specs.Parts.{parameters_of};
 
 use crate::calls::{Call, Part};
+use crate::evidence::{add_callback, add_init};
 use crate::letters::add_word;
-use crate::order::{call_numbered, count_before, first_calls, in_order};
+use crate::order::call_numbered;
 use crate::page::Page;
 use crate::scene::Scene;
 use crate::spelling::add;
-use crate::told::{add_callback, add_states, text_of};
-use crate::walk::states;
-use pst_eval::{Callback, Callbacks, Place};
+use crate::texts::{add_states, text_of};
+use crate::walk::{calls_before, states_along};
+use pst_eval::{Callback, Place};
 use std::alloc::{AllocError, Global};
 
-/// Adds the commands before that of the number, in the order of the word, with their states.
-pub fn add_states_before<C: Callbacks>(
+/// Adds a callback of a command in the interleaving: its expression with what is known of it on the state before the
+/// command, and the states up to there.
+pub fn add_callback_with_states(
     page: &mut Page,
-    callbacks: &C,
     alloc: Global,
     scene: &Scene<'_>,
     word: &[usize],
-    number: u32,
-) -> Result<(), AllocError>
-    requires model { scene.now.model.now ≡ C.model callbacks.now }
-    requires types { scene.now.ops ≡ parameters_of scene.now.model.now.items }
-{
-    let order = in_order(alloc, &scene.calls, word)?;
-    let count = count_before(order.as_slice(), number);
-    let first = first_calls(alloc, order.as_slice(), count)?;
-    let states = states(callbacks, alloc, scene, first.as_slice())?;
-    add_states(page, alloc, scene, first.as_slice(), states.as_slice())
+    callback: Callback,
+    call: &Call<'_>,
+) -> Result<(), AllocError> {
+    let before = calls_before(alloc, scene, word, call)?;
+    let states = states_along(alloc, scene, before.as_slice())?;
+    if let Some(state) = states.get(before.len()) {
+        add_callback(page, alloc, scene, callback, call, state)?;
+    }
+    page.add_sentence(alloc, 2, b"The states before it:")?;
+    add_states(page, alloc, scene, before.as_slice(), states.as_slice())
 }
 
 /// The place and the spelling of a command, and its reply where there is one.
@@ -63,7 +62,7 @@ fn fault_sentence(
     place: Place,
 ) -> Result<Vec<u8>, AllocError> {
     let Some(call) = call_numbered(scene.all.as_slice(), place.command) else {
-        let mut text = text_of(alloc, "The opening state faults with ")?;
+        let mut text = text_of(alloc, "The initial state faults with ")?;
         add(&mut text, place.fault.name())?;
         add(&mut text, ":")?;
         return Ok(text);
@@ -89,25 +88,18 @@ fn fault_sentence(
     Ok(text)
 }
 
-/// Adds where a callback faults, its expression, and the states before it in the interleaving.
-pub fn add_fault<C: Callbacks>(
+/// Adds where a callback faults in the interleaving: its expression, the part of it that faults, and the states before.
+pub fn add_fault(
     page: &mut Page,
-    callbacks: &C,
     alloc: Global,
     scene: &Scene<'_>,
     word: &[usize],
     place: Place,
-) -> Result<(), AllocError>
-    requires model { scene.now.model.now ≡ C.model callbacks.now }
-    requires types { scene.now.ops ≡ parameters_of scene.now.model.now.items }
-{
+) -> Result<(), AllocError> {
     let sentence = fault_sentence(alloc, scene, word, place)?;
     page.add_sentence(alloc, 2, sentence.as_slice())?;
-    let call = call_numbered(scene.all.as_slice(), place.command);
-    add_callback(page, alloc, scene, place.callback, call)?;
-    if place.callback == Callback::Init {
-        return Ok(());
+    match call_numbered(scene.all.as_slice(), place.command) {
+        Some(call) => add_callback_with_states(page, alloc, scene, word, place.callback, &call),
+        None => add_init(page, alloc, scene),
     }
-    page.add_sentence(alloc, 2, b"The states before it:")?;
-    add_states_before(page, callbacks, alloc, scene, word, place.command)
 }

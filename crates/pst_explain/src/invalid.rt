@@ -1,30 +1,24 @@
 //! Cases that are not valid.
-ghost use Rattle.std.specs.Prelude.{◌≡◌};
-ghost use Rattle.pst_model.specs.Parts.{parameters_of};
 
-use crate::faulting::{add_fault, add_states_before};
+use crate::faulting::{add_callback_with_states, add_fault};
 use crate::letters::add_word;
 use crate::order::call_numbered;
 use crate::page::Page;
 use crate::scene::Scene;
 use crate::spelling::add;
-use crate::told::{add_callback, text_of};
-use pst_eval::{Callback, Callbacks};
+use crate::texts::text_of;
+use pst_eval::Callback;
 use pst_judge::Why;
 use std::alloc::{AllocError, Global};
 
 /// Adds the command whose precondition is false in the interleaving, and the states before it.
-fn add_false<C: Callbacks>(
+fn add_false(
     page: &mut Page,
-    callbacks: &C,
     alloc: Global,
     scene: &Scene<'_>,
     word: &[usize],
     number: u32,
-) -> Result<(), AllocError>
-    requires model { scene.now.model.now ≡ C.model callbacks.now }
-    requires types { scene.now.ops ≡ parameters_of scene.now.model.now.items }
-{
+) -> Result<(), AllocError> {
     let Some(call) = call_numbered(scene.all.as_slice(), number) else {
         return Ok(());
     };
@@ -35,28 +29,22 @@ fn add_false<C: Callbacks>(
     text.extend_from_slice(command.as_slice())?;
     add(&mut text, " is false:")?;
     page.add_sentence(alloc, 2, text.as_slice())?;
-    add_callback(page, alloc, scene, Callback::Pre, Some(call))?;
-    page.add_sentence(alloc, 2, b"The states before it:")?;
-    add_states_before(page, callbacks, alloc, scene, word, number)
+    add_callback_with_states(page, alloc, scene, word, Callback::Pre, &call)
 }
 
 /// Adds why the case is not valid: the interleaving up to there with its states.
-pub fn add_invalid<C: Callbacks>(
+pub fn add_invalid(
     page: &mut Page,
-    callbacks: &C,
     alloc: Global,
     scene: &Scene<'_>,
     why: &Why,
-) -> Result<(), AllocError>
-    requires model { scene.now.model.now ≡ C.model callbacks.now }
-    requires types { scene.now.ops ≡ parameters_of scene.now.model.now.items }
-{
+) -> Result<(), AllocError> {
     match why {
         Why::PreFalse { command, merge } => {
-            add_false(page, callbacks, alloc, scene, merge.as_slice(), *command)
+            add_false(page, alloc, scene, merge.as_slice(), *command)
         }
         Why::CallbackFault { place, merge } => {
-            add_fault(page, callbacks, alloc, scene, merge.as_slice(), *place)
+            add_fault(page, alloc, scene, merge.as_slice(), *place)
         }
         Why::NoMemory => Ok(()),
     }

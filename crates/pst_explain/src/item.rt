@@ -4,7 +4,6 @@ ghost use Rattle.pst_case.specs.Matches.{matches};
 ghost use Rattle.pst_judge.specs.Judgement.{HistoryMatches, IsJudgement};
 ghost use Rattle.pst_judge.specs.Verdict.{IsVerdict};
 ghost use Rattle.pst_judge.specs.declared.verdicts.Verdict.TheVariants as verdict;
-ghost use Rattle.pst_model.specs.Parts.{parameters_of};
 
 use crate::breaking::add_broken;
 use crate::calls::Part;
@@ -34,7 +33,6 @@ fn add_faulted<C: Callbacks>(
     place: Place,
 ) -> Result<(), AllocError>
     requires model { scene.now.model.now ≡ C.model callbacks.now }
-    requires types { scene.now.ops ≡ parameters_of scene.now.model.now.items }
     requires shaped { scene.now.run.now.shaped.model ≡ C.model callbacks.now }
     requires matches { matches (C.model callbacks.now) scene.now.run.now.shaped.case history.now ≡ true }
     requires verdict { IsVerdict (C.model callbacks.now) scene.now.run.now.shaped.case history.now
@@ -46,7 +44,7 @@ fn add_faulted<C: Callbacks>(
             word.push(branch)?;
         }
     }
-    add_fault(page, callbacks, alloc, scene, word.as_slice(), place)?;
+    add_fault(page, alloc, scene, word.as_slice(), place)?;
     add_core(page, callbacks, alloc, scene, history)
 }
 
@@ -60,7 +58,6 @@ fn add_verdict<C: Callbacks>(
     verdict: &Verdict,
 ) -> Result<(), AllocError>
     requires model { scene.now.model.now ≡ C.model callbacks.now }
-    requires types { scene.now.ops ≡ parameters_of scene.now.model.now.items }
     requires shaped { scene.now.run.now.shaped.model ≡ C.model callbacks.now }
     requires matches { matches (C.model callbacks.now) scene.now.run.now.shaped.case history.now ≡ true }
     requires verdict { IsVerdict (C.model callbacks.now) scene.now.run.now.shaped.case history.now
@@ -126,7 +123,7 @@ pub fn explain_item<C: Callbacks>(
             }
         }
         Judged::Valid => {}
-        Judged::Invalid(why) => add_invalid(&mut page, callbacks, alloc, &scene, why)?,
+        Judged::Invalid(why) => add_invalid(&mut page, alloc, &scene, why)?,
     }
     let Page { text, width: _ } = page;
     Ok(text)

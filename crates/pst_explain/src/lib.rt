@@ -1,18 +1,20 @@
 //! Why a verdict is as it is: the text of `pst explain`.
 //!
 //! `explain_item` writes the explanation of one item, whose judgement is known, and `first_lines` finds the lines of a
-//! file on which its trees begin. What is told as a core comes from `pst_reasons`, and what is told of interleavings and
+//! file on which its trees begin. What is reported as a core comes from `pst_reasons`, and what is reported of interleavings and
 //! their states from `pst_paths`; how it is laid out is tested and not proved.
 #![tactic(auto)]
 
+mod allowing;
 mod breaking;
 mod calls;
 mod cores;
 mod cutting;
+mod evidence;
 mod explaining;
+mod falsity;
 mod faulting;
 mod forms;
-mod guards;
 mod invalid;
 mod item;
 mod letters;
@@ -23,7 +25,7 @@ mod parts;
 mod scene;
 mod spelling;
 mod table;
-mod told;
+mod texts;
 mod unexplained;
 mod walk;
 

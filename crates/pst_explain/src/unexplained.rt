@@ -6,16 +6,19 @@ ghost use Rattle.pst_judge.specs.declared.verdicts.Verdict.TheVariants as verdic
 
 use crate::calls::Call;
 use crate::cores::add_core;
+use crate::falsity::falsity_text;
 use crate::letters::add_word;
 use crate::order::{in_order, next_calls};
 use crate::page::Page;
 use crate::scene::Scene;
 use crate::spelling::{add, add_number};
-use crate::told::{add_states, text_of};
+use crate::table::{Table, two};
+use crate::texts::{add_states, text_of};
 use pst_case::History;
 use pst_eval::Callbacks;
 use pst_judge::Postconditions;
 use pst_paths::{furthest, states};
+use pst_value::Value;
 use std::alloc::{AllocError, Global};
 
 /// How far the interleaving comes whose first letters the word has.
@@ -38,12 +41,28 @@ fn far_sentence(alloc: Global, far: usize, word: &[usize]) -> Result<Vec<u8>, Al
     Ok(text)
 }
 
-/// Adds each command that may come next, with its reply.
+/// The row of a command with its reply, and why its postcondition is false on the state before it.
+fn next_row(
+    alloc: Global,
+    scene: &Scene<'_>,
+    call: &Call<'_>,
+    state: Option<&Value>,
+) -> Result<Vec<Vec<u8>>, AllocError> {
+    let text = call.with_reply(alloc, scene.model)?;
+    let why = match state {
+        Some(state) => falsity_text(alloc, scene, call, state)?,
+        None => Vec::new(alloc),
+    };
+    two(alloc, text, why)
+}
+
+/// Adds each command that may come next with its reply, and why its postcondition is false on the state before it.
 fn add_next(
     page: &mut Page,
     alloc: Global,
     scene: &Scene<'_>,
     next: &[Call<'_>],
+    state: Option<&Value>,
 ) -> Result<(), AllocError> {
     page.add_sentence(
         alloc,
@@ -54,11 +73,11 @@ fn add_next(
             b"There the postcondition of each next command is false:"
         },
     )?;
+    let mut table = Table::new(alloc);
     for call in next {
-        let text = call.with_reply(alloc, scene.model)?;
-        page.add_line(alloc, 4, text.as_slice())?;
+        table.add_row(next_row(alloc, scene, call, state)?)?;
     }
-    Ok(())
+    table.write_or_stack(page, alloc, 4)
 }
 
 /// Adds why no interleaving explains the item: a core, the run, and the interleaving that comes furthest.
@@ -70,6 +89,7 @@ pub fn add_unexplained<C: Callbacks>(
     history: &History,
     far: usize,
 ) -> Result<(), AllocError>
+    requires model { scene.now.model.now ≡ C.model callbacks.now }
     requires shaped { scene.now.run.now.shaped.model ≡ C.model callbacks.now }
     requires matches { matches (C.model callbacks.now) scene.now.run.now.shaped.case history.now ≡ true }
     requires verdict { IsVerdict (C.model callbacks.now) scene.now.run.now.shaped.case history.now
@@ -91,5 +111,11 @@ pub fn add_unexplained<C: Callbacks>(
     )?;
     add_states(page, alloc, scene, order.as_slice(), states.as_slice())?;
     let next = next_calls(alloc, &scene.calls, word.as_slice(), far)?;
-    add_next(page, alloc, scene, next.as_slice())
+    add_next(
+        page,
+        alloc,
+        scene,
+        next.as_slice(),
+        states.as_slice().last(),
+    )
 }

@@ -1,13 +1,15 @@
-//! The states of a run, and its preconditions.
-ghost use Rattle.std.specs.Prelude.{◌≡◌};
-ghost use Rattle.pst_model.specs.Parts.{parameters_of};
+//! The states of a run, and its preconditions, by plain evaluation.
 
 use crate::calls::Call;
-use crate::guards::{arguments_fit, reference_fits, state_fits};
+use crate::order::{count_before, first_calls, in_order};
 use crate::scene::Scene;
+use crate::texts::operation;
 use pst_case::Reply;
-use pst_eval::Callbacks;
+use pst_evidence::evaluate;
 use pst_items::{Boxed, Items};
+use pst_meaning::Env;
+use pst_model::opening_of;
+use pst_operators::Stop;
 use pst_value::{Fault, Value};
 use std::alloc::{AllocError, Global};
 
@@ -20,7 +22,7 @@ pub enum PreAnswer {
 }
 
 /// The arguments of a command, with recorded results for variables.
-fn arguments(
+pub fn arguments(
     alloc: Global,
     scene: &Scene<'_>,
     call: &Call<'_>,
@@ -33,7 +35,7 @@ fn arguments(
 }
 
 /// The reference to the result of a command, or its variable where none was recorded.
-fn reference(alloc: Global, call: &Call<'_>) -> Result<Value, AllocError> {
+pub fn reference(alloc: Global, call: &Call<'_>) -> Result<Value, AllocError> {
     match call.reply {
         Some(Reply::Value(value)) => Ok(Value::Ref(
             call.number,
@@ -43,91 +45,100 @@ fn reference(alloc: Global, call: &Call<'_>) -> Result<Value, AllocError> {
     }
 }
 
-/// The state behind a command, where its `next` may be asked and does not fault.
-fn state_behind<C: Callbacks>(
-    callbacks: &C,
+/// The initial state, where the model gives one.
+fn initial_state(alloc: Global, scene: &Scene<'_>) -> Result<Option<Value>, AllocError> {
+    match opening_of(scene.model.items.as_slice()) {
+        Some(opening) => {
+            let outcome = evaluate(alloc, scene.model, opening, &Env::Frame(&[], &[]))?;
+            Ok(outcome.ok())
+        }
+        None => Ok(None),
+    }
+}
+
+/// The state behind a command, where its `next` does not fault.
+fn state_behind(
     alloc: Global,
     scene: &Scene<'_>,
     state: &Value,
     call: &Call<'_>,
-) -> Result<Option<Value>, AllocError>
-    requires model { scene.now.model.now ≡ C.model callbacks.now }
-    requires types { scene.now.ops ≡ parameters_of scene.now.model.now.items }
-{
-    let op = call.command.op;
+) -> Result<Option<Value>, AllocError> {
+    let Some(operation) = operation(scene, call) else {
+        return Ok(None);
+    };
     let args = arguments(alloc, scene, call)?;
-    let args = args.as_slice();
-    let reference = reference(alloc, call)?;
-    let results = scene.results.as_slice();
-    let ops = scene.ops.as_slice();
-    if !state_fits(scene.model, results, ops, state) {
-        return Ok(None);
-    }
-    if !arguments_fit(scene.model, results, ops, op, args) {
-        return Ok(None);
-    }
-    if !reference_fits(alloc, scene.model, results, ops, op, &reference)? {
-        return Ok(None);
-    }
-    match callbacks.next(alloc, op, state, args, &reference)? {
-        Ok((next, _)) => Ok(Some(next)),
-        Err(_) => Ok(None),
-    }
+    let result = reference(alloc, call)?;
+    let frame = Env::Frame(operation.params.as_slice(), args.as_slice());
+    let outer = Env::With(b"s", &*state, &frame);
+    let inner = Env::With(b"r", &result, &outer);
+    let outcome = evaluate(alloc, scene.model, &operation.next, &inner)?;
+    Ok(outcome.ok())
 }
 
-/// The states before the first command and behind each, as far as the callbacks give them.
-pub fn states<C: Callbacks>(
-    callbacks: &C,
+/// The initial state and the state behind each command in turn, as far as no callback faults.
+pub fn states_along(
     alloc: Global,
     scene: &Scene<'_>,
     calls: &[Call<'_>],
-) -> Result<Vec<Value>, AllocError>
-    requires model { scene.now.model.now ≡ C.model callbacks.now }
-    requires types { scene.now.ops ≡ parameters_of scene.now.model.now.items }
-{
+) -> Result<Vec<Value>, AllocError> {
     let mut states = Vec::new(alloc);
-    let mut state = match callbacks.init(alloc)? {
-        Ok((state, _)) => state,
-        Err(_) => return Ok(states),
+    let Some(mut state) = initial_state(alloc, scene)? else {
+        return Ok(states);
     };
-    states.push(state.copy(alloc)?)?;
     for call in calls {
-        match state_behind(callbacks, alloc, scene, &state, call)? {
-            Some(next) => {
-                states.push(next.copy(alloc)?)?;
-                state = next;
-            }
-            None => return Ok(states),
-        }
+        let Some(next) = state_behind(alloc, scene, &state, call)? else {
+            break;
+        };
+        states.push(state)?;
+        state = next;
     }
+    states.push(state)?;
     Ok(states)
 }
 
+/// The commands before one in an interleaving.
+pub fn calls_before<'a>(
+    alloc: Global,
+    scene: &Scene<'a>,
+    word: &[usize],
+    call: &Call<'_>,
+) -> Result<Vec<Call<'a>>, AllocError> {
+    let order = in_order(alloc, &scene.calls, word)?;
+    let count = count_before(order.as_slice(), call.number);
+    first_calls(alloc, order.as_slice(), count)
+}
+
+/// The state before a command in an interleaving, where no callback faults up to there.
+pub fn state_before(
+    alloc: Global,
+    scene: &Scene<'_>,
+    word: &[usize],
+    call: &Call<'_>,
+) -> Result<Option<Value>, AllocError> {
+    let before = calls_before(alloc, scene, word, call)?;
+    let mut states = states_along(alloc, scene, before.as_slice())?;
+    if states.len() <= before.len() {
+        return Ok(None);
+    }
+    Ok(states.pop())
+}
+
 /// What the precondition of a command answers on the state before it.
-pub fn precondition<C: Callbacks>(
-    callbacks: &C,
+pub fn precondition(
     alloc: Global,
     scene: &Scene<'_>,
     state: &Value,
     call: &Call<'_>,
-) -> Result<PreAnswer, AllocError>
-    requires model { scene.now.model.now ≡ C.model callbacks.now }
-    requires types { scene.now.ops ≡ parameters_of scene.now.model.now.items }
-{
-    let op = call.command.op;
+) -> Result<PreAnswer, AllocError> {
+    let Some(operation) = operation(scene, call) else {
+        return Ok(PreAnswer::Holds);
+    };
     let args = arguments(alloc, scene, call)?;
-    let args = args.as_slice();
-    let results = scene.results.as_slice();
-    let ops = scene.ops.as_slice();
-    if !state_fits(scene.model, results, ops, state) {
-        return Ok(PreAnswer::Holds);
-    }
-    if !arguments_fit(scene.model, results, ops, op, args) {
-        return Ok(PreAnswer::Holds);
-    }
-    match callbacks.pre(alloc, op, state, args)? {
-        Ok((Value::Bool(false), _)) => Ok(PreAnswer::Fails),
-        Ok(_) => Ok(PreAnswer::Holds),
-        Err(fault) => Ok(PreAnswer::Faults(fault)),
+    let frame = Env::Frame(operation.params.as_slice(), args.as_slice());
+    let env = Env::With(b"s", &*state, &frame);
+    match evaluate(alloc, scene.model, &operation.pre, &env)? {
+        Ok(Value::Bool(false)) => Ok(PreAnswer::Fails),
+        Err(Stop::Fault(fault)) => Ok(PreAnswer::Faults(fault)),
+        _ => Ok(PreAnswer::Holds),
     }
 }

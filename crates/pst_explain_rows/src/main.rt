@@ -11,13 +11,15 @@ use std::thread::Threads;
 use std::{fs, io};
 
 /// The files, each with the width of its lines.
-const ROWS: [(&str, usize); 10] = [
+const ROWS: [(&str, usize); 12] = [
     ("counter.runs", 80),
     ("lock.runs", 80),
     ("queue.runs", 80),
     ("bank.runs", 80),
     ("cache.runs", 80),
     ("faults.runs", 80),
+    ("init.runs", 80),
+    ("forms.runs", 80),
     ("others.runs", 80),
     ("wide.runs", 80),
     ("wide.runs", 40),

@@ -1,4 +1,4 @@
-//! What is told of several kinds of items.
+//! Texts that the explanations of several kinds of items share.
 
 use crate::calls::Call;
 use crate::forms::add_form;
@@ -6,9 +6,7 @@ use crate::page::Page;
 use crate::scene::Scene;
 use crate::spelling::{add, add_value};
 use crate::table::{Table, two};
-use pst_eval::Callback;
-use pst_items::Items;
-use pst_model::{Expr, Op, Source, opening_of, operation_of};
+use pst_model::{Expr, Op, Source, operation_of};
 use pst_print::expr_form;
 use pst_sexpr::Form;
 use pst_value::Value;
@@ -47,39 +45,6 @@ pub fn expression_text(alloc: Global, expression: &Expr) -> Result<Vec<u8>, Allo
 /// The operation of a command.
 pub fn operation<'a>(scene: &Scene<'a>, call: &Call<'_>) -> Option<&'a Op> {
     operation_of(scene.model.items.as_slice(), call.command.op as usize)
-}
-
-/// The expression of a callback of a command; of the opening state where there is no command.
-fn callback_of<'a>(
-    scene: &Scene<'a>,
-    callback: Callback,
-    call: Option<Call<'_>>,
-) -> Option<&'a Expr> {
-    let Some(call) = call else {
-        return opening_of(scene.model.items.as_slice());
-    };
-    let operation = operation(scene, &call)?;
-    match callback {
-        Callback::Pre => Some(&operation.pre),
-        Callback::Next => Some(&operation.next),
-        Callback::Post => Some(&operation.post),
-        Callback::Init | Callback::Command => None,
-    }
-}
-
-/// Adds the expression of a callback, as a line.
-pub fn add_callback(
-    page: &mut Page,
-    alloc: Global,
-    scene: &Scene<'_>,
-    callback: Callback,
-    call: Option<Call<'_>>,
-) -> Result<(), AllocError> {
-    if let Some(expression) = callback_of(scene, callback, call) {
-        let text = expression_text(alloc, expression)?;
-        page.add_line(alloc, 4, text.as_slice())?;
-    }
-    Ok(())
 }
 
 fn state_text(alloc: Global, model: &Source, state: &Value) -> Result<Vec<u8>, AllocError> {

@@ -1,5 +1,0 @@
-use Rattle.std.proofs.Common.{length}
-use Rattle.pst_explain.proofs.guards.+each_fits.Given as goal
-
-abbrev pub decreases-each_fits : goal.decreases-each_fits
-decreases-each_fits l = length l.args.now
