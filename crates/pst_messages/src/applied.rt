@@ -6,8 +6,8 @@ use crate::judged::{Judged, noted, problem};
 use crate::names::{add, meant};
 use crate::operands::wanted_type;
 use crate::problem::{Problem, below, text};
-use crate::text::{count, signature};
-use pst_items::Items;
+use crate::text::{count, listed, signature};
+use pst_items::{Items, Text};
 use pst_model::{Fun, Item, Op, Param};
 use pst_sexpr::{node_of, word_of};
 use pst_value::Ty;
@@ -37,6 +37,40 @@ pub fn operation<'a>(items: &'a [Item], name: &str) -> Option<&'a Op> {
     None
 }
 
+/// The names of the operations or of the functions.
+fn names_of(
+    alloc: Global,
+    items: &[Item],
+    are_operations: bool,
+) -> Result<Items<Text>, AllocError> {
+    let mut names = Items::new(alloc);
+    for item in items {
+        match item {
+            Item::Op(op) if are_operations => add(alloc, &mut names, op.name.as_str())?,
+            Item::Fun(fun) if !are_operations => add(alloc, &mut names, fun.name.as_str())?,
+            _ => {}
+        }
+    }
+    Ok(names)
+}
+
+/// The known name that may be meant, else all of them, if there are some.
+fn known_note(
+    alloc: Global,
+    known: &Items<Text>,
+    kind: &str,
+    name: &str,
+) -> Result<Option<String>, AllocError> {
+    if let Some(hint) = meant(alloc, known, name)? {
+        return Ok(Some(hint));
+    }
+    if known.is_empty() {
+        return Ok(None);
+    }
+    let names = listed(alloc, known)?;
+    Ok(Some(format!(in alloc; "{kind}s: {names}")?))
+}
+
 /// The problem of a name with the operations or the functions that there are.
 pub fn unknown_among(
     alloc: Global,
@@ -45,28 +79,17 @@ pub fn unknown_among(
     name: &str,
     are_operations: bool,
 ) -> Judged {
-    let mut known = Items::new(alloc);
-    for item in items {
-        match item {
-            Item::Op(op) if are_operations => add(alloc, &mut known, op.name.as_str())?,
-            Item::Fun(fun) if !are_operations => add(alloc, &mut known, fun.name.as_str())?,
-            _ => {}
-        }
-    }
+    let known = names_of(alloc, items, are_operations)?;
     let kind = if are_operations {
         "operation"
     } else {
         "function"
     };
     let what = format!(in alloc; "no {kind} has the name `{name}`")?;
-    if let Some(hint) = meant(alloc, &known, name)? {
-        return noted(alloc, path, what, hint);
+    match known_note(alloc, &known, kind, name)? {
+        Some(note) => noted(alloc, path, what, note),
+        None => problem(alloc, path, what),
     }
-    if known.is_empty() {
-        return problem(alloc, path, what);
-    }
-    let names = crate::text::listed(alloc, &known)?;
-    noted(alloc, path, what, format!(in alloc; "{kind}s: {names}")?)
 }
 
 /// Arguments that do not fit parameters.

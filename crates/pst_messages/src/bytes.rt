@@ -2,6 +2,7 @@
 
 use pst_places::{Span, open_item};
 use pst_sexpr::{FaultKind, MAX_BYTES, MAX_LEVELS, SexprFault};
+use pst_sources::Input;
 use std::alloc::{AllocError, Global};
 
 /// What is wrong with bytes, and where.
@@ -33,20 +34,9 @@ fn fault(alloc: Global, span: Span, what: &str, note: &str) -> Result<Wrong, All
     })
 }
 
-/// The number of the line of a place, from 1.
-fn line_of(input: &[u8], place: usize) -> usize {
-    let mut line: usize = 1;
-    for at in 0..place.min(input.len()) {
-        if input[at] == b'\n' {
-            line = line.saturating_add(1);
-        }
-    }
-    line
-}
-
 /// A `)` is missing: in the item that is probably not closed.
-fn missing(alloc: Global, input: &[u8], place: usize) -> Result<Wrong, AllocError> {
-    let Some(open) = open_item(input) else {
+fn missing(alloc: Global, input: &Input<'_>, place: usize) -> Result<Wrong, AllocError> {
+    let Some(open) = open_item(input.bytes) else {
         return fault(
             alloc,
             one_byte(place),
@@ -61,15 +51,15 @@ fn missing(alloc: Global, input: &[u8], place: usize) -> Result<Wrong, AllocErro
         "",
     )?;
     if let Some(next) = open.next {
-        let line = line_of(input, next.start);
+        let line = input.line_at(alloc, next.start, open.item.start)?;
+        let line = line.as_str();
         wrong.notes.push(format!(in alloc;
-            "the item on line {line} begins while this one is still open"
+            "the item on {line} begins while this one is still open"
         )?)?;
     }
-    let line = line_of(input, place);
-    wrong.notes.push(format!(in alloc;
-        "the innermost `(` that is open at the end is on line {line}"
-    )?)?;
+    let line = input.line_at(alloc, place, open.item.start)?;
+    let line = line.as_str();
+    wrong.notes.push(format!(in alloc; "the innermost `(` that is open at the end is on {line}")?)?;
     Ok(wrong)
 }
 
@@ -98,10 +88,10 @@ fn bad_byte(alloc: Global, input: &[u8], place: usize) -> Result<Wrong, AllocErr
 }
 
 /// What is wrong with bytes that are no file of trees.
-pub fn unread(alloc: Global, input: &[u8], refused: SexprFault) -> Result<Wrong, AllocError> {
+pub fn unread(alloc: Global, input: &Input<'_>, refused: SexprFault) -> Result<Wrong, AllocError> {
     let span = one_byte(refused.place);
     match refused.kind {
-        FaultKind::BadByte => bad_byte(alloc, input, refused.place),
+        FaultKind::BadByte => bad_byte(alloc, input.bytes, refused.place),
         FaultKind::UnclosedText => fault(
             alloc,
             span,
@@ -120,7 +110,7 @@ pub fn unread(alloc: Global, input: &[u8], refused: SexprFault) -> Result<Wrong,
             fault(alloc, span, what.as_str(), "")
         }
         FaultKind::TooLarge => {
-            let what = format!(in alloc; "the file has more than {MAX_BYTES} bytes")?;
+            let what = format!(in alloc; "the input has more than {MAX_BYTES} bytes")?;
             fault(alloc, span, what.as_str(), "")
         }
         FaultKind::NoMemory => fault(alloc, span, "memory was refused", ""),

@@ -2,14 +2,10 @@
 
 use crate::applied::operation;
 use crate::items::head_of;
-use crate::judged::{Judged, noted};
-use crate::problem::{below, text};
-use crate::text::{count, short_text, signature, ty_text};
-use pst_case::CaseFaultKind;
+use crate::problem::below;
 use pst_model::Source;
-use pst_sexpr::{Form, node_of, word_of};
+use pst_sexpr::{Form, node_of};
 use pst_value::Ty;
-use pst_words::is_integer;
 use std::alloc::{AllocError, Global};
 
 /// A part of a case: the path to it within its item, the number of the tree of its first command in it, and its
@@ -107,10 +103,10 @@ fn add_branches<'a>(
 }
 
 /// The number of the part of the command of a number, from 1, and that of the command in it, from 0.
-pub fn place_of(parts: &Vec<Part<'_>>, command: usize) -> Option<(usize, usize)> {
+pub fn place_of(parts: &[Part<'_>], command: usize) -> Option<(usize, usize)> {
     let mut left = command.saturating_sub(1);
     let mut number: usize = 0;
-    for part in parts.as_slice() {
+    for part in parts {
         let length = part.commands.len();
         if left < length {
             return Some((number, left));
@@ -124,7 +120,7 @@ pub fn place_of(parts: &Vec<Part<'_>>, command: usize) -> Option<(usize, usize)>
 /// The command of a number, from 1, with the path to it within its item.
 pub fn located<'a>(
     alloc: Global,
-    parts: &Vec<Part<'a>>,
+    parts: &[Part<'a>],
     command: usize,
 ) -> Result<Option<(Vec<usize>, &'a Form)>, AllocError> {
     let Some((number, place)) = place_of(parts, command) else {
@@ -147,134 +143,15 @@ pub fn located<'a>(
 }
 
 /// The number of the command that a variable names.
-fn variable(word: &str) -> Option<usize> {
+pub fn variable(word: &str) -> Option<usize> {
     let digits = word.strip_prefix("$")?;
     digits.parse::<usize>().ok()
 }
 
 /// The type of the result of a command.
-fn result_of<'a>(source: &'a Source, parts: &Vec<Part<'_>>, command: usize) -> Option<&'a Ty> {
+pub fn result_of<'a>(source: &'a Source, parts: &[Part<'_>], command: usize) -> Option<&'a Ty> {
     let (number, place) = place_of(parts, command)?;
     let call = parts.get(number)?.commands.get(place)?;
     let name = head_of(call)?;
     Some(&operation(source.items.as_slice(), name.as_str())?.result)
-}
-
-/// Whether a tree of one level may be a value of the type; trees in it are not looked at.
-fn may_be(source: &Source, parts: &Vec<Part<'_>>, form: &Form, ty: &Ty) -> bool {
-    match (form, ty) {
-        (Form::Word(word), Ty::Ref(named)) => match variable(word.as_str()) {
-            Some(command) => result_of(source, parts, command) == Some(named.get()),
-            None => false,
-        },
-        (Form::Word(word), Ty::Int) => is_integer(word),
-        (Form::Word(word), Ty::Bool) => word.as_str() == "true" || word.as_str() == "false",
-        (Form::Text(_), Ty::Text) => true,
-        (Form::Node(_), Ty::Tuple(_) | Ty::List(_) | Ty::Map(_, _)) => match (head_of(form), ty) {
-            (Some(head), Ty::Tuple(_)) => head.as_str() == "tuple",
-            (Some(head), Ty::List(_)) => head.as_str() == "list",
-            (Some(head), Ty::Map(_, _)) => head.as_str() == "map",
-            _ => false,
-        },
-        _ => false,
-    }
-}
-
-/// The first variable of a command that may not stand there, one level deep.
-fn bad_variable(
-    alloc: Global,
-    path: &[usize],
-    call: &Form,
-    kind: CaseFaultKind,
-    command: usize,
-) -> Judged {
-    let mut place: usize = 0;
-    for form in node_of(call).unwrap_or(&[]) {
-        if let Some(word) = word_of(form) {
-            if let Some(number) = variable(word.as_str()) {
-                if number == 0 || number >= command && kind == CaseFaultKind::ForwardVar {
-                    let at = below(path, alloc, place)?;
-                    return noted(
-                        alloc,
-                        at.as_slice(),
-                        format!(in alloc;
-                            "${number} is no result of an earlier command: this is command {command}"
-                        )?,
-                        text(
-                            alloc,
-                            "commands are numbered from 1: the prefix, each branch, the suffix",
-                        )?,
-                    );
-                }
-            }
-        }
-        place = place.saturating_add(1);
-    }
-    let what = if kind == CaseFaultKind::CrossVar {
-        text(
-            alloc,
-            "an argument is the result of a command of another branch",
-        )?
-    } else {
-        text(
-            alloc,
-            "an argument is the result of this or a later command, or of none",
-        )?
-    };
-    noted(
-        alloc,
-        path,
-        what,
-        text(
-            alloc,
-            "a command sees the results of the prefix and of earlier commands of its own branch",
-        )?,
-    )
-}
-
-/// What is wrong with the arguments of a command.
-pub fn argument(
-    alloc: Global,
-    source: &Source,
-    parts: &Vec<Part<'_>>,
-    path: &[usize],
-    call: &Form,
-    kind: CaseFaultKind,
-    command: usize,
-) -> Judged {
-    if kind != CaseFaultKind::BadArgument {
-        return bad_variable(alloc, path, call, kind, command);
-    }
-    let Some((Form::Word(name), arguments)) = node_of(call).unwrap_or(&[]).split_first() else {
-        return Ok(None);
-    };
-    let Some(op) = operation(source.items.as_slice(), name.as_str()) else {
-        return Ok(None);
-    };
-    let name = name.as_str();
-    let shown = signature(alloc, name, op.params.as_slice(), &op.result)?;
-    let declared = format!(in alloc; "declared: {shown}")?;
-    if arguments.len() != op.params.len() {
-        let takes = count(alloc, op.params.len(), "argument")?;
-        let found = arguments.len();
-        let what = format!(in alloc; "`{name}` takes {takes}, here it has {found}")?;
-        return noted(alloc, path, what, declared);
-    }
-    let mut place: usize = 1;
-    for (form, param) in arguments.iter().zip(op.params.as_slice().iter()) {
-        if !may_be(source, parts, form, &param.ty) {
-            let at = below(path, alloc, place)?;
-            let wanted = ty_text(alloc, &param.ty)?;
-            let found = short_text(alloc, form)?;
-            let what = format!(in alloc; "wanted {wanted}, found `{found}`")?;
-            return noted(alloc, at.as_slice(), what, declared);
-        }
-        place = place.saturating_add(1);
-    }
-    noted(
-        alloc,
-        path,
-        text(alloc, "an argument is of another type, or spells no value")?,
-        declared,
-    )
 }

@@ -85,6 +85,14 @@ fn no_head(alloc: Global, has_maps: bool, path: &[usize], word: &Text) -> Judged
     }
 }
 
+/// A name that is bound beside another.
+fn beside(name: &Form) -> Role<'_> {
+    match word_of(name) {
+        Some(other) => Role::Beside(other),
+        None => Role::Bound,
+    }
+}
+
 /// The parts of a form of expressions, to be judged.
 fn add_parts<'a>(
     tasks: &mut Tasks<'a>,
@@ -120,10 +128,7 @@ fn add_parts<'a>(
         ("fold", [name, list, built, first, body]) => {
             tasks.add(path, 1, name, Role::Bound)?;
             tasks.add(path, 2, list, inner)?;
-            match word_of(name) {
-                Some(other) => tasks.add(path, 3, built, Role::Beside(other))?,
-                None => tasks.add(path, 3, built, Role::Bound)?,
-            }
+            tasks.add(path, 3, built, beside(name))?;
             tasks.add(path, 4, first, inner)?;
             tasks.add(path, 5, body, inner)
         }

@@ -136,6 +136,24 @@ fn outside(alloc: Global, path: &[usize], head: &str, parts: &[Form], before: &[
     Ok(None)
 }
 
+/// The other head whose items share their names with those of a head.
+fn sharing_names(head: &str) -> &'static str {
+    match head {
+        "op" => "op",
+        "fun" => "postfun",
+        _ => "fun",
+    }
+}
+
+/// What is wrong with a word as the name that an item of a head declares. A word of the language may name an operation.
+fn as_declared(alloc: Global, has_maps: bool, path: &[usize], head: &str, word: &Text) -> Judged {
+    if head == "op" && is_name(word) {
+        too_long(alloc, path, word)
+    } else {
+        declared(alloc, has_maps, path, word)
+    }
+}
+
 /// What is wrong with the name of a function or an operation.
 fn name_part(
     alloc: Global,
@@ -148,36 +166,21 @@ fn name_part(
     let at = below(path, alloc, 1)?;
     let at = at.as_slice();
     let Some(word) = word_of(name) else {
-        return problem(
-            alloc,
-            at,
-            format!(in alloc; "the name of the `{head}` has to stand here")?,
-        );
+        let what = format!(in alloc; "the name of the `{head}` has to stand here")?;
+        return problem(alloc, at, what);
     };
-    let name = word.as_str();
-    let (other, refused) = match head {
-        "op" => {
-            let refused = if is_name(word) {
-                too_long(alloc, at, word)?
-            } else {
-                declared(alloc, has_maps, at, word)?
-            };
-            ("op", refused)
-        }
-        "fun" => ("postfun", declared(alloc, has_maps, at, word)?),
-        _ => ("fun", declared(alloc, has_maps, at, word)?),
-    };
-    if let Some(found) = refused {
+    if let Some(found) = as_declared(alloc, has_maps, at, head, word)? {
         return Ok(Some(found));
     }
-    if is_taken(before, head, other, word) {
-        return problem(
-            alloc,
-            at,
-            format!(in alloc; "an earlier item declares `{name}`")?,
-        );
+    if !is_taken(before, head, sharing_names(head), word) {
+        return Ok(None);
     }
-    Ok(None)
+    let name = word.as_str();
+    problem(
+        alloc,
+        at,
+        format!(in alloc; "an earlier item declares `{name}`")?,
+    )
 }
 
 /// The parameters of a function or an operation, to be judged.

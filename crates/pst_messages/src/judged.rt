@@ -43,34 +43,43 @@ pub fn is_name(word: &Text) -> bool {
     }
 }
 
+/// A word that is no name, where a name is declared.
+fn no_name(alloc: Global, path: &[usize], name: &str) -> Judged {
+    let what = format!(in alloc; "`{name}` is no name")?;
+    let note = text(
+        alloc,
+        "a name is a lower-case letter, then letters, digits, `_` and `-`",
+    )?;
+    noted(alloc, path, what, note)
+}
+
+/// What a name stands for already, if it may not be declared.
+fn taken(has_maps: bool, name: &str) -> Option<&'static str> {
+    if name == "s" {
+        return Some("the state");
+    }
+    if name == "r" {
+        return Some("the result");
+    }
+    if name == "true" || name == "false" || is_head(has_maps, name) {
+        return Some("a word of the language");
+    }
+    None
+}
+
 /// What is wrong with a name that is declared, if something is.
 pub fn declared(alloc: Global, has_maps: bool, path: &[usize], word: &Text) -> Judged {
     let name = word.as_str();
     if !is_name(word) {
-        return noted(
-            alloc,
-            path,
-            format!(in alloc; "`{name}` is no name")?,
-            text(
-                alloc,
-                "a name is a lower-case letter, then letters, digits, `_` and `-`",
-            )?,
-        );
+        return no_name(alloc, path, name);
     }
-    if name == "s" || name == "r" {
-        let what = if name == "s" {
-            "the state"
-        } else {
-            "the result"
-        };
-        let what = format!(in alloc; "`{name}` is {what}; choose another name")?;
-        return problem(alloc, path, what);
+    match taken(has_maps, name) {
+        Some(what) => {
+            let what = format!(in alloc; "`{name}` is {what}; choose another name")?;
+            problem(alloc, path, what)
+        }
+        None => too_long(alloc, path, word),
     }
-    if name == "true" || name == "false" || is_head(has_maps, name) {
-        let what = format!(in alloc; "`{name}` is a word of the language; choose another name")?;
-        return problem(alloc, path, what);
-    }
-    too_long(alloc, path, word)
 }
 
 /// Whether a name has too many bytes.

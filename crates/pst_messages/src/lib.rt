@@ -5,9 +5,11 @@
 #![tactic(auto)]
 
 mod applied;
+mod arguments;
 mod bytes;
 mod command;
 mod diagnose;
+mod entries;
 mod expressions;
 mod forms;
 mod items;
@@ -22,6 +24,7 @@ mod runs;
 mod syntax;
 mod text;
 mod typing;
+mod values;
 mod walk;
 
-pub use message::message_of;
+pub use message::{Asked, message_of};

@@ -5,9 +5,10 @@ use crate::items::head_of;
 use crate::judged::{Judged, noted, problem};
 use crate::problem::{below, text};
 use crate::text::{count, short_text};
+use crate::values::{IllPart, ill_part};
 use pst_model::Source;
 use pst_sexpr::{Form, node_of};
-use std::alloc::Global;
+use std::alloc::{AllocError, Global};
 
 /// The place of the part of the replies among the parts of a run, and its lists.
 fn lists_of(form: &Form) -> Option<(usize, &[Form])> {
@@ -84,6 +85,41 @@ pub fn no_fit(alloc: Global, path: &[usize], form: &Form) -> Judged {
     Ok(None)
 }
 
+/// The reply to the command of a number, from 1, with the path to it within its item.
+fn reply_of<'a>(
+    alloc: Global,
+    parts: &[Part<'_>],
+    form: &'a Form,
+    command: usize,
+) -> Result<Option<(Vec<usize>, &'a Form)>, AllocError> {
+    let (Some((place, lists)), Some((number, offset))) = (lists_of(form), place_of(parts, command))
+    else {
+        return Ok(None);
+    };
+    let replies = match lists.get(number) {
+        Some(list) => node_of(list).unwrap_or(&[]),
+        None => &[],
+    };
+    let Some(reply) = replies.get(offset) else {
+        return Ok(None);
+    };
+    let at = below(&[], alloc, place)?;
+    let at = below(at.as_slice(), alloc, number.saturating_add(1))?;
+    Ok(Some((below(at.as_slice(), alloc, offset)?, reply)))
+}
+
+/// How replies are written.
+fn written(alloc: Global, has_maps: bool) -> Result<String, AllocError> {
+    let maps = if has_maps {
+        ", (map (k v) ..) with rising keys"
+    } else {
+        ""
+    };
+    format!(in alloc;
+        "a reply is an integer, true, false, a text, (tuple v ..), (list v ..){maps}, misfit, failed or not-run"
+    )
+}
+
 /// A tree that spells no reply.
 pub fn bad_reply(
     alloc: Global,
@@ -93,32 +129,20 @@ pub fn bad_reply(
     command: usize,
 ) -> Judged {
     let parts = commands_of(alloc, form)?;
-    let (Some((place, lists)), Some((number, offset))) = (lists_of(form), place_of(&parts, command))
-    else {
+    let parts = parts.as_slice();
+    let Some((steps, reply)) = reply_of(alloc, parts, form, command)? else {
         return Ok(None);
     };
-    let at = below(path, alloc, place)?;
-    let at = below(at.as_slice(), alloc, number.saturating_add(1))?;
-    let at = below(at.as_slice(), alloc, offset)?;
-    let replies = match lists.get(number) {
-        Some(list) => node_of(list).unwrap_or(&[]),
-        None => &[],
-    };
-    let Some(reply) = replies.get(offset) else {
-        return Ok(None);
-    };
+    let mut at = Vec::from_slice(alloc, path)?;
+    at.extend_from_slice(steps.as_slice())?;
+    let note = written(alloc, source.has_maps)?;
+    if node_of(reply).is_some() {
+        if let Some(ill) = ill_part(alloc, source, parts, at.as_slice(), reply, None)? {
+            let IllPart { path, what } = ill;
+            return noted(alloc, path.as_slice(), what, note);
+        }
+    }
     let shown = short_text(alloc, reply)?;
-    let maps = if source.has_maps {
-        ", (map (k v) ..) with rising keys"
-    } else {
-        ""
-    };
-    noted(
-        alloc,
-        at.as_slice(),
-        format!(in alloc; "`{shown}` spells no reply")?,
-        format!(in alloc;
-            "a reply is an integer, true, false, a text, (tuple v ..), (list v ..){maps}, misfit, failed or not-run"
-        )?,
-    )
+    let what = format!(in alloc; "`{shown}` spells no reply")?;
+    noted(alloc, at.as_slice(), what, note)
 }

@@ -1,7 +1,8 @@
 //! Cases and runs that are refused.
 
 use crate::applied::unknown_among;
-use crate::command::{argument, commands_of, located};
+use crate::arguments::{Called, argument};
+use crate::command::{commands_of, located};
 use crate::items::head_of;
 use crate::judged::{Judged, noted, problem};
 use crate::problem::{Problem, below, text};
@@ -130,6 +131,20 @@ fn behind(alloc: Global, path: &[usize], parts: &[Form], from: usize, is_run: bo
     }
 }
 
+/// A tree that is headed as no item is.
+fn no_item(alloc: Global, path: &[usize], form: &Form, head: &str) -> Judged {
+    if head == "model" || head == "model2" {
+        let what = text(
+            alloc,
+            "a second model: the first tree of an input is its model",
+        )?;
+        return problem(alloc, path, what);
+    }
+    let shown = short_text(alloc, form)?;
+    let what = format!(in alloc; "`{shown}` is neither a case nor a run")?;
+    problem(alloc, path, what)
+}
+
 /// What is wrong with the form of an item.
 fn form_of(alloc: Global, path: &[usize], form: &Form) -> Judged {
     let head = match head_of(form) {
@@ -137,12 +152,7 @@ fn form_of(alloc: Global, path: &[usize], form: &Form) -> Judged {
         None => "",
     };
     if head != "case" && head != "run" {
-        let shown = short_text(alloc, form)?;
-        return problem(
-            alloc,
-            path,
-            format!(in alloc; "`{shown}` is neither a case nor a run")?,
-        );
+        return no_item(alloc, path, form, head);
     }
     let parts = node_of(form).unwrap_or(&[]);
     if let Some(found) = part(alloc, path, parts.get(1), 1, "prefix")? {
@@ -220,7 +230,7 @@ fn bad_command(
     command: u32,
 ) -> Judged {
     let parts = commands_of(alloc, form)?;
-    let Some((steps, call)) = located(alloc, &parts, command as usize)? else {
+    let Some((steps, call)) = located(alloc, parts.as_slice(), command as usize)? else {
         return Ok(None);
     };
     let mut at = Vec::from_slice(alloc, path)?;
@@ -233,15 +243,12 @@ fn bad_command(
         let at = below(at.as_slice(), alloc, 0)?;
         return unknown_among(alloc, source.items.as_slice(), at.as_slice(), name, true);
     }
-    argument(
-        alloc,
-        source,
-        &parts,
-        at.as_slice(),
-        call,
-        kind,
-        command as usize,
-    )
+    let called = Called {
+        path: at.as_slice(),
+        form: call,
+        command: command as usize,
+    };
+    argument(alloc, source, parts.as_slice(), called, kind)
 }
 
 /// What is wrong with a case or a run.

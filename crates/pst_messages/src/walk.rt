@@ -7,9 +7,68 @@ use crate::judged::{Judged, bound, foreign, is_name, noted, problem};
 use crate::problem::{below, text};
 use crate::roles::{Role, Task, Tasks};
 use crate::text::short_text;
+use pst_items::Text;
 use pst_sexpr::{Form, node_of, word_of};
 use pst_syntax::MAX_NAME;
 use std::alloc::Global;
+
+/// The word that heads a node, and the trees behind it.
+fn headed(form: &Form) -> Option<(&Text, &[Form])> {
+    let (first, rest) = node_of(form)?.split_first()?;
+    Some((word_of(first)?, rest))
+}
+
+/// A form of maps in a language that has none.
+fn no_maps(alloc: Global, path: &[usize]) -> Judged {
+    let what = text(alloc, "this language has no maps")?;
+    let hint = text(
+        alloc,
+        "hint: a model with maps begins with `(model2 NAME ..)`",
+    )?;
+    noted(alloc, path, what, hint)
+}
+
+/// What is wrong with a type apart from the types in it, by its head and the trees behind this.
+fn type_problem(
+    alloc: Global,
+    has_maps: bool,
+    path: &[usize],
+    form: &Form,
+    head: &str,
+    rest: &[Form],
+) -> Judged {
+    let Some(shown) = type_form(head) else {
+        return no_type(alloc, path, form);
+    };
+    if is_of_maps(head) && !has_maps {
+        return no_maps(alloc, path);
+    }
+    if rest.len() < shown.least || rest.len() > shown.most {
+        return arity(alloc, path, shown, rest.len());
+    }
+    small_parts(alloc, path, head, rest)
+}
+
+/// The types in a type, to be judged.
+fn add_types<'a>(
+    tasks: &mut Tasks<'a>,
+    path: &[usize],
+    head: &str,
+    rest: &'a [Form],
+    room: usize,
+) -> Judged {
+    let alloc = tasks.alloc();
+    if room == 0 {
+        let what = text(alloc, "more than 16 types in one another")?;
+        return problem(alloc, path, what);
+    }
+    if head != "map" {
+        tasks.add_all(path, 1, rest, Role::Type(room - 1))?;
+    } else if let Some(value) = rest.get(1) {
+        tasks.add(path, 2, value, Role::Type(room - 1))?;
+    }
+    Ok(None)
+}
 
 /// A tree as a type.
 fn as_type<'a>(
@@ -20,52 +79,16 @@ fn as_type<'a>(
     room: usize,
 ) -> Judged {
     let alloc = tasks.alloc();
-    let Some(parts) = node_of(form) else {
+    if node_of(form).is_none() {
         return word_type(alloc, path, form);
-    };
-    let head = match parts.first() {
-        Some(first) => word_of(first),
-        None => None,
-    };
-    let Some(head) = head else {
+    }
+    let Some((head, rest)) = headed(form) else {
         return no_type(alloc, path, form);
     };
-    let Some(shown) = type_form(head.as_str()) else {
-        return no_type(alloc, path, form);
-    };
-    let rest = parts.get(1..).unwrap_or(&[]);
-    if is_of_maps(head.as_str()) && !has_maps {
-        return noted(
-            alloc,
-            path,
-            text(alloc, "this language has no maps")?,
-            text(
-                alloc,
-                "hint: a model with maps begins with `(model2 NAME ..)`",
-            )?,
-        );
-    }
-    if rest.len() < shown.least || rest.len() > shown.most {
-        return arity(alloc, path, shown, rest.len());
-    }
-    if let Some(found) = small_parts(alloc, path, head.as_str(), rest)? {
+    if let Some(found) = type_problem(alloc, has_maps, path, form, head.as_str(), rest)? {
         return Ok(Some(found));
     }
-    if room == 0 {
-        return problem(
-            alloc,
-            path,
-            text(alloc, "more than 16 types in one another")?,
-        );
-    }
-    if head.as_str() == "map" {
-        if let Some(value) = rest.get(1) {
-            tasks.add(path, 2, value, Role::Type(room - 1))?;
-        }
-        return Ok(None);
-    }
-    tasks.add_all(path, 1, rest, Role::Type(room - 1))?;
-    Ok(None)
+    add_types(tasks, path, head.as_str(), rest, room)
 }
 
 /// A tree as the type of the items of a list that is written out.

@@ -1,34 +1,62 @@
-//! Prints the message beside the refusal of each file of `data/`, and of each row below: a test that the gate runs
-//! as a program.
+//! Prints the messages beside the refusals of each row, and warnings: a test that the gate runs as a program. `pst_examples` prints
+//! those on the files of `examples/mistakes/`.
 #![tactic(auto)]
 
 mod rows;
 
-use pst_messages::message_of;
-use rows::{ITEMS, MODEL, MODELS};
+use pst_messages::{Asked, message_of};
+use pst_sources::{SourceFile, joined};
+use pst_warnings::warnings_of;
+use rows::{
+    ACCEPTED, CLOSED_FILES, DEEP_ITEMS, DEEP_MODEL, FILES, ITEMS, MODEL, MODELS, OPEN_FILES, REF_ITEMS,
+    REF_MODEL,
+};
 use std::alloc::{AllocError, Global};
-use std::{fs, io};
+use std::{io, slice};
 
-/// The files, with one mistake each.
-const FILES: [&str; 10] = [
-    "arity.model",
-    "count.runs",
-    "deref.model",
-    "foreign.model",
-    "list.model",
-    "name.model",
-    "open.model",
-    "order.model",
-    "state.model",
-    "type.model",
-];
-
-/// The message of an input, or `nothing is refused`.
-fn message(alloc: Global, name: &str, input: &[u8]) -> Result<String, AllocError> {
-    match message_of(alloc, name, input, true)? {
+/// The messages of an input, or `nothing is refused`.
+fn messages(alloc: Global, files: &[SourceFile<'_>], asked: Asked) -> Result<String, AllocError> {
+    let text = joined(alloc, files)?;
+    match message_of(alloc, files, text.as_slice(), asked)? {
         Some(message) => Ok(message),
-        None => format!(in alloc; "{name}: nothing is refused\n"),
+        None => String::from_str(alloc, "nothing is refused\n"),
     }
+}
+
+/// A file of that name and text.
+fn file<'a>(alloc: Global, name: &'a str, text: &str) -> Result<SourceFile<'a>, AllocError> {
+    Ok(SourceFile {
+        name,
+        bytes: Vec::from_slice(alloc, text.as_bytes())?,
+    })
+}
+
+/// The message of a file, or `nothing is refused`.
+fn message(alloc: Global, name: &str, text: &str) -> Result<String, AllocError> {
+    let file = file(alloc, name, text)?;
+    messages(alloc, slice::from_ref(&file), Asked::FirstItem)
+}
+
+/// The warnings on a file, or `no warnings`.
+fn warnings(alloc: Global, name: &str, text: &str) -> Result<String, AllocError> {
+    let file = file(alloc, name, text)?;
+    match warnings_of(alloc, slice::from_ref(&file), text.as_bytes())? {
+        Some(warnings) => Ok(warnings),
+        None => String::from_str(alloc, "no warnings\n"),
+    }
+}
+
+/// The messages of an input that stands in files.
+fn of_files(
+    alloc: Global,
+    rows: &[(&'static str, &str)],
+    asked: Asked,
+) -> Result<String, AllocError> {
+    let mut files = Vec::new(alloc);
+    for (name, text) in rows {
+        files.push(file(alloc, name, text)?)?;
+    }
+    messages(alloc, files.as_slice(), asked)
 }
 
 /// A model in one line of more than a million bytes.
@@ -43,22 +71,39 @@ fn long(alloc: Global) -> Result<String, AllocError> {
 
 fn main(rt: HostRuntime) -> io::Result<()> {
     let alloc = rt.alloc();
-    for name in FILES {
-        let text = fs::read_to_string(&rt, name)?;
-        let message = message(alloc, name, text.as_bytes())?;
-        println!(rt; "{message}")?;
-    }
     for (name, text) in MODELS {
-        let message = message(alloc, name, text.as_bytes())?;
+        let message = message(alloc, name, text)?;
         println!(rt; "{message}")?;
     }
-    for (name, item) in ITEMS {
-        let text = format!(in alloc; "{MODEL}{item}\n")?;
-        let message = message(alloc, name, text.as_bytes())?;
-        println!(rt; "{message}")?;
+    let behind: [(&str, &[(&'static str, &str)]); 3] = [
+        (MODEL, &ITEMS),
+        (DEEP_MODEL, &DEEP_ITEMS),
+        (REF_MODEL, &REF_ITEMS),
+    ];
+    for (model, items) in behind {
+        for (name, item) in items {
+            let text = format!(in alloc; "{model}{item}\n")?;
+            let message = message(alloc, name, text.as_str())?;
+            println!(rt; "{message}")?;
+        }
+    }
+    let rows: [(&[(&'static str, &str)], Asked); 5] = [
+        (&FILES, Asked::Model),
+        (&FILES, Asked::FirstItem),
+        (&FILES, Asked::EachItem),
+        (&OPEN_FILES, Asked::FirstItem),
+        (&CLOSED_FILES, Asked::FirstItem),
+    ];
+    for (files, asked) in rows {
+        let messages = of_files(alloc, files, asked)?;
+        println!(rt; "{messages}")?;
+    }
+    for (name, text) in ACCEPTED {
+        let warnings = warnings(alloc, name, text)?;
+        println!(rt; "{warnings}")?;
     }
     let text = long(alloc)?;
-    let message = message(alloc, "long.model", text.as_bytes())?;
+    let message = message(alloc, "long.model", text.as_str())?;
     println!(rt; "{message}")?;
     Ok(())
 }

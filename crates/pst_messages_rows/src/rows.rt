@@ -62,7 +62,8 @@ pub const MODEL: &str =
     "(model m (state int) (init 0) (command (list call))\n  (op a ((n int)) int (pre true) (next s) (post true)))\n";
 
 /// An item, by the name of its file.
-pub const ITEMS: [(&str, &str); 6] = [
+pub const ITEMS: [(&str, &str); 7] = [
+    ("second.runs", "(model n (state int))"),
     (
         "unknown.runs",
         "(run (prefix) (left (a 1)) (right (b 1)) (replies () (1) (2)))",
@@ -77,5 +78,119 @@ pub const ITEMS: [(&str, &str); 6] = [
     (
         "reply.runs",
         "(run (prefix) (left (a 1)) (right) (replies () ($1) ()))",
+    ),
+];
+
+/// A model with maps, that items with values in one another stand behind.
+pub const DEEP_MODEL: &str =
+    "(model2 m (state int) (init 0) (command (list call))\n  (op put ((e (map text (list (tuple int bool))))) (list int) (pre true) (next s) (post true)))\n";
+
+/// An item with a value in which a part is ill, by the name of its file.
+pub const DEEP_ITEMS: [(&str, &str); 7] = [
+    (
+        "item.runs",
+        "(case (prefix (put (map (\"a\" (list (tuple 1 true) (tuple 2 3)))))) (left) (right))",
+    ),
+    (
+        "length.runs",
+        "(case (prefix (put (map (\"a\" (list (tuple 1)))))) (left) (right))",
+    ),
+    (
+        "key.runs",
+        "(case (prefix (put (map (1 (list))))) (left) (right))",
+    ),
+    (
+        "keys.runs",
+        "(case (prefix (put (map (\"b\" (list)) (\"a\" (list))))) (left) (right))",
+    ),
+    (
+        "entry.runs",
+        "(case (prefix (put (map \"a\"))) (left) (right))",
+    ),
+    (
+        "word.runs",
+        "(run (prefix (put (map))) (left) (right) (replies ((list 1 (tuple 2 x))) () ()))",
+    ),
+    (
+        "fall.runs",
+        "(run (prefix (put (map))) (left) (right) (replies ((map (2 true) (2 false))) () ()))",
+    ),
+];
+
+/// A model with references, that items with variables stand behind.
+pub const REF_MODEL: &str =
+    "(model m (state (list (ref int))) (init (list (ref int))) (command (list call))\n  (op new () int (pre true) (next (++ s (list (ref int) r))) (post true))\n  (op close ((hs (list (ref int))) (b bool)) bool (pre true) (next s) (post true)))\n";
+
+/// An item with a variable that may not stand where it does, by the name of its file.
+pub const REF_ITEMS: [(&str, &str); 3] = [
+    (
+        "later.runs",
+        "(case (prefix (new) (close (list $1 $3) true)) (left) (right))",
+    ),
+    (
+        "cross.runs",
+        "(case (prefix) (left (new)) (right (close (list $1) true)))",
+    ),
+    (
+        "type.runs",
+        "(case (prefix (new) (close (list) true) (close (list $2) true)) (left) (right))",
+    ),
+];
+
+/// A model, and files of items behind it, of which some are refused.
+pub const FILES: [(&str, &str); 4] = [
+    (
+        "a.model",
+        "(model m (state int) (init 0) (command (list call))\n  (op a ((n int)) int (pre true) (next s) (post true)))",
+    ),
+    (
+        "first.runs",
+        "; two items\n(case (prefix (a 1)) (left) (right))\n(case (prefix (a 1)) (left (b 2)) (right))",
+    ),
+    ("empty.runs", ""),
+    (
+        "second.runs",
+        "(case (prefix (a 1)) (left) (right))\n(case (prefix) (left (a true)) (right))\n",
+    ),
+];
+
+/// A model in which a `)` is missing, and a file of items behind it.
+pub const OPEN_FILES: [(&str, &str); 2] = [
+    (
+        "a.model",
+        "(model m (state int) (init 0) (command (list call))\n  (op a ((n int)) int (pre true) (next s) (post true))",
+    ),
+    (
+        "first.runs",
+        "; an item\n(case (prefix (a 1)) (left) (right))\n",
+    ),
+];
+
+/// A model, and a file of items with a `)` too many.
+pub const CLOSED_FILES: [(&str, &str); 2] = [
+    (
+        "a.model",
+        "(model m (state int) (init 0) (command (list call)))",
+    ),
+    ("first.runs", "; an item\n(case (prefix) (left) (right)))\n"),
+];
+
+/// A model that is accepted, and of which warnings may speak, by the name of its file.
+pub const ACCEPTED: [(&str, &str); 4] = [
+    (
+        "never.model",
+        "(model m (state int) (init 0) (command (list call (call a)))\n  (op a () int (pre true) (next s) (post true))\n  (op b () int (pre true) (next s) (post true)))\n",
+    ),
+    (
+        "silent.model",
+        "(model m (state int) (init 0) (command (list call (call a)))\n  (op a () int (pre (< 0 s)) (next s) (post true)))\n",
+    ),
+    (
+        "second.model",
+        "(model m (state int) (init 0) (command (list call (call a)))\n  (op a () int (pre true) (next s) (post true)))\n(model n (state int))\n",
+    ),
+    (
+        "turns.model",
+        "(model m (state bool) (init false) (command (list call (call a) (call b)))\n  (op a () int (pre (not s)) (next true) (post true))\n  (op b () int (pre s) (next false) (post true)))\n",
     ),
 ];
