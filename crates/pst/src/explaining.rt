@@ -9,9 +9,6 @@ const WIDTH: usize = 80;
 
 /// `explain`, with a file and the width of lines.
 pub fn command<'a>(alloc: Global) -> Result<Command<'a>, AllocError> {
-    let file = Arg::new(alloc, "FILE").help(
-        "the model and the items; standard input where it is absent",
-    );
     let width = Arg::new(alloc, "width")
         .long("width")
         .value_name("N")
@@ -20,7 +17,7 @@ pub fn command<'a>(alloc: Global) -> Result<Command<'a>, AllocError> {
         .help("the width of lines");
     Command::new(alloc, "explain")
         .about("explains the verdicts on the cases and recorded runs behind a model")
-        .arg(file)?
+        .arg(crate::words::files(alloc))?
         .arg(width)
 }
 

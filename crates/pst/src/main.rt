@@ -2,11 +2,14 @@
 #![tactic(auto)]
 
 ghost use Rattle.std.specs.Prelude.{◌≡◌, false};
+ghost use Rattle.pst_trial.specs.Settings.{AreInRange};
 
 mod explaining;
 mod input;
+mod least;
 mod progress;
 mod refused;
+mod warned;
 mod words;
 
 use clap::ArgMatches;
@@ -14,12 +17,14 @@ use clap::error::ErrorKind;
 use progress::Progress;
 use pst_campaign::Unwatched;
 use pst_cli::{
-    Absence, KnownSystem, Status, campaign_text, check_text, explain_text, judge_text, list_text,
-    refuse_text, run_text,
+    Absence, KnownSystem, Status, campaign_text, check_text, explain_text, judge_text,
+    judge_text_keeping_on, list_text, refuse_text, run_text,
 };
 use pst_samples::{Counter, Meet, Queue, Racy, Registry, Stuck};
-use pst_sink::{Out, Sink};
+use pst_sink::{Out, Sink, put_all};
+use pst_sources::joined;
 use pst_system::BoxedSystem;
+use pst_trial::Settings;
 use std::alloc::{AllocError, Global};
 use std::io::IsTerminal;
 use std::process::ExitCode;
@@ -56,8 +61,30 @@ fn drive<W: Sink, R: Threads + Wait>(
     }
 }
 
-/// Runs a campaign with a worker for each of the systems, if there are some. Where standard error is a terminal a line
-/// on it tells how far the campaign is, unless the words forbid it.
+/// Runs a campaign. Where standard error is a terminal a line on it says how far the campaign is.
+fn watched<W: Sink, R: Threads + Wait + Sync + Eprint + Clock>(
+    rt: &R,
+    alloc: Global,
+    settings: Settings,
+    systems: Vec<BoxedSystem>,
+    is_terminal: bool,
+    input: &[u8],
+    out: &mut W,
+) -> Status
+    requires ranges { AreInRange settings }
+    requires stands { W.broken out.old ≡ false }
+{
+    if is_terminal {
+        if let Ok(progress) = Progress::new(rt) {
+            return campaign_text(rt, alloc, input, settings, systems, &progress, out);
+        }
+    }
+    campaign_text(rt, alloc, input, settings, systems, &Unwatched, out)
+}
+
+/// Runs a campaign with a worker for each of the systems, if there are some. Unless the words forbid it, a line on
+/// standard error, where that is a terminal, says how far the campaign is, and an explanation of the least failure
+/// stands there in the end.
 fn campaign<W: Sink, R: Threads + Wait + Sync + Eprint + Clock>(
     rt: &R,
     alloc: Global,
@@ -76,12 +103,25 @@ fn campaign<W: Sink, R: Threads + Wait + Sync + Eprint + Clock>(
     let Some(settings) = words::settings(words) else {
         return Status::Refused;
     };
-    if is_terminal && !words.get_flag("quiet") {
-        if let Ok(progress) = Progress::new(rt) {
-            return campaign_text(rt, alloc, input, settings, systems, &progress, out);
-        }
+    if words.get_flag("quiet") {
+        return campaign_text(rt, alloc, input, settings, systems, &Unwatched, out);
     }
-    campaign_text(rt, alloc, input, settings, systems, &Unwatched, out)
+    let mut report = Out::new(Vec::new(alloc));
+    let status = watched(
+        rt,
+        alloc,
+        settings,
+        systems,
+        is_terminal,
+        input,
+        &mut report,
+    );
+    let report = report.into_inner();
+    if put_all(report.as_slice(), out).is_err() {
+        return Status::Lost;
+    }
+    least::explain(rt, alloc, input, report.as_slice());
+    status
 }
 
 /// Does what the word says that takes a system.
@@ -107,8 +147,25 @@ fn with_systems<W: Sink, R: Threads + Wait + Sync + Eprint + Clock>(
     }
 }
 
-/// Does what the words say, on standard output. Beside a refusal a message stands on standard error, unless the
-/// words forbid it.
+/// Judges the items of the input, up to the first that is refused, or all of them where the words ask for it.
+fn judge<W: Sink, R: Threads + Sync>(
+    rt: &R,
+    alloc: Global,
+    words: &ArgMatches<'_>,
+    input: &[u8],
+    out: &mut W,
+) -> Status
+    requires { W.broken out.old ≡ false }
+{
+    if words.get_flag("keep-going") {
+        judge_text_keeping_on(rt, alloc, input, out)
+    } else {
+        judge_text(rt, alloc, input, out)
+    }
+}
+
+/// Does what the words say, on standard output. Beside each refusal a message stands on standard error, and beside a
+/// model that is accepted by `check` warnings may stand there, unless the words forbid it.
 fn run<R: Runtime + AllocGlobal + Threads + Wait + Sync>(
     rt: &R,
     matches: &ArgMatches<'_>,
@@ -120,20 +177,29 @@ fn run<R: Runtime + AllocGlobal + Threads + Wait + Sync>(
     };
     let alloc = rt.alloc();
     let mut out = Out::new(io::writer(rt));
-    let bytes = match input::of(rt, words.get_str("FILE")) {
-        Ok(bytes) => bytes,
+    let files = match input::files(rt, words.get_strs("FILE").unwrap_or(&[])) {
+        Ok(files) => files,
         Err(why) => return refuse_text(why, &mut out),
     };
-    let input = bytes.as_slice();
+    let Ok(text) = joined(alloc, files.as_slice()) else {
+        return refuse_text(Absence::NoMemory, &mut out);
+    };
+    let input = text.as_slice();
     let status = match word {
         "check" => check_text(alloc, input, &mut out),
         "list" => list_text(alloc, input, &mut out),
-        "judge" => judge_text(rt, alloc, input, &mut out),
+        "judge" => judge(rt, alloc, words, input, &mut out),
         "explain" => explain_text(rt, alloc, input, explaining::width(words), &mut out),
         _ => with_systems(rt, alloc, matches, systems, is_terminal, input, &mut out),
     };
-    if status == Status::Refused && !words.get_flag("quiet") {
-        refused::tell(rt, word, words.get_str("FILE"), input);
+    if words.get_flag("quiet") {
+        return status;
+    }
+    let files = files.as_slice();
+    match status {
+        Status::Refused => refused::report(rt, word, words.get_flag("keep-going"), files, input),
+        Status::Accepted if word == "check" => warned::report(rt, files, input),
+        _ => {}
     }
     status
 }

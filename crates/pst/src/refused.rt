@@ -1,14 +1,30 @@
-//! The message beside a refusal, on standard error.
+//! The messages beside refusals, on standard error.
 
-use pst_messages::message_of;
+use pst_messages::{Asked, message_of};
+use pst_sources::SourceFile;
 
-/// Writes the message beside the refusal of an input to standard error, for the word that the program was given.
-/// Where memory is refused or the message cannot be written, nothing more is said: the line of the refusal and
-/// the status stand without it.
-pub fn tell<R: Eprint + AllocGlobal>(rt: &R, word: &str, file: Option<&str>, input: &[u8]) {
-    let with_items = word == "judge" || word == "run";
-    let name = file.unwrap_or("-");
-    if let Ok(Some(message)) = message_of(rt.alloc(), name, input, with_items) {
+/// What is read of an input by the word that the program was given: the model alone, its items up to the first that is
+/// refused, or all of them.
+fn asked(word: &str, is_keeping_on: bool) -> Asked {
+    match word {
+        "judge" if is_keeping_on => Asked::EachItem,
+        "judge" | "run" | "explain" => Asked::FirstItem,
+        _ => Asked::Model,
+    }
+}
+
+/// Writes the messages beside the refusals of an input to standard error, for the word that the program was given.
+/// Where memory is refused or a message cannot be written, nothing more is said: the lines of the refusals and the
+/// status stand without it.
+pub fn report<R: Eprint + AllocGlobal>(
+    rt: &R,
+    word: &str,
+    is_keeping_on: bool,
+    files: &[SourceFile<'_>],
+    input: &[u8],
+) {
+    let asked = asked(word, is_keeping_on);
+    if let Ok(Some(message)) = message_of(rt.alloc(), files, input, asked) {
         let _ = eprint!(rt; "{message}");
     }
 }

@@ -10,9 +10,16 @@ use pst_trial::{
 };
 use std::alloc::{AllocError, Global};
 
-/// The file behind a word of the program.
-fn file<'a>(alloc: Global, help: &'a str) -> Arg<'a> {
-    Arg::new(alloc, "FILE").help(help)
+/// The file of a model behind a word of the program.
+fn file<'a>(alloc: Global) -> Arg<'a> {
+    Arg::new(alloc, "FILE").help("the model; standard input where it is absent or `-`")
+}
+
+/// The files of a model and its items behind a word of the program.
+pub fn files<'a>(alloc: Global) -> Arg<'a> {
+    Arg::new(alloc, "FILE").num_args(0..).help(
+        "the model, and behind it the items, in one file or several; `-` is standard input, as is no file",
+    )
 }
 
 /// The name of a system behind a word of the program.
@@ -23,30 +30,34 @@ fn system<'a>(alloc: Global) -> Arg<'a> {
 }
 
 /// A word of the program whose input is a file.
-fn with_file<'a>(
-    alloc: Global,
-    name: &'a str,
-    about: &'a str,
-    help: &'a str,
-) -> Result<Command<'a>, AllocError> {
+fn with_file<'a>(alloc: Global, name: &'a str, about: &'a str) -> Result<Command<'a>, AllocError> {
     Command::new(alloc, name)
         .about(about)
-        .arg(file(alloc, help))?
+        .arg(file(alloc))?
+        .arg(quiet(alloc))
+}
+
+/// `judge`, with the files of a model and its items.
+fn judge_command<'a>(alloc: Global) -> Result<Command<'a>, AllocError> {
+    let keep_going = Arg::new(alloc, "keep-going")
+        .long("keep-going")
+        .action(ArgAction::SetTrue)
+        .help("judges the items behind one that is refused too");
+    Command::new(alloc, "judge")
+        .about("judges the cases and recorded runs behind a model: a line for each")
+        .arg(files(alloc))?
+        .arg(keep_going)?
         .arg(quiet(alloc))
 }
 
 /// `run`, with the name of a system.
 fn run_command<'a>(alloc: Global) -> Result<Command<'a>, AllocError> {
-    let file = file(
-        alloc,
-        "the model and the items; standard input where it is absent",
-    );
     Command::new(alloc, "run")
         .about(
             "drives the cases behind a model on a system, once each: the runs and their verdicts",
         )
         .arg(system(alloc))?
-        .arg(file)?
+        .arg(files(alloc))?
         .arg(quiet(alloc))
 }
 
@@ -129,12 +140,12 @@ fn plan_option<'a>(alloc: Global, number: &PlanNumber) -> Arg<'a> {
         .help(number.help)
 }
 
-/// The option that forbids the line of progress.
+/// The option that forbids what stands on standard error.
 fn quiet<'a>(alloc: Global) -> Arg<'a> {
     Arg::new(alloc, "quiet")
         .long("quiet")
         .action(ArgAction::SetTrue)
-        .help("writes no line of progress to the terminal")
+        .help("writes no messages, no warnings and no line of progress")
 }
 
 /// `campaign`, with the name of a system and the numbers of its plan.
@@ -144,7 +155,7 @@ fn campaign_command<'a>(alloc: Global) -> Result<Command<'a>, AllocError> {
             "generates cases of a model, drives them on a system and shrinks those that fail: a report",
         )
         .arg(system(alloc))?
-        .arg(file(alloc, "the model; standard input where it is absent"))?;
+        .arg(file(alloc))?;
     for number in &PLAN_NUMBERS {
         command = command.arg(plan_option(alloc, number))?;
     }
@@ -153,24 +164,13 @@ fn campaign_command<'a>(alloc: Global) -> Result<Command<'a>, AllocError> {
 
 /// The words that the program takes.
 pub fn command<'a>(alloc: Global) -> Result<Command<'a>, AllocError> {
-    let check = with_file(
-        alloc,
-        "check",
-        "checks a model: `ok NAME`, or the refusal",
-        "the model; standard input where it is absent",
-    )?;
+    let check = with_file(alloc, "check", "checks a model: `ok NAME`, or the refusal")?;
     let list = with_file(
         alloc,
         "list",
         "lists the code of a model: a line for each instruction, or the refusal",
-        "the model; standard input where it is absent",
     )?;
-    let judge = with_file(
-        alloc,
-        "judge",
-        "judges the cases and recorded runs behind a model: a line for each",
-        "the model and the items; standard input where it is absent",
-    )?;
+    let judge = judge_command(alloc)?;
     let run = run_command(alloc)?;
     let campaign = campaign_command(alloc)?;
     Command::new(alloc, "pst")

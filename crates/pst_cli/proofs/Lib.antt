@@ -1,5 +1,6 @@
 pub mod Campaigning
 pub mod Judging
+pub mod KeepingOn
 pub mod Keeping
 pub mod OneOutput
 pub mod Printing

@@ -1,4 +1,5 @@
--- The output of `pst campaign`: a text and a status, for an input, the settings of the trials, and the systems.
+-- The output of `pst campaign`: a text and a status, for an input, the settings of the trials, and the
+-- systems.
 use Rattle.std.specs.Prelude.{◌≡◌, ℕ, List, ◌++◌, length, codes}
 use Rattle.pst_campaign.specs.FaultName.{fault_name}
 use Rattle.pst_campaign.specs.Working.{AllGiven, IsCampaignFault}
@@ -39,9 +40,9 @@ abbrev pub Gives : Type 0 → Type 1
 Gives S = S → PlanView → ℕ → Entry RecordView → Type 0
 
 module _ {S : Type 0} (may_give : Gives S) (settings : Settings) (systems : List S) where
-  -- The output for a well-typed model:
-  -- the report of a list in which each number of the plan has an entry that one of the systems may give for it;
-  -- or the fault of a campaign with so many systems, which is not that memory was refused.
+  -- The output for a well-typed model: the report of a list in which each number of the plan has an entry
+  -- that one of the systems may give for it; or the fault of a campaign with so many systems, which is not
+  -- that memory was refused.
   pub data IsOutputFor (m : Source) (text : List ℕ) (status : Status) : Type 0 where
     reported : (entries : List (Entry RecordView)) → length entries ≡ settings.trials
         → AllGiven (λ s. may_give s (plan_of m settings)) systems entries

@@ -13,10 +13,14 @@ use Rattle.pst_runs.specs.Items.{runs_of}
 use Rattle.pst_runs.specs.declared.fault.RunFault.{RunFault}
 use Rattle.pst_sexpr.specs.declared.form.Form.{Form}
 
--- a text, of which nothing is said, where the items are read, with the status of their judgements; or the first refusal
+-- a text, of which nothing is said, where the items are read, with the status of their judgements; or the
+-- first refusal
 pub data IsExplainOutput (input text : List ℕ) (status : Status) : Type 0 where
-  explained : (m : Source) (trees : List Form) (runs : List Run) (js : List Judged) → Holds input m trees → runs_of m (items_of trees) ≡ Ok runs → AreJudged m runs js →
-      status ≡ status_of js → IsExplainOutput input text status
-  run_refused : (m : Source) (trees : List Form) (fault : RunFault) → Holds input m trees → runs_of m (items_of trees) ≡ Err fault →
-      text ≡ run_line fault → status ≡ Refused → IsExplainOutput input text status
-  refused : (refusal : Refusal) → IsRefusal input refusal → text ≡ refusal_line refusal → status ≡ Refused → IsExplainOutput input text status
+  explained : (m : Source) (trees : List Form) (runs : List Run) (js : List Judged)
+      → Holds input m trees → runs_of m (items_of trees) ≡ Ok runs → AreJudged m runs js
+      → status ≡ status_of js → IsExplainOutput input text status
+  run_refused : (m : Source) (trees : List Form) (fault : RunFault)
+      → Holds input m trees → runs_of m (items_of trees) ≡ Err fault
+      → text ≡ run_line fault → status ≡ Refused → IsExplainOutput input text status
+  refused : (refusal : Refusal) → IsRefusal input refusal
+      → text ≡ refusal_line refusal → status ≡ Refused → IsExplainOutput input text status

@@ -5,7 +5,8 @@ use Rattle.pst_cli.specs.declared.status.Status.{Status}
 use Rattle.pst_cli.specs.declared.status.Status.TheVariants.{Lost}
 use Rattle.pst_sink.specs.Writing.{WritesAll, WritesPart}
 
--- the text was written whole, and its status is the answer; or the writer failed, a beginning of the text went out, and Lost is the answer
+-- the text was written whole, and its status is the answer; or the writer failed, a beginning of the text
+-- went out, and Lost is the answer
 abbrev pub Sends :
     (before after : Option (List ℕ)) (broken : Bool) (answer : Status) (text : List ℕ) (status : Status)
     → Type 0

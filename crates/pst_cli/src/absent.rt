@@ -22,7 +22,8 @@ pub enum Absence<'a> {
 /// Writes the parts of a refusal, and answers its status. `Lost` where the writer failed.
 fn send_parts<W: Sink>(parts: &[&[u8]], sink: &mut W) -> Status
     requires { W.broken sink.old ≡ false }
-    ensures { Sends (W.taken sink.old) (W.taken sink.new) (W.broken sink.new) result (joined parts.now) Status.Refused }
+    ensures { Sends (W.taken sink.old) (W.taken sink.new) (W.broken sink.new) result (joined parts.now)
+        Status.Refused }
 {
     match put_each(parts, sink) {
         Ok(()) => Status::Refused,
@@ -33,7 +34,8 @@ fn send_parts<W: Sink>(parts: &[&[u8]], sink: &mut W) -> Status
 /// Writes `refused file`, `refused system NAME` or `refused memory`, and answers the status.
 pub fn refuse_text<W: Sink>(why: Absence<'_>, sink: &mut W) -> Status
     requires { W.broken sink.old ≡ false }
-    ensures { Sends (W.taken sink.old) (W.taken sink.new) (W.broken sink.new) result (absence_line why.entry) (absence_status why.entry) }
+    ensures { Sends (W.taken sink.old) (W.taken sink.new) (W.broken sink.new) result (absence_line why.entry)
+        (absence_status why.entry) }
 {
     match why {
         Absence::NoFile => send(b"refused file\n", Status::Refused, sink),

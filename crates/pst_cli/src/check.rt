@@ -34,7 +34,8 @@ fn check_output(alloc: Global, input: &[u8]) -> Result<Output, AllocError>
 /// Where memory is refused, `refused memory` alone is written.
 pub fn check_text<W: Sink>(alloc: Global, input: &[u8], sink: &mut W) -> Status
     requires { W.broken sink.old ≡ false }
-    ensures { Prints (IsCheckOutput input.now) (W.taken sink.old) (W.taken sink.new) (W.broken sink.new) result }
+    ensures { Prints (IsCheckOutput input.now) (W.taken sink.old) (W.taken sink.new) (W.broken sink.new)
+        result }
 {
     match check_output(alloc, input) {
         Ok(output) => send(output.text.as_slice(), output.status, sink),

@@ -21,51 +21,39 @@ use pst_sink::Sink;
 use std::alloc::{AllocError, Global};
 use std::thread::Threads;
 
-/// Where an explanation stands: the number of its item, the lines on which this item and those behind it begin, and the
-/// width of lines.
-#[derive(Clone, Copy, Drop)]
-struct Setting<'a> {
-    number: usize,
-    lines: &'a [usize],
-    width: usize,
-}
-
-/// Adds the explanations of items, an empty line before each but the first.
-fn add_items(
+/// The explanations of items, numbered from 1, with an empty line between them: `lines` are the lines of the file on which
+/// they begin, and `width` is the width of the lines that are written.
+fn explanations(
     alloc: Global,
     compiled: &Compiled,
-    setting: Setting<'_>,
+    lines: &[usize],
+    width: usize,
     runs: &[Run],
     all: &[Judged],
-    mut text: Vec<u8>,
 ) -> Result<Vec<u8>, AllocError>
     requires lawful { AreLawful compiled.now runs.now }
     requires judged { AreJudged compiled.now runs.now all.now }
 {
-    let Some((run, runs)) = runs.split_first() else {
-        return Ok(text);
-    };
-    let Some((judged, all)) = all.split_first() else {
-        return Ok(text);
-    };
-    let Setting {
-        number,
-        lines,
-        width,
-    } = setting;
-    let line = lines.first().copied().unwrap_or(0);
-    if !text.is_empty() {
-        text.push(b'\n')?;
-    }
     let typed = compiled.typed();
-    let item = explain_item(compiled, alloc, typed, run, judged, number, line, width)?;
-    text.extend_from_slice(item.as_slice())?;
-    let behind = Setting {
-        number: number.saturating_add(1),
-        lines: lines.get(1..).unwrap_or(&[]),
-        width,
-    };
-    add_items(alloc, compiled, behind, runs, all, text)
+    let mut text = Vec::new(alloc);
+    let mut number: usize = 0;
+    let mut rest = runs;
+    let mut left = all;
+    while let Some((run, later)) = rest.split_first() {
+        let Some((judged, others)) = left.split_first() else {
+            return Ok(text);
+        };
+        if number > 0 {
+            text.push(b'\n')?;
+        }
+        let line = lines.get(number).copied().unwrap_or(0);
+        number = number.saturating_add(1);
+        let item = explain_item(compiled, alloc, typed, run, judged, number, line, width)?;
+        text.extend_from_slice(item.as_slice())?;
+        rest = later;
+        left = others;
+    }
+    Ok(text)
 }
 
 /// The explanations of the items behind the model, or the first refusal.
@@ -87,18 +75,13 @@ fn explain_output<R: Threads + Sync>(
             may_share_compiled();
             let all = rejudge(rt, &file.compiled, alloc, runs.as_slice())?;
             let lines = first_lines(alloc, input)?;
-            let setting = Setting {
-                number: 1,
-                lines: lines.get(1..).unwrap_or(&[]),
-                width,
-            };
-            let text = add_items(
+            let text = explanations(
                 alloc,
                 &file.compiled,
-                setting,
+                lines.get(1..).unwrap_or(&[]),
+                width,
                 runs.as_slice(),
                 all.as_slice(),
-                Vec::new(alloc),
             )?;
             Ok(Output {
                 text,

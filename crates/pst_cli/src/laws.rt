@@ -1,4 +1,5 @@
-//! An input has one output.
+//! An input has one output, and keeping on changes none where no item is refused.
+ghost use Rattle.pst_cli.specs.KeepingOn.{KeepsJudgements};
 ghost use Rattle.pst_cli.specs.OneOutput.{OneCheckOutput, OneJudgeOutput};
 
 use pst_judge::one_judgement;
@@ -17,3 +18,8 @@ pub fn one_output()
     ill_is_not_well();
     one_judgement();
 }
+
+/// Where no item is refused, `judge_text_keeping_on` writes and answers what `judge_text` does.
+pub fn keeps_judgements()
+    ensures { KeepsJudgements }
+{}

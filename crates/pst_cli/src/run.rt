@@ -55,7 +55,7 @@ fn tree_line(alloc: Global, typed: &Typed, run: &Run) -> Result<Vec<u8>, AllocEr
 }
 
 /// Accepted where it is explained or valid, and else failed.
-fn status_of_one(judged: &Judged) -> Status
+pub fn status_of_one(judged: &Judged) -> Status
     ensures { result ≡ status_of_one judged.now }
 {
     if is_good(judged) {

@@ -28,14 +28,14 @@ rejudge-requires-after_bounds g c κs within =
     (subst OfRuns (sym c.as_slice-in-Ok-2.ensures.value)
     (rw (c.typed.ensures, c.in-Ok-2.is) at c.in_ok-runs.ensures.lawful))
 
-pub add_items-requires-clause-lawful : goal.add_items-requires-clause-lawful
-add_items-requires-clause-lawful g c =
+pub explanations-requires-clause-lawful : goal.explanations-requires-clause-lawful
+explanations-requires-clause-lawful g c =
     let OfRuns : List Run → Type 0 = λ rs. AreLawful c.in-Ok.file.compiled rs in
     subst OfRuns (sym c.as_slice-in-Ok-2-2.ensures.value)
     (rw (c.typed.ensures, c.in-Ok-2.is) at c.in_ok-runs.ensures.lawful)
 
-pub add_items-requires-clause-judged : goal.add_items-requires-clause-judged
-add_items-requires-clause-judged g c =
+pub explanations-requires-clause-judged : goal.explanations-requires-clause-judged
+explanations-requires-clause-judged g c =
     let m = c.in-Ok.file.compiled in
     let all = c.in_ok-all-in-Ok-2.all.items in
     let OfRuns : List Run → Type 0 = λ rs. AreJudged m rs all in

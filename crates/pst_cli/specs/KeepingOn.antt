@@ -1,0 +1,56 @@
+-- The output of `pst judge --keep-going`: a text and a status, for an input.
+use Rattle.std.specs.Prelude.{◌≡◌, ℕ, ◌+◌, List, [], ◌∷◌, ◌++◌, Ok}
+use Rattle.std.specs.List.{AllZip}
+use Rattle.pst_case.specs.declared.history.Run.{Run}
+use Rattle.pst_cli.specs.Head.{refusal_line}
+use Rattle.pst_cli.specs.Output.{AreJudged, item_line, item_lines, run_line, status_of}
+use Rattle.pst_cli.specs.RunOutput.{status_of_one}
+use Rattle.pst_cli.specs.Status.{or_worse}
+use Rattle.pst_cli.specs.declared.status.Status.{Status}
+use Rattle.pst_cli.specs.declared.status.Status.TheVariants.{Accepted, Refused}
+use Rattle.pst_each.specs.Answers.{IsAnswer}
+use Rattle.pst_each.specs.declared.Answer.{Answer}
+use Rattle.pst_each.specs.declared.Answer.TheVariants as answer
+use Rattle.pst_judge.specs.declared.judgement.Judged.{Judged}
+use Rattle.pst_load.specs.Loading.{Holds, items_of, IsRefusal}
+use Rattle.pst_load.specs.declared.refusal.Refusal.{Refusal}
+use Rattle.pst_model.specs.declared.model.Source.{Source}
+use Rattle.pst_runs.specs.Items.{runs_of}
+use Rattle.pst_sexpr.specs.declared.form.Form.{Form}
+
+-- `NUMBER VERDICT`, or `refused run NUMBER command C KIND`
+abbrev pub answer_line : ℕ → Answer → List ℕ
+answer_line number (answer.Judged judged) = item_line number judged
+answer_line number (answer.Refused kind command) =
+    run_line (record { run = number; command = command; kind = kind })
+
+-- the lines of items, the first of which has the number
+abbrev pub answer_lines : ℕ → List Answer → List ℕ
+answer_lines number [] = []
+answer_lines number (a ∷ answers) = answer_line number a ++ answer_lines (number + 1) answers
+
+-- Refused where the item is, else Accepted where it is explained or valid
+abbrev pub answer_status : Answer → Status
+answer_status (answer.Judged judged) = status_of_one judged
+answer_status (answer.Refused kind command) = Refused
+
+-- the worst of a status and those of items
+abbrev pub worst_status : Status → List Answer → Status
+worst_status so_far [] = so_far
+worst_status so_far (a ∷ answers) = worst_status (or_worse so_far (answer_status a)) answers
+
+-- a line for each item, from 1: its verdict or its refusal; or the refusal of the model
+pub data IsKeepingOnOutput (input text : List ℕ) (status : Status) : Type 0 where
+  answered : (m : Source) (trees : List Form) (answers : List Answer) → Holds input m trees
+      → AllZip (IsAnswer m) (items_of trees) answers
+      → text ≡ answer_lines 1 answers → status ≡ worst_status Accepted answers
+      → IsKeepingOnOutput input text status
+  refused : (refusal : Refusal) → IsRefusal input refusal → text ≡ refusal_line refusal → status ≡ Refused
+      → IsKeepingOnOutput input text status
+
+-- where no item is refused, the lines and the status of `pst judge` are those with `--keep-going`
+abbrev pub KeepsJudgements : Type 0
+KeepsJudgements =
+    (input : List ℕ) (m : Source) (trees : List Form) (runs : List Run) (js : List Judged) → Holds input m trees
+    → runs_of m (items_of trees) ≡ Ok runs → AreJudged m runs js
+    → IsKeepingOnOutput input (item_lines 1 js) (status_of js)

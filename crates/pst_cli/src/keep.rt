@@ -1,0 +1,113 @@
+//! `pst judge --keep-going`.
+ghost use Rattle.std.specs.Prelude.{◌≡◌, false, IfOk, string_bytes};
+ghost use Rattle.pst_cli.specs.KeepingOn.{IsKeepingOnOutput, answer_line, answer_lines, answer_status, worst_status};
+ghost use Rattle.pst_cli.specs.Sending.{Prints};
+ghost use Rattle.pst_cli.specs.declared.status.Status.TheVariants.{Accepted};
+
+use crate::compiled::load_compiled;
+use crate::judge::{item_line, run_line};
+use crate::output::{Output, send};
+use crate::refusal::refusal_output;
+use crate::run::status_of_one;
+use crate::sharing::may_share_compiled;
+use crate::status::Status;
+use pst_each::{Answer, judge_each};
+use pst_load::items_of;
+use pst_runs::RunFault;
+use pst_sink::Sink;
+use std::alloc::{AllocError, Global};
+use std::thread::Threads;
+
+/// `NUMBER VERDICT`, or `refused run NUMBER command C KIND`.
+fn answer_line(alloc: Global, number: usize, answer: &Answer) -> Result<String, AllocError>
+    ensures { IfOk result (λ line. string_bytes line ≡ answer_line number answer.now) }
+{
+    match answer {
+        Answer::Judged(judged) => item_line(alloc, number, judged),
+        Answer::Refused { kind, command } => {
+            let fault = RunFault {
+                run: number,
+                command: *command,
+                kind: *kind,
+            };
+            run_line(alloc, &fault)
+        }
+    }
+}
+
+/// The lines of all items, numbered from 1.
+fn answer_lines(alloc: Global, answers: &[Answer]) -> Result<String, AllocError>
+    ensures { IfOk result (λ text. string_bytes text ≡ answer_lines 1 answers.now) }
+{
+    let mut text = String::new(alloc);
+    for (index, answer) in answers.iter().enumerate() {
+        let line = answer_line(alloc, index + 1, answer)?;
+        text.push_str(line.as_str())?;
+    }
+    Ok(text)
+}
+
+/// Refused where the item is, and else as the judgement on it says.
+fn answer_status(answer: &Answer) -> Status
+    ensures { result ≡ answer_status answer.now }
+{
+    match answer {
+        Answer::Judged(judged) => status_of_one(judged),
+        Answer::Refused { .. } => Status::Refused,
+    }
+}
+
+/// The worst of the statuses of all items.
+fn worst_status(answers: &[Answer]) -> Status
+    ensures { result ≡ worst_status Accepted answers.now }
+{
+    let mut status = Status::Accepted;
+    for answer in answers {
+        status = status.or_worse(answer_status(answer));
+    }
+    status
+}
+
+/// The lines of all items behind the model, or the refusal of the model.
+fn keeping_on_output<R: Threads + Sync>(
+    rt: &R,
+    alloc: Global,
+    input: &[u8],
+) -> Result<Output, AllocError>
+    ensures { IfOk result (λ output. IsKeepingOnOutput input.now output.text.items output.status) }
+{
+    let file = match load_compiled(alloc, input)? {
+        Ok(file) => file,
+        Err(refusal) => return refusal_output(alloc, &refusal),
+    };
+    let items = items_of(file.trees.as_slice());
+    may_share_compiled();
+    let answers = judge_each(rt, &file.compiled, alloc, file.compiled.typed(), items)?;
+    let text = answer_lines(alloc, answers.as_slice())?;
+    Ok(Output::new(text, worst_status(answers.as_slice())))
+}
+
+/// Judges each item behind the model that the input begins with, also where others are refused, several at once: writes
+/// for each, in their order, a line `NUMBER VERDICT`, or `refused run NUMBER command C KIND` where it is refused, and
+/// answers the status. Where the input is no file of trees, or the model is refused, that refusal is written alone.
+/// Nothing is written before all items are judged: where memory is refused to any of them, `refused memory` stands
+/// alone.
+///
+/// The status is `Refused` where an item is refused, else `Failed` where one is not explained or not valid, else
+/// `Accepted`; `Refused` where the model is refused; `Lost` where memory was refused or the writer failed. Where no item
+/// is refused, the lines and the status are those of `judge_text`.
+pub fn judge_text_keeping_on<W: Sink, R: Threads + Sync>(
+    rt: &R,
+    alloc: Global,
+    input: &[u8],
+    sink: &mut W,
+) -> Status
+    requires { W.broken sink.old ≡ false }
+    ensures { Prints (IsKeepingOnOutput input.now)
+        (W.taken sink.old) (W.taken sink.new) (W.broken sink.new) result }
+{
+    match keeping_on_output(rt, alloc, input) {
+        Ok(output) => send(output.text.as_slice(), output.status, sink),
+        Err(AllocError) => send(b"refused memory\n", Status::Lost, sink),
+    }
+}
