@@ -1,6 +1,7 @@
 #!/usr/bin/env bash
-# Refuses each growth of memory of the program in turn. The answer has to be the one with ample memory, or want of memory: `refused memory`, or an item
-# that is lost for it (a thread too needs memory to be started), with status 3. Prints how often each came, and any other answer, with which it ends with status 1. The gate does not run it; it needs a C compiler.
+# Refuses each growth of memory of the program in turn. The answer has to be the one with ample memory, or want of memory: `refused memory`, or an item that is
+# lost for it (a thread too needs memory to be started), with status 3. Prints how often that came, and any other answer, with which it ends with status 1. The
+# gate does not run it; it needs a C compiler.
 source "$(dirname "$0")/program.sh"
 
 # `malloc` and `realloc` that fail the time that REFUSE gives.
@@ -59,6 +60,8 @@ last=0
 refuse_each check "$top/examples/counter.model"
 last=0
 refuse_each judge "$room/judged"
+last=0
+refuse_each explain "$room/judged"
 last=0
 refuse_each run counter "$room/driven"
 last=0

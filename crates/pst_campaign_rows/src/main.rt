@@ -1,11 +1,12 @@
-//! Runs campaigns on the system `stuck`, and one on two systems that meet, and prints their reports and statuses: a
-//! test that the gate runs as a program. Its output does not depend on how many workers there are, nor on the order in which they finish.
+//! Runs campaigns on the systems `stuck`, `counter` and `registry`, and one on two systems that meet, and prints their
+//! reports and statuses: a test that the gate runs as a program. Its output does not depend on how many workers there
+//! are, nor on the order in which they finish.
 #![tactic(auto)]
 
 use anyhow::bail;
 use pst_campaign::Unwatched;
 use pst_cli::campaign_text;
-use pst_samples::{Flags, Pair, Side, Stuck};
+use pst_samples::{Counter, Flags, Pair, Registry, Side, Stuck};
 use pst_sink::Out;
 use pst_system::BoxedSystem;
 use pst_trial::Settings;
@@ -22,14 +23,37 @@ const TOP: &str = "(model top (state int) (init 9223372036854775807)
   (command (list call (call up)))
   (op up () int (pre true) (next (+ s 1)) (post true)))";
 
-/// A campaign: its model, seed, trials, commands, repeats, limit and workers.
-const ROWS: [(&str, u64, u32, u32, u32, u32, u32); 6] = [
-    (ONE, 7, 20, 1, 1, 1_000, 1),
-    (ONE, 7, 20, 1, 1, 1_000, 4),
-    (ONE, 7, 20, 1, 1, 2, 4),
-    (ONE, 0, 0, 16, 5, 1_000, 4),
-    (TOP, 0, 2, 1, 5, 1_000, 4),
-    (ONE, 0, 1, 1, 1, 1_000, 17),
+/// A counter: `inc` adds one and answers the new number, `get` answers it.
+const COUNTER: &str = "(model counter (state int) (init 0)
+  (command (list call (call inc) (call get)))
+  (op inc () int (pre true) (next (+ s 1)) (post (= r (+ s 1))))
+  (op get () int (pre true) (next s) (post (= r s))))";
+
+/// Handles that are opened, read and closed.
+const REGISTRY: &str = "(model registry (state (list (ref int))) (init (list (ref int)))
+  (fun open ((xs (list (ref int))) (h (ref int))) bool
+    (< 0 (len (for ((in x xs) (when (same x h))) x))))
+  (command (++ (list call (call new))
+               (for ((in x s)) (call close x))))
+  (op new () int (pre true)
+    (next (++ s (list (ref int) r))) (post true))
+  (op close ((h (ref int))) bool (pre (open s h))
+    (next (for ((in x s) (when (not (same x h)))) x)) (post r))
+  (op read ((h (ref int))) int (pre (open s h))
+    (next s) (post (= r (deref h)))))";
+
+/// A campaign on `stuck`: its model, seed, trials, commands, branches, repeats, limit and workers.
+const ROWS: [(&str, u64, u32, u32, u32, u32, u32, u32); 10] = [
+    (ONE, 7, 20, 1, 2, 1, 1_000, 1),
+    (ONE, 7, 20, 1, 2, 1, 1_000, 4),
+    (ONE, 7, 20, 1, 2, 1, 2, 4),
+    (ONE, 7, 20, 1, 1, 1, 1_000, 4),
+    (ONE, 7, 20, 1, 3, 1, 1_000, 4),
+    (ONE, 7, 20, 1, 4, 1, 1_000, 4),
+    (ONE, 0, 0, 16, 2, 5, 1_000, 4),
+    (TOP, 0, 2, 1, 2, 5, 1_000, 4),
+    (ONE, 0, 1, 1, 2, 1, 1_000, 17),
+    (ONE, 0, 1, 1, 2, 1, 1_000, 0),
 ];
 
 /// A meeting of two systems.
@@ -63,14 +87,15 @@ fn print_report<R: Threads + Wait + Sync + Print + AllocGlobal>(
     Ok(())
 }
 
-fn main(rt: HostRuntime) -> anyhow::Result<()> {
+/// Runs the campaigns on `stuck`.
+fn print_stuck<R: Threads + Wait + Sync + Print + AllocGlobal>(rt: &R) -> anyhow::Result<()> {
     let alloc = rt.alloc();
-    for (model, seed, trials, commands, repeats, limit, workers) in ROWS {
+    for (model, seed, trials, commands, branches, repeats, limit, workers) in ROWS {
         let settings = Settings {
             seed,
             trials,
             commands,
-            branches: 2,
+            branches,
             suffix: 0,
             repeats,
             limit,
@@ -79,21 +104,53 @@ fn main(rt: HostRuntime) -> anyhow::Result<()> {
         for _ in 0..workers {
             systems.push(Box::new(alloc, Stuck)?)?;
         }
-        print_report(&rt, model, settings, systems)?;
+        print_report(rt, model, settings, systems)?;
     }
-    // Each system answers true only if it is called while the other one is, so one worker alone would fail.
+    Ok(())
+}
+
+/// Runs a campaign on two systems, each of which answers true only if it is called while the other one is. So one
+/// worker alone would fail.
+fn print_pair<R: Threads + Wait + Sync + Print + AllocGlobal>(rt: &R) -> anyhow::Result<()> {
+    let alloc = rt.alloc();
     let flags = Arc::new(alloc, Flags::new())?;
     let mut pair: Vec<BoxedSystem> = Vec::new(alloc);
     pair.push(Box::new(alloc, Pair::new(Side::First, flags.clone()?))?)?;
     pair.push(Box::new(alloc, Pair::new(Side::Second, flags))?)?;
     let settings = Settings {
-        seed: 0,
         trials: 2,
         commands: 1,
-        branches: 2,
-        suffix: 0,
         repeats: 1,
-        limit: 1_000,
+        ..Settings::default()
     };
-    print_report(&rt, MEETING, settings, pair)
+    print_report(rt, MEETING, settings, pair)
+}
+
+/// The settings of so many trials with so many branches.
+fn settings_of(trials: u32, branches: u32) -> Settings {
+    Settings {
+        trials,
+        branches,
+        repeats: 1,
+        ..Settings::default()
+    }
+}
+
+fn main(rt: HostRuntime) -> anyhow::Result<()> {
+    let alloc = rt.alloc();
+    print_stuck(&rt)?;
+    print_pair(&rt)?;
+    // Boxes of systems that wait for a lock are made here, since no other function can make one.
+    for branches in [1, 3, 4] {
+        let mut counters: Vec<BoxedSystem> = Vec::new(alloc);
+        for _ in 0..4u32 {
+            counters.push(Box::new(alloc, Counter::new(rt))?)?;
+        }
+        print_report(&rt, COUNTER, settings_of(100, branches), counters)?;
+    }
+    let mut registries: Vec<BoxedSystem> = Vec::new(alloc);
+    for _ in 0..4u32 {
+        registries.push(Box::new(alloc, Registry::new(rt, alloc))?)?;
+    }
+    print_report(&rt, REGISTRY, settings_of(1_000, 2), registries)
 }

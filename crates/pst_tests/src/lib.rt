@@ -1,5 +1,5 @@
-//! Tests of the libraries by values that no text spells: copies, cut files, collections, interleavings, calls, trees, writers
-//! that fail. What texts can ask stands in the tables of `pst_rows`.
+//! Tests of the libraries by values that no text spells: copies, collections, interleavings, calls, trees, writers that fail.
+//! What texts can ask stands in the tables of `pst_rows`, and what they should not in `pst_hostile_rows`.
 #![tactic(auto)]
 
 #[cfg(test)]
@@ -8,8 +8,6 @@ mod answers;
 mod collections;
 #[cfg(test)]
 mod copies;
-#[cfg(test)]
-mod cuts;
 #[cfg(test)]
 mod merges;
 #[cfg(test)]

@@ -1,0 +1,151 @@
+//! The commands of the program, and what each answers for an input.
+ghost use Rattle.std.specs.Prelude.{◌≡◌, false};
+
+use crate::short::Short;
+use pst_campaign::Unwatched;
+use pst_cli::{Status, campaign_text, check_text, explain_text, judge_text, list_text, run_text};
+use pst_samples::Stuck;
+use pst_system::BoxedSystem;
+use pst_trial::Settings;
+use std::alloc::{AllocError, Global};
+use std::sync::Wait;
+use std::thread::Threads;
+
+/// A command of the program.
+#[derive(Clone, Copy, Drop)]
+pub enum Command {
+    Check,
+    List,
+    Judge,
+    Explain,
+    /// `pst run stuck`.
+    Run,
+    /// `pst campaign stuck --seed 7 --trials 3 --commands 1 --repeats 1 --workers 1`.
+    Campaign,
+}
+
+/// All commands.
+pub const COMMANDS: [Command; 6] = [
+    Command::Check,
+    Command::List,
+    Command::Judge,
+    Command::Explain,
+    Command::Run,
+    Command::Campaign,
+];
+
+impl Command {
+    /// The word for the command.
+    pub fn name(self) -> &'static str {
+        match self {
+            Command::Check => "check",
+            Command::List => "list",
+            Command::Judge => "judge",
+            Command::Explain => "explain",
+            Command::Run => "run",
+            Command::Campaign => "campaign",
+        }
+    }
+}
+
+/// What a command answered.
+#[derive(Drop)]
+pub struct Answer {
+    pub status: Status,
+    pub bytes: Vec<u8>,
+    /// Whether the writer failed.
+    pub failed: bool,
+}
+
+/// Runs a campaign on the system `stuck`, and writes its report.
+fn write_campaign<R: Threads + Wait + Sync>(
+    rt: &R,
+    alloc: Global,
+    input: &[u8],
+    short: &mut Short,
+) -> Result<Status, AllocError>
+    requires { short.old.failed ≡ false }
+{
+    let settings = Settings {
+        seed: 7,
+        trials: 3,
+        commands: 1,
+        repeats: 1,
+        ..Settings::default()
+    };
+    if !settings.are_in_range() {
+        return Err(AllocError);
+    }
+    let mut systems: Vec<BoxedSystem> = Vec::new(alloc);
+    systems.push(Box::new(alloc, Stuck)?)?;
+    Ok(campaign_text(rt, alloc, input, settings, systems, &Unwatched, short))
+}
+
+/// Drives the items on the system `stuck`, and writes what comes of them.
+fn write_runs<R: Threads + Wait>(
+    rt: &R,
+    alloc: Global,
+    input: &[u8],
+    short: &mut Short,
+) -> Result<Status, AllocError>
+    requires { short.old.failed ≡ false }
+{
+    let mut stuck: BoxedSystem = Box::new(alloc, Stuck)?;
+    Ok(run_text(rt, alloc, input, &mut stuck, short))
+}
+
+/// What the command answers for an input, to a writer with room for so many bytes.
+pub fn answer_of<R: Threads + Wait + Sync>(
+    rt: &R,
+    alloc: Global,
+    command: Command,
+    input: &[u8],
+    room: usize,
+) -> Result<Answer, AllocError> {
+    let mut short = Short::new(alloc, room);
+    let status = match command {
+        Command::Check => check_text(alloc, input, &mut short),
+        Command::List => list_text(alloc, input, &mut short),
+        Command::Judge => judge_text(rt, alloc, input, &mut short),
+        Command::Explain => explain_text(rt, alloc, input, 80, &mut short),
+        Command::Run => write_runs(rt, alloc, input, &mut short)?,
+        Command::Campaign => write_campaign(rt, alloc, input, &mut short)?,
+    };
+    let Short {
+        bytes,
+        room: _,
+        failed,
+    } = short;
+    Ok(Answer {
+        status,
+        bytes,
+        failed,
+    })
+}
+
+/// A line, or how long it is where it has over 200 bytes.
+fn shortened(alloc: Global, line: &str) -> Result<String, AllocError> {
+    let length = line.len();
+    if length > 200 {
+        return format!(in alloc; "a line of {length} bytes");
+    }
+    String::from_str(alloc, line)
+}
+
+/// A status and what was written, with `, ` between the lines.
+pub fn spoken(alloc: Global, answer: &Answer) -> Result<String, AllocError> {
+    let code = answer.status.code();
+    let mut text = format!(in alloc; "{code}")?;
+    let Ok(lines) = std::str::from_utf8(answer.bytes.as_slice()) else {
+        text.push_str(" no text")?;
+        return Ok(text);
+    };
+    for (index, line) in lines.lines().enumerate() {
+        text.push_str(if index == 0 { " " } else { ", " })?;
+        text.push_str(shortened(alloc, line)?.as_str())?;
+    }
+    if lines.is_empty() {
+        text.push_str(" nothing")?;
+    }
+    Ok(text)
+}

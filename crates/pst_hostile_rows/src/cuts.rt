@@ -1,0 +1,58 @@
+//! A file that ends too early, at each of its bytes.
+
+use crate::commands::{Command, answer_of, spoken};
+use crate::models::COUNTER;
+use std::alloc::{AllocError, Global};
+use std::io;
+use std::sync::Wait;
+use std::thread::Threads;
+
+/// The place of the innermost bracket that is open at the end, counted from 0, in bytes without texts and comments.
+fn innermost_open(bytes: &[u8]) -> Option<usize> {
+    let mut closed: usize = 0;
+    for (place, byte) in bytes.iter().enumerate().rev() {
+        match byte {
+            b')' => closed = closed.saturating_add(1),
+            b'(' => {
+                if closed == 0 {
+                    return Some(place);
+                }
+                closed -= 1;
+            }
+            _ => {}
+        }
+    }
+    None
+}
+
+/// The answer that is wanted for a beginning of a file, whose model ends behind so many bytes.
+fn wanted(alloc: Global, cut: &[u8], model: usize) -> Result<String, AllocError> {
+    if let Some(place) = innermost_open(cut) {
+        return format!(in alloc; "2 refused read UnclosedNode at {place}");
+    }
+    if cut.len() < model {
+        return String::from_str(alloc, "2 refused model Missing item 0");
+    }
+    String::from_str(alloc, "0 nothing")
+}
+
+/// Prints the beginnings of a file that have another answer than the wanted one, and what the whole file has.
+pub fn print_cuts<R: Threads + Wait + Sync + Print + AllocGlobal>(rt: &R) -> io::Result<()> {
+    let alloc = rt.alloc();
+    let before = format!(in alloc; "\n {COUNTER}")?;
+    let file = format!(in alloc;
+        "{before}\n (run (prefix) (left (inc)) (right (inc)) (replies () (1) (2)))"
+    )?;
+    for length in 0..file.len() {
+        let cut = &file.as_bytes()[..length];
+        let judged = answer_of(rt, alloc, Command::Judge, cut, usize::MAX)?;
+        let text = spoken(alloc, &judged)?;
+        let want = wanted(alloc, cut, before.len())?;
+        if text.as_str() != want.as_str() {
+            println!(rt; "cut at {length}: {text}, wanted {want}")?;
+        }
+    }
+    let judged = answer_of(rt, alloc, Command::Judge, file.as_bytes(), usize::MAX)?;
+    let text = spoken(alloc, &judged)?;
+    println!(rt; "not cut: {text}")
+}

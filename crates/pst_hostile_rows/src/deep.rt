@@ -1,0 +1,203 @@
+//! Models and items at the limits of the language, and one past them.
+
+use crate::models::COUNTER;
+use std::alloc::{AllocError, Global};
+
+/// A model or a file of items at a limit.
+#[derive(Clone, Copy, Drop)]
+pub enum Deep {
+    /// 64 functions of depth 64, each of which applies the one before.
+    Functions,
+    /// Callbacks of depth 64: sums, folds in folds, comprehensions in comprehensions.
+    Expressions,
+    /// A state, a parameter and a result of a type of 16 levels.
+    Types,
+    /// A reply in 100 levels of trees.
+    Reply,
+    /// A reply in 101 levels of trees.
+    TooDeepReply,
+    /// An argument in 100 levels of trees.
+    Argument,
+    /// A model of 20,000 trees.
+    Trees,
+    /// A model of 20,001 trees.
+    TooManyTrees,
+    /// A state of 65,536 items.
+    List,
+    /// A state of 65,536 bytes.
+    Text,
+    /// A state of 4,096 keys.
+    Map,
+    /// 64 commands before branches of 8, and 8 behind them.
+    Commands,
+    /// One command more before the branches.
+    TooManyCommands,
+}
+
+/// All of them, by their names.
+pub const LIMITS: [(&str, Deep); 13] = [
+    ("functions", Deep::Functions),
+    ("expressions", Deep::Expressions),
+    ("types", Deep::Types),
+    ("reply", Deep::Reply),
+    ("deeper reply", Deep::TooDeepReply),
+    ("argument", Deep::Argument),
+    ("20000 trees", Deep::Trees),
+    ("20001 trees", Deep::TooManyTrees),
+    ("list", Deep::List),
+    ("text", Deep::Text),
+    ("map", Deep::Map),
+    ("commands", Deep::Commands),
+    ("one command more", Deep::TooManyCommands),
+];
+
+/// A case and a run of calls of `get` that answer 0.
+const GETS: &str = "(case (prefix (get)) (left (get)) (right (get)))
+(run (prefix (get)) (left (get)) (right (get)) (replies (0) (0) (0)))";
+
+/// So many beginnings, a text, and as many ends.
+pub fn wrapped(
+    alloc: Global,
+    beginning: &str,
+    inner: &str,
+    end: &str,
+    count: usize,
+) -> Result<String, AllocError> {
+    let mut text = beginning.repeat(alloc, count)?;
+    text.push_str(inner)?;
+    let ends = end.repeat(alloc, count)?;
+    text.push_str(ends.as_str())?;
+    Ok(text)
+}
+
+fn functions(alloc: Global) -> Result<String, AllocError> {
+    let mut functions = String::new(alloc);
+    for number in 1..65u32 {
+        let inner = if number == 1 {
+            String::from_str(alloc, "true")?
+        } else {
+            let before = number - 1;
+            format!(in alloc; "(f{before})")?
+        };
+        let body = wrapped(alloc, "(not ", inner.as_str(), ")", 63)?;
+        let function = format!(in alloc; "(fun f{number} () bool {body})\n")?;
+        functions.push_str(function.as_str())?;
+    }
+    format!(in alloc;
+        "(model deep (state int) (init (if (f64) 0 1)) (command (list call (call get)))
+      {functions}(op get () int (pre (f64)) (next (if (f64) s 1)) (post (and (f64) (= r 0)))))
+      {GETS}"
+    )
+}
+
+fn expressions(alloc: Global) -> Result<String, AllocError> {
+    let init = wrapped(alloc, "(fold x (list int 7) a 0 ", "0", ")", 62)?;
+    let next = wrapped(alloc, "(+ 0 ", "s", ")", 63)?;
+    let lists = wrapped(alloc, "(for ((in x (range 0 1))) ", "0", ")", 61)?;
+    let post = wrapped(alloc, "(not ", "(= r 0)", ")", 62)?;
+    format!(in alloc;
+        "(model deep (state int) (init {init}) (command (list call (call get)))
+      (op get () int (pre (= {lists} {lists})) (next {next}) (post {post}))) {GETS}"
+    )
+}
+
+fn types(alloc: Global) -> Result<String, AllocError> {
+    let ty = wrapped(alloc, "(list ", "int", ")", 15)?;
+    let inner = wrapped(alloc, "(list ", "int", ")", 14)?;
+    let value = wrapped(alloc, "(list ", "7", ")", 15)?;
+    format!(in alloc;
+        "(model deep (state {ty}) (init (list {inner})) (command (list call (call keep s)))
+      (op keep ((x {ty})) int (pre true) (next x) (post (= r 0)))
+      (op give () {ty} (pre true) (next s) (post (= r s))))
+      (run (prefix (keep {value}) (give)) (left (keep {value})) (right (give))
+        (replies (0 {value}) (0) ({value})))"
+    )
+}
+
+fn reply(alloc: Global, levels: usize) -> Result<String, AllocError> {
+    let value = wrapped(alloc, "(list ", "7", ")", levels)?;
+    format!(in alloc; "{COUNTER}(run (prefix (inc)) (left) (right) (replies ({value}) () ()))")
+}
+
+fn argument(alloc: Global) -> Result<String, AllocError> {
+    let value = wrapped(alloc, "(list ", "7", ")", 97)?;
+    format!(in alloc; "{COUNTER}(case (prefix (inc {value})) (left) (right))")
+}
+
+/// A model of 45 trees beside those of its calls: 3 of each call of `get`, and 4 of each of `put`.
+fn trees(alloc: Global, gets: usize, puts: usize) -> Result<String, AllocError> {
+    let gets = "(call get)".repeat(alloc, gets)?;
+    let puts = "(call put 1)".repeat(alloc, puts)?;
+    format!(in alloc;
+        "(model wide (state int) (init 0) (command (list call {gets}{puts}))
+      (op get () int (pre true) (next s) (post true))
+      (op put ((x int)) int (pre true) (next s) (post true))) {GETS}"
+    )
+}
+
+/// A model of this head, state, opening state, precondition, next state and postcondition, with a run of two calls.
+fn kept(alloc: Global, parts: [&str; 6]) -> Result<String, AllocError> {
+    let [head, state, init, pre, next, post] = parts;
+    let run = "(run (prefix) (left (get)) (right (get)) (replies () (0) (0)))";
+    format!(in alloc;
+        "({head} large (state {state}) (init {init}) (command (list call (call get)))
+      (op get () int (pre {pre}) (next {next}) (post {post}))) {run}"
+    )
+}
+
+fn commands(alloc: Global, count: usize) -> Result<String, AllocError> {
+    let prefix = "(get)".repeat(alloc, count)?;
+    let eight = "(get)".repeat(alloc, 8)?;
+    format!(in alloc;
+        "{COUNTER}(case (prefix {prefix}) (left {eight}) (right {eight}) (suffix {eight}))"
+    )
+}
+
+/// A state of 65,536 items, of which each event makes a new list.
+const LIST: [&str; 6] = [
+    "model",
+    "(list int)",
+    "(range 0 65536)",
+    "(= (len s) 65536)",
+    "(for ((in x s)) (- x 0))",
+    "(= r (nth s 0))",
+];
+
+/// A state of 65,536 bytes.
+const TEXT: [&str; 6] = [
+    "model",
+    "text",
+    "(fold x (range 0 16) t \"a\" (++ t t))",
+    "(= (len s) 65536)",
+    "(++ \"\" s)",
+    "(= r 0)",
+];
+
+/// A state of 4,096 keys.
+const MAP: [&str; 6] = [
+    "model2",
+    "(map int int)",
+    "(fold x (range 0 4096) m (map int int) (put m x x))",
+    "(has s 4095)",
+    "(put s 0 0)",
+    "(= r (get s 0))",
+];
+
+/// The text of a model and its items.
+pub fn text_of(alloc: Global, deep: Deep) -> Result<String, AllocError> {
+    match deep {
+        Deep::Functions => functions(alloc),
+        Deep::Expressions => expressions(alloc),
+        Deep::Types => types(alloc),
+        Deep::Reply => reply(alloc, 97),
+        Deep::TooDeepReply => reply(alloc, 98),
+        Deep::Argument => argument(alloc),
+        Deep::Trees => trees(alloc, 6_649, 2),
+        Deep::TooManyTrees => trees(alloc, 6_648, 3),
+        Deep::List => kept(alloc, LIST),
+        Deep::Text => kept(alloc, TEXT),
+        Deep::Map => kept(alloc, MAP),
+        Deep::Commands => commands(alloc, 64),
+        Deep::TooManyCommands => commands(alloc, 65),
+    }
+}

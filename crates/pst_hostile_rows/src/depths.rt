@@ -1,0 +1,74 @@
+//! What the commands answer at the limits of the language, and one past them. Nothing may exhaust a stack: items are judged
+//! in the threads that judge many items, cases are driven in those of branches, and trials run in those of workers.
+
+use crate::commands::{COMMANDS, Command, answer_of, spoken};
+use crate::deep::{Deep, LIMITS, text_of};
+use pst_print::print_model;
+use pst_sexpr::{read, write};
+use pst_sink::Out;
+use pst_syntax::{Model, read_model};
+use std::alloc::Global;
+use std::io;
+use std::sync::Wait;
+use std::thread::Threads;
+
+/// The model that a text begins with.
+fn model_of(alloc: Global, text: &[u8]) -> Option<Model> {
+    let trees = read(alloc, text).ok()?;
+    read_model(alloc, trees.as_slice()).ok()
+}
+
+/// Whether the model that a text begins with is printed so that it is read as the same model, where there is a model.
+fn is_printed(alloc: Global, text: &[u8]) -> Option<bool> {
+    let model = model_of(alloc, text)?;
+    let tree = print_model(alloc, &model).ok()?;
+    let mut sink = Out::new(Vec::new(alloc));
+    write(&tree, &mut sink).ok()?;
+    let again = model_of(alloc, sink.into_inner().as_slice())?;
+    Some(*again.source() == *model.source())
+}
+
+/// Prints what a command answers.
+fn print_command<R: Threads + Wait + Sync + Print + AllocGlobal>(
+    rt: &R,
+    command: Command,
+    text: &[u8],
+) -> io::Result<()> {
+    let answered = answer_of(rt, rt.alloc(), command, text, usize::MAX)?;
+    let name = command.name();
+    match command {
+        Command::Check | Command::Judge | Command::Run => {
+            let text = spoken(rt.alloc(), &answered)?;
+            println!(rt; "  {name}: {text}")
+        }
+        _ => {
+            let code = answered.status.code();
+            println!(rt; "  {name}: {code}")
+        }
+    }
+}
+
+/// The commands that are asked: where the opening state takes long to compute, the first three alone.
+fn asked(deep: Deep) -> &'static [Command] {
+    match deep {
+        Deep::List | Deep::Map => &[Command::Check, Command::List, Command::Judge],
+        _ => &COMMANDS,
+    }
+}
+
+/// Prints what each command answers at each limit.
+pub fn print_depths<R: Threads + Wait + Sync + Print + AllocGlobal>(rt: &R) -> io::Result<()> {
+    for (name, deep) in LIMITS {
+        let text = text_of(rt.alloc(), deep)?;
+        let printed = match is_printed(rt.alloc(), text.as_bytes()) {
+            Some(true) => "is read as it is printed",
+            Some(false) => "is read otherwise",
+            None => "has no model",
+        };
+        println!(rt; "{name}: {printed}")?;
+        for command in asked(deep) {
+            print_command(rt, *command, text.as_bytes())?;
+        }
+    }
+    Ok(())
+}

@@ -1,0 +1,158 @@
+//! What is written of cases that are driven on systems that answer what they should not, and of campaigns on systems
+//! that cannot be reset.
+
+use crate::commands::{Answer, spoken};
+use crate::models::{COUNTER, ONE, TYPES};
+use crate::short::Short;
+use crate::systems::{Liar, NoGet, Odd, Resets};
+use pst_campaign::Unwatched;
+use pst_cli::{campaign_text, run_text};
+use pst_system::BoxedSystem;
+use pst_trial::Settings;
+use std::io;
+use std::sync::Wait;
+use std::thread::Threads;
+
+/// The calls whose answers are odd, each with the operation whose result it should be.
+const CALLS: [(&str, &str); 34] = [
+    ("number", "a truth value"),
+    ("number", "a variable"),
+    ("number", "a reference"),
+    ("number", "a call"),
+    ("number", "100 levels"),
+    ("number", "nothing that is named"),
+    ("number", "an integer"),
+    ("truth", "an integer"),
+    ("truth", "a truth value"),
+    ("word", "65537 letters"),
+    ("word", "65536 letters"),
+    ("word", "a line end"),
+    ("word", "a letter beyond ASCII"),
+    ("word", "no letter"),
+    ("pair", "one item"),
+    ("pair", "9 items"),
+    ("pair", "a variable in a tuple"),
+    ("pair", "a reference in a tuple"),
+    ("pair", "65536 items"),
+    ("numbers", "65537 items"),
+    ("numbers", "65536 items"),
+    ("numbers", "a reference in a list"),
+    ("lists", "a variable in lists"),
+    ("lists", "100 levels"),
+    ("table", "rising keys"),
+    ("table", "falling keys"),
+    ("table", "equal keys"),
+    ("table", "mixed keys"),
+    ("table", "more keys than values"),
+    ("table", "more values than keys"),
+    ("table", "4097 keys"),
+    ("table", "4096 keys"),
+    ("table", "a variable in a map"),
+    ("table", "a reference in a map"),
+];
+
+/// Prints what is written of items that are driven on a system.
+fn print_run<R: Threads + Wait + Print + AllocGlobal>(
+    rt: &R,
+    name: &str,
+    input: &str,
+    system: &mut BoxedSystem,
+) -> io::Result<()> {
+    let mut short = Short::new(rt.alloc(), usize::MAX);
+    let status = run_text(rt, rt.alloc(), input.as_bytes(), system, &mut short);
+    let Short {
+        bytes,
+        room: _,
+        failed,
+    } = short;
+    let answer = Answer {
+        status,
+        bytes,
+        failed,
+    };
+    let text = spoken(rt.alloc(), &answer)?;
+    println!(rt; "{name}: {text}")
+}
+
+/// Prints what comes of each odd answer, called in the prefix, and of two of them in branches.
+fn print_odd<R: Threads + Wait + Print + AllocGlobal>(rt: &R) -> io::Result<()> {
+    let alloc = rt.alloc();
+    let mut odd: BoxedSystem = Box::new(alloc, Odd::new(alloc))?;
+    for (operation, name) in CALLS {
+        let input = format!(in alloc;
+            "{TYPES} (case (prefix ({operation} \"{name}\")) (left) (right))"
+        )?;
+        print_run(rt, "odd", input.as_str(), &mut odd)?;
+    }
+    let items = "(case (prefix) (left (lists \"100 levels\") (number \"an integer\"))
+      (right (table \"falling keys\")) (suffix (number \"an integer\")))";
+    let input = format!(in alloc; "{TYPES} {items}")?;
+    print_run(rt, "odd", input.as_str(), &mut odd)
+}
+
+/// Prints what comes of cases on the other systems.
+fn print_others<R: Threads + Wait + Print + AllocGlobal>(rt: &R) -> io::Result<()> {
+    let alloc = rt.alloc();
+    let mut liar: BoxedSystem = Box::new(alloc, Liar)?;
+    let input = format!(in alloc; "{COUNTER} (case (prefix (inc) (get)) (left (get)) (right))")?;
+    print_run(rt, "liar", input.as_str(), &mut liar)?;
+    let mut no_get: BoxedSystem = Box::new(alloc, NoGet::new())?;
+    let input = format!(in alloc;
+        "{COUNTER} (case (prefix (inc)) (left (get) (inc)) (right (inc)))"
+    )?;
+    print_run(rt, "no get", input.as_str(), &mut no_get)?;
+    let mut one_reset: BoxedSystem = Box::new(alloc, Resets::new(1))?;
+    let input = format!(in alloc;
+        "{COUNTER} (case (prefix) (left) (right)) (case (prefix) (left) (right))"
+    )?;
+    print_run(rt, "one reset", input.as_str(), &mut one_reset)
+}
+
+/// Prints the report of a campaign on a system that can be reset so many times.
+fn print_campaign<R: Threads + Wait + Sync + Print + AllocGlobal>(
+    rt: &R,
+    settings: Settings,
+    resets: u32,
+) -> io::Result<()> {
+    let alloc = rt.alloc();
+    if !settings.are_in_range() {
+        return Ok(());
+    }
+    let mut systems: Vec<BoxedSystem> = Vec::new(alloc);
+    systems.push(Box::new(alloc, Resets::new(resets))?)?;
+    let mut short = Short::new(alloc, usize::MAX);
+    let input = ONE.as_bytes();
+    let status = campaign_text(rt, alloc, input, settings, systems, &Unwatched, &mut short);
+    let code = status.code();
+    let Ok(report) = std::str::from_utf8(short.bytes.as_slice()) else {
+        return Ok(());
+    };
+    println!(rt; "{resets} resets, status {code}\n{report}")
+}
+
+/// Prints the reports of campaigns on systems that can be reset so many times: of three trials, and of one trial
+/// whose first reset is that of its case, and the three others those of what its case is shrunk to.
+fn print_campaigns<R: Threads + Wait + Sync + Print + AllocGlobal>(rt: &R) -> io::Result<()> {
+    let three = Settings {
+        trials: 3,
+        ..Settings::default()
+    };
+    print_campaign(rt, three, 0)?;
+    let one = Settings {
+        trials: 1,
+        commands: 1,
+        repeats: 1,
+        ..Settings::default()
+    };
+    for resets in 1..5 {
+        print_campaign(rt, one, resets)?;
+    }
+    Ok(())
+}
+
+/// Prints all of it.
+pub fn print_driven<R: Threads + Wait + Sync + Print + AllocGlobal>(rt: &R) -> io::Result<()> {
+    print_odd(rt)?;
+    print_others(rt)?;
+    print_campaigns(rt)
+}

@@ -1,0 +1,135 @@
+//! Inputs that nobody writes on purpose.
+
+use crate::commands::{Answer, COMMANDS, Command, answer_of, spoken};
+use crate::models::COUNTER;
+use pst_cli::Status;
+use std::alloc::{AllocError, Global};
+use std::io;
+use std::sync::Wait;
+use std::thread::Threads;
+
+/// A run of the counter.
+const RUN: &str = "(run (prefix) (left (inc)) (right (inc)) (replies () (1) (2)))";
+
+/// Inputs by their names.
+const INPUTS: [(&str, &[u8]); 18] = [
+    ("nothing", b""),
+    ("white space", b" \t\r\n"),
+    ("a comment", b"; ("),
+    ("a comment of other bytes", b";\xff\xc3\x00\n"),
+    ("a comment that a CR does not end", b"; a\r(b"),
+    ("a byte of no UTF-8", b"\xff"),
+    ("a mark of UTF-8", b"\xef\xbb\xbf(model m)"),
+    ("a letter beyond ASCII", b"(model caf\xc3\xa9)"),
+    (
+        "a letter beyond ASCII in a text",
+        b"(model m (init \"\xc3\xa9\"))",
+    ),
+    ("half a letter in a text", b"\"\xc3"),
+    ("a zero byte", b"(model m\x00)"),
+    ("the byte 127", b"\x7f"),
+    ("a tab in a text", b"\"a\tb\""),
+    ("a line end in a text", b"\"a\r\n\""),
+    ("a bracket that closes nothing", b")"),
+    ("an escaped letter", b"\"\\a"),
+    ("a text", b"\"model\""),
+    ("a word", b"model"),
+];
+
+/// Prints what `judge` answers, and gives it.
+fn print_judged<R: Threads + Wait + Sync + Print + AllocGlobal>(
+    rt: &R,
+    name: &str,
+    input: &[u8],
+) -> io::Result<Answer> {
+    let judged = answer_of(rt, rt.alloc(), Command::Judge, input, usize::MAX)?;
+    let text = spoken(rt.alloc(), &judged)?;
+    println!(rt; "{name}: {text}")?;
+    Ok(judged)
+}
+
+/// Prints what `judge` answers, and each command that refuses the input otherwise, where `judge` refuses it.
+fn print_input<R: Threads + Wait + Sync + Print + AllocGlobal>(
+    rt: &R,
+    name: &str,
+    input: &[u8],
+) -> io::Result<()> {
+    let alloc = rt.alloc();
+    let judged = print_judged(rt, name, input)?;
+    if judged.status != Status::Refused {
+        return Ok(());
+    }
+    for command in COMMANDS {
+        let other = answer_of(rt, alloc, command, input, usize::MAX)?;
+        if other.status != Status::Refused || other.bytes.as_slice() != judged.bytes.as_slice() {
+            let word = command.name();
+            let text = spoken(alloc, &other)?;
+            println!(rt; "  {word}: {text}")?;
+        }
+    }
+    Ok(())
+}
+
+/// The text and so many spaces that it has so many bytes.
+fn padded(alloc: Global, text: &str, length: usize) -> Result<String, AllocError> {
+    let mut whole = String::from_str(alloc, text)?;
+    let spaces = " ".repeat(alloc, length.saturating_sub(text.len()))?;
+    whole.push_str(spaces.as_str())?;
+    Ok(whole)
+}
+
+/// Prints inputs of the most bytes that a file may have, and of one more.
+fn print_largest<R: Threads + Wait + Sync + Print + AllocGlobal>(rt: &R) -> io::Result<()> {
+    let alloc = rt.alloc();
+    let most: usize = 1_048_576;
+    for length in [most, most + 1] {
+        let text = padded(alloc, COUNTER, length)?;
+        let name = format!(in alloc; "a model in {length} bytes")?;
+        let _ = print_judged(rt, name.as_str(), text.as_bytes())?;
+        for part in ["(", ")", "a", "\"", ";", "\\"] {
+            let text = part.repeat(alloc, length)?;
+            let name = format!(in alloc; "{length} times {part}")?;
+            let _ = print_judged(rt, name.as_str(), text.as_bytes())?;
+        }
+    }
+    let text = "()".repeat(alloc, most / 2)?;
+    let _ = print_judged(rt, "524288 empty nodes", text.as_bytes())?;
+    for depth in [100, 101] {
+        let text = "(".repeat(alloc, depth)?;
+        let name = format!(in alloc; "{depth} brackets")?;
+        print_input(rt, name.as_str(), text.as_bytes())?;
+    }
+    Ok(())
+}
+
+/// Prints a file with line ends of one kind, comments among them, with three runs of which the second has lost an update.
+fn print_lines<R: Threads + Wait + Sync + Print + AllocGlobal>(
+    rt: &R,
+    name: &str,
+    line_end: &str,
+) -> io::Result<()> {
+    let alloc = rt.alloc();
+    let items = [
+        RUN,
+        "(run (prefix) (left (inc)) (right (inc)) (replies () (1) (1)))",
+        RUN,
+    ];
+    let mut text = String::from_str(alloc, COUNTER)?;
+    for item in items {
+        text.push_str("\n; an item (\n")?;
+        text.push_str(item)?;
+    }
+    let text = text.as_str().replace(alloc, "\n", line_end)?;
+    print_input(rt, name, text.as_bytes())
+}
+
+/// Prints all inputs.
+pub fn print_inputs<R: Threads + Wait + Sync + Print + AllocGlobal>(rt: &R) -> io::Result<()> {
+    for (name, input) in INPUTS {
+        print_input(rt, name, input)?;
+    }
+    print_lines(rt, "line ends LF", "\n")?;
+    print_lines(rt, "line ends CR LF", "\r\n")?;
+    print_lines(rt, "line ends CR", "\r")?;
+    print_largest(rt)
+}

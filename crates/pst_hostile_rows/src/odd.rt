@@ -1,0 +1,154 @@
+//! Answers that no call should have.
+
+use pst_items::{Boxed, Items, Text};
+use pst_value::{Key, Value};
+use std::alloc::{AllocError, Global};
+
+/// A list of so many zeros.
+fn zeros(alloc: Global, count: usize) -> Result<Items<Value>, AllocError> {
+    let mut items = Items::new(alloc);
+    for _ in 0..count {
+        items.push(Value::Int(0))?;
+    }
+    Ok(items)
+}
+
+/// A list of one value.
+fn alone(alloc: Global, value: Value) -> Result<Items<Value>, AllocError> {
+    let mut items = Items::new(alloc);
+    items.push(value)?;
+    Ok(items)
+}
+
+/// A list of two values.
+fn both(alloc: Global, first: Value, second: Value) -> Result<Items<Value>, AllocError> {
+    let mut items = alone(alloc, first)?;
+    items.push(second)?;
+    Ok(items)
+}
+
+/// A reference to the integer 1.
+fn reference(alloc: Global) -> Result<Value, AllocError> {
+    Ok(Value::Ref(1, Boxed::new(alloc, Value::Int(1))?))
+}
+
+/// A list in a list and so on, of so many levels.
+pub fn nested(alloc: Global, levels: usize) -> Result<Value, AllocError> {
+    let mut value = Value::Int(1);
+    for _ in 0..levels {
+        value = Value::List(alone(alloc, value)?);
+    }
+    Ok(value)
+}
+
+/// A value of so many levels, lists, tuples, maps, references and calls in turn, around the variable 1.
+pub fn mixed(alloc: Global, levels: usize) -> Result<Value, AllocError> {
+    let mut value = Value::Var(1);
+    for level in 0..levels {
+        value = match level % 5 {
+            0 => Value::List(alone(alloc, value)?),
+            1 => Value::Tuple(alone(alloc, value)?),
+            2 => map_of(alloc, value)?,
+            3 => Value::Ref(3, Boxed::new(alloc, value)?),
+            _ => Value::Call(0, alone(alloc, value)?),
+        };
+    }
+    Ok(value)
+}
+
+/// A text.
+fn text_value(alloc: Global, text: &str) -> Result<Value, AllocError> {
+    Ok(Value::Text(Text::from_string(String::from_str(alloc, text)?)))
+}
+
+/// A text of so many letters.
+fn letters(alloc: Global, count: usize) -> Result<Value, AllocError> {
+    Ok(Value::Text(Text::from_string("a".repeat(alloc, count)?)))
+}
+
+/// A map of zeros with these keys and so many values.
+fn zero_map(alloc: Global, keys: &[Key], values: usize) -> Result<Value, AllocError> {
+    let mut items = Items::new(alloc);
+    for key in keys {
+        items.push(key.copy(alloc)?)?;
+    }
+    Ok(Value::Map(items, zeros(alloc, values)?))
+}
+
+/// A map of so many keys, which rise.
+fn large_map(alloc: Global, count: u16) -> Result<Value, AllocError> {
+    let mut keys = Items::new(alloc);
+    for key in 0..count {
+        keys.push(Key::Int(i64::from(key)))?;
+    }
+    Ok(Value::Map(keys, zeros(alloc, usize::from(count))?))
+}
+
+/// A map of the key 1 with this value.
+fn map_of(alloc: Global, value: Value) -> Result<Value, AllocError> {
+    let mut keys = Items::new(alloc);
+    keys.push(Key::Int(1))?;
+    Ok(Value::Map(keys, alone(alloc, value)?))
+}
+
+/// The answers that are maps.
+fn odd_map(alloc: Global, name: &str) -> Result<Option<Value>, AllocError> {
+    let value = match name {
+        "rising keys" => zero_map(alloc, &[Key::Int(1), Key::Int(2)], 2)?,
+        "falling keys" => zero_map(alloc, &[Key::Int(2), Key::Int(1)], 2)?,
+        "equal keys" => zero_map(alloc, &[Key::Int(1), Key::Int(1)], 2)?,
+        "mixed keys" => zero_map(alloc, &[Key::Int(1), Key::Bool(true)], 2)?,
+        "more keys than values" => zero_map(alloc, &[Key::Int(1), Key::Int(2)], 1)?,
+        "more values than keys" => zero_map(alloc, &[Key::Int(1)], 2)?,
+        "4097 keys" => large_map(alloc, 4_097)?,
+        "4096 keys" => large_map(alloc, 4_096)?,
+        "a variable in a map" => map_of(alloc, Value::Var(1))?,
+        "a reference in a map" => map_of(alloc, reference(alloc)?)?,
+        _ => return Ok(None),
+    };
+    Ok(Some(value))
+}
+
+/// The answers that are lists and tuples.
+fn odd_list(alloc: Global, name: &str) -> Result<Option<Value>, AllocError> {
+    let value = match name {
+        "65537 items" => Value::List(zeros(alloc, 65_537)?),
+        "65536 items" => Value::List(zeros(alloc, 65_536)?),
+        "a reference in a list" => Value::List(alone(alloc, reference(alloc)?)?),
+        "a variable in lists" => {
+            let inner = Value::List(alone(alloc, Value::Var(1))?);
+            Value::List(alone(alloc, inner)?)
+        }
+        "100 levels" => nested(alloc, 100)?,
+        "one item" => Value::Tuple(zeros(alloc, 1)?),
+        "9 items" => Value::Tuple(zeros(alloc, 9)?),
+        "a variable in a tuple" => {
+            let list = Value::List(alone(alloc, Value::Var(1))?);
+            Value::Tuple(both(alloc, Value::Int(1), list)?)
+        }
+        "a reference in a tuple" => {
+            let list = Value::List(zeros(alloc, 1)?);
+            Value::Tuple(both(alloc, reference(alloc)?, list)?)
+        }
+        _ => return odd_map(alloc, name),
+    };
+    Ok(Some(value))
+}
+
+/// The answer of that name, if there is one.
+pub fn odd_value(alloc: Global, name: &str) -> Result<Option<Value>, AllocError> {
+    let value = match name {
+        "an integer" => Value::Int(1),
+        "a truth value" => Value::Bool(true),
+        "a variable" => Value::Var(1),
+        "a reference" => reference(alloc)?,
+        "a call" => Value::Call(0, Items::new(alloc)),
+        "no letter" => text_value(alloc, "")?,
+        "a line end" => text_value(alloc, "\n")?,
+        "a letter beyond ASCII" => text_value(alloc, "\u{e9}")?,
+        "65537 letters" => letters(alloc, 65_537)?,
+        "65536 letters" => letters(alloc, 65_536)?,
+        _ => return odd_list(alloc, name),
+    };
+    Ok(Some(value))
+}

@@ -1,0 +1,140 @@
+//! Systems that answer what they should not.
+
+use crate::odd::odd_value;
+use pst_system::{CallFault, RealCall, System};
+use pst_value::Value;
+use std::alloc::Global;
+use std::sync::atomic::{AtomicI64, Ordering};
+
+/// Answers true to every call.
+#[derive(Drop)]
+pub struct Liar;
+
+impl System for Liar {
+    ghost use Rattle.std.specs.Prelude.{⊤};
+
+    ghost answers = { λ _ _ _. ⊤ };
+
+    ghost fails = { λ _ _ _. ⊥ };
+
+    ghost reset_fails = { λ _ _. ⊥ };
+
+    fn reset(&mut self) -> Result<(), CallFault> {
+        Ok(())
+    }
+
+    fn call(&self, _call: &RealCall) -> Result<Value, CallFault> {
+        Ok(Value::Bool(true))
+    }
+}
+
+/// A counter that refuses all calls but `inc`.
+#[derive(Drop)]
+pub struct NoGet {
+    count: AtomicI64,
+}
+
+impl NoGet {
+    /// At 0.
+    pub fn new() -> NoGet {
+        NoGet {
+            count: AtomicI64::new(0),
+        }
+    }
+}
+
+impl System for NoGet {
+    ghost use Rattle.std.specs.Prelude.{⊤};
+
+    ghost answers = { λ _ _ _. ⊤ };
+
+    ghost fails = { λ _ _ _. ⊤ };
+
+    ghost reset_fails = { λ _ _. ⊥ };
+
+    fn reset(&mut self) -> Result<(), CallFault> {
+        self.count.store(0, Ordering::SeqCst);
+        Ok(())
+    }
+
+    fn call(&self, call: &RealCall) -> Result<Value, CallFault> {
+        if call.name.as_str() != "inc" {
+            return Err(CallFault::Refused);
+        }
+        let before = self.count.fetch_add(1, Ordering::SeqCst);
+        Ok(Value::Int(before.saturating_add(1)))
+    }
+}
+
+/// Answers 0 to every call, and refuses every reset after so many.
+#[derive(Drop)]
+pub struct Resets {
+    left: u32,
+}
+
+impl Resets {
+    /// A system that can be reset so many times.
+    pub fn new(left: u32) -> Resets {
+        Resets { left }
+    }
+}
+
+impl System for Resets {
+    ghost use Rattle.std.specs.Prelude.{⊤};
+
+    ghost answers = { λ _ _ _. ⊤ };
+
+    ghost fails = { λ _ _ _. ⊥ };
+
+    ghost reset_fails = { λ _ _. ⊤ };
+
+    fn reset(&mut self) -> Result<(), CallFault> {
+        if self.left == 0 {
+            return Err(CallFault::Refused);
+        }
+        self.left -= 1;
+        Ok(())
+    }
+
+    fn call(&self, _call: &RealCall) -> Result<Value, CallFault> {
+        Ok(Value::Int(0))
+    }
+}
+
+/// Answers the value that the argument of a call names, and refuses a call that names none.
+#[derive(Drop)]
+pub struct Odd {
+    alloc: Global,
+}
+
+impl Odd {
+    /// With the allocator of its answers.
+    pub fn new(alloc: Global) -> Odd {
+        Odd { alloc }
+    }
+}
+
+impl System for Odd {
+    ghost use Rattle.std.specs.Prelude.{⊤};
+
+    ghost answers = { λ _ _ _. ⊤ };
+
+    ghost fails = { λ _ _ _. ⊤ };
+
+    ghost reset_fails = { λ _ _. ⊥ };
+
+    fn reset(&mut self) -> Result<(), CallFault> {
+        Ok(())
+    }
+
+    fn call(&self, call: &RealCall) -> Result<Value, CallFault> {
+        let [Value::Text(name)] = call.args.as_slice() else {
+            return Err(CallFault::Refused);
+        };
+        match odd_value(self.alloc, name.as_str()) {
+            Ok(Some(value)) => Ok(value),
+            Ok(None) => Err(CallFault::Refused),
+            Err(_) => Err(CallFault::NoMemory),
+        }
+    }
+}

@@ -1,0 +1,65 @@
+//! Values of many levels, in the threads that have such values: that of the program, those of branches and workers, and those
+//! that judge many items.
+
+use crate::odd::mixed;
+use indexmap::IndexSet;
+use rayon::prelude::*;
+use std::alloc::{AllocError, Global};
+use std::thread::Threads;
+use std::{io, thread};
+
+/// Whether a value of so many levels is copied, compared, hashed, searched, written and dropped, in this thread.
+fn is_kept(alloc: Global, levels: usize) -> Result<bool, AllocError> {
+    let value = mixed(alloc, levels)?;
+    let copy = value.copy(alloc)?;
+    let written = format!(in alloc; "{value:?}")?;
+    let again = format!(in alloc; "{copy:?}")?;
+    let is_equal = value == copy && written.as_str() == again.as_str();
+    let plain = value.plain(alloc)?;
+    let mut seen = IndexSet::new(alloc);
+    seen.insert(copy)?;
+    Ok(
+        is_equal
+            && seen.contains(&value)
+            && !seen.contains(&plain)
+            && value.uses(1)
+            && !value.uses(2)
+            && written.len() > levels,
+    )
+}
+
+/// Whether values of so many levels are kept in threads of their own.
+fn are_kept_in_threads<R: Threads + Sync>(
+    rt: &R,
+    alloc: Global,
+    levels: usize,
+) -> Result<bool, AllocError> {
+    let answers = thread::map_indices(rt, alloc, 4, &|_number: usize| is_kept(alloc, levels))?;
+    Ok(answers.iter().all(|kept| *kept == Ok(true)))
+}
+
+/// Whether values of so many levels are kept in the threads that judge many items.
+fn are_kept_in_parallel<R: Threads + Sync>(
+    rt: &R,
+    alloc: Global,
+    levels: usize,
+) -> Result<bool, AllocError> {
+    let all = [levels, levels, levels, levels];
+    let answers = all
+        .par_iter()
+        .with_min_len(1)
+        .map(|levels: &usize| is_kept(alloc, *levels))
+        .collect::<Result<Vec<bool>, AllocError>>(rt, alloc)??;
+    Ok(answers.iter().all(|kept| *kept))
+}
+
+/// Prints whether values of 100 levels are kept in each kind of thread.
+pub fn print_values<R: Threads + Sync + Print + AllocGlobal>(rt: &R) -> io::Result<()> {
+    let alloc = rt.alloc();
+    let here = is_kept(alloc, 100)?;
+    let threads = are_kept_in_threads(rt, alloc, 100)?;
+    let parallel = are_kept_in_parallel(rt, alloc, 100)?;
+    println!(rt;
+        "a value of 100 levels: {here} here, {threads} in threads, {parallel} where many are judged"
+    )
+}
