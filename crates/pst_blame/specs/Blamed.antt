@@ -52,8 +52,8 @@ fold_parts f G x e acc i b =
     (G, e) ∷ (G, i) ∷ body_seen
     (f e G >>= item_type >>= (λ S. f i G >>= (λ T. Some ((acc, T) ∷ (x, S) ∷ G)))) b
 
--- the expressions of the clauses of a comprehension, and its body. What stands behind a clause that is no test
--- of a type and takes items of no list is left out: what it sees has no type
+-- the expressions of the clauses of a comprehension, and its body. What stands behind a clause that is no
+-- test of a type and takes items of no list is left out: what it sees has no type
 pub data ForParts (f : Typing) : Context → List Clause → Expr → List Seen → Type 0 where
   for_body : (G : Context) (b : Expr) → ForParts f G [] b (one_part G b)
   for_in : (G : Context) (x : Name) (e : Expr) (cs : List Clause) (b : Expr) (S : Ty) (P : List Seen)
@@ -66,8 +66,8 @@ pub data ForParts (f : Typing) : Context → List Clause → Expr → List Seen 
   for_ends_when : (G : Context) (e : Expr) (cs : List Clause) (b : Expr)
       → f e G ≡ None → ForParts f G (clause.When e ∷ cs) b (one_part G e)
 
--- the parts of an expression from left to right, each with the names that it sees; a part that sees what has no
--- type is left out
+-- the parts of an expression from left to right, each with the names that it sees; a part that sees what has
+-- no type is left out
 pub data Parts (f : Typing) (G : Context) : Expr → List Seen → Type 0 where
   parts_int : (n : ℤ) → Parts f G (expr.Int n) []
   parts_bool : (b : Bool) → Parts f G (expr.Bool b) []
@@ -95,12 +95,13 @@ pub data Parts (f : Typing) (G : Context) : Expr → List Seen → Type 0 where
 abbrev pub is_typed : Typing → Seen → Bool
 is_typed f p = is_some (f p.1 p.0)
 
--- a path of the numbers of parts, from 0, leads from among these to a part that has no type, while all its own
--- parts have one; each part on the way has none
+-- a path of the numbers of parts, from 0, leads from among these to a part that has no type, while all its
+-- own parts have one; each part on the way has none
 abbrev pub Leads : Typing → List Seen → List ℕ → Type 0
 Leads f P [] = list_all (is_typed f) P ≡ true
 Leads f P (k ∷ path) =
-    MatchOption (slice_get P k) ⊥ (λ p. (f p.1 p.0 ≡ None) × ((Q : List Seen) × Parts f p.0 p.1 Q × Leads f Q path))
+    MatchOption (slice_get P k) ⊥
+    (λ p. (f p.1 p.0 ≡ None) × ((Q : List Seen) × Parts f p.0 p.1 Q × Leads f Q path))
 
 -- the same path where one more part stands before the others
 abbrev pub behind_one : List ℕ → List ℕ

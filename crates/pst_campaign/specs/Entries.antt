@@ -19,8 +19,9 @@ cause_of fault.ResetFailed = ResetFailed
 cause_of fault.NoThread = NoThread
 cause_of fault.NoMemory = NoMemory
 
--- What the trial of a number may come to on a system with these relations: a record of the plan and the number that
--- is sound, with histories that the system may give, or a loss, by a failed reset only where a reset may fail.
+-- What the trial of a number may come to on a system with these relations: a record of the plan and the
+-- number that is sound, with histories that the system may give, or a loss, by a failed reset only where a
+-- reset may fail.
 abbrev pub MayGive : Answers → Fails → ResetFails → PlanView → ℕ → Entry RecordView → Type 0
 MayGive answers fails reset_fails p k Undrawn = ⊥
 MayGive answers fails reset_fails p k Held = ⊥

@@ -111,7 +111,8 @@ pub(crate) fn work_at_once<
         |scope| -> Vec<Seat<R>>
             requires { All (IsFresh ledger.now.table) seats.items × (ledger.now.table.slots ≡ P.trials plan.now)
                 × (length seats.items ≡ length systems.items) }
-            ensures { AllZip (λ (s : S) (t : SeatView R). IsWorked (P.may_give plan.entry.now s) ledger.entry.now.table t)
+            ensures { AllZip
+                (λ (s : S) (t : SeatView R). IsWorked (P.may_give plan.entry.now s) ledger.entry.now.table t)
                 systems.items result.items }
         { work_in_threads(rt, scope, alloc, plan, ledger, seats, systems) },
     )

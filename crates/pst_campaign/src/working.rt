@@ -87,7 +87,8 @@ pub fn work<H: Threads + Wait + Sync>(
     ensures ends { Adds
         (MayGive (answers system.old) (fails system.old) (reset_fails system.old) (arc_value plan.now))
         seat.old.ends seat.new.ends }
-    ensures kept { AreKept (answers system.new) (answers system.old) (fails system.new) (fails system.old) (reset_fails system.new) (reset_fails system.old) }
+    ensures kept { AreKept (answers system.new) (answers system.old) (fails system.new) (fails system.old)
+        (reset_fails system.new) (reset_fails system.old) }
 {
     may_share_records();
     let watched = Watched {

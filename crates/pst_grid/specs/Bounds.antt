@@ -34,8 +34,8 @@ module _ {S F : Type 0} (turn : S → ℕ → ℕ → Turn S F) (lengths : List 
   abbrev pub AreEnds : S → List S → Type 0
   AreEnds start ends = HasNoRepeats ends × Each (λ s. IsReached start (lengths, s)) ends
 
-  -- A number of steps: at most as many as there are branches for each of some reached places and states, and at
-  -- most as many as the rest takes for each of some states in which all branches can end.
+  -- A number of steps: at most as many as there are branches for each of some reached places and states, and
+  -- at most as many as the rest takes for each of some states in which all branches can end.
   pub record IsBounded (most_rest : ℕ) (start : S) (steps : ℕ) : Type 0 where
     pub places : List (List ℕ × S)
     pub reached : AreReached start places

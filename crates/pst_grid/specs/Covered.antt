@@ -36,9 +36,9 @@ module _ {S F : Type 0} (turn : S → ℕ → ℕ → Turn S F) (rest : S → En
     pub stops : run turn rest done s letters ≡ StopsAt steps False
     pub place : far ≡ length before + steps
 
-  -- What the search has seen, old before and new after it covered the words of W, which stand behind the letters
-  -- before: none of W is all true; the first fault is kept, and is that of W's least faulting word; `far` is reached,
-  -- and bounds W.
+  -- What the search has seen, old before and new after it covered the words of W, which stand behind the
+  -- letters before: none of W is all true; the first fault is kept, and is that of W's least faulting word;
+  -- `far` is reached, and bounds W.
   pub record Covered (before : List ℕ) (W : List ℕ → Type 0) (old new : Best F) : Type 0 where
     pub none_true : (w : List ℕ) → W w → run turn rest done s w ≡ AllTrue → ⊥
     pub kept : (x : FaultedMerge F) → old.fault ≡ Some x → new.fault ≡ Some x

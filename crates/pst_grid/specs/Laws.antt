@@ -40,8 +40,8 @@ module _ {S F : Type 0} (turn : S → ℕ → ℕ → Turn S F) where
   abbrev pub NeverChanges : S → Type 0
   NeverChanges s = (b i : ℕ) (next : S) → turn s b i ≡ Next next → next ≡ s
 
-  -- Where the state never changes, a search makes few steps: as many as there are branches for each place, and those
-  -- of the rest once. The places are as many as the product of all lengths plus one.
+  -- Where the state never changes, a search makes few steps: as many as there are branches for each place,
+  -- and those of the rest once. The places are as many as the product of all lengths plus one.
   abbrev pub MakesFewSteps : Type 0
   MakesFewSteps = (lengths : List ℕ) (most_rest : ℕ) (start : S) (steps : ℕ)
       → NeverChanges start → IsBounded turn lengths most_rest start steps

@@ -43,8 +43,8 @@ none_done lengths = replicate (length lengths) 0
 abbrev pub one_more : List ℕ → ℕ → List ℕ
 one_more done b = slice_set done b (slice_index done b + 1)
 
--- The run of a word from a state: each letter takes the next command of its branch, by the index of those that are
--- done. Where the word ends, the rest follows.
+-- The run of a word from a state: each letter takes the next command of its branch, by the index of those
+-- that are done. Where the word ends, the rest follows.
 abbrev pub run : {S F : Type 0} → (S → ℕ → ℕ → Turn S F) → (rest : S → Ending F)
     → (done : List ℕ) → S → List ℕ → Ending F
 run turn rest done s [] = rest s

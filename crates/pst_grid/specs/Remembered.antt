@@ -50,9 +50,9 @@ module _ {S F : Type 0} (turn : S → ℕ → ℕ → Turn S F) (lengths : List 
   abbrev pub IsReachedFrom : List ℕ → S → Position S → Type 0
   IsReachedFrom done s k = (u : List ℕ) × Leads turn lengths done s u k.done.items k.state
 
-  -- The positions that were remembered on the way from a place and a state, each with at least so many commands
-  -- done, and how many steps that took at most: as many as there are branches for each of the positions, and as many
-  -- as the rest takes for each at which all branches have ended.
+  -- The positions that were remembered on the way from a place and a state, each with at least so many
+  -- commands done, and how many steps that took at most: as many as there are branches for each of the
+  -- positions, and as many as the rest takes for each at which all branches have ended.
   pub record IsGrown (extra depth : ℕ) (done : List ℕ) (s : S)
       (old new : List (Position S)) (before now : ℕ) : Type 0 where
     pub added : List (Position S)

@@ -21,8 +21,8 @@ verdict_of prefix (Nothing far) = Unexplained (prefix + far)
 -- the verdict of a search over the merges of branches with these events, from a state that so many events
 -- lead to, and with these events behind each merge
 abbrev pub IsVerdictOfSearch :
-    Source → Asking → (branches : List (List Event)) → (suffix : List Event) → (lengths : List ℕ) → (prefix : ℕ)
-    → Value → Verdict → Type 0
+    Source → Asking → (branches : List (List Event)) → (suffix : List Event) → (lengths : List ℕ)
+    → (prefix : ℕ) → Value → Verdict → Type 0
 IsVerdictOfSearch m asked branches suffix lengths prefix s v =
     (answer : SomeAnswer Place)
     × IsAnswer (branch_turn_asking m asked branches) (last_events m asked suffix) lengths s answer

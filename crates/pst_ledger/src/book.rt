@@ -132,21 +132,21 @@ impl<R: Numbered> Book<R> {
     ///
     /// `NotYours` where the seat never drew the number, and `Twice` where it has ended it; the record is
     /// handed back.
-    pub fn deposit(&mut self, seat: u64, record: R) -> Result<(), (R, LedgerFault)>
-        ensures handed_back { IfErr result (λ e. e.0 ≡ «record») }
+    pub fn deposit(&mut self, seat: u64, deposited: R) -> Result<(), (R, LedgerFault)>
+        ensures handed_back { IfErr result (λ e. e.0 ≡ deposited) }
         ensures answer { MatchResult result
-            (λ _. after self.old (finish seat (R.number_of «record») (Done «record»))
+            (λ _. after self.old (finish seat (R.number_of deposited) (Done deposited))
             ≡ (self.new, accepted))
-            (λ e. after self.old (finish seat (R.number_of «record») (Done «record»))
+            (λ e. after self.old (finish seat (R.number_of deposited) (Done deposited))
             ≡ (self.new, refused e.1)) }
     {
-        let number = record.number();
+        let number = deposited.number();
         match self.refusal(seat, number) {
             None => {
-                self.finish(seat, number, Entry::Done(record));
+                self.finish(seat, number, Entry::Done(deposited));
                 Ok(())
             }
-            Some(fault) => Err((record, fault)),
+            Some(fault) => Err((deposited, fault)),
         }
     }
 

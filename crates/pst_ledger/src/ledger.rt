@@ -143,19 +143,19 @@ impl<R: Numbered> Ledger<R> {
     ///
     /// `NotYours` where the seat never drew the number, and `Twice` where it has ended it; the record is
     /// handed back.
-    pub fn deposit(&self, seat: &mut Seat<R>, record: R) -> Result<(), (R, LedgerFault)>
+    pub fn deposit(&self, seat: &mut Seat<R>, deposited: R) -> Result<(), (R, LedgerFault)>
         requires own { seat.old.table ≡ self.now.table }
         ensures { MatchResult result
-            (λ _. HasEnded seat.old seat.new (R.number_of «record») (Done «record»))
-            (λ e. (e.0 ≡ «record») × HasRefused seat.old seat.new (R.number_of «record») e.1) }
+            (λ _. HasEnded seat.old seat.new (R.number_of deposited) (Done deposited))
+            (λ e. (e.0 ≡ deposited) × HasRefused seat.old seat.new (R.number_of deposited) e.1) }
     {
-        let number = record.number();
+        let number = deposited.number();
         match seat.refusal(number) {
             None => {
-                self.finish(seat, number, Entry::Done(record));
+                self.finish(seat, number, Entry::Done(deposited));
                 Ok(())
             }
-            Some(fault) => Err((record, fault)),
+            Some(fault) => Err((deposited, fault)),
         }
     }
 

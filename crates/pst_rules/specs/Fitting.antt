@@ -8,8 +8,8 @@ use Rattle.pst_value.specs.declared.ty.Ty.{Ty}
 use Rattle.pst_value.specs.declared.ty.Ty.TheVariants as ty
 use Rattle.pst_value.specs.declared.value.Value.{Value}
 
--- Throughout, `free` has the result types of the commands whose variables may stand open in a value, and `vars` those of
--- the commands whose results may stand in it.
+-- Throughout, `free` has the result types of the commands whose variables may stand open in a value, and
+-- `vars` those of the commands whose results may stand in it.
 
 -- whether a value fits a type over the operations of the model
 abbrev pub fits_in : Source → (free vars : List Ty) → Value → Ty → Bool

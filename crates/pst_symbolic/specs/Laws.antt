@@ -30,8 +30,9 @@ mean_over m before = mean m.items (called m.items (reverse before))
 abbrev pub IsPlainOver : Source → List Item → Context → Expr → Ty → Type 0
 IsPlainOver m before G e T = Typed m.items (reverse before) false (Has G e T)
 
--- For an expression of mode plain over the functions of a well-typed model, or over the first of them: results for the variables in the
--- environment, and then the meaning, is the meaning, and then results for the variables in its value; faults and turns left are the same.
+-- For an expression of mode plain over the functions of a well-typed model, or over the first of them:
+-- results for the variables in the environment, and then the meaning, is the meaning, and then results for
+-- the variables in its value; faults and turns left are the same.
 abbrev pub SymbolicEqualsReal : Type 0
 SymbolicEqualsReal =
     (m : Source) → WellModel m → (before after : List Item) → m.items ≡ before ++ after
@@ -63,8 +64,8 @@ PreIsReal =
     → PreFits m op s args free vars
     → pre_of m op (substituted results s) (map (substituted results) args) ≡ pre_of m op s args
 
--- the next real state is the next symbolic one, with results for its variables (where `r` is the variable of a command whose result is known,
--- it becomes the reference to that result)
+-- the next real state is the next symbolic one, with results for its variables (where `r` is the variable of
+-- a command whose result is known, it becomes the reference to that result)
 abbrev pub NextIsReal : Type 0
 NextIsReal =
     (m : Source) → WellModel m
