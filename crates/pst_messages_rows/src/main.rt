@@ -8,8 +8,8 @@ use pst_messages::{Asked, message_of};
 use pst_sources::{SourceFile, joined};
 use pst_warnings::warnings_of;
 use rows::{
-    ACCEPTED, CLOSED_FILES, DEEP_ITEMS, DEEP_MODEL, FILES, ITEMS, MODEL, MODELS, OPEN_FILES, REF_ITEMS,
-    REF_MODEL,
+    ACCEPTED, CLOSED_FILES, DEEP_ITEMS, DEEP_MODEL, FILES, ITEMS, MODEL, MODELS, OPEN_FILES,
+    REF_ITEMS, REF_MODEL,
 };
 use std::alloc::{AllocError, Global};
 use std::{io, slice};
