@@ -49,7 +49,7 @@ fn print_command<R: Threads + Wait + Sync + Print + AllocGlobal>(
 }
 
 /// The commands that are asked: where the opening state takes long to compute, the first three alone. `explain` is not
-/// among them: it evaluates by recursion, and a long chain of functions exhausts its stack.
+/// among them: it evaluates by recursion, and functions that nest to thousands of levels exhaust its stack.
 fn asked(deep: Deep) -> &'static [Command] {
     match deep {
         Deep::List | Deep::Map => &[Command::Check, Command::List, Command::Judge],
