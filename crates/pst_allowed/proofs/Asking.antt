@@ -3,7 +3,7 @@ use Rattle.std.proofs.Common.{◌≡◌, ◌==◌, not, ℕ, Bool, true, false, 
 use Rattle.std.specs.Prelude.{IfOk, if◌then◌else◌}
 use Rattle.std.specs.declared.alloc.AllocError.{AllocError}
 use Rattle.pst_allowed.proofs.OneAnswer.{truth_is_of}
-use Rattle.pst_allowed.specs.Allowed.{as_asked, asks_at, none_is_right, one_is_right, Tells}
+use Rattle.pst_allowed.specs.Allowed.{as_asked, asks_at, none_is_right, one_is_right, IsReportOf}
 use Rattle.pst_judge.specs.Replay.{SaysTruth}
 use Rattle.pst_judge.specs.declared.events.Event.{Event}
 use Rattle.pst_model.specs.declared.model.Source.{Source}
@@ -18,14 +18,14 @@ Answer = Result (Result Bool Fault) AllocError
 says_truth : (o : Outcome Bool) (b : Bool) → o ≡ Gives b → SaysTruth (as_asked o) (Ok b)
 says_truth o b is = ((Truth b, 0), ap as_asked is, truth_is_of b)
 
-says : (o : Outcome Bool) (r : Answer) → IfOk r (Tells o) → IfOk r (SaysTruth (as_asked o))
+says : (o : Outcome Bool) (r : Answer) → IfOk r (IsReportOf o) → IfOk r (SaysTruth (as_asked o))
 says o (Ok (Ok b)) h = says_truth o b h
 says o (Ok (Err why)) h = ap as_asked h
 says o (Err none) h = h
 
 module _ (number : ℕ) (test : Value → Event → Outcome Bool) (others : List ℕ) (m : Source) (s : Value) (e : Event) where
   -- of the command with the number
-  pub says_there : (r : Answer) → (e.number == number) ≡ true → IfOk r (Tells (test s e)) → IfOk r (SaysTruth (asks_at number test others m s e))
+  pub says_there : (r : Answer) → (e.number == number) ≡ true → IfOk r (IsReportOf (test s e)) → IfOk r (SaysTruth (asks_at number test others m s e))
   says_there r is h =
       let P : Bool → Type 0 = λ b. IfOk r (SaysTruth (if b then as_asked (test s e) else asks others m s e)) in
       subst P (sym is) (says (test s e) r h)
@@ -37,8 +37,8 @@ module _ (number : ℕ) (test : Value → Event → Outcome Bool) (others : List
       subst P (sym is) h
 
 -- none is right where not one is
-pub none_tells : (m : Source) (s : Value) (e : Event) (answers : List Value) (b : Bool) → Tells (one_is_right m s e answers) (Ok b) → Tells (none_is_right m s e answers) (Ok (not b))
-none_tells m s e answers b h = ap (λ o. and_then o (λ right. Gives (not right))) h
+pub none_reported : (m : Source) (s : Value) (e : Event) (answers : List Value) (b : Bool) → IsReportOf (one_is_right m s e answers) (Ok b) → IsReportOf (none_is_right m s e answers) (Ok (not b))
+none_reported m s e answers b h = ap (λ o. and_then o (λ right. Gives (not right))) h
 
-pub none_faults : (m : Source) (s : Value) (e : Event) (answers : List Value) (why : Fault) → Tells (one_is_right m s e answers) (Err why) → Tells (none_is_right m s e answers) (Err why)
+pub none_faults : (m : Source) (s : Value) (e : Event) (answers : List Value) (why : Fault) → IsReportOf (one_is_right m s e answers) (Err why) → IsReportOf (none_is_right m s e answers) (Err why)
 none_faults m s e answers why h = ap (λ o. and_then o (λ right. Gives (not right))) h

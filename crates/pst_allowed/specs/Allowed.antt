@@ -101,8 +101,8 @@ module _ (m : Source) (c : Case) (h : History) (others : List ℕ) (number : ℕ
       ⊎ ((b : ℕ) × (i : ℕ) × (event_at (branch_events c h) b i ≡ Some e))
       ⊎ ((i : ℕ) × (slice_get (suffix_events c h) i ≡ Some e))
 
-  -- on each state at most one answer of the command is right, and where one is, each other is wrong: as where its
-  -- postcondition is `(= r e)`, and `e` does not name `r` (`EqualityHasOneAnswer`)
+  -- on each state at most one answer of the command is right, and where one is, each other is wrong: as where
+  -- its postcondition is `(= r e)`, and `e` does not name `r` (`EqualityHasOneAnswer`)
   abbrev pub HasOneAnswer : Type 0
   HasOneAnswer =
       (s : Value) (e : Event) (answer other : Value) → IsEvent e → e.number ≡ number
@@ -124,6 +124,7 @@ abbrev pub PostGives : Outcome (Value × ℕ) → Result Value Stop → Type 0
 PostGives o (Ok v) = (left : ℕ) × (o ≡ Gives (v, left))
 PostGives o (Err why) = Stops o why
 
-abbrev pub Tells : Outcome Bool → Result Bool Fault → Type 0
-Tells o (Ok b) = o ≡ Gives b
-Tells o (Err why) = o ≡ Faults why
+-- a truth value, or the fault that it ends in
+abbrev pub IsReportOf : Outcome Bool → Result Bool Fault → Type 0
+IsReportOf o (Ok b) = o ≡ Gives b
+IsReportOf o (Err why) = o ≡ Faults why

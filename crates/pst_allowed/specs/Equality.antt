@@ -19,7 +19,8 @@ IsEquality e post = (post ≡ Binary Equal (Name name_r) e) ⊎ (post ≡ Binary
 -- the postcondition of the operation is one of these, and the result is not named on its other side
 abbrev pub HasEquality : Source → ℕ → Type 0
 HasEquality m op =
-    (o : Op) × (e : Expr) × (operation_of m.items op ≡ Some o) × IsEquality e o.post × (names name_r e ≡ false)
+    (o : Op) × (e : Expr) × (operation_of m.items op ≡ Some o) × IsEquality e o.post
+    × (names name_r e ≡ false)
 
 -- a command with such a postcondition has at most one right answer on each state
 abbrev pub EqualityHasOneAnswer : Type 0

@@ -1,7 +1,7 @@
 //! Whether answers would have been right for an event.
 ghost use Rattle.std.specs.Prelude.{◌≡◌, ◌∷◌, [], IfOk, MatchOption};
 ghost use Rattle.pst_allowed.specs.Allowed as spec;
-ghost use Rattle.pst_allowed.specs.Allowed.{PostGives, Tells};
+ghost use Rattle.pst_allowed.specs.Allowed.{PostGives, IsReportOf};
 ghost use Rattle.pst_eval.specs.Callbacks.{post_of};
 ghost use Rattle.pst_operators.specs.Answers.{Answers};
 ghost use Rattle.pst_operators.specs.Operators as operators;
@@ -69,7 +69,7 @@ pub(crate) fn is_right(
     event: &Event,
     answer: &Value,
 ) -> Result<Result<bool, Fault>, AllocError>
-    ensures { IfOk result (Tells (spec.is_right model.now state.now event.now answer.now)) }
+    ensures { IfOk result (IsReportOf (spec.is_right model.now state.now event.now answer.now)) }
 {
     match post_truth(model, alloc, state, event, answer) {
         Ok(right) => Ok(Ok(right)),
@@ -93,7 +93,7 @@ pub(crate) fn one_is_right(
     event: &Event,
     answers: &[Value],
 ) -> Result<Result<bool, Fault>, AllocError>
-    ensures { IfOk result (Tells (spec.one_is_right model.now state.now event.now answers.now)) }
+    ensures { IfOk result (IsReportOf (spec.one_is_right model.now state.now event.now answers.now)) }
 {
     let Some((first, rest)) = split_first(answers) else {
         return Ok(Ok(false));

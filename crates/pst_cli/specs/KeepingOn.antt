@@ -51,6 +51,7 @@ pub data IsKeepingOnOutput (input text : List ℕ) (status : Status) : Type 0 wh
 -- where no item is refused, the lines and the status of `pst judge` are those with `--keep-going`
 abbrev pub KeepsJudgements : Type 0
 KeepsJudgements =
-    (input : List ℕ) (m : Source) (trees : List Form) (runs : List Run) (js : List Judged) → Holds input m trees
+    (input : List ℕ) (m : Source) (trees : List Form) (runs : List Run) (js : List Judged)
+    → Holds input m trees
     → runs_of m (items_of trees) ≡ Ok runs → AreJudged m runs js
     → IsKeepingOnOutput input (item_lines 1 js) (status_of js)

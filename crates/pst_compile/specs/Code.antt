@@ -217,7 +217,8 @@ visit_code (Clause-F.When e ∷ rest) body built sc r = when_code e (visit_code 
 abbrev pub for_code : List CodedPart → Coded → Scope → ℕ → Block
 for_code clauses b sc r = one (Const r (list [])) then visit_code clauses b r sc (r + 1)
 
--- what is built is in register r + 1, the index in r + 2 and the item in r + 3: each turn overwrites the first
+-- what is built is in register r + 1, the index in r + 2 and the item in r + 3: each turn overwrites the
+-- first of them
 abbrev pub fold_code : Name → Coded → Name → Coded → Coded → Scope → ℕ → Block
 fold_code x e acc i b sc r =
     load e sc r then i.put sc (r + 1) then one (Const (r + 2) (int (pos 0)))

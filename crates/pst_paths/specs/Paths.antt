@@ -10,8 +10,8 @@ use Rattle.pst_judge.specs.Replay.{replayed, branch_lengths}
 use Rattle.pst_judge.specs.Verdict.{Ends, FaultsAt}
 use Rattle.pst_model.specs.declared.model.Source.{Source}
 
--- the letters of the true events of a merge that stops after so many, those of the prefix included: all letters
--- where the suffix stops, and none where `init` or the prefix does
+-- the letters of the true events of a merge that stops after so many, those of the prefix included: all
+-- letters where the suffix stops, and none where `init` or the prefix does
 abbrev pub true_letters_of : Case → ℕ → List ℕ → List ℕ
 true_letters_of c stop merge = take (stop - length c.prefix) merge
 
@@ -25,8 +25,8 @@ module _ (m : Source) (c : Case) (h : History) where
       × ((rest : List ℕ) → IsMerge (branch_lengths c) (word ++ rest)
       → replayed m c h (word ++ rest) ≡ StopsAt far why.False)
 
-  -- the letters of the true events of the least merge that stops by a false event after so many, and each merge
-  -- that begins so stops there
+  -- the letters of the true events of the least merge that stops by a false event after so many, and each
+  -- merge that begins so stops there
   abbrev pub IsFurthest : ℕ → List ℕ → Type 0
   IsFurthest far word =
       ((merge : List ℕ)
