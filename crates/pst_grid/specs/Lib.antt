@@ -9,3 +9,4 @@ pub mod Completions
 pub mod Covered
 pub mod Remembered
 pub mod Checked
+pub mod Hashing

@@ -10,6 +10,7 @@ ghost use Rattle.pst_grid.specs.Merges.{one_more};
 ghost use Rattle.pst_grid.specs.Remembered.{IsGrown};
 ghost use Rattle.pst_grid.specs.Turns.{AreCommands};
 
+use crate::hasher::BuildWordHasher;
 use crate::position::Position;
 use crate::search::{Search, is_done};
 use crate::{Ending, EveryAnswer, Steps, Turn, Why};
@@ -82,7 +83,7 @@ fn check<S: Steps>(
     steps: &S,
     lengths: &[usize],
     search: &mut Search<S::Fault>,
-    seen: &mut IndexSet<Position<S::State>>,
+    seen: &mut IndexSet<Position<S::State>, BuildWordHasher>,
     state: S::State,
 ) -> Result<Option<FailedMerge<S::Fault>>, AllocError>
     requires place { IsAt lengths.now search.old.done.items }
@@ -128,7 +129,7 @@ fn check_branch<S: Steps>(
     steps: &S,
     lengths: &[usize],
     search: &mut Search<S::Fault>,
-    seen: &mut IndexSet<Position<S::State>>,
+    seen: &mut IndexSet<Position<S::State>, BuildWordHasher>,
     state: &S::State,
     branch: usize,
 ) -> Result<Option<FailedMerge<S::Fault>>, AllocError>
@@ -197,7 +198,7 @@ pub fn every<S: Steps>(
         (λ r. IsBounded (S.turn steps.now) lengths.now (S.most_rest steps.now) start.now r.1) }
 {
     let mut search = Search::new(alloc, lengths)?;
-    let mut seen = IndexSet::new(alloc);
+    let mut seen = IndexSet::with_hasher(alloc, BuildWordHasher::new());
     let first = steps.copy(alloc, start)?;
     let failed = check(alloc, steps, lengths, &mut search, &mut seen, first)?;
     // The length is not used: `len` says that the set has no repeats.

@@ -20,6 +20,7 @@
 mod answer;
 mod every_search;
 mod finish;
+mod hasher;
 mod laws;
 mod plain_search;
 mod position;

@@ -7,6 +7,7 @@ ghost use Rattle.pst_grid.specs.Remembered.{AreAccounted, IsSearched, IsGrown};
 ghost use Rattle.pst_grid.specs.Turns.{AreCommands};
 
 use crate::finish::finish;
+use crate::hasher::BuildWordHasher;
 use crate::position::Position;
 use crate::search::{Search, is_done};
 use crate::{SomeAnswer, Steps, Turn, Why};
@@ -20,7 +21,7 @@ fn explore<S: Steps>(
     steps: &S,
     lengths: &[usize],
     search: &mut Search<S::Fault>,
-    seen: &mut IndexSet<Position<S::State>>,
+    seen: &mut IndexSet<Position<S::State>, BuildWordHasher>,
     state: S::State,
 ) -> Result<bool, AllocError>
     requires place { IsAt lengths.now search.old.done.items }
@@ -65,7 +66,7 @@ fn visit<S: Steps>(
     steps: &S,
     lengths: &[usize],
     search: &mut Search<S::Fault>,
-    seen: &mut IndexSet<Position<S::State>>,
+    seen: &mut IndexSet<Position<S::State>, BuildWordHasher>,
     state: &S::State,
     branch: usize,
 ) -> Result<bool, AllocError>
@@ -130,7 +131,7 @@ pub fn some<S: Steps>(
         (λ r. IsBounded (S.turn steps.now) lengths.now (S.most_rest steps.now) start.now r.1) }
 {
     let mut search = Search::new(alloc, lengths)?;
-    let mut seen = IndexSet::new(alloc);
+    let mut seen = IndexSet::with_hasher(alloc, BuildWordHasher::new());
     let first = steps.copy(alloc, start)?;
     let found = explore(alloc, steps, lengths, &mut search, &mut seen, first)?;
     // The length is not used: `len` says that the set has no repeats.

@@ -17,5 +17,5 @@ returns-clause-bound g c =
     let new = c.in_ok-search.ensures in
     let search = c.in_ok-search.search in
     bounded (g.S.Steps.turn c.args.steps.now) c.args.lengths.now (g.S.Steps.most_rest c.args.steps.now) search.done.items c.args.start.now c.in_ok-first.first
-    c.new-seen.result.keys c.check.new.seen.keys search.steps c.check.new.search.steps _ (position-equal g.S.State.PartialEq.eq g.met.S.State.Eq.laws.refl) c.len.ensures.unique
-    new.done c.in_ok-first.ensures c.new-seen.ensures.empty new.steps c.in_ok-failed.ensures.grown
+    c.with_hasher-seen.result.keys c.check.new.seen.keys search.steps c.check.new.search.steps _ (position-equal g.S.State.PartialEq.eq g.met.S.State.Eq.laws.refl) c.len.ensures.unique
+    new.done c.in_ok-first.ensures c.with_hasher-seen.ensures.empty new.steps c.in_ok-failed.ensures.grown
