@@ -135,5 +135,3 @@ well_of m t k e f w = subst WellModel (e ∙ f) w
 pub compiled_of : (m t : Source) (code : List FunCode) (base : ℕ) → t ≡ m → IsCompiled t.items code base → IsCompiled m.items code base
 compiled_of m t code base f c = let C : Source → Type 0 = λ s. IsCompiled s.items code base in subst C f c
 
-pub with_args : (code : List FunCode) (fun : ℕ) (args args' : List Value) (o : End) → args ≡ args' → DoesOnly code fun args' o → DoesOnly code fun args o
-with_args code fun args args' o e d = subst (λ l. DoesOnly code fun l o) (sym e) d

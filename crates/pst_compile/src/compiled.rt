@@ -1,6 +1,6 @@
 //! The callbacks of a model by its code.
 
-ghost use Rattle.std.specs.Prelude.{◌≡◌, ◌∷◌, ◌++◌, ◌+◌, ◌*◌, IfOk, MatchResult};
+ghost use Rattle.std.specs.Prelude.{◌≡◌, ◌++◌, ◌+◌, ◌*◌, map, IfOk, MatchResult};
 ghost use Rattle.pst_eval.specs.Callbacks.{Says};
 ghost use Rattle.pst_machine.specs.Machine.{End};
 ghost use Rattle.pst_compile.specs.Compiled.{DoesOnly};
@@ -88,12 +88,14 @@ pub fn listing(alloc: Global, compiled: &Compiled) -> Result<Items<u8>, AllocErr
     compiled.code.listing(alloc)
 }
 
-/// What a function of the code answers. Each of its runs has one end, which is not stuck.
-fn answer(code: &Code, alloc: Global, fun: usize, args: Items<Value>) -> Answer
-    requires { (o : End) × DoesOnly code.now fun args o }
-    ensures { IfOk result (λ a. (o : End) → DoesOnly code.now fun args o → Says o a) }
+/// What a function of the code answers on lent arguments: those of `first`, and then those of `rest`. Each of its runs
+/// has one end, which is not stuck.
+fn answer(code: &Code, alloc: Global, fun: usize, first: &[&Value], rest: &[Value]) -> Answer
+    requires { (o : End) × DoesOnly code.now fun (map (λ v. v.now) first.now ++ rest.now) o }
+    ensures { IfOk result (λ a. (o : End)
+        → DoesOnly code.now fun (map (λ v. v.now) first.now ++ rest.now) o → Says o a) }
 {
-    match code.run(alloc, fun, args, MAX_TURNS)? {
+    match code.run_lent(alloc, fun, first, rest, MAX_TURNS)? {
         Outcome::Value(value, turns) => Ok(Ok((value, turns))),
         Outcome::Fault(fault) => Ok(Err(fault)),
         Outcome::Stuck => unreachable!(),
@@ -114,62 +116,25 @@ fn function_number(base: usize, op: u32, callback: usize) -> Result<usize, Alloc
     }
 }
 
-/// The first values, and then copies of the others.
-fn copied(alloc: Global, first: Items<Value>, values: &[Value]) -> Result<Items<Value>, AllocError>
-    ensures { IfOk result (λ all. all ≡ first ++ values.now) }
-{
-    let mut all = first;
-    for value in values {
-        all.push(value.copy(alloc)?)?;
-    }
-    Ok(all)
-}
-
-/// Copies of the state and the arguments.
-fn with_state(alloc: Global, state: &Value, arguments: &[Value]) -> Result<Items<Value>, AllocError>
-    ensures { IfOk result (λ all. all ≡ state.now ∷ arguments.now) }
-{
-    let mut first = Items::new(alloc);
-    first.push(state.copy(alloc)?)?;
-    copied(alloc, first, arguments)
-}
-
-/// Copies of the state, the result and the arguments.
-fn with_result(
-    alloc: Global,
-    state: &Value,
-    r: &Value,
-    arguments: &[Value],
-) -> Result<Items<Value>, AllocError>
-    ensures { IfOk result (λ all. all ≡ state.now ∷ r.now ∷ arguments.now) }
-{
-    let mut first = Items::new(alloc);
-    first.push(state.copy(alloc)?)?;
-    first.push(r.copy(alloc)?)?;
-    copied(alloc, first, arguments)
-}
-
 impl Callbacks for Compiled {
     ghost model = { λ c. c };
 
     fn init(&self, alloc: Global) -> Answer {
         let _model = self.typed.source();
         let place = function_number(self.base, 0, 0)?;
-        answer(&self.code, alloc, place, Items::new(alloc))
+        answer(&self.code, alloc, place, &[], &[])
     }
 
     fn command(&self, alloc: Global, state: &Value) -> Answer {
         let _model = self.typed.source();
         let place = function_number(self.base, 0, 1)?;
-        let arguments = with_state(alloc, state, &[])?;
-        answer(&self.code, alloc, place, arguments)
+        answer(&self.code, alloc, place, &[state], &[])
     }
 
     fn pre(&self, alloc: Global, op: u32, state: &Value, arguments: &[Value]) -> Answer {
         let _model = self.typed.source();
         let place = function_number(self.base, op, 2)?;
-        let arguments = with_state(alloc, state, arguments)?;
-        answer(&self.code, alloc, place, arguments)
+        answer(&self.code, alloc, place, &[state], arguments)
     }
 
     fn next(
@@ -182,8 +147,7 @@ impl Callbacks for Compiled {
     ) -> Answer {
         let _model = self.typed.source();
         let place = function_number(self.base, op, 3)?;
-        let arguments = with_result(alloc, state, r, arguments)?;
-        answer(&self.code, alloc, place, arguments)
+        answer(&self.code, alloc, place, &[state, r], arguments)
     }
 
     fn post(
@@ -196,7 +160,6 @@ impl Callbacks for Compiled {
     ) -> Answer {
         let _model = self.typed.source();
         let place = function_number(self.base, op, 4)?;
-        let arguments = with_result(alloc, state, r, arguments)?;
-        answer(&self.code, alloc, place, arguments)
+        answer(&self.code, alloc, place, &[state, r], arguments)
     }
 }

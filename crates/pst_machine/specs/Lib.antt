@@ -5,3 +5,4 @@ pub mod Machine
 pub mod Outcomes
 -- what the contracts within cite
 pub mod Meets
+pub mod Slots

@@ -2,7 +2,7 @@ use Rattle.std.proofs.Common.{◌≡◌, ◌+◌, [], ◌∷◌, arith}
 use Rattle.pst_eval.proofs.Calls.{command_gives}
 use Rattle.pst_eval.specs.Callbacks.{command_of}
 use Rattle.pst_compile.specs.Compiled.{DoesOnly}
-use Rattle.pst_compile.proofs.Answering.{says_of, well_of, compiled_of, with_args, command_only}
+use Rattle.pst_compile.proofs.Answering.{says_of, well_of, compiled_of, command_only}
 use Rattle.pst_compile.proofs.compiled.CompiledCallbacks.command.Goals as goal
 
 pub answer-requires : goal.answer-requires
@@ -12,7 +12,6 @@ answer-requires c =
     let code = c.self.inside.code in
     let base = c.self.inside.base in
     let place = c.in_ok-place.place in
-    let args = c.in_ok-arguments.arguments in
     let view = c.self.view_is in
     let same = c.source-model.ensures.same in
     let e : t ≡ m = cc in
@@ -20,7 +19,7 @@ answer-requires c =
     let compiled = compiled_of m t code base e c.self.invariant in
     let here : place ≡ base + 1 = omega (arith, c.in_ok-place.ensures) in
     let o = command_of m c.args.state.now in
-    let d : DoesOnly code place args o = with_args code place args (c.args.state.now ∷ []) o c.in_ok-arguments.ensures (command_only m code base place c.args.state.now well compiled c.requires here) in
+    let d : DoesOnly code place (c.args.state.now ∷ []) o = command_only m code base place c.args.state.now well compiled c.requires here in
     (o, d)
 
 pub returns-clause-says : goal.returns-clause-says
@@ -30,7 +29,6 @@ returns-clause-says c =
     let code = c.self.inside.code in
     let base = c.self.inside.base in
     let place = c.in_ok-place.place in
-    let args = c.in_ok-arguments.arguments in
     let view = c.self.view_is in
     let same = c.source-model.ensures.same in
     let e : t ≡ m = cc in
@@ -38,8 +36,8 @@ returns-clause-says c =
     let compiled = compiled_of m t code base e c.self.invariant in
     let here : place ≡ base + 1 = omega (arith, c.in_ok-place.ensures) in
     let o = command_of m c.args.state.now in
-    let d : DoesOnly code place args o = with_args code place args (c.args.state.now ∷ []) o c.in_ok-arguments.ensures (command_only m code base place c.args.state.now well compiled c.requires here) in
-    says_of code place args o c.answer.result d c.answer.ensures
+    let d : DoesOnly code place (c.args.state.now ∷ []) o = command_only m code base place c.args.state.now well compiled c.requires here in
+    says_of code place (c.args.state.now ∷ []) o c.answer.result d c.answer.ensures
 
 pub returns-clause-fits : goal.returns-clause-fits
 returns-clause-fits c =
@@ -48,7 +46,6 @@ returns-clause-fits c =
     let code = c.self.inside.code in
     let base = c.self.inside.base in
     let place = c.in_ok-place.place in
-    let args = c.in_ok-arguments.arguments in
     let view = c.self.view_is in
     let same = c.source-model.ensures.same in
     let e : t ≡ m = cc in
@@ -56,6 +53,6 @@ returns-clause-fits c =
     let compiled = compiled_of m t code base e c.self.invariant in
     let here : place ≡ base + 1 = omega (arith, c.in_ok-place.ensures) in
     let o = command_of m c.args.state.now in
-    let d : DoesOnly code place args o = with_args code place args (c.args.state.now ∷ []) o c.in_ok-arguments.ensures (command_only m code base place c.args.state.now well compiled c.requires here) in
-    let says = says_of code place args o c.answer.result d c.answer.ensures in
+    let d : DoesOnly code place (c.args.state.now ∷ []) o = command_only m code base place c.args.state.now well compiled c.requires here in
+    let says = says_of code place (c.args.state.now ∷ []) o c.answer.result d c.answer.ensures in
     command_gives m c.args.state.now c.answer.result well says

@@ -2,7 +2,7 @@ use Rattle.std.proofs.Common.{◌≡◌, ◌+◌, [], arith}
 use Rattle.pst_eval.proofs.Calls.{init_gives}
 use Rattle.pst_eval.specs.Callbacks.{init_of}
 use Rattle.pst_compile.specs.Compiled.{DoesOnly}
-use Rattle.pst_compile.proofs.Answering.{says_of, well_of, compiled_of, with_args, init_only}
+use Rattle.pst_compile.proofs.Answering.{says_of, well_of, compiled_of, init_only}
 use Rattle.pst_compile.proofs.compiled.CompiledCallbacks.init.Goals as goal
 
 pub answer-requires : goal.answer-requires
@@ -12,7 +12,6 @@ answer-requires c =
     let code = c.self.inside.code in
     let base = c.self.inside.base in
     let place = c.in_ok-place.place in
-    let args = c.new.result in
     let view = c.self.view_is in
     let same = c.source-model.ensures.same in
     let e : t ≡ m = cc in
@@ -20,7 +19,7 @@ answer-requires c =
     let compiled = compiled_of m t code base e c.self.invariant in
     let here : place ≡ base + 0 = omega (arith, c.in_ok-place.ensures) in
     let o = init_of m in
-    let d : DoesOnly code place args o = with_args code place args [] o c.new.ensures (init_only m code base place well compiled here) in
+    let d : DoesOnly code place [] o = init_only m code base place well compiled here in
     (o, d)
 
 pub returns-clause-says : goal.returns-clause-says
@@ -30,7 +29,6 @@ returns-clause-says c =
     let code = c.self.inside.code in
     let base = c.self.inside.base in
     let place = c.in_ok-place.place in
-    let args = c.new.result in
     let view = c.self.view_is in
     let same = c.source-model.ensures.same in
     let e : t ≡ m = cc in
@@ -38,8 +36,8 @@ returns-clause-says c =
     let compiled = compiled_of m t code base e c.self.invariant in
     let here : place ≡ base + 0 = omega (arith, c.in_ok-place.ensures) in
     let o = init_of m in
-    let d : DoesOnly code place args o = with_args code place args [] o c.new.ensures (init_only m code base place well compiled here) in
-    says_of code place args o c.answer.result d c.answer.ensures
+    let d : DoesOnly code place [] o = init_only m code base place well compiled here in
+    says_of code place [] o c.answer.result d c.answer.ensures
 
 pub returns-clause-fits : goal.returns-clause-fits
 returns-clause-fits c =
@@ -48,7 +46,6 @@ returns-clause-fits c =
     let code = c.self.inside.code in
     let base = c.self.inside.base in
     let place = c.in_ok-place.place in
-    let args = c.new.result in
     let view = c.self.view_is in
     let same = c.source-model.ensures.same in
     let e : t ≡ m = cc in
@@ -56,6 +53,6 @@ returns-clause-fits c =
     let compiled = compiled_of m t code base e c.self.invariant in
     let here : place ≡ base + 0 = omega (arith, c.in_ok-place.ensures) in
     let o = init_of m in
-    let d : DoesOnly code place args o = with_args code place args [] o c.new.ensures (init_only m code base place well compiled here) in
-    let says = says_of code place args o c.answer.result d c.answer.ensures in
+    let d : DoesOnly code place [] o = init_only m code base place well compiled here in
+    let says = says_of code place [] o c.answer.result d c.answer.ensures in
     init_gives m c.answer.result well says

@@ -2,7 +2,7 @@ use Rattle.std.proofs.Common.{◌≡◌, ◌+◌, ◌*◌, ◌∷◌, arith}
 use Rattle.pst_eval.proofs.Calls.{pre_gives}
 use Rattle.pst_eval.specs.Callbacks.{pre_of}
 use Rattle.pst_compile.specs.Compiled.{DoesOnly}
-use Rattle.pst_compile.proofs.Answering.{says_of, well_of, compiled_of, with_args, pre_only}
+use Rattle.pst_compile.proofs.Answering.{says_of, well_of, compiled_of, pre_only}
 use Rattle.pst_compile.proofs.compiled.CompiledCallbacks.pre.Goals as goal
 
 pub answer-requires : goal.answer-requires
@@ -12,7 +12,6 @@ answer-requires c =
     let code = c.self.inside.code in
     let base = c.self.inside.base in
     let place = c.in_ok-place.place in
-    let args = c.in_ok-arguments.arguments in
     let view = c.self.view_is in
     let same = c.source-model.ensures.same in
     let e : t ≡ m = cc in
@@ -20,7 +19,7 @@ answer-requires c =
     let compiled = compiled_of m t code base e c.self.invariant in
     let here : place ≡ base + 3 * c.args.op + 2 = omega (arith, c.in_ok-place.ensures) in
     let o = pre_of m c.args.op c.args.state.now c.args.arguments.now in
-    let d : DoesOnly code place args o = with_args code place args (c.args.state.now ∷ c.args.arguments.now) o c.in_ok-arguments.ensures (pre_only m code base place c.args.op c.args.state.now c.args.arguments.now well compiled c.requires here) in
+    let d : DoesOnly code place (c.args.state.now ∷ c.args.arguments.now) o = pre_only m code base place c.args.op c.args.state.now c.args.arguments.now well compiled c.requires here in
     (o, d)
 
 pub returns-clause-says : goal.returns-clause-says
@@ -30,7 +29,6 @@ returns-clause-says c =
     let code = c.self.inside.code in
     let base = c.self.inside.base in
     let place = c.in_ok-place.place in
-    let args = c.in_ok-arguments.arguments in
     let view = c.self.view_is in
     let same = c.source-model.ensures.same in
     let e : t ≡ m = cc in
@@ -38,8 +36,8 @@ returns-clause-says c =
     let compiled = compiled_of m t code base e c.self.invariant in
     let here : place ≡ base + 3 * c.args.op + 2 = omega (arith, c.in_ok-place.ensures) in
     let o = pre_of m c.args.op c.args.state.now c.args.arguments.now in
-    let d : DoesOnly code place args o = with_args code place args (c.args.state.now ∷ c.args.arguments.now) o c.in_ok-arguments.ensures (pre_only m code base place c.args.op c.args.state.now c.args.arguments.now well compiled c.requires here) in
-    says_of code place args o c.answer.result d c.answer.ensures
+    let d : DoesOnly code place (c.args.state.now ∷ c.args.arguments.now) o = pre_only m code base place c.args.op c.args.state.now c.args.arguments.now well compiled c.requires here in
+    says_of code place (c.args.state.now ∷ c.args.arguments.now) o c.answer.result d c.answer.ensures
 
 pub returns-clause-fits : goal.returns-clause-fits
 returns-clause-fits c =
@@ -48,7 +46,6 @@ returns-clause-fits c =
     let code = c.self.inside.code in
     let base = c.self.inside.base in
     let place = c.in_ok-place.place in
-    let args = c.in_ok-arguments.arguments in
     let view = c.self.view_is in
     let same = c.source-model.ensures.same in
     let e : t ≡ m = cc in
@@ -56,6 +53,6 @@ returns-clause-fits c =
     let compiled = compiled_of m t code base e c.self.invariant in
     let here : place ≡ base + 3 * c.args.op + 2 = omega (arith, c.in_ok-place.ensures) in
     let o = pre_of m c.args.op c.args.state.now c.args.arguments.now in
-    let d : DoesOnly code place args o = with_args code place args (c.args.state.now ∷ c.args.arguments.now) o c.in_ok-arguments.ensures (pre_only m code base place c.args.op c.args.state.now c.args.arguments.now well compiled c.requires here) in
-    let says = says_of code place args o c.answer.result d c.answer.ensures in
+    let d : DoesOnly code place (c.args.state.now ∷ c.args.arguments.now) o = pre_only m code base place c.args.op c.args.state.now c.args.arguments.now well compiled c.requires here in
+    let says = says_of code place (c.args.state.now ∷ c.args.arguments.now) o c.answer.result d c.answer.ensures in
     pre_gives m c.args.op c.args.state.now c.args.arguments.now c.answer.result well c.requires says
