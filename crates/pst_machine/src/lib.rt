@@ -11,6 +11,7 @@ mod in_place;
 mod instruction;
 mod listing;
 mod machine;
+mod quick;
 mod registers;
 mod run;
 
