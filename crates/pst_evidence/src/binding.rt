@@ -12,11 +12,14 @@ pub struct Binding {
     pub value: Value,
 }
 
-fn bound(alloc: Global, name: &[u8], value: &Value) -> Result<Binding, AllocError> {
-    Ok(Binding {
-        name: Vec::from_slice(alloc, name)?,
-        value: value.copy(alloc)?,
-    })
+impl Binding {
+    /// Copies of a name and its value.
+    pub(crate) fn of(alloc: Global, name: &[u8], value: &Value) -> Result<Binding, AllocError> {
+        Ok(Binding {
+            name: Vec::from_slice(alloc, name)?,
+            value: value.copy(alloc)?,
+        })
+    }
 }
 
 /// Adds parameters with their arguments.
@@ -27,16 +30,21 @@ fn add_frame(
     values: &[Value],
 ) -> Result<(), AllocError> {
     for (param, value) in params.iter().zip(values) {
-        bindings.push(bound(alloc, param.name.as_bytes(), value)?)?;
+        bindings.push(Binding::of(alloc, param.name.as_bytes(), value)?)?;
     }
     Ok(())
 }
 
-fn add_names(bindings: &mut Vec<Binding>, alloc: Global, env: &Env<'_>) -> Result<(), AllocError> {
+/// Adds the names of an environment, the inner ones first.
+pub(crate) fn add_names(
+    bindings: &mut Vec<Binding>,
+    alloc: Global,
+    env: &Env<'_>,
+) -> Result<(), AllocError> {
     match env {
         Env::Frame(params, values) => add_frame(bindings, alloc, params, values),
         Env::With(name, value, outer) => {
-            bindings.push(bound(alloc, name, value)?)?;
+            bindings.push(Binding::of(alloc, name, value)?)?;
             add_names(bindings, alloc, outer)
         }
     }

@@ -1,6 +1,7 @@
 //! The evaluation of callbacks and of their parts.
 
-use pst_meaning::{Context, Env, eval};
+use crate::evaluation::Evaluation;
+use pst_meaning::{Context, Env};
 use pst_model::{Expr, Source};
 use pst_operators::Stop;
 use pst_value::Value;
@@ -18,6 +19,22 @@ pub fn context_of<'a>(alloc: Global, model: &'a Source) -> Context<'a> {
     }
 }
 
+/// The value of an expression over the names of a context and an environment, or why it has none.
+fn outcome_in(
+    expr: &Expr,
+    context: &Context<'_>,
+    env: &Env<'_>,
+) -> Result<Result<Value, Stop>, AllocError> {
+    let mut evaluation = Evaluation::new(context.alloc, context.earlier, expr, env, TURNS)?;
+    match evaluation.run() {
+        Ok(value) => Ok(Ok(value)),
+        Err(halt) => match halt.stop {
+            Stop::NoMemory => Err(AllocError),
+            stop => Ok(Err(stop)),
+        },
+    }
+}
+
 /// The value of an expression of the model in an environment, or why it has none, which is not want of memory.
 /// `AllocError` where memory is refused.
 pub fn evaluate(
@@ -26,12 +43,7 @@ pub fn evaluate(
     expr: &Expr,
     env: &Env<'_>,
 ) -> Result<Result<Value, Stop>, AllocError> {
-    let context = context_of(alloc, model);
-    let mut turns = TURNS;
-    match eval(expr, &context, env, &mut turns) {
-        Err(Stop::NoMemory) => Err(AllocError),
-        outcome => Ok(outcome),
-    }
+    outcome_in(expr, &context_of(alloc, model), env)
 }
 
 /// The value of an expression in its environment, where it has one.
@@ -40,10 +52,8 @@ pub fn value_in(
     context: &Context<'_>,
     env: &Env<'_>,
 ) -> Result<Option<Value>, AllocError> {
-    let mut turns = TURNS;
-    match eval(expr, context, env, &mut turns) {
+    match outcome_in(expr, context, env)? {
         Ok(value) => Ok(Some(value)),
-        Err(Stop::NoMemory) => Err(AllocError),
         Err(_) => Ok(None),
     }
 }

@@ -1,7 +1,11 @@
-//! The opening state of a model, by both evaluators.
+//! The opening state of a model, by all evaluators.
 
 use pst_compile::compile;
 use pst_eval::{Callbacks, Plain};
+use pst_evidence::evaluate;
+use pst_meaning::Env;
+use pst_model::opening_of;
+use pst_operators::Stop;
 use pst_rules::Typed;
 use pst_sexpr::read;
 use pst_syntax::read_model;
@@ -33,12 +37,29 @@ fn agreed(one: &Outcome, other: &Outcome) -> &'static str {
     }
 }
 
-/// What both evaluators give for the opening state of the model that a text begins with.
+/// Whether the evaluation that explanations use gives the same value or the same fault for the opening state.
+fn is_evidence(alloc: Global, typed: &Typed, outcome: &Outcome) -> Result<bool, AllocError> {
+    let model = typed.source();
+    let Some(opening) = opening_of(model.items.as_slice()) else {
+        return Ok(false);
+    };
+    let evidence = evaluate(alloc, model, opening, &Env::Frame(&[], &[]))?;
+    Ok(match (&evidence, outcome) {
+        (Ok(value), Ok((same, _))) => value == same,
+        (Err(Stop::Fault(fault)), Err(same)) => fault == same,
+        _ => false,
+    })
+}
+
+/// What all evaluators give for the opening state of the model that a text begins with.
 pub fn outcome_of(alloc: Global, text: &str) -> Result<&'static str, AllocError> {
     let Some(typed) = typed_of(alloc, text) else {
         return Ok("not well typed");
     };
     let plain = Plain::new(&typed).init(alloc)?;
+    if !is_evidence(alloc, &typed, &plain)? {
+        return Ok("different in explanations");
+    }
     let Ok(compiled) = compile(alloc, typed) else {
         return Ok("not compiled");
     };

@@ -1,5 +1,5 @@
-//! Asks random well-typed expressions of the plain evaluator and of compiled code, and prints how many of them had a value by both, how many had each
-//! fault by both, and each expression of which they answer otherwise: a test that the gate runs as a program.
+//! Asks random well-typed expressions of the plain evaluator, of compiled code and of the evaluation that explanations use, and prints how many of them
+//! had a value by both, how many had each fault by both, and each expression of which they answer otherwise: a test that the gate runs as a program.
 #![tactic(auto)]
 
 mod evaluated;
