@@ -1,15 +1,9 @@
 //! Items with a reply that is no value.
 
-use crate::calls::Call;
-use crate::forms::add_form;
-use crate::order::call_numbered;
-use crate::page::Page;
 use crate::parts::add_parts;
-use crate::scene::Scene;
-use crate::spelling::add;
-use crate::texts::operation;
 use pst_case::Reply;
 use pst_print::ty_form;
+use pst_scene::{Call, Page, Scene, add, add_form, call_numbered, operation};
 use std::alloc::{AllocError, Global};
 
 /// What the reply says of a command.

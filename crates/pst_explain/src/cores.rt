@@ -6,17 +6,14 @@ ghost use Rattle.pst_judge.specs.Verdict.{first_broken};
 ghost use Rattle.pst_reasons.specs.Reasons.{IsUnexplained};
 
 use crate::allowing::add_allowed;
-use crate::calls::Call;
-use crate::order::call_numbered;
-use crate::page::Page;
 use crate::parts::add_parts;
-use crate::scene::Scene;
-use crate::spelling::{add, add_reply};
-use crate::table::{Table, two};
-use crate::texts::{expression_text, operation, text_of};
 use pst_case::History;
 use pst_eval::Callbacks;
 use pst_reasons::core;
+use pst_scene::{
+    Call, Page, Scene, Table, add, add_reply, call_numbered, expression_text, operation, text_of,
+    two,
+};
 use std::alloc::{AllocError, Global};
 
 /// The place and the spelling of a command, and what it answered.

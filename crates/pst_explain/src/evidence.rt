@@ -1,16 +1,14 @@
 //! What is known of a callback: its expression, what its names stand for, and the part of it that faults.
 
-use crate::calls::Call;
-use crate::page::Page;
-use crate::scene::Scene;
-use crate::table::{Table, two};
-use crate::texts::{expression_text, joined, operation, value_text};
-use crate::walk::{arguments, reference};
 use pst_case::Reply;
 use pst_eval::Callback;
 use pst_evidence::{Binding, FaultyPart, bindings_of, faulty_part, words_of};
 use pst_meaning::Env;
 use pst_model::{Expr, opening_of};
+use pst_scene::{
+    Call, Page, Scene, Table, arguments, expression_text, joined, operation, reference, two,
+    value_text,
+};
 use pst_value::Value;
 use std::alloc::{AllocError, Global};
 

@@ -4,16 +4,11 @@ ghost use Rattle.pst_case.specs.Matches.{matches};
 ghost use Rattle.pst_case.specs.Recorded.{recorded};
 ghost use Rattle.pst_judge.specs.Verdict.{first_broken};
 
-use crate::calls::Call;
-use crate::order::in_order;
-use crate::page::Page;
-use crate::scene::Scene;
-use crate::texts::{add_states, joined};
-use crate::walk::{PreAnswer, precondition};
 use pst_case::History;
 use pst_eval::Callbacks;
 use pst_judge::Postconditions;
 use pst_paths::states;
+use pst_scene::{Call, Page, PreAnswer, Scene, add_states, in_order, joined, precondition};
 use pst_value::Value;
 use std::alloc::{AllocError, Global};
 

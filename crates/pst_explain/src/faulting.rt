@@ -1,15 +1,11 @@
 //! Items in which a callback faults.
 
-use crate::calls::{Call, Part};
 use crate::evidence::{add_callback, add_init};
-use crate::letters::add_word;
-use crate::order::call_numbered;
-use crate::page::Page;
-use crate::scene::Scene;
-use crate::spelling::add;
-use crate::texts::{add_states, text_of};
-use crate::walk::{calls_before, states_along};
 use pst_eval::{Callback, Place};
+use pst_scene::{
+    Call, Page, Part, Scene, add, add_states, add_word, call_numbered, calls_before, states_along,
+    text_of,
+};
 use std::alloc::{AllocError, Global};
 
 /// Adds a callback of a command in the interleaving: its expression with what is known of it on the state before the

@@ -1,14 +1,9 @@
 //! Cases that are not valid.
 
 use crate::faulting::{add_callback_with_states, add_fault};
-use crate::letters::add_word;
-use crate::order::call_numbered;
-use crate::page::Page;
-use crate::scene::Scene;
-use crate::spelling::add;
-use crate::texts::text_of;
 use pst_eval::Callback;
 use pst_judge::Why;
+use pst_scene::{Page, Scene, add, add_word, call_numbered, text_of};
 use std::alloc::{AllocError, Global};
 
 /// Adds the command whose precondition is false in the interleaving, and the states before it.

@@ -6,21 +6,17 @@ ghost use Rattle.pst_judge.specs.Verdict.{IsVerdict};
 ghost use Rattle.pst_judge.specs.declared.verdicts.Verdict.TheVariants as verdict;
 
 use crate::breaking::add_broken;
-use crate::calls::Part;
 use crate::cores::add_core;
 use crate::explaining::add_explained;
 use crate::faulting::add_fault;
 use crate::invalid::add_invalid;
-use crate::order::call_numbered;
-use crate::page::Page;
-use crate::scene::{Scene, scene_of};
-use crate::spelling::{add, add_number};
 use crate::unexplained::add_unexplained;
 use pst_case::{History, Run};
 use pst_eval::{Callbacks, Place};
 use pst_judge::{Judged, Verdict};
 use pst_paths::faulting;
 use pst_rules::Typed;
+use pst_scene::{Page, Part, Scene, add, add_number, call_numbered, scene_of};
 use std::alloc::{AllocError, Global};
 
 /// Adds why a callback faults: the interleaving in which it does, and a core.
@@ -78,12 +74,12 @@ fn add_verdict<C: Callbacks>(
     }
 }
 
-/// The first line of an item: what `pst judge` says of it, and the line of the file where it begins.
+/// The first line of an item: what `pst judge` says of it, and where it begins.
 fn add_heading(
     page: &mut Page,
     alloc: Global,
     number: usize,
-    line: usize,
+    place: &str,
     judged: &Judged,
 ) -> Result<(), AllocError> {
     let out = &mut page.text;
@@ -91,13 +87,13 @@ fn add_heading(
     add(out, " ")?;
     let words = judged.text(alloc)?;
     add(out, words.as_str())?;
-    add(out, " (line ")?;
-    add_number(out, alloc, line)?;
+    add(out, " (")?;
+    add(out, place)?;
     add(out, ")\n")
 }
 
 /// The explanation of an item of the model, in lines of at most `width` bytes as far as sentences allow: `judged` is its
-/// judgement, `number` its number, and `line` the line of the file where it begins.
+/// judgement, `number` its number, and `place` where it begins, as `line 3`.
 pub fn explain_item<C: Callbacks>(
     callbacks: &C,
     alloc: Global,
@@ -105,7 +101,7 @@ pub fn explain_item<C: Callbacks>(
     run: &Run,
     judged: &Judged,
     number: usize,
-    line: usize,
+    place: &str,
     width: usize,
 ) -> Result<Vec<u8>, AllocError>
     requires model { typed.now ≡ C.model callbacks.now }
@@ -114,7 +110,7 @@ pub fn explain_item<C: Callbacks>(
     requires judged { IsJudgement (C.model callbacks.now) run.now judged.now }
 {
     let mut page = Page::new(alloc, width);
-    add_heading(&mut page, alloc, number, line, judged)?;
+    add_heading(&mut page, alloc, number, place, judged)?;
     let scene = scene_of(alloc, typed, run)?;
     match judged {
         Judged::Verdict(verdict) => {

@@ -1,9 +1,6 @@
 //! The run of an item in columns.
 
-use crate::calls::Call;
-use crate::page::Page;
-use crate::scene::Scene;
-use crate::table::Table;
+use pst_scene::{Call, Page, Scene, Table};
 use std::alloc::{AllocError, Global};
 
 /// Branches stand side by side where each may have so many bytes.

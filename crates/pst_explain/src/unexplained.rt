@@ -4,20 +4,15 @@ ghost use Rattle.pst_case.specs.Matches.{matches};
 ghost use Rattle.pst_judge.specs.Verdict.{IsVerdict};
 ghost use Rattle.pst_judge.specs.declared.verdicts.Verdict.TheVariants as verdict;
 
-use crate::calls::Call;
 use crate::cores::add_core;
-use crate::falsity::falsity_text;
-use crate::letters::add_word;
-use crate::order::{in_order, next_calls};
-use crate::page::Page;
-use crate::scene::Scene;
-use crate::spelling::{add, add_number};
-use crate::table::{Table, two};
-use crate::texts::{add_states, text_of};
 use pst_case::History;
 use pst_eval::Callbacks;
 use pst_judge::Postconditions;
 use pst_paths::{furthest, states};
+use pst_scene::{
+    Call, Page, Scene, Table, add, add_number, add_states, add_word, falsity_text, in_order,
+    next_calls, text_of, two,
+};
 use pst_value::Value;
 use std::alloc::{AllocError, Global};
 

@@ -16,8 +16,11 @@ use std::alloc::{AllocError, Global};
 /// What a precondition answers.
 #[derive(Clone, Copy, Debug, PartialEq, Eq, Drop)]
 pub enum PreAnswer {
+    /// It is true.
     Holds,
+    /// It is false.
     Fails,
+    /// It faults.
     Faults(Fault),
 }
 
@@ -46,7 +49,7 @@ pub fn reference(alloc: Global, call: &Call<'_>) -> Result<Value, AllocError> {
 }
 
 /// The initial state, where the model gives one.
-fn initial_state(alloc: Global, scene: &Scene<'_>) -> Result<Option<Value>, AllocError> {
+pub fn initial_state(alloc: Global, scene: &Scene<'_>) -> Result<Option<Value>, AllocError> {
     match opening_of(scene.model.items.as_slice()) {
         Some(opening) => {
             let outcome = evaluate(alloc, scene.model, opening, &Env::Frame(&[], &[]))?;
@@ -57,7 +60,7 @@ fn initial_state(alloc: Global, scene: &Scene<'_>) -> Result<Option<Value>, Allo
 }
 
 /// The state behind a command, where its `next` does not fault.
-fn state_behind(
+pub fn state_behind(
     alloc: Global,
     scene: &Scene<'_>,
     state: &Value,

@@ -12,7 +12,9 @@ use std::alloc::{AllocError, Global};
 /// What is known of an item that is explained.
 #[derive(Drop)]
 pub struct Scene<'a> {
+    /// The model of the item.
     pub model: &'a Source,
+    /// The item.
     pub run: &'a Run,
     /// The commands, part by part.
     pub calls: Calls<'a>,

@@ -6,7 +6,9 @@ use std::alloc::{AllocError, Global};
 /// The text so far, and the width of its lines.
 #[derive(Drop)]
 pub struct Page {
+    /// The lines so far.
     pub text: Vec<u8>,
+    /// The most bytes of a line, as far as it can be cut.
     pub width: usize,
 }
 

@@ -10,9 +10,11 @@ use std::alloc::{AllocError, Global};
 /// A part of a case.
 #[derive(Clone, Copy, Debug, PartialEq, Eq, Drop)]
 pub enum Part {
+    /// What runs before the branches.
     Prefix,
     /// A branch, from 0.
     Branch(usize),
+    /// What runs behind the branches.
     Suffix,
 }
 
@@ -25,6 +27,7 @@ pub struct Call<'a> {
     pub place: usize,
     /// Its number in the case, from 1.
     pub number: u32,
+    /// The command itself.
     pub command: &'a Command,
     /// What was recorded of it, where the case was run.
     pub reply: Option<&'a Reply>,
@@ -33,8 +36,11 @@ pub struct Call<'a> {
 /// The commands of a case, part by part.
 #[derive(Drop)]
 pub struct Calls<'a> {
+    /// Those of the prefix.
     pub prefix: Vec<Call<'a>>,
+    /// Those of each branch.
     pub branches: Vec<Vec<Call<'a>>>,
+    /// Those of the suffix.
     pub suffix: Vec<Call<'a>>,
 }
 

@@ -1,0 +1,42 @@
+//! The graph of an item.
+ghost use Rattle.std.specs.Prelude.{◌≡◌};
+ghost use Rattle.pst_judge.specs.Judgement.{HistoryMatches, IsJudgement};
+
+use crate::drawing::drawn;
+use crate::path::shown_calls;
+use crate::search::search_of;
+use pst_case::Run;
+use pst_eval::Callbacks;
+use pst_judge::Judged;
+use pst_rules::Typed;
+use pst_scene::scene_of;
+use std::alloc::{AllocError, Global};
+
+/// The search of an item of the model as a graph for Graphviz: `judged` is its judgement, and `number` its
+/// number.
+///
+/// A node is a position of the search: how far each part of the item has come, and the state there. Those
+/// behind equally many commands stand side by side. An edge is a command with its answer. A command that
+/// cannot come next leads, in red, to a dead end, which says why. The edges of the interleaving of the
+/// verdict are bold. The first 300 positions are gone on from, and all along the bold edges; others are
+/// dashed, and the title says so. `AllocError`: memory was refused.
+pub fn graph_item<C: Callbacks>(
+    callbacks: &C,
+    alloc: Global,
+    typed: &Typed,
+    run: &Run,
+    judged: &Judged,
+    number: usize,
+) -> Result<Vec<u8>, AllocError>
+    requires shaped { run.now.shaped.model ≡ C.model callbacks.now }
+    requires matches { HistoryMatches (C.model callbacks.now) run.now }
+    requires judged { IsJudgement (C.model callbacks.now) run.now judged.now }
+{
+    let scene = scene_of(alloc, typed, run)?;
+    let shown = shown_calls(callbacks, alloc, &scene, judged)?;
+    let search = search_of(alloc, &scene, shown.as_slice())?;
+    let verdict = judged.text(alloc)?;
+    let verdict = verdict.as_str();
+    let title = format!(in alloc; "{number} {verdict}")?;
+    drawn(alloc, &scene, &search, title.as_str())
+}

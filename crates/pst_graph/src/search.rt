@@ -1,0 +1,166 @@
+//! The search of an item: positions, and the commands that are tried there.
+
+use crate::outcome::{Outcome, outcome_of};
+use crate::position::Position;
+use pst_scene::{Call, Scene, initial_state};
+use std::alloc::{AllocError, Global};
+
+/// Only so many positions are gone on from, beside those along the interleaving that is shown.
+const MOST_POSITIONS: usize = 300;
+
+/// Where a command leads.
+#[derive(Drop)]
+pub enum Target {
+    /// The position of this number.
+    Position(usize),
+    /// The command cannot come next there, for a reason that stands in words.
+    DeadEnd(Vec<u8>),
+}
+
+/// A command that is tried at a position.
+#[derive(Drop)]
+pub struct Move<'a> {
+    /// The number of the position.
+    pub from: usize,
+    /// The command.
+    pub call: Call<'a>,
+    /// Where it leads.
+    pub target: Target,
+}
+
+/// A search, or the beginning of one.
+#[derive(Drop)]
+pub struct Search<'a> {
+    /// The positions that it met. The first is that before all commands; there is none where the initial
+    /// state faults.
+    pub positions: Vec<Position>,
+    /// The commands that it tried.
+    pub moves: Vec<Move<'a>>,
+    /// The numbers of those that the interleaving takes that is shown.
+    pub shown: Vec<usize>,
+}
+
+/// The number of the position among these.
+fn number_of(positions: &[Position], wanted: &Position) -> Option<usize> {
+    for (number, position) in positions.iter().enumerate() {
+        if position.is(wanted) {
+            return Some(number);
+        }
+    }
+    None
+}
+
+/// The number of the move that a command makes at a position, and the position that it leads to.
+fn step_of(moves: &[Move<'_>], from: usize, command: u32) -> Option<(usize, usize)> {
+    for (number, step) in moves.iter().enumerate() {
+        if step.from == from && step.call.number == command {
+            return match step.target {
+                Target::Position(to) => Some((number, to)),
+                Target::DeadEnd(_) => None,
+            };
+        }
+    }
+    None
+}
+
+impl<'a> Search<'a> {
+    /// The number of the position, which is added where it is new.
+    fn place(&mut self, position: Position) -> Result<usize, AllocError> {
+        if let Some(number) = number_of(self.positions.as_slice(), &position) {
+            return Ok(number);
+        }
+        let number = self.positions.len();
+        self.positions.push(position)?;
+        Ok(number)
+    }
+
+    /// Tries a command at a position of this number.
+    fn try_call(
+        &mut self,
+        alloc: Global,
+        scene: &Scene<'_>,
+        from: usize,
+        position: &Position,
+        call: Call<'a>,
+    ) -> Result<(), AllocError> {
+        let target = match outcome_of(alloc, scene, &position.state, &call)? {
+            Outcome::Leads(state) => {
+                let next = position.behind(alloc, scene, call.part, state)?;
+                Target::Position(self.place(next)?)
+            }
+            Outcome::Refused(why) => Target::DeadEnd(why),
+        };
+        self.moves.push(Move { from, call, target })?;
+        Ok(())
+    }
+
+    /// Tries each command that may come next at the position of this number.
+    fn go_on(&mut self, alloc: Global, scene: &Scene<'a>, from: usize) -> Result<(), AllocError> {
+        let Some(position) = self.positions.get(from) else {
+            return Ok(());
+        };
+        let position = position.copied(alloc)?;
+        let next = position.next_calls(alloc, scene)?;
+        for call in &next {
+            self.try_call(alloc, scene, from, &position, *call)?;
+        }
+        Ok(())
+    }
+
+    /// Goes on from the positions along the commands, and notes their moves.
+    fn go_along(
+        &mut self,
+        alloc: Global,
+        scene: &Scene<'a>,
+        calls: &[Call<'_>],
+    ) -> Result<(), AllocError> {
+        let mut at = 0usize;
+        self.go_on(alloc, scene, at)?;
+        for call in calls {
+            let Some((number, next)) = step_of(self.moves.as_slice(), at, call.number) else {
+                return Ok(());
+            };
+            self.shown.push(number)?;
+            at = next;
+            self.go_on(alloc, scene, at)?;
+        }
+        Ok(())
+    }
+
+    /// Whether a command was tried at the position of this number.
+    pub fn is_tried(&self, number: usize) -> bool {
+        self.moves.iter().any(|step| step.from == number)
+    }
+
+    /// Goes on from the first positions at which no command was tried.
+    fn go_on_from_rest(&mut self, alloc: Global, scene: &Scene<'a>) -> Result<(), AllocError> {
+        for number in 0..MOST_POSITIONS {
+            if !self.is_tried(number) {
+                self.go_on(alloc, scene, number)?;
+            }
+        }
+        Ok(())
+    }
+}
+
+/// The search of an item from its initial state on. It goes along the commands of the interleaving that is
+/// shown, and then from the other positions in the order in which it met them, as far as the limit allows.
+pub fn search_of<'a>(
+    alloc: Global,
+    scene: &Scene<'a>,
+    shown: &[Call<'_>],
+) -> Result<Search<'a>, AllocError> {
+    let mut search = Search {
+        positions: Vec::new(alloc),
+        moves: Vec::new(alloc),
+        shown: Vec::new(alloc),
+    };
+    let Some(state) = initial_state(alloc, scene)? else {
+        return Ok(search);
+    };
+    let first = Position::first(alloc, scene, state)?;
+    search.positions.push(first)?;
+    search.go_along(alloc, scene, shown)?;
+    search.go_on_from_rest(alloc, scene)?;
+    Ok(search)
+}
