@@ -1,17 +1,17 @@
 //! The messages beside refusals.
 
 use crate::bytes::unread;
-use crate::problem::Problem;
-use crate::runs::run;
-use crate::syntax::syntax;
-use crate::typing::typing;
+use pst_form_problems::form_problem;
 use pst_load::{ModelFile, Refusal, items_of, load};
 use pst_places::span_of;
+use pst_problems::Problem;
 use pst_rules::Typed;
+use pst_run_problems::run_problem;
 use pst_runs::{RunFault, read_runs};
 use pst_sexpr::{Tree, read};
 use pst_sources::{Input, SourceFile};
 use pst_syntax::read_model;
+use pst_type_problems::type_problem;
 use std::alloc::{AllocError, Global};
 use std::slice;
 
@@ -46,9 +46,9 @@ fn of_model(alloc: Global, input: &[u8], refusal: &Refusal) -> Result<Option<Pro
         return Ok(None);
     };
     match refusal {
-        Refusal::NoModel(fault) => syntax(alloc, trees.as_slice(), *fault),
+        Refusal::NoModel(fault) => form_problem(alloc, trees.as_slice(), *fault),
         Refusal::IllTyped(number) => match (read_model(alloc, trees.as_slice()), trees.first()) {
-            (Ok(model), Some(tree)) => typing(alloc, model.source(), tree.form(), *number),
+            (Ok(model), Some(tree)) => type_problem(alloc, model.source(), tree.form(), *number),
             _ => Ok(None),
         },
         Refusal::Unread(_) => Ok(None),
@@ -64,7 +64,7 @@ fn of_first_item(
     match read_runs(alloc, typed, items_of(trees)) {
         Ok(_) => Ok(None),
         Err(fault) => match trees.get(fault.run) {
-            Some(tree) => run(alloc, typed.source(), tree.form(), fault),
+            Some(tree) => run_problem(alloc, typed.source(), tree.form(), fault),
             None => Ok(None),
         },
     }
@@ -84,7 +84,7 @@ fn of_item(
                 run: number,
                 ..fault
             };
-            run(alloc, typed.source(), tree.form(), fault)
+            run_problem(alloc, typed.source(), tree.form(), fault)
         }
     }
 }

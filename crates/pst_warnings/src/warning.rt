@@ -10,7 +10,7 @@ use pst_sources::{Input, SourceFile};
 use std::alloc::{AllocError, Global};
 
 /// The warning on the tree that a path leads to, with a note.
-fn warning(
+pub fn warning(
     alloc: Global,
     input: &Input<'_>,
     path: &[usize],

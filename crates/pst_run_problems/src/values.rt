@@ -2,10 +2,8 @@
 
 use crate::command::{Part, result_of, variable};
 use crate::entries::entries_problem;
-use crate::items::head_of;
-use crate::problem::below;
-use crate::text::{short_text, ty_text};
 use pst_model::Source;
+use pst_problems::{below, head_of, short_text, ty_text};
 use pst_sexpr::{Form, MAX_BYTES, node_of};
 use pst_value::Ty;
 use pst_words::is_integer;

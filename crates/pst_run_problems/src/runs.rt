@@ -1,17 +1,15 @@
 //! Cases and runs that are refused.
 
-use crate::applied::unknown_among;
 use crate::arguments::{Called, argument};
 use crate::command::{commands_of, located};
-use crate::items::head_of;
-use crate::judged::{Judged, noted, problem};
-use crate::problem::{Problem, below, text};
 use crate::replies::{bad_reply, no_fit};
-use crate::text::short_text;
 use pst_case::CaseFaultKind;
 use pst_model::Source;
+use pst_problems::{
+    Judged, Problem, below, head_of, noted, short_text, text, unknown_among, wrong,
+};
 use pst_runs::{RunFault, RunFaultKind};
-use pst_sexpr::{Form, node_of, word_of};
+use pst_sexpr::{Form, node_of};
 use std::alloc::{AllocError, Global};
 
 /// How cases and runs are written.
@@ -20,11 +18,22 @@ const WRITTEN_CASE: &str = "(case (prefix CALL ..) (left CALL ..) (right CALL ..
 const WRITTEN_RUN: &str =
     "(run (prefix CALL ..) (left CALL ..) (right CALL ..) (replies (R ..) (R ..) (R ..)))";
 
+/// Whether a tree stands there and is headed by a word.
+fn is_headed(form: Option<&Form>, word: &str) -> bool {
+    match form {
+        Some(form) => match head_of(form) {
+            Some(head) => head.as_str() == word,
+            None => false,
+        },
+        None => false,
+    }
+}
+
 /// A tree that has to be headed by a word.
 fn section(alloc: Global, path: &[usize], form: Option<&Form>, place: usize, word: &str) -> Judged {
     let at = below(path, alloc, place)?;
     let Some(form) = form else {
-        return problem(alloc, path, format!(in alloc; "`({word} ..)` is missing")?);
+        return wrong(alloc, path, format!(in alloc; "`({word} ..)` is missing")?);
     };
     if let Some(head) = head_of(form) {
         if head.as_str() == word {
@@ -33,7 +42,7 @@ fn section(alloc: Global, path: &[usize], form: Option<&Form>, place: usize, wor
     }
     let shown = short_text(alloc, form)?;
     let what = format!(in alloc; "`({word} ..)` has to stand here, found `{shown}`")?;
-    problem(alloc, at.as_slice(), what)
+    wrong(alloc, at.as_slice(), what)
 }
 
 /// A call that is not written as one, among those of a part, from a number on.
@@ -62,7 +71,7 @@ fn branches(alloc: Global, path: &[usize], form: &Form) -> Judged {
     let number = forms.len().saturating_sub(1);
     if number < 2 || number > 4 {
         let what = format!(in alloc; "there are {number} branches, and may be 2 to 4")?;
-        return problem(alloc, at.as_slice(), what);
+        return wrong(alloc, at.as_slice(), what);
     }
     let mut place: usize = 0;
     for form in forms {
@@ -70,7 +79,7 @@ fn branches(alloc: Global, path: &[usize], form: &Form) -> Judged {
         if place > 0 {
             let Some(forms) = node_of(form) else {
                 let what = text(alloc, "a branch is a list of calls: `(CALL ..)`")?;
-                return problem(alloc, branch.as_slice(), what);
+                return wrong(alloc, branch.as_slice(), what);
             };
             if let Some(found) = calls(alloc, branch.as_slice(), forms, 0)? {
                 return Ok(Some(found));
@@ -99,14 +108,7 @@ fn part(alloc: Global, path: &[usize], form: Option<&Form>, place: usize, word: 
 /// The parts behind the branches.
 fn behind(alloc: Global, path: &[usize], parts: &[Form], from: usize, is_run: bool) -> Judged {
     let mut place = from;
-    let has_suffix = match parts.get(place) {
-        Some(form) => match head_of(form) {
-            Some(head) => head.as_str() == "suffix",
-            None => false,
-        },
-        None => false,
-    };
-    if has_suffix {
+    if is_headed(parts.get(place), "suffix") {
         if let Some(found) = part(alloc, path, parts.get(place), place, "suffix")? {
             return Ok(Some(found));
         }
@@ -121,7 +123,7 @@ fn behind(alloc: Global, path: &[usize], parts: &[Form], from: usize, is_run: bo
     match parts.get(place) {
         Some(_) => {
             let at = below(path, alloc, place)?;
-            problem(
+            wrong(
                 alloc,
                 at.as_slice(),
                 text(alloc, "the item has no such part, or not here")?,
@@ -138,11 +140,11 @@ fn no_item(alloc: Global, path: &[usize], form: &Form, head: &str) -> Judged {
             alloc,
             "a second model: the first tree of an input is its model",
         )?;
-        return problem(alloc, path, what);
+        return wrong(alloc, path, what);
     }
     let shown = short_text(alloc, form)?;
     let what = format!(in alloc; "`{shown}` is neither a case nor a run")?;
-    problem(alloc, path, what)
+    wrong(alloc, path, what)
 }
 
 /// What is wrong with the form of an item.
@@ -158,34 +160,29 @@ fn form_of(alloc: Global, path: &[usize], form: &Form) -> Judged {
     if let Some(found) = part(alloc, path, parts.get(1), 1, "prefix")? {
         return Ok(Some(found));
     }
-    let in_one = match parts.get(2) {
-        Some(form) => match head_of(form) {
-            Some(head) => head.as_str() == "branches",
-            None => false,
-        },
-        None => false,
-    };
-    if let (true, Some(form)) = (in_one, parts.get(2)) {
+    if let (true, Some(form)) = (is_headed(parts.get(2), "branches"), parts.get(2)) {
         if let Some(found) = branches(alloc, path, form)? {
             return Ok(Some(found));
         }
         return behind(alloc, path, parts, 3, head == "run");
     }
-    if let Some(found) = part(alloc, path, parts.get(2), 2, "left")? {
-        return Ok(Some(found));
-    }
-    if let Some(found) = part(alloc, path, parts.get(3), 3, "right")? {
+    if let Some(found) = two_branches(alloc, path, parts)? {
         return Ok(Some(found));
     }
     behind(alloc, path, parts, 4, head == "run")
 }
 
+/// The branches of an item that has each in a part of its own.
+fn two_branches(alloc: Global, path: &[usize], parts: &[Form]) -> Judged {
+    if let Some(found) = part(alloc, path, parts.get(2), 2, "left")? {
+        return Ok(Some(found));
+    }
+    part(alloc, path, parts.get(3), 3, "right")
+}
+
 /// An item of another form.
 fn bad_form(alloc: Global, path: &[usize], form: &Form) -> Judged {
-    let is_run = match head_of(form) {
-        Some(head) => head.as_str() == "run",
-        None => false,
-    };
+    let is_run = is_headed(Some(form), "run");
     let found = match form_of(alloc, path, form)? {
         Some(found) => found,
         None => Problem::new(
@@ -213,11 +210,11 @@ fn over_limit(alloc: Global, path: &[usize], form: &Form) -> Judged {
             let mut at = Vec::from_slice(alloc, path)?;
             at.extend_from_slice(part.path.as_slice())?;
             let what = format!(in alloc; "{called} has {number} commands, at most {most}")?;
-            return problem(alloc, at.as_slice(), what);
+            return wrong(alloc, at.as_slice(), what);
         }
     }
     let what = format!(in alloc; "the branches have {together} commands together, at most 16")?;
-    problem(alloc, path, what)
+    wrong(alloc, path, what)
 }
 
 /// What is wrong with the command of a number, from 1.
@@ -252,7 +249,7 @@ fn bad_command(
 }
 
 /// What is wrong with a case or a run.
-pub fn run(
+pub fn run_problem(
     alloc: Global,
     source: &Source,
     form: &Form,
@@ -272,7 +269,7 @@ pub fn run(
         Some(found) => Ok(Some(found)),
         None => {
             let kind = fault.kind.name();
-            problem(
+            wrong(
                 alloc,
                 &path,
                 format!(in alloc; "the item is refused: {kind}")?,

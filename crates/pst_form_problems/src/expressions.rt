@@ -1,12 +1,11 @@
 //! Trees as expressions.
 
-use crate::forms::{Shown, expression, in_place_of, is_head};
-use crate::judged::{Judged, foreign, is_name, noted, problem};
-use crate::names::meant;
-use crate::problem::{below, text};
 use crate::roles::{Role, Tasks};
-use crate::text::count;
 use pst_items::Text;
+use pst_problems::{
+    Judged, Shown, below, count, expression, foreign, heads, in_place_of, is_head, is_name, meant,
+    noted, text, wrong,
+};
 use pst_sexpr::{Form, node_of, word_of};
 use pst_syntax::{MAX_NAME, MAX_PARTS};
 use pst_value::LIMIT;
@@ -20,7 +19,7 @@ fn word_expression(alloc: Global, has_maps: bool, path: &[usize], word: &Text) -
         if integer_of(word).is_some() {
             return Ok(None);
         }
-        return problem(
+        return wrong(
             alloc,
             path,
             format!(in alloc; "`{name}` has more than 64 bits")?,
@@ -32,7 +31,7 @@ fn word_expression(alloc: Global, has_maps: bool, path: &[usize], word: &Text) -
     if let Some(form) = expression(has_maps, name) {
         let written = form.written;
         let what = format!(in alloc; "`{name}` is a form and no value: `{written}`")?;
-        return problem(alloc, path, what);
+        return wrong(alloc, path, what);
     }
     if is_name(word) && !is_head(has_maps, name) && word.len() <= MAX_NAME {
         return Ok(None);
@@ -78,10 +77,10 @@ fn no_head(alloc: Global, has_maps: bool, path: &[usize], word: &Text) -> Judged
             text(alloc, "hint: clauses stand in `(for (CLAUSE ..) BODY)`")?,
         );
     }
-    let known = crate::forms::heads(alloc, has_maps)?;
+    let known = heads(alloc, has_maps)?;
     match meant(alloc, &known, name)? {
         Some(hint) => noted(alloc, at.as_slice(), what, hint),
-        None => problem(alloc, at.as_slice(), what),
+        None => wrong(alloc, at.as_slice(), what),
     }
 }
 
@@ -91,6 +90,38 @@ fn beside(name: &Form) -> Role<'_> {
         Some(other) => Role::Beside(other),
         None => Role::Bound,
     }
+}
+
+/// The parts of a comprehension, to be judged.
+fn add_for<'a>(
+    tasks: &mut Tasks<'a>,
+    path: &[usize],
+    clauses: &'a Form,
+    body: &'a Form,
+    room: usize,
+) -> Result<(), AllocError> {
+    if let Some(clauses) = node_of(clauses) {
+        let at = below(path, tasks.alloc(), 1)?;
+        tasks.add_all(at.as_slice(), 0, clauses, Role::Clause(room))?;
+    }
+    tasks.add(path, 2, body, Role::Expression(room))
+}
+
+/// The parts of a fold, to be judged: the name of an item, the list, the name of what is built, its first value, and the
+/// body.
+fn add_fold<'a>(
+    tasks: &mut Tasks<'a>,
+    path: &[usize],
+    parts: [&'a Form; 5],
+    room: usize,
+) -> Result<(), AllocError> {
+    let [name, list, built, first, body] = parts;
+    let inner = Role::Expression(room);
+    tasks.add(path, 1, name, Role::Bound)?;
+    tasks.add(path, 2, list, inner)?;
+    tasks.add(path, 3, built, beside(name))?;
+    tasks.add(path, 4, first, inner)?;
+    tasks.add(path, 5, body, inner)
 }
 
 /// The parts of a form of expressions, to be judged.
@@ -118,19 +149,9 @@ fn add_parts<'a>(
         }
         ("at", [tuple, _]) => tasks.add(path, 1, tuple, inner),
         ("map", [_, value]) => tasks.add(path, 2, value, Role::Type(16)),
-        ("for", [clauses, body]) => {
-            if let Some(clauses) = node_of(clauses) {
-                let at = below(path, tasks.alloc(), 1)?;
-                tasks.add_all(at.as_slice(), 0, clauses, Role::Clause(room))?;
-            }
-            tasks.add(path, 2, body, inner)
-        }
+        ("for", [clauses, body]) => add_for(tasks, path, clauses, body, room),
         ("fold", [name, list, built, first, body]) => {
-            tasks.add(path, 1, name, Role::Bound)?;
-            tasks.add(path, 2, list, inner)?;
-            tasks.add(path, 3, built, beside(name))?;
-            tasks.add(path, 4, first, inner)?;
-            tasks.add(path, 5, body, inner)
+            add_fold(tasks, path, [name, list, built, first, body], room)
         }
         _ => tasks.add_all(path, 1, parts, inner),
     }
@@ -148,7 +169,7 @@ pub fn small_parts(alloc: Global, path: &[usize], word: &str, parts: &[Form]) ->
                 return Ok(None);
             }
             let what = format!(in alloc; "the tuple has {number} items, at most {MAX_PARTS}")?;
-            problem(alloc, path, what)
+            wrong(alloc, path, what)
         }
         _ => Ok(None),
     }
@@ -160,9 +181,9 @@ fn place_part(alloc: Global, path: &[usize], place: &Form) -> Judged {
     let what = "the place of a tuple's item is an integer from 1 on";
     match word_of(place) {
         Some(word) if is_integer(word) => match integer_of(word) {
-            Some(number) if number <= 0 => problem(alloc, at.as_slice(), text(alloc, what)?),
+            Some(number) if number <= 0 => wrong(alloc, at.as_slice(), text(alloc, what)?),
             Some(_) => Ok(None),
-            None => problem(alloc, at.as_slice(), text(alloc, what)?),
+            None => wrong(alloc, at.as_slice(), text(alloc, what)?),
         },
         _ => noted(
             alloc,
@@ -183,7 +204,7 @@ fn keys_part(alloc: Global, path: &[usize], keys: &Form) -> Judged {
     }
     let at = below(path, alloc, 1)?;
     let what = text(alloc, "the keys of a map are `int`, `bool` or `text`")?;
-    problem(alloc, at.as_slice(), what)
+    wrong(alloc, at.as_slice(), what)
 }
 
 /// The clauses of a comprehension.
@@ -205,7 +226,7 @@ fn clauses_part(alloc: Global, path: &[usize], clauses: &Form) -> Judged {
             let what = format!(in alloc;
                 "the comprehension has {number} clauses, at most {MAX_PARTS}"
             )?;
-            problem(alloc, at.as_slice(), what)
+            wrong(alloc, at.as_slice(), what)
         }
     }
 }
@@ -220,11 +241,11 @@ fn node_expression<'a>(
 ) -> Judged {
     let alloc = tasks.alloc();
     let Some((first, parts)) = parts.split_first() else {
-        return problem(alloc, path, text(alloc, "`()` is no expression")?);
+        return wrong(alloc, path, text(alloc, "`()` is no expression")?);
     };
     let Some(word) = word_of(first) else {
         let what = text(alloc, "an expression in brackets begins with a word")?;
-        return problem(alloc, path, what);
+        return wrong(alloc, path, what);
     };
     if let Some(form) = expression(has_maps, word.as_str()) {
         if parts.len() < form.least || parts.len() > form.most {
@@ -254,7 +275,7 @@ pub fn as_expression<'a>(
     let alloc = tasks.alloc();
     if room == 0 {
         let what = text(alloc, "more than 64 expressions in one another")?;
-        return problem(alloc, path, what);
+        return wrong(alloc, path, what);
     }
     match form {
         Form::Word(word) => word_expression(alloc, has_maps, path, word),
@@ -263,7 +284,7 @@ pub fn as_expression<'a>(
             if length <= LIMIT {
                 return Ok(None);
             }
-            problem(
+            wrong(
                 alloc,
                 path,
                 format!(in alloc; "the text has {length} bytes, at most {LIMIT}")?,

@@ -1,13 +1,11 @@
 //! Models that are not well typed.
 
 use crate::diagnose::{Leaf, diagnose};
-use crate::items::head_of;
-use crate::judged::{Judged, noted, problem};
-use crate::problem::{Problem, below, text};
-use crate::text::ty_text;
+use crate::operands::reference_hint;
 use pst_blame::{Blame, find};
 use pst_items::Boxed;
 use pst_model::{Expr, Fun, Item, Op, Source, state_of};
+use pst_problems::{Judged, Problem, below, head_of, noted, text, ty_text, wrong};
 use pst_sexpr::{Form, node_of};
 use pst_typing::{Context, Scope, holds_call, holds_ref};
 use pst_value::Ty;
@@ -116,25 +114,10 @@ fn of_expression(expr: &Expr, context: &Context<'_>, scope: &Scope<'_>, site: &S
             let what = format!(in alloc; "{called}: wanted {wanted}, found {found}")?;
             match reference_hint(alloc, site.wanted, &ty)? {
                 Some(hint) => noted(alloc, site.path, what, hint),
-                None => problem(alloc, site.path, what),
+                None => wrong(alloc, site.path, what),
             }
         }
         Err(blame) => blamed(context, site, &blame),
-    }
-}
-
-/// A hint where a reference stands in the place of its value.
-pub fn reference_hint(
-    alloc: Global,
-    wanted: &Ty,
-    found: &Ty,
-) -> Result<Option<String>, AllocError> {
-    match found {
-        Ty::Ref(named) if *named.get() == *wanted => Ok(Some(text(
-            alloc,
-            "hint: the value of a result is known in post alone: keep the reference in the state, and deref it there",
-        )?)),
-        _ => Ok(None),
     }
 }
 
@@ -195,7 +178,7 @@ fn of_declared(alloc: Global, op: &Op, number: usize) -> Judged {
     for param in op.params.as_slice() {
         if holds_call(&param.ty) {
             let what = text(alloc, "the parameter of an operation holds no `call`")?;
-            return problem(alloc, &[0, number, 2, place, 1], what);
+            return wrong(alloc, &[0, number, 2, place, 1], what);
         }
         place = place.saturating_add(1);
     }
@@ -313,12 +296,12 @@ fn of_value(alloc: Global, items: &[Item], state: &Ty, item: &Item, here: Here<'
             };
             of_expression(expr, &plain, &seen, &site)
         }
-        _ => problem(alloc, &path, text(alloc, "the state holds no `call`")?),
+        _ => wrong(alloc, &path, text(alloc, "the state holds no `call`")?),
     }
 }
 
 /// What is wrong with the item of a number, from 1, of a model that is not well typed.
-pub fn typing(
+pub fn type_problem(
     alloc: Global,
     source: &Source,
     model: &Form,
@@ -341,7 +324,7 @@ pub fn typing(
     };
     match found {
         Some(found) => Ok(Some(found)),
-        None => problem(
+        None => wrong(
             alloc,
             &[0, place],
             text(alloc, "the item is not well typed")?,

@@ -1,11 +1,10 @@
 //! Models that are refused for their form.
 
-use crate::items::{head_of, item_problem};
-use crate::judged::{Judged, declared, is_name, noted, problem, too_long};
-use crate::names::add;
-use crate::problem::{Problem, text};
-use crate::text::listed;
+use crate::items::item_problem;
 use pst_items::Items;
+use pst_problems::{
+    Judged, Problem, add, declared, head_of, is_name, listed, noted, text, too_long, wrong,
+};
 use pst_sexpr::{Form, Tree, node_of, word_of};
 use pst_syntax::{FaultKind, MAX_TREES, SyntaxFault};
 use std::alloc::{AllocError, Global};
@@ -77,14 +76,14 @@ fn of_model(alloc: Global, form: &Form, kind: FaultKind) -> Judged {
                 }
             }
             let what = format!(in alloc; "the model has more than {MAX_TREES} trees")?;
-            problem(alloc, &[0], what)
+            wrong(alloc, &[0], what)
         }
         _ => no_model(alloc, form),
     }
 }
 
 /// What is wrong with a model that is refused for its form.
-pub fn syntax(
+pub fn form_problem(
     alloc: Global,
     trees: &[Tree],
     fault: SyntaxFault,
@@ -114,7 +113,7 @@ pub fn syntax(
         return Ok(Some(found));
     }
     let kind = fault.kind.name();
-    problem(
+    wrong(
         alloc,
         &[0, place],
         format!(in alloc; "the item is refused: {kind}")?,

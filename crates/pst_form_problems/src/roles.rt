@@ -1,7 +1,7 @@
 //! What a tree of a model has to be.
 
-use crate::problem::below;
 use pst_items::Text;
+use pst_problems::below;
 use pst_sexpr::Form;
 use std::alloc::{AllocError, Global};
 

@@ -11,7 +11,7 @@ use std::alloc::{AllocError, Global};
 pub type Judged = Result<Option<Problem>, AllocError>;
 
 /// A problem at a place.
-pub fn problem(alloc: Global, path: &[usize], what: String) -> Judged {
+pub fn wrong(alloc: Global, path: &[usize], what: String) -> Judged {
     Ok(Some(Problem::new(alloc, Vec::from_slice(alloc, path)?, what)))
 }
 
@@ -25,7 +25,7 @@ pub fn noted(alloc: Global, path: &[usize], what: String, note: String) -> Judge
 pub fn foreign(alloc: Global, path: &[usize], word: &str, what: String) -> Judged {
     match in_place_of(word) {
         Some(hint) => noted(alloc, path, what, format!(in alloc; "hint: {hint}")?),
-        None => problem(alloc, path, what),
+        None => wrong(alloc, path, what),
     }
 }
 
@@ -76,7 +76,7 @@ pub fn declared(alloc: Global, has_maps: bool, path: &[usize], word: &Text) -> J
     match taken(has_maps, name) {
         Some(what) => {
             let what = format!(in alloc; "`{name}` is {what}; choose another name")?;
-            problem(alloc, path, what)
+            wrong(alloc, path, what)
         }
         None => too_long(alloc, path, word),
     }
@@ -89,7 +89,7 @@ pub fn too_long(alloc: Global, path: &[usize], word: &Text) -> Judged {
         return Ok(None);
     }
     let what = format!(in alloc; "the name has {length} bytes, at most {MAX_NAME}")?;
-    problem(alloc, path, what)
+    wrong(alloc, path, what)
 }
 
 /// A name that has to be declared, or another tree in its place.
@@ -101,13 +101,13 @@ pub fn bound(
     other: Option<&Text>,
 ) -> Judged {
     let Some(word) = word_of(form) else {
-        return problem(alloc, path, text(alloc, "a name has to stand here")?);
+        return wrong(alloc, path, text(alloc, "a name has to stand here")?);
     };
     if let Some(other) = other {
         if other.as_str() == word.as_str() {
             let name = word.as_str();
             let what = format!(in alloc; "`{name}` is bound twice; choose another name")?;
-            return problem(alloc, path, what);
+            return wrong(alloc, path, what);
         }
     }
     declared(alloc, has_maps, path, word)

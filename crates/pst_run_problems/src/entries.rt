@@ -1,8 +1,7 @@
 //! The entries of a map in an argument or a reply.
 
-use crate::problem::below;
-use crate::text::{key_word, short_text};
 use crate::values::{IllPart, Spelled};
+use pst_problems::{below, key_word, short_text};
 use pst_sexpr::{Form, node_of};
 use pst_value::{KeyTy, Ty, text_less};
 use pst_words::integer_of;

@@ -1,14 +1,12 @@
 //! Applications of functions and calls of operations.
 
 use crate::diagnose::Leaf;
-use crate::forms::{in_place_of, is_of_maps};
-use crate::judged::{Judged, noted, problem};
-use crate::names::{add, meant};
 use crate::operands::wanted_type;
-use crate::problem::{Problem, below, text};
-use crate::text::{count, listed, signature};
-use pst_items::{Items, Text};
-use pst_model::{Fun, Item, Op, Param};
+use pst_model::{Fun, Item, Param};
+use pst_problems::{
+    Judged, Problem, below, count, heads, in_place_of, is_of_maps, meant, noted, operation,
+    signature, text, unknown_among,
+};
 use pst_sexpr::{node_of, word_of};
 use pst_value::Ty;
 use std::alloc::{AllocError, Global};
@@ -23,73 +21,6 @@ fn function<'a>(items: &'a [Item], name: &str) -> Option<&'a Fun> {
         }
     }
     None
-}
-
-/// The operation of a name.
-pub fn operation<'a>(items: &'a [Item], name: &str) -> Option<&'a Op> {
-    for item in items {
-        if let Item::Op(op) = item {
-            if op.name.as_str() == name {
-                return Some(op);
-            }
-        }
-    }
-    None
-}
-
-/// The names of the operations or of the functions.
-fn names_of(
-    alloc: Global,
-    items: &[Item],
-    are_operations: bool,
-) -> Result<Items<Text>, AllocError> {
-    let mut names = Items::new(alloc);
-    for item in items {
-        match item {
-            Item::Op(op) if are_operations => add(alloc, &mut names, op.name.as_str())?,
-            Item::Fun(fun) if !are_operations => add(alloc, &mut names, fun.name.as_str())?,
-            _ => {}
-        }
-    }
-    Ok(names)
-}
-
-/// The known name that may be meant, else all of them, if there are some.
-fn known_note(
-    alloc: Global,
-    known: &Items<Text>,
-    kind: &str,
-    name: &str,
-) -> Result<Option<String>, AllocError> {
-    if let Some(hint) = meant(alloc, known, name)? {
-        return Ok(Some(hint));
-    }
-    if known.is_empty() {
-        return Ok(None);
-    }
-    let names = listed(alloc, known)?;
-    Ok(Some(format!(in alloc; "{kind}s: {names}")?))
-}
-
-/// The problem of a name with the operations or the functions that there are.
-pub fn unknown_among(
-    alloc: Global,
-    items: &[Item],
-    path: &[usize],
-    name: &str,
-    are_operations: bool,
-) -> Judged {
-    let known = names_of(alloc, items, are_operations)?;
-    let kind = if are_operations {
-        "operation"
-    } else {
-        "function"
-    };
-    let what = format!(in alloc; "no {kind} has the name `{name}`")?;
-    match known_note(alloc, &known, kind, name)? {
-        Some(note) => noted(alloc, path, what, note),
-        None => problem(alloc, path, what),
-    }
 }
 
 /// Arguments that do not fit parameters.
@@ -198,7 +129,7 @@ fn no_function(alloc: Global, leaf: &Leaf<'_>, name: &str) -> Judged {
         )?;
         return noted(alloc, path, what, hint);
     }
-    let known = crate::forms::heads(alloc, leaf.has_maps)?;
+    let known = heads(alloc, leaf.has_maps)?;
     match meant(alloc, &known, name)? {
         Some(hint) => noted(alloc, path, what, hint),
         None => unknown_among(alloc, leaf.context.items, path, name, false),

@@ -1,13 +1,10 @@
 //! Arguments of commands that are ill.
 
-use crate::applied::operation;
 use crate::command::{Part, place_of, variable};
-use crate::judged::{Judged, noted};
-use crate::problem::{below, text};
-use crate::text::{count, signature};
 use crate::values::{IllPart, Spelled, add_parts, ill_part};
 use pst_case::CaseFaultKind;
 use pst_model::{Op, Source};
+use pst_problems::{Judged, below, count, noted, operation, signature, text};
 use pst_sexpr::{Form, MAX_BYTES, node_of, word_of};
 use std::alloc::{AllocError, Global};
 

@@ -1,12 +1,24 @@
 //! Parts of another type than their form takes.
 
 use crate::diagnose::Leaf;
-use crate::judged::{Judged, noted, problem};
-use crate::problem::{below, text};
-use crate::text::ty_text;
-use crate::typing::reference_hint;
+use pst_problems::{Judged, below, noted, text, ty_text, wrong};
 use pst_value::Ty;
-use std::alloc::Global;
+use std::alloc::{AllocError, Global};
+
+/// A hint where a reference stands in the place of its value.
+pub fn reference_hint(
+    alloc: Global,
+    wanted: &Ty,
+    found: &Ty,
+) -> Result<Option<String>, AllocError> {
+    match found {
+        Ty::Ref(named) if *named.get() == *wanted => Ok(Some(text(
+            alloc,
+            "hint: the value of a result is known in post alone: keep the reference in the state, and deref it there",
+        )?)),
+        _ => Ok(None),
+    }
+}
 
 /// A part, by its number in its tree, of another type than the wanted one.
 pub fn wanted_type(
@@ -27,7 +39,7 @@ pub fn wanted_type(
     let what = format!(in alloc; "{what}: wanted {wanted}, found {found}")?;
     match hint {
         Some(hint) => noted(alloc, at.as_slice(), what, hint),
-        None => problem(alloc, at.as_slice(), what),
+        None => wrong(alloc, at.as_slice(), what),
     }
 }
 
@@ -50,7 +62,7 @@ pub fn wanted_list(
             what,
             text(alloc, "hint: `(keys m)` is the list of the keys of a map")?,
         ),
-        _ => problem(alloc, at.as_slice(), what),
+        _ => wrong(alloc, at.as_slice(), what),
     }
 }
 
@@ -67,5 +79,5 @@ pub fn wanted_map(alloc: Global, leaf: &Leaf<'_>, head: &str, found: &Ty) -> Jud
     }
     let at = below(leaf.path, alloc, 1)?;
     let what = format!(in alloc; "`{head}`: wanted a map, found {shown}")?;
-    problem(alloc, at.as_slice(), what)
+    wrong(alloc, at.as_slice(), what)
 }

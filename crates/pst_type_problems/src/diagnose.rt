@@ -1,18 +1,16 @@
 //! What is wrong with the part of an expression that is to blame, by the types of its parts.
 
 use crate::applied::{applied, called};
-use crate::forms::is_of_maps;
-use crate::items::head_of;
-use crate::judged::{Judged, noted, problem};
-use crate::names::meant;
 use crate::operands::{wanted_list, wanted_map, wanted_type};
-use crate::problem::{below, text};
-use crate::text::{form_text, key_word, listed, ty_text};
 use pst_items::{Items, Text};
+use pst_problems::{
+    Judged, Problem, below, form_text, head_of, is_of_maps, key_word, listed, meant, noted, text, ty_text,
+    wrong,
+};
 use pst_sexpr::{Form, node_of, word_of};
 use pst_typing::{Context, holds_ref};
 use pst_value::{KeyTy, Ty};
-use std::alloc::Global;
+use std::alloc::{AllocError, Global};
 
 /// The part that is to blame: what it may name, its tree, the path to it, the types of its parts, the names that
 /// it sees, and what the whole expression is called.
@@ -28,32 +26,42 @@ pub struct Leaf<'a> {
     pub has_maps: bool,
 }
 
+/// The names that the part sees.
+fn names_note(alloc: Global, leaf: &Leaf<'_>) -> Result<String, AllocError> {
+    if leaf.names.is_empty() {
+        let called = leaf.called;
+        return format!(in alloc; "{called} sees no names");
+    }
+    let names = listed(alloc, leaf.names)?;
+    format!(in alloc; "names known here: {names}")
+}
+
+/// A hint for a name that stands for nothing, if there is one.
+fn name_hint(alloc: Global, leaf: &Leaf<'_>, name: &str) -> Result<Option<String>, AllocError> {
+    let hint = match name {
+        "s" => "hint: only callbacks see the state `s`: give it as a parameter",
+        "r" => "hint: only next and post see the result `r`",
+        _ => return meant(alloc, leaf.names, name),
+    };
+    Ok(Some(text(alloc, hint)?))
+}
+
+/// The same problem with a hint, if there is one.
+fn hinted(found: Option<Problem>, hint: Option<String>) -> Judged {
+    match (found, hint) {
+        (Some(found), Some(hint)) => Ok(Some(found.with(hint)?)),
+        (found, _) => Ok(found),
+    }
+}
+
 /// A name that stands for nothing.
 fn unknown(alloc: Global, leaf: &Leaf<'_>, word: &Text) -> Judged {
     let name = word.as_str();
     let called = leaf.called;
+    let hint = name_hint(alloc, leaf, name)?;
     let what = format!(in alloc; "{called}: nothing has the name `{name}` here")?;
-    let note = if leaf.names.is_empty() {
-        format!(in alloc; "{called} sees no names")?
-    } else {
-        let names = listed(alloc, leaf.names)?;
-        format!(in alloc; "names known here: {names}")?
-    };
-    let hint = match name {
-        "s" => Some(text(
-            alloc,
-            "hint: only callbacks see the state `s`: give it as a parameter",
-        )?),
-        "r" => Some(text(alloc, "hint: only next and post see the result `r`")?),
-        _ => meant(alloc, leaf.names, name)?,
-    };
-    let Some(mut found) = noted(alloc, leaf.path, what, note)? else {
-        return Ok(None);
-    };
-    if let Some(hint) = hint {
-        found = found.with(hint)?;
-    }
-    Ok(Some(found))
+    let note = names_note(alloc, leaf)?;
+    hinted(noted(alloc, leaf.path, what, note)?, hint)
 }
 
 /// The type that a part was found to have.
@@ -104,7 +112,7 @@ fn order(alloc: Global, leaf: &Leaf<'_>, head: &str) -> Judged {
     let found = ty_text(alloc, first)?;
     let at = below(leaf.path, alloc, 1)?;
     let what = format!(in alloc; "`{head}` compares int or text, found {found}")?;
-    problem(alloc, at.as_slice(), what)
+    wrong(alloc, at.as_slice(), what)
 }
 
 /// A comparison by `=`.
@@ -141,7 +149,7 @@ fn sameness(alloc: Global, leaf: &Leaf<'_>) -> Judged {
     let found = ty_text(alloc, first)?;
     let at = below(leaf.path, alloc, 1)?;
     let what = format!(in alloc; "`same` compares references, found {found}")?;
-    problem(alloc, at.as_slice(), what)
+    wrong(alloc, at.as_slice(), what)
 }
 
 /// The value of a reference.
@@ -163,7 +171,7 @@ fn dereference(alloc: Global, leaf: &Leaf<'_>) -> Judged {
     let found = ty_text(alloc, found)?;
     let at = below(leaf.path, alloc, 1)?;
     let what = format!(in alloc; "`deref` takes a reference, found {found}")?;
-    problem(alloc, at.as_slice(), what)
+    wrong(alloc, at.as_slice(), what)
 }
 
 /// A length, or two texts or lists in a row.
@@ -184,7 +192,7 @@ fn sequence(alloc: Global, leaf: &Leaf<'_>, head: &str) -> Judged {
             what,
             text(alloc, "hint: `(keys m)` is the list of the keys of a map")?,
         ),
-        _ => problem(alloc, at.as_slice(), what),
+        _ => wrong(alloc, at.as_slice(), what),
     }
 }
 
@@ -221,7 +229,7 @@ fn place_in_tuple(alloc: Global, leaf: &Leaf<'_>) -> Judged {
         let number = items.len();
         let at = below(leaf.path, alloc, 2)?;
         let what = format!(in alloc; "the tuple has {number} items: {shown}")?;
-        return problem(alloc, at.as_slice(), what);
+        return wrong(alloc, at.as_slice(), what);
     }
     let at = below(leaf.path, alloc, 1)?;
     let what = format!(in alloc; "`at` takes a tuple, found {shown}")?;
@@ -232,7 +240,7 @@ fn place_in_tuple(alloc: Global, leaf: &Leaf<'_>) -> Judged {
             what,
             text(alloc, "hint: of a list it is `(nth LIST PLACE)`, from 0 on")?,
         ),
-        _ => problem(alloc, at.as_slice(), what),
+        _ => wrong(alloc, at.as_slice(), what),
     }
 }
 
@@ -279,7 +287,7 @@ fn of_list(alloc: Global, leaf: &Leaf<'_>) -> Judged {
         if shown.as_str() != wanted.as_str() {
             let at = below(leaf.path, alloc, place)?;
             let what = format!(in alloc; "an item of the list: wanted {wanted}, found {shown}")?;
-            return problem(alloc, at.as_slice(), what);
+            return wrong(alloc, at.as_slice(), what);
         }
         place = place.saturating_add(1);
     }
@@ -310,7 +318,7 @@ fn of_for(alloc: Global, leaf: &Leaf<'_>) -> Judged {
                 let at = below(leaf.path, alloc, 1)?;
                 let at = below(at.as_slice(), alloc, place)?;
                 let at = below(at.as_slice(), alloc, 1)?;
-                return problem(alloc, at.as_slice(), what);
+                return wrong(alloc, at.as_slice(), what);
             }
             None => return Ok(None),
         }
@@ -380,5 +388,5 @@ pub fn diagnose(alloc: Global, leaf: &Leaf<'_>) -> Judged {
     if let Some(found) = applied(alloc, leaf, head)? {
         return Ok(Some(found));
     }
-    problem(alloc, leaf.path, text(alloc, "this has no type")?)
+    wrong(alloc, leaf.path, text(alloc, "this has no type")?)
 }

@@ -1,12 +1,12 @@
 //! The items of a model: their forms and their names.
 
-use crate::judged::{Judged, declared, is_name, noted, problem, too_long};
-use crate::names::meant;
-use crate::problem::{below, text};
 use crate::roles::{Role, Tasks};
-use crate::text::{count, short_text};
 use crate::walk::first_problem;
 use pst_items::{Items, Text};
+use pst_problems::{
+    Judged, add, below, count, declared, head_of, in_place_of, is_name, listed, meant, noted,
+    short_text, text, too_long, wrong,
+};
 use pst_sexpr::{Form, node_of, word_of};
 use pst_syntax::{MAX_DECLARED, MAX_PARTS};
 use std::alloc::{AllocError, Global};
@@ -25,11 +25,6 @@ const WRITTEN: [(&str, usize, &str); 6] = [
     ),
 ];
 
-/// The head word of a node.
-pub fn head_of(form: &Form) -> Option<&Text> {
-    word_of(node_of(form)?.first()?)
-}
-
 /// How an item of that head is written, and how many parts it has at least.
 fn written_of(head: &str) -> Option<(usize, &'static str)> {
     for row in WRITTEN.as_slice() {
@@ -44,7 +39,7 @@ fn written_of(head: &str) -> Option<(usize, &'static str)> {
 fn no_item(alloc: Global, path: &[usize], form: &Form) -> Judged {
     let Some(head) = head_of(form) else {
         let shown = short_text(alloc, form)?;
-        let note = match crate::forms::in_place_of(shown.as_str()) {
+        let note = match in_place_of(shown.as_str()) {
             Some(hint) => format!(in alloc; "hint: {hint}")?,
             None => text(
                 alloc,
@@ -63,7 +58,7 @@ fn no_item(alloc: Global, path: &[usize], form: &Form) -> Judged {
     let what = format!(in alloc; "`{head}` heads no item of a model")?;
     let mut known = Items::new(alloc);
     for row in WRITTEN.as_slice() {
-        crate::names::add(alloc, &mut known, row.0)?;
+        add(alloc, &mut known, row.0)?;
     }
     let note = match meant(alloc, &known, head)? {
         Some(hint) => hint,
@@ -123,7 +118,7 @@ fn outside(alloc: Global, path: &[usize], head: &str, parts: &[Form], before: &[
     };
     let earlier = headed(before, head, other);
     if !is_named && earlier > 0 {
-        return problem(
+        return wrong(
             alloc,
             path,
             format!(in alloc; "the model has two items `{head}`")?,
@@ -131,7 +126,7 @@ fn outside(alloc: Global, path: &[usize], head: &str, parts: &[Form], before: &[
     }
     if is_named && earlier >= MAX_DECLARED {
         let what = format!(in alloc; "the model has more than {MAX_DECLARED} items `{head}`")?;
-        return problem(alloc, path, what);
+        return wrong(alloc, path, what);
     }
     Ok(None)
 }
@@ -167,7 +162,7 @@ fn name_part(
     let at = at.as_slice();
     let Some(word) = word_of(name) else {
         let what = format!(in alloc; "the name of the `{head}` has to stand here")?;
-        return problem(alloc, at, what);
+        return wrong(alloc, at, what);
     };
     if let Some(found) = as_declared(alloc, has_maps, at, head, word)? {
         return Ok(Some(found));
@@ -176,7 +171,7 @@ fn name_part(
         return Ok(None);
     }
     let name = word.as_str();
-    problem(
+    wrong(
         alloc,
         at,
         format!(in alloc; "an earlier item declares `{name}`")?,
@@ -201,7 +196,7 @@ fn add_parameters<'a>(tasks: &mut Tasks<'a>, path: &[usize], params: &'a Form) -
     let number = forms.len();
     if number > MAX_PARTS {
         let what = format!(in alloc; "there are {number} parameters, at most {MAX_PARTS}")?;
-        return problem(alloc, at.as_slice(), what);
+        return wrong(alloc, at.as_slice(), what);
     }
     let mut place: usize = 0;
     for form in forms {
@@ -227,6 +222,26 @@ fn add_callbacks<'a>(
     Ok(())
 }
 
+/// The name, the parameters and the type of the result of a function or an operation, to be judged.
+fn add_signature<'a>(
+    tasks: &mut Tasks<'a>,
+    has_maps: bool,
+    path: &[usize],
+    head: &str,
+    signature: [&'a Form; 3],
+    before: &[Form],
+) -> Judged {
+    let [name, params, result] = signature;
+    if let Some(found) = name_part(tasks.alloc(), has_maps, path, head, name, before)? {
+        return Ok(Some(found));
+    }
+    if let Some(found) = add_parameters(tasks, path, params)? {
+        return Ok(Some(found));
+    }
+    tasks.add(path, 3, result, Role::Type(16))?;
+    Ok(None)
+}
+
 /// The parts of an item, to be judged.
 fn add_item<'a>(
     tasks: &mut Tasks<'a>,
@@ -241,23 +256,17 @@ fn add_item<'a>(
         ("init", [value]) => tasks.add(path, 1, value, Role::Expression(64))?,
         ("command", [calls]) => tasks.add(path, 1, calls, Role::Expression(64))?,
         ("op", [name, params, result, callbacks @ ..]) => {
-            if let Some(found) = name_part(tasks.alloc(), has_maps, path, head, name, before)? {
+            let signature = [name, params, result];
+            if let Some(found) = add_signature(tasks, has_maps, path, head, signature, before)? {
                 return Ok(Some(found));
             }
-            if let Some(found) = add_parameters(tasks, path, params)? {
-                return Ok(Some(found));
-            }
-            tasks.add(path, 3, result, Role::Type(16))?;
             add_callbacks(tasks, path, callbacks)?;
         }
         (_, [name, params, result, body]) => {
-            if let Some(found) = name_part(tasks.alloc(), has_maps, path, head, name, before)? {
+            let signature = [name, params, result];
+            if let Some(found) = add_signature(tasks, has_maps, path, head, signature, before)? {
                 return Ok(Some(found));
             }
-            if let Some(found) = add_parameters(tasks, path, params)? {
-                return Ok(Some(found));
-            }
-            tasks.add(path, 3, result, Role::Type(16))?;
             tasks.add(path, 4, body, Role::Expression(64))?;
         }
         _ => {}
@@ -270,14 +279,14 @@ fn lacking(alloc: Global, path: &[usize], parts: &[Form]) -> Judged {
     let mut names = Items::new(alloc);
     for word in ["pre", "next", "post"] {
         if headed(parts, word, word) == 0 {
-            crate::names::add(alloc, &mut names, word)?;
+            add(alloc, &mut names, word)?;
         }
     }
     if names.is_empty() {
         return Ok(None);
     }
-    let names = crate::text::listed(alloc, &names)?;
-    problem(
+    let names = listed(alloc, &names)?;
+    wrong(
         alloc,
         path,
         format!(in alloc; "the operation has no callback {names}")?,

@@ -1,9 +1,7 @@
 //! The commands of a case, with where they stand.
 
-use crate::applied::operation;
-use crate::items::head_of;
-use crate::problem::below;
 use pst_model::Source;
+use pst_problems::{below, head_of, operation};
 use pst_sexpr::{Form, node_of};
 use pst_value::Ty;
 use std::alloc::{AllocError, Global};

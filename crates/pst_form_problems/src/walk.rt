@@ -2,12 +2,11 @@
 //! to right.
 
 use crate::expressions::{arity, as_expression, small_parts};
-use crate::forms::{is_of_maps, type_form};
-use crate::judged::{Judged, bound, foreign, is_name, noted, problem};
-use crate::problem::{below, text};
 use crate::roles::{Role, Task, Tasks};
-use crate::text::short_text;
 use pst_items::Text;
+use pst_problems::{
+    Judged, below, bound, foreign, is_name, is_of_maps, noted, short_text, text, type_form, wrong,
+};
 use pst_sexpr::{Form, node_of, word_of};
 use pst_syntax::MAX_NAME;
 use std::alloc::Global;
@@ -60,7 +59,7 @@ fn add_types<'a>(
     let alloc = tasks.alloc();
     if room == 0 {
         let what = text(alloc, "more than 16 types in one another")?;
-        return problem(alloc, path, what);
+        return wrong(alloc, path, what);
     }
     if head != "map" {
         tasks.add_all(path, 1, rest, Role::Type(room - 1))?;
@@ -120,7 +119,7 @@ fn word_type(alloc: Global, path: &[usize], form: &Form) -> Judged {
     if let Some(shown) = type_form(word) {
         let written = shown.written;
         let what = format!(in alloc; "the type is written `{written}`")?;
-        return problem(alloc, path, what);
+        return wrong(alloc, path, what);
     }
     let what = format!(in alloc; "`{word}` is no type")?;
     foreign(alloc, path, word, what)
@@ -174,7 +173,7 @@ fn as_clause<'a>(tasks: &mut Tasks<'a>, path: &[usize], form: &'a Form, room: us
 fn as_operation(alloc: Global, path: &[usize], form: &Form) -> Judged {
     match word_of(form) {
         Some(word) if is_name(word) && word.len() <= MAX_NAME => Ok(None),
-        _ => problem(
+        _ => wrong(
             alloc,
             path,
             text(alloc, "the name of an operation has to stand here")?,
@@ -192,7 +191,7 @@ fn as_parameter<'a>(
 ) -> Judged {
     let alloc = tasks.alloc();
     let Some([name, ty]) = node_of(form) else {
-        return problem(alloc, path, text(alloc, "a parameter is `(NAME TYPE)`")?);
+        return wrong(alloc, path, text(alloc, "a parameter is `(NAME TYPE)`")?);
     };
     let at = below(path, alloc, 0)?;
     if let Some(found) = bound(alloc, has_maps, at.as_slice(), name, None)? {
@@ -203,7 +202,7 @@ fn as_parameter<'a>(
             if *first == *name {
                 let name = word.as_str();
                 let what = format!(in alloc; "two parameters have the name `{name}`")?;
-                return problem(alloc, at.as_slice(), what);
+                return wrong(alloc, at.as_slice(), what);
             }
         }
     }
@@ -246,7 +245,7 @@ fn as_callback<'a>(
     for other in before {
         if callback_head(other) == Some(head) {
             let what = format!(in alloc; "the operation has two callbacks `{head}`")?;
-            return problem(alloc, path, what);
+            return wrong(alloc, path, what);
         }
     }
     tasks.add(path, 1, body, Role::Expression(64))?;

@@ -1,12 +1,9 @@
 //! The replies of a run.
 
 use crate::command::{Part, commands_of, place_of};
-use crate::items::head_of;
-use crate::judged::{Judged, noted, problem};
-use crate::problem::{below, text};
-use crate::text::{count, short_text};
 use crate::values::{IllPart, ill_part};
 use pst_model::Source;
+use pst_problems::{Judged, below, count, head_of, noted, short_text, text, wrong};
 use pst_sexpr::{Form, node_of};
 use std::alloc::{AllocError, Global};
 
@@ -48,7 +45,7 @@ fn count_of(
     } else {
         format!(in alloc; "{replies} replies")?
     };
-    problem(
+    wrong(
         alloc,
         at.as_slice(),
         format!(in alloc; "{called}: {given} for {has}")?,
@@ -120,6 +117,25 @@ fn written(alloc: Global, has_maps: bool) -> Result<String, AllocError> {
     )
 }
 
+/// The first part of a tree that spells no reply.
+fn ill_reply(
+    alloc: Global,
+    source: &Source,
+    parts: &[Part<'_>],
+    path: &[usize],
+    reply: &Form,
+) -> Result<IllPart, AllocError> {
+    if node_of(reply).is_some() {
+        if let Some(ill) = ill_part(alloc, source, parts, path, reply, None)? {
+            return Ok(ill);
+        }
+    }
+    let shown = short_text(alloc, reply)?;
+    let what = format!(in alloc; "`{shown}` spells no reply")?;
+    let path = Vec::from_slice(alloc, path)?;
+    Ok(IllPart { path, what })
+}
+
 /// A tree that spells no reply.
 pub fn bad_reply(
     alloc: Global,
@@ -135,14 +151,11 @@ pub fn bad_reply(
     };
     let mut at = Vec::from_slice(alloc, path)?;
     at.extend_from_slice(steps.as_slice())?;
-    let note = written(alloc, source.has_maps)?;
-    if node_of(reply).is_some() {
-        if let Some(ill) = ill_part(alloc, source, parts, at.as_slice(), reply, None)? {
-            let IllPart { path, what } = ill;
-            return noted(alloc, path.as_slice(), what, note);
-        }
-    }
-    let shown = short_text(alloc, reply)?;
-    let what = format!(in alloc; "`{shown}` spells no reply")?;
-    noted(alloc, at.as_slice(), what, note)
+    let IllPart { path, what } = ill_reply(alloc, source, parts, at.as_slice(), reply)?;
+    noted(
+        alloc,
+        path.as_slice(),
+        what,
+        written(alloc, source.has_maps)?,
+    )
 }

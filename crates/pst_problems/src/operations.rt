@@ -1,0 +1,75 @@
+//! Names of operations and functions that a model does not have.
+
+use crate::judged::{Judged, noted, wrong};
+use crate::names::{add, meant};
+use crate::writing::listed;
+use pst_items::{Items, Text};
+use pst_model::{Item, Op};
+use std::alloc::{AllocError, Global};
+
+/// The operation of a name.
+pub fn operation<'a>(items: &'a [Item], name: &str) -> Option<&'a Op> {
+    for item in items {
+        if let Item::Op(op) = item {
+            if op.name.as_str() == name {
+                return Some(op);
+            }
+        }
+    }
+    None
+}
+
+/// The names of the operations or of the functions.
+fn names_of(
+    alloc: Global,
+    items: &[Item],
+    are_operations: bool,
+) -> Result<Items<Text>, AllocError> {
+    let mut names = Items::new(alloc);
+    for item in items {
+        match item {
+            Item::Op(op) if are_operations => add(alloc, &mut names, op.name.as_str())?,
+            Item::Fun(fun) if !are_operations => add(alloc, &mut names, fun.name.as_str())?,
+            _ => {}
+        }
+    }
+    Ok(names)
+}
+
+/// The known name that may be meant, else all of them, if there are some.
+fn known_note(
+    alloc: Global,
+    known: &Items<Text>,
+    kind: &str,
+    name: &str,
+) -> Result<Option<String>, AllocError> {
+    if let Some(hint) = meant(alloc, known, name)? {
+        return Ok(Some(hint));
+    }
+    if known.is_empty() {
+        return Ok(None);
+    }
+    let names = listed(alloc, known)?;
+    Ok(Some(format!(in alloc; "{kind}s: {names}")?))
+}
+
+/// The problem of a name with the operations or the functions that there are.
+pub fn unknown_among(
+    alloc: Global,
+    items: &[Item],
+    path: &[usize],
+    name: &str,
+    are_operations: bool,
+) -> Judged {
+    let known = names_of(alloc, items, are_operations)?;
+    let kind = if are_operations {
+        "operation"
+    } else {
+        "function"
+    };
+    let what = format!(in alloc; "no {kind} has the name `{name}`")?;
+    match known_note(alloc, &known, kind, name)? {
+        Some(note) => noted(alloc, path, what, note),
+        None => wrong(alloc, path, what),
+    }
+}

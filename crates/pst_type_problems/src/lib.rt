@@ -1,0 +1,12 @@
+//! What is wrong with a model that is not well typed.
+//!
+//! What stands here is tested and not proved: that it ends and does nothing unsafe is all that its proofs say.
+//! That the part which is looked at is ill is proved of `pst_blame`.
+#![tactic(auto)]
+
+mod applied;
+mod diagnose;
+mod operands;
+mod typing;
+
+pub use typing::type_problem;

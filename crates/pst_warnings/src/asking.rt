@@ -1,0 +1,29 @@
+//! The condition of a replay that asks preconditions.
+
+use pst_eval::Callbacks;
+use pst_judge::{Condition, Event, truth};
+use pst_value::{Fault, Value};
+use std::alloc::{AllocError, Global};
+
+/// The precondition of each event.
+#[derive(Debug, Clone, Copy, Drop)]
+pub struct Preconditions;
+
+impl Condition for Preconditions {
+    ghost use Rattle.pst_eval.specs.Callbacks.{pre_of};
+
+    ghost asked = { λ p m s e. pre_of m e.op s e.args };
+
+    fn ask<C: Callbacks>(
+        &self,
+        callbacks: &C,
+        alloc: Global,
+        state: &Value,
+        event: &Event,
+    ) -> Result<Result<bool, Fault>, AllocError> {
+        match callbacks.pre(alloc, event.op, state, event.args.as_slice())? {
+            Ok((answer, _)) => Ok(Ok(truth(&answer))),
+            Err(fault) => Ok(Err(fault)),
+        }
+    }
+}

@@ -1,0 +1,132 @@
+//! The first command of an interleaving whose precondition is not true.
+ghost use Rattle.std.specs.Prelude.{◌≡◌, ℕ, true, None};
+ghost use Rattle.pst_judge.specs.Verdict.{first_broken};
+ghost use Rattle.pst_runs.specs.Lawful.{IsLawful};
+
+use crate::asking::Preconditions;
+use pst_case::{Case, Command, Run};
+use pst_eval::Callbacks;
+use pst_model::{Expr, Item};
+use pst_paths::states;
+use pst_value::Value;
+use std::alloc::{AllocError, Global};
+
+/// A command whose precondition is not true on the state before it.
+#[derive(Debug, Drop)]
+pub struct Failing {
+    /// The number of the command, from 1.
+    pub command: usize,
+    /// The state before it.
+    pub state: Value,
+}
+
+/// For each operation of a model, in their order, whether its precondition is another expression than `true`.
+pub fn conditional(alloc: Global, items: &[Item]) -> Result<Vec<bool>, AllocError> {
+    let mut marks = Vec::new(alloc);
+    for item in items {
+        if let Item::Op(op) = item {
+            marks.push(!matches!(&op.pre, Expr::Bool(true)))?;
+        }
+    }
+    Ok(marks)
+}
+
+/// Whether one of the commands calls an operation that is marked.
+fn any_marked(marks: &[bool], commands: &[Command]) -> bool {
+    commands
+        .iter()
+        .any(|command| marks.get(command.op as usize) == Some(&true))
+}
+
+/// Whether a command of a case calls an operation that is marked.
+pub fn calls_marked(marks: &[bool], case: &Case) -> bool {
+    any_marked(marks, case.prefix.as_slice())
+        || case
+            .branches
+            .as_slice()
+            .iter()
+            .any(|branch| any_marked(marks, branch.as_slice()))
+        || any_marked(marks, case.suffix.as_slice())
+}
+
+/// Whether all results are known.
+fn are_known(results: &[Option<Value>]) -> bool
+    ensures { (n : ℕ) → result ≡ true → first_broken n results.now ≡ None }
+{
+    match results.split_first() {
+        Some((Some(_), rest)) => are_known(rest),
+        Some((None, _)) => false,
+        None => true,
+    }
+}
+
+/// How many commands stand in the branches before one.
+fn in_branches_before(case: &Case, branch: usize) -> usize {
+    let mut count: usize = 0;
+    for commands in case.branches.as_slice().iter().take(branch) {
+        count = count.saturating_add(commands.len());
+    }
+    count
+}
+
+/// The number of the command that comes in the interleaving of a word behind so many others.
+fn number_at(case: &Case, word: &[usize], place: usize) -> usize {
+    let behind = case.prefix.len();
+    let letter = place.saturating_sub(behind);
+    if place < behind {
+        return place.saturating_add(1);
+    }
+    let Some(branch) = word.get(letter) else {
+        return place.saturating_add(1);
+    };
+    let earlier = word
+        .iter()
+        .take(letter)
+        .filter(|other| **other == *branch)
+        .count();
+    behind
+        .saturating_add(in_branches_before(case, *branch))
+        .saturating_add(earlier)
+        .saturating_add(1)
+}
+
+/// The first command of a recorded run whose precondition is not true in the interleaving of a word, which explains the
+/// run; none where each is true.
+pub fn first_failing<C: Callbacks>(
+    callbacks: &C,
+    alloc: Global,
+    run: &Run,
+    word: &[usize],
+) -> Result<Option<Failing>, AllocError>
+    requires { IsLawful (C.model callbacks.now) run.now }
+{
+    let Some(history) = &run.history else {
+        return Ok(None);
+    };
+    if !are_known(history.recorded(alloc)?.as_slice()) {
+        return Ok(None);
+    }
+    let mut states = states(callbacks, &Preconditions, alloc, &run.shaped, history, word)?;
+    let case = run.shaped.case();
+    let commands = number_of_commands(case);
+    let count = states.len();
+    if count > commands {
+        return Ok(None);
+    }
+    match states.pop() {
+        Some(state) => Ok(Some(Failing {
+            command: number_at(case, word, count.saturating_sub(1)),
+            state,
+        })),
+        None => Ok(None),
+    }
+}
+
+/// How many commands a case has.
+fn number_of_commands(case: &Case) -> usize {
+    let branches = case.branches.as_slice();
+    case.prefix
+        .len()
+        .saturating_add(in_branches_before(case, branches.len()))
+        .saturating_add(case.suffix.len())
+}
