@@ -6,4 +6,6 @@ mod notes;
 #[cfg(test)]
 mod rows;
 #[cfg(test)]
+mod seats;
+#[cfg(test)]
 mod threads;
