@@ -1,13 +1,20 @@
-//! The words of `pst explain`.
+//! `pst explain`: its words, and what it writes.
+
+ghost use Rattle.std.specs.Prelude.{◌≡◌, false};
 
 use clap::builder::ValueParser;
-use clap::{Arg, ArgMatches, Command};
+use clap::{Arg, ArgAction, ArgMatches, Command};
+use pst_cli::{Status, explain_text, graph_text};
+use pst_sexpr::MAX_BYTES;
+use pst_sink::Sink;
+use pst_sources::SourceFile;
 use std::alloc::{AllocError, Global};
+use std::thread::Threads;
 
 /// The width of lines where none is given.
 const WIDTH: usize = 80;
 
-/// `explain`, with a file and the width of lines.
+/// `explain`, with files, the width of lines, and the item that is drawn.
 pub fn command<'a>(alloc: Global) -> Result<Command<'a>, AllocError> {
     let width = Arg::new(alloc, "width")
         .long("width")
@@ -15,17 +22,57 @@ pub fn command<'a>(alloc: Global) -> Result<Command<'a>, AllocError> {
         .value_parser(ValueParser::Unsigned(20, 1_000))
         .default_value("80")
         .help("the width of lines");
+    let dot = Arg::new(alloc, "dot")
+        .long("dot")
+        .action(ArgAction::SetTrue)
+        .help("writes the search of one item as a graph for Graphviz, and no explanations");
+    let item = Arg::new(alloc, "item")
+        .long("item")
+        .value_name("N")
+        .value_parser(ValueParser::Unsigned(1, MAX_BYTES as u64))
+        .help("with --dot, the item that is drawn; without it the first that is not explained")
+        .requires_arg("dot")?;
     Command::new(alloc, "explain")
         .about("explains the verdicts on the cases and recorded runs behind a model")
         .arg(crate::words::files(alloc))?
-        .arg(width)
+        .arg(width)?
+        .arg(dot)?
+        .arg(item)
 }
 
 /// The width of lines that the words ask for.
-pub fn width(words: &ArgMatches<'_>) -> usize {
+fn width(words: &ArgMatches<'_>) -> usize {
     let width: Option<u64> = words.get_one("width");
     match width {
         Some(width) => width as usize,
         None => WIDTH,
+    }
+}
+
+/// The number of the item that the words ask for, where they do.
+fn item(words: &ArgMatches<'_>) -> Option<usize> {
+    let item: Option<u64> = words.get_one("item");
+    match item {
+        Some(item) => Some(item as usize),
+        None => None,
+    }
+}
+
+/// Explains the items of the input, which stands in the files, or draws the search of one of them where the
+/// words ask for it.
+pub fn explain<W: Sink, R: Threads + Sync>(
+    rt: &R,
+    alloc: Global,
+    words: &ArgMatches<'_>,
+    files: &[SourceFile<'_>],
+    input: &[u8],
+    out: &mut W,
+) -> Status
+    requires { W.broken out.old ≡ false }
+{
+    if words.get_flag("dot") {
+        graph_text(rt, alloc, input, item(words), out)
+    } else {
+        explain_text(rt, alloc, input, files, width(words), out)
     }
 }

@@ -36,7 +36,7 @@ fn explained<R: Threads + Sync>(
 ) -> Result<Option<Vec<u8>>, AllocError> {
     let file = file_of(alloc, input, run)?;
     let mut out = Out::new(Vec::new(alloc));
-    let status = explain_text(rt, alloc, file.as_slice(), WIDTH, &mut out);
+    let status = explain_text(rt, alloc, file.as_slice(), &[], WIDTH, &mut out);
     if status != Status::Failed {
         return Ok(None);
     }

@@ -6,6 +6,7 @@ ghost use Rattle.pst_trial.specs.Settings.{AreInRange};
 
 mod explaining;
 mod input;
+mod judging;
 mod least;
 mod progress;
 mod refused;
@@ -14,11 +15,11 @@ mod words;
 
 use clap::ArgMatches;
 use clap::error::ErrorKind;
+use judging::judge;
 use progress::Progress;
 use pst_campaign::Unwatched;
 use pst_cli::{
-    Absence, KnownSystem, Status, campaign_text, check_text, explain_text, judge_text,
-    judge_text_keeping_on, list_text, refuse_text, run_text,
+    Absence, KnownSystem, Status, campaign_text, check_text, list_text, refuse_text, run_text,
 };
 use pst_samples::{Counter, Meet, Queue, Racy, Registry, Stuck};
 use pst_sink::{Out, Sink, put_all};
@@ -82,6 +83,42 @@ fn watched<W: Sink, R: Threads + Wait + Sync + Eprint + Clock>(
     campaign_text(rt, alloc, input, settings, systems, &Unwatched, out)
 }
 
+/// Runs a campaign whose report is written once it stands whole. An explanation of its least failure stands on
+/// standard error in the end.
+fn explained<W: Sink, R: Threads + Wait + Sync + Eprint + Clock>(
+    rt: &R,
+    alloc: Global,
+    settings: Settings,
+    systems: Vec<BoxedSystem>,
+    is_terminal: bool,
+    input: &[u8],
+    out: &mut W,
+) -> Status
+    requires ranges { AreInRange settings }
+    requires stands { W.broken out.old ≡ false }
+{
+    let mut report = Out::new(Vec::new(alloc));
+    let status = watched(
+        rt,
+        alloc,
+        settings,
+        systems,
+        is_terminal,
+        input,
+        &mut report,
+    );
+    let report = report.into_inner();
+    // A report has lines: there are none only where the buffer was refused memory.
+    if report.is_empty() {
+        return refuse_text(Absence::NoMemory, out);
+    }
+    if put_all(report.as_slice(), out).is_err() {
+        return Status::Lost;
+    }
+    least::explain(rt, alloc, input, report.as_slice());
+    status
+}
+
 /// Runs a campaign with a worker for each of the systems, if there are some. Unless the words forbid it, a line on
 /// standard error, where that is a terminal, says how far the campaign is, and an explanation of the least failure
 /// stands there in the end.
@@ -106,22 +143,7 @@ fn campaign<W: Sink, R: Threads + Wait + Sync + Eprint + Clock>(
     if words.get_flag("quiet") {
         return campaign_text(rt, alloc, input, settings, systems, &Unwatched, out);
     }
-    let mut report = Out::new(Vec::new(alloc));
-    let status = watched(
-        rt,
-        alloc,
-        settings,
-        systems,
-        is_terminal,
-        input,
-        &mut report,
-    );
-    let report = report.into_inner();
-    if put_all(report.as_slice(), out).is_err() {
-        return Status::Lost;
-    }
-    least::explain(rt, alloc, input, report.as_slice());
-    status
+    explained(rt, alloc, settings, systems, is_terminal, input, out)
 }
 
 /// Does what the word says that takes a system.
@@ -147,25 +169,8 @@ fn with_systems<W: Sink, R: Threads + Wait + Sync + Eprint + Clock>(
     }
 }
 
-/// Judges the items of the input, up to the first that is refused, or all of them where the words ask for it.
-fn judge<W: Sink, R: Threads + Sync>(
-    rt: &R,
-    alloc: Global,
-    words: &ArgMatches<'_>,
-    input: &[u8],
-    out: &mut W,
-) -> Status
-    requires { W.broken out.old ≡ false }
-{
-    if words.get_flag("keep-going") {
-        judge_text_keeping_on(rt, alloc, input, out)
-    } else {
-        judge_text(rt, alloc, input, out)
-    }
-}
-
 /// Does what the words say, on standard output. Beside each refusal a message stands on standard error, and beside a
-/// model that is accepted by `check` warnings may stand there, unless the words forbid it.
+/// model that is accepted by `check`, and behind the lines of `judge`, warnings may stand there, unless the words forbid it.
 fn run<R: Runtime + AllocGlobal + Threads + Wait + Sync>(
     rt: &R,
     matches: &ArgMatches<'_>,
@@ -188,8 +193,8 @@ fn run<R: Runtime + AllocGlobal + Threads + Wait + Sync>(
     let status = match word {
         "check" => check_text(alloc, input, &mut out),
         "list" => list_text(alloc, input, &mut out),
-        "judge" => judge(rt, alloc, words, input, &mut out),
-        "explain" => explain_text(rt, alloc, input, explaining::width(words), &mut out),
+        "judge" => judge(rt, alloc, words, files.as_slice(), input, &mut out),
+        "explain" => explaining::explain(rt, alloc, words, files.as_slice(), input, &mut out),
         _ => with_systems(rt, alloc, matches, systems, is_terminal, input, &mut out),
     };
     if words.get_flag("quiet") {

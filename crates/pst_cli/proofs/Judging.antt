@@ -27,7 +27,7 @@ module _ (m : Source) where
   matches_if_any c None h = tt
   matches_if_any c (Some history) h = h
 
-  history_matches : (run : Run) → IsLawful m run → HistoryMatches m run
+  pub history_matches : (run : Run) → IsLawful m run → HistoryMatches m run
   history_matches run l = matches_if_any run.shaped.case run.history l.matching
 
   -- the runs of a file may be judged

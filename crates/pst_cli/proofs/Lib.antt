@@ -1,4 +1,5 @@
 pub mod Campaigning
+pub mod Graphs
 pub mod Judging
 pub mod KeepingOn
 pub mod Keeping

@@ -2,6 +2,7 @@
 pub mod Absent
 pub mod CampaignOutput
 pub mod ExplainOutput
+pub mod GraphOutput
 pub mod KeepingOn
 pub mod Known
 pub mod ListOutput

@@ -13,20 +13,29 @@ use crate::sharing::may_share_compiled;
 use crate::status::Status;
 use pst_case::Run;
 use pst_compile::Compiled;
-use pst_explain::{explain_item, first_lines};
+use pst_explain::{explain_item, first_places};
 use pst_judge::Judged;
 use pst_load::items_of;
 use pst_rejudge::rejudge;
 use pst_sink::Sink;
+use pst_sources::SourceFile;
 use std::alloc::{AllocError, Global};
 use std::thread::Threads;
 
-/// The explanations of items, numbered from 1, with an empty line between them: `lines` are the lines of the file on which
-/// they begin, and `width` is the width of the lines that are written.
+/// The place of an index; none where there are fewer.
+fn place_at(places: &[String], index: usize) -> &str {
+    match places.get(index) {
+        Some(place) => place.as_str(),
+        None => "",
+    }
+}
+
+/// The explanations of items, numbered from 1, with an empty line between them: `places` says where they
+/// begin, and `width` is the width of the lines that are written.
 fn explanations(
     alloc: Global,
     compiled: &Compiled,
-    lines: &[usize],
+    places: &[String],
     width: usize,
     runs: &[Run],
     all: &[Judged],
@@ -46,9 +55,9 @@ fn explanations(
         if number > 0 {
             text.push(b'\n')?;
         }
-        let line = lines.get(number).copied().unwrap_or(0);
+        let place = place_at(places, number);
         number = number.saturating_add(1);
-        let item = explain_item(compiled, alloc, typed, run, judged, number, line, width)?;
+        let item = explain_item(compiled, alloc, typed, run, judged, number, place, width)?;
         text.extend_from_slice(item.as_slice())?;
         rest = later;
         left = others;
@@ -61,6 +70,7 @@ fn explain_output<R: Threads + Sync>(
     rt: &R,
     alloc: Global,
     input: &[u8],
+    files: &[SourceFile<'_>],
     width: usize,
 ) -> Result<Output, AllocError>
     ensures { IfOk result (λ output. IsExplainOutput input.now output.text.items output.status) }
@@ -74,11 +84,11 @@ fn explain_output<R: Threads + Sync>(
         Ok(runs) => {
             may_share_compiled();
             let all = rejudge(rt, &file.compiled, alloc, runs.as_slice())?;
-            let lines = first_lines(alloc, input)?;
+            let places = first_places(alloc, files, input)?;
             let text = explanations(
                 alloc,
                 &file.compiled,
-                lines.get(1..).unwrap_or(&[]),
+                places.get(1..).unwrap_or(&[]),
                 width,
                 runs.as_slice(),
                 all.as_slice(),
@@ -92,14 +102,16 @@ fn explain_output<R: Threads + Sync>(
     }
 }
 
-/// Explains the verdicts on the items behind the model that the input begins with: writes for each, in the order of the
-/// items, the line of its verdict with the line of the file where it begins, and below it why the verdict is so, in lines
-/// of the width; or the first refusal alone, as `judge_text` does. The status is that of `judge_text`. Where memory is
-/// refused, `refused memory` alone is written.
+/// Explains the verdicts on the items behind the model that the input begins with: writes for each, in the
+/// order of the items, the line of its verdict with the line where it begins, and below it why the verdict is
+/// so, in lines of the width; or the first refusal alone, as `judge_text` does. Where the input is the text
+/// of several files, the name of the file stands before the line in it; `files` may be empty where it is one
+/// text. The status is that of `judge_text`. Where memory is refused, `refused memory` alone is written.
 pub fn explain_text<W: Sink, R: Threads + Sync>(
     rt: &R,
     alloc: Global,
     input: &[u8],
+    files: &[SourceFile<'_>],
     width: usize,
     sink: &mut W,
 ) -> Status
@@ -107,7 +119,7 @@ pub fn explain_text<W: Sink, R: Threads + Sync>(
     ensures { Prints (IsExplainOutput input.now)
         (W.taken sink.old) (W.taken sink.new) (W.broken sink.new) result }
 {
-    match explain_output(rt, alloc, input, width) {
+    match explain_output(rt, alloc, input, files, width) {
         Ok(output) => send(output.text.as_slice(), output.status, sink),
         Err(AllocError) => send(b"refused memory\n", Status::Lost, sink),
     }

@@ -1,5 +1,5 @@
 //! `pst judge`.
-ghost use Rattle.std.specs.Prelude.{◌≡◌, false, IfOk, MatchResult, string_bytes};
+ghost use Rattle.std.specs.Prelude.{◌≡◌, false, IfOk, IfSome, MatchResult, string_bytes};
 ghost use Rattle.std.specs.List.{list_all};
 ghost use Rattle.pst_cli.specs.Output.{IsJudgeOutput, is_good, item_line, item_lines, run_line, status_of};
 ghost use Rattle.pst_cli.specs.Sending.{Prints};
@@ -7,7 +7,7 @@ ghost use Rattle.pst_cli.specs.declared.status.Status.TheVariants.{Refused};
 ghost use Rattle.pst_runs.specs.Items.{runs_of};
 ghost use Rattle.pst_runs.specs.Lawful.{AreLawful};
 
-use crate::compiled::load_compiled;
+use crate::compiled::{CompiledFile, load_compiled};
 use crate::output::{Output, send};
 use crate::refusal::refusal_output;
 use crate::sharing::may_share_compiled;
@@ -110,27 +110,59 @@ pub fn refused_run(alloc: Global, fault: &RunFault) -> Result<Output, AllocError
     Ok(Output::new(run_line(alloc, fault)?, Status::Refused))
 }
 
-/// The lines of the items behind the model, or the first refusal.
+/// The items behind a model with the judgement on each.
+#[derive(Drop)]
+pub struct JudgedFile {
+    /// The model, and all trees of the input.
+    pub file: CompiledFile,
+    /// The items behind the model.
+    pub runs: Vec<Run>,
+    /// Their judgements, in the same order.
+    pub judged: Vec<Judged>,
+}
+
+/// The lines of the items behind the model, and the items; or the first refusal.
 fn judge_output<R: Threads + Sync>(
     rt: &R,
     alloc: Global,
     input: &[u8],
-) -> Result<Output, AllocError>
-    ensures { IfOk result (λ output. IsJudgeOutput input.now output.text.items output.status) }
+) -> Result<(Output, Option<JudgedFile>), AllocError>
+    ensures output { IfOk result (λ r. IsJudgeOutput input.now r.0.text.items r.0.status) }
+    ensures lawful { IfOk result
+        (λ r. IfSome r.1 (λ judged. AreLawful judged.file.compiled judged.runs.items)) }
 {
     let file = match load_compiled(alloc, input)? {
         Ok(file) => file,
-        Err(refusal) => return refusal_output(alloc, &refusal),
+        Err(refusal) => return Ok((refusal_output(alloc, &refusal)?, None)),
     };
     let items = items_of(file.trees.as_slice());
     match runs_in(alloc, file.compiled.typed(), items)? {
         Ok(runs) => {
             may_share_compiled();
-            let all = rejudge(rt, &file.compiled, alloc, runs.as_slice())?;
-            let text = item_lines(alloc, all.as_slice())?;
-            Ok(Output::new(text, status_of(all.as_slice())))
+            let judged = rejudge(rt, &file.compiled, alloc, runs.as_slice())?;
+            let text = item_lines(alloc, judged.as_slice())?;
+            let output = Output::new(text, status_of(judged.as_slice()));
+            Ok((output, Some(JudgedFile { file, runs, judged })))
         }
-        Err(fault) => refused_run(alloc, &fault),
+        Err(fault) => Ok((refused_run(alloc, &fault)?, None)),
+    }
+}
+
+/// Does what [`judge_text`] does, and gives back the items with their judgements where all of them were judged.
+pub fn judge_file<W: Sink, R: Threads + Sync>(
+    rt: &R,
+    alloc: Global,
+    input: &[u8],
+    sink: &mut W,
+) -> (Status, Option<JudgedFile>)
+    requires { W.broken sink.old ≡ false }
+    ensures prints { Prints (IsJudgeOutput input.now)
+        (W.taken sink.old) (W.taken sink.new) (W.broken sink.new) result.0 }
+    ensures lawful { IfSome result.1 (λ judged. AreLawful judged.file.compiled judged.runs.items) }
+{
+    match judge_output(rt, alloc, input) {
+        Ok((output, judged)) => (send(output.text.as_slice(), output.status, sink), judged),
+        Err(AllocError) => (send(b"refused memory\n", Status::Lost, sink), None),
     }
 }
 
@@ -147,8 +179,6 @@ pub fn judge_text<W: Sink, R: Threads + Sync>(
     ensures { Prints (IsJudgeOutput input.now)
         (W.taken sink.old) (W.taken sink.new) (W.broken sink.new) result }
 {
-    match judge_output(rt, alloc, input) {
-        Ok(output) => send(output.text.as_slice(), output.status, sink),
-        Err(AllocError) => send(b"refused memory\n", Status::Lost, sink),
-    }
+    let (status, _) = judge_file(rt, alloc, input, sink);
+    status
 }

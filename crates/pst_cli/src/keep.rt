@@ -4,7 +4,7 @@ ghost use Rattle.pst_cli.specs.KeepingOn.{IsKeepingOnOutput, answer_line, answer
 ghost use Rattle.pst_cli.specs.Sending.{Prints};
 ghost use Rattle.pst_cli.specs.declared.status.Status.TheVariants.{Accepted};
 
-use crate::compiled::load_compiled;
+use crate::compiled::{CompiledFile, load_compiled};
 use crate::judge::{item_line, run_line};
 use crate::output::{Output, send};
 use crate::refusal::refusal_output;
@@ -68,23 +68,50 @@ fn worst_status(answers: &[Answer]) -> Status
     status
 }
 
-/// The lines of all items behind the model, or the refusal of the model.
+/// What is answered of each item behind a model.
+#[derive(Drop)]
+pub struct AnsweredFile {
+    /// The model, and all trees of the input.
+    pub file: CompiledFile,
+    /// The answers, in the order of the items.
+    pub answers: Vec<Answer>,
+}
+
+/// The lines of all items behind the model, and the answers; or the refusal of the model.
 fn keeping_on_output<R: Threads + Sync>(
     rt: &R,
     alloc: Global,
     input: &[u8],
-) -> Result<Output, AllocError>
-    ensures { IfOk result (λ output. IsKeepingOnOutput input.now output.text.items output.status) }
+) -> Result<(Output, Option<AnsweredFile>), AllocError>
+    ensures { IfOk result (λ r. IsKeepingOnOutput input.now r.0.text.items r.0.status) }
 {
     let file = match load_compiled(alloc, input)? {
         Ok(file) => file,
-        Err(refusal) => return refusal_output(alloc, &refusal),
+        Err(refusal) => return Ok((refusal_output(alloc, &refusal)?, None)),
     };
     let items = items_of(file.trees.as_slice());
     may_share_compiled();
     let answers = judge_each(rt, &file.compiled, alloc, file.compiled.typed(), items)?;
     let text = answer_lines(alloc, answers.as_slice())?;
-    Ok(Output::new(text, worst_status(answers.as_slice())))
+    let output = Output::new(text, worst_status(answers.as_slice()));
+    Ok((output, Some(AnsweredFile { file, answers })))
+}
+
+/// Does what [`judge_text_keeping_on`] does, and gives back the answers where there are some.
+pub fn judge_file_keeping_on<W: Sink, R: Threads + Sync>(
+    rt: &R,
+    alloc: Global,
+    input: &[u8],
+    sink: &mut W,
+) -> (Status, Option<AnsweredFile>)
+    requires { W.broken sink.old ≡ false }
+    ensures { Prints (IsKeepingOnOutput input.now)
+        (W.taken sink.old) (W.taken sink.new) (W.broken sink.new) result.0 }
+{
+    match keeping_on_output(rt, alloc, input) {
+        Ok((output, answered)) => (send(output.text.as_slice(), output.status, sink), answered),
+        Err(AllocError) => (send(b"refused memory\n", Status::Lost, sink), None),
+    }
 }
 
 /// Judges each item behind the model that the input begins with, also where others are refused, several at once: writes
@@ -106,8 +133,6 @@ pub fn judge_text_keeping_on<W: Sink, R: Threads + Sync>(
     ensures { Prints (IsKeepingOnOutput input.now)
         (W.taken sink.old) (W.taken sink.new) (W.broken sink.new) result }
 {
-    match keeping_on_output(rt, alloc, input) {
-        Ok(output) => send(output.text.as_slice(), output.status, sink),
-        Err(AllocError) => send(b"refused memory\n", Status::Lost, sink),
-    }
+    let (status, _) = judge_file_keeping_on(rt, alloc, input, sink);
+    status
 }

@@ -107,7 +107,7 @@ pub fn answer_of<R: Threads + Wait + Sync>(
         Command::Check => check_text(alloc, input, &mut short),
         Command::List => list_text(alloc, input, &mut short),
         Command::Judge => judge_text(rt, alloc, input, &mut short),
-        Command::Explain => explain_text(rt, alloc, input, 80, &mut short),
+        Command::Explain => explain_text(rt, alloc, input, &[], 80, &mut short),
         Command::Run => write_runs(rt, alloc, input, &mut short)?,
         Command::Campaign => write_campaign(rt, alloc, input, &mut short)?,
     };

@@ -8,6 +8,10 @@ use std::alloc::{AllocError, Global};
 pub enum Deep {
     /// 64 functions of depth 64, each of which applies the one before.
     Functions,
+    /// As many in a postcondition that is false.
+    FalseFunctions,
+    /// As many in a postcondition that faults in the function that all others apply.
+    FaultingFunctions,
     /// Callbacks of depth 64: sums, folds in folds, comprehensions in comprehensions.
     Expressions,
     /// A state, a parameter and a result of a type of 16 levels.
@@ -35,8 +39,10 @@ pub enum Deep {
 }
 
 /// All of them, by their names.
-pub const LIMITS: [(&str, Deep); 13] = [
+pub const LIMITS: [(&str, Deep); 15] = [
     ("functions", Deep::Functions),
+    ("false functions", Deep::FalseFunctions),
+    ("faulting functions", Deep::FaultingFunctions),
     ("expressions", Deep::Expressions),
     ("types", Deep::Types),
     ("reply", Deep::Reply),
@@ -70,23 +76,38 @@ pub fn wrapped(
     Ok(text)
 }
 
-fn functions(alloc: Global) -> Result<String, AllocError> {
-    let mut functions = String::new(alloc);
-    for number in 1..65u32 {
-        let inner = if number == 1 {
-            String::from_str(alloc, "true")?
-        } else {
-            let before = number - 1;
-            format!(in alloc; "(f{before})")?
-        };
+/// 64 functions of depth 64, the first of which has the body.
+fn functions_from(alloc: Global, body: &str) -> Result<String, AllocError> {
+    let mut functions = format!(in alloc; "(fun f1 () bool {body})\n")?;
+    for number in 2..65u32 {
+        let before = number - 1;
+        let inner = format!(in alloc; "(f{before})")?;
         let body = wrapped(alloc, "(not ", inner.as_str(), ")", 63)?;
         let function = format!(in alloc; "(fun f{number} () bool {body})\n")?;
         functions.push_str(function.as_str())?;
     }
+    Ok(functions)
+}
+
+fn functions(alloc: Global) -> Result<String, AllocError> {
+    let body = wrapped(alloc, "(not ", "true", ")", 63)?;
+    let functions = functions_from(alloc, body.as_str())?;
     format!(in alloc;
         "(model deep (state int) (init (if (f64) 0 1)) (command (list call (call get)))
       {functions}(op get () int (pre (f64)) (next (if (f64) s 1)) (post (and (f64) (= r 0)))))
       {GETS}"
+    )
+}
+
+/// A run whose last answer is wrong: the postcondition applies the functions, the first of which has a body of
+/// so many levels around an expression.
+fn failing(alloc: Global, inner: &str, levels: usize) -> Result<String, AllocError> {
+    let body = wrapped(alloc, "(not ", inner, ")", levels)?;
+    let functions = functions_from(alloc, body.as_str())?;
+    format!(in alloc;
+        "(model deep (state int) (init 1) (command (list call (call get)))
+      {functions}(op get () int (pre true) (next s) (post (and (f64) (= r s)))))
+      (run (prefix (get)) (left (get)) (right (get)) (replies (1) (1) (0)))"
     )
 }
 
@@ -187,6 +208,8 @@ const MAP: [&str; 6] = [
 pub fn text_of(alloc: Global, deep: Deep) -> Result<String, AllocError> {
     match deep {
         Deep::Functions => functions(alloc),
+        Deep::FalseFunctions => failing(alloc, "true", 63),
+        Deep::FaultingFunctions => failing(alloc, "(= 0 (div 1 0))", 61),
         Deep::Expressions => expressions(alloc),
         Deep::Types => types(alloc),
         Deep::Reply => reply(alloc, 97),

@@ -1,7 +1,7 @@
 //! What the commands answer at the limits of the language, and one past them. Nothing may exhaust a stack: items are judged
 //! in the threads that judge many items, cases are driven in those of branches, and trials run in those of workers.
 
-use crate::commands::{Command, answer_of, spoken};
+use crate::commands::{COMMANDS, Command, answer_of, spoken};
 use crate::deep::{Deep, LIMITS, text_of};
 use pst_print::print_model;
 use pst_sexpr::{read, write};
@@ -48,18 +48,11 @@ fn print_command<R: Threads + Wait + Sync + Print + AllocGlobal>(
     }
 }
 
-/// The commands that are asked: where the opening state takes long to compute, the first three alone. `explain` is not
-/// among them: it evaluates by recursion, and functions that nest to thousands of levels exhaust its stack.
+/// The commands that are asked: where the opening state takes long to compute, the first three alone.
 fn asked(deep: Deep) -> &'static [Command] {
     match deep {
         Deep::List | Deep::Map => &[Command::Check, Command::List, Command::Judge],
-        _ => &[
-            Command::Check,
-            Command::List,
-            Command::Judge,
-            Command::Run,
-            Command::Campaign,
-        ],
+        _ => &COMMANDS,
     }
 }
 

@@ -2,6 +2,9 @@
 //! those on the files of `examples/mistakes/`.
 #![tactic(auto)]
 
+mod hostile;
+mod judged;
+mod judged_rows;
 mod rows;
 
 use pst_messages::{Asked, message_of};
@@ -102,6 +105,10 @@ fn main(rt: HostRuntime) -> io::Result<()> {
         let warnings = warnings(alloc, name, text)?;
         println!(rt; "{warnings}")?;
     }
+    let judged = judged::judged(&rt, alloc)?;
+    println!(rt; "{judged}")?;
+    let hostile = hostile::hostile(alloc)?;
+    print!(rt; "{hostile}")?;
     let text = long(alloc)?;
     let message = message(alloc, "long.model", text.as_str())?;
     println!(rt; "{message}")?;

@@ -1,10 +1,7 @@
 use Rattle.std.proofs.Common.{◌≡◌, List, sym, ap, ◌∙◌, subst}
 use Rattle.std.specs.List.{AllZip}
-use Rattle.pst_cli.proofs.Reporting.{if_ok_both}
-use Rattle.pst_cli.specs.Head.{refusal_line}
-use Rattle.pst_cli.specs.KeepingOn.{IsKeepingOnOutput, answer_lines, worst_status, answered, refused}
-use Rattle.pst_cli.specs.declared.output.Output.{Output}
-use Rattle.pst_cli.specs.declared.status.Status.TheVariants.{Accepted, Refused}
+use Rattle.pst_cli.specs.KeepingOn.{answer_lines, worst_status, answered, refused}
+use Rattle.pst_cli.specs.declared.status.Status.TheVariants.{Accepted}
 use Rattle.pst_each.specs.Answers.{IsAnswer}
 use Rattle.pst_load.specs.Loading.{items_of}
 use Rattle.pst_sexpr.specs.declared.form.Form.{Form}
@@ -12,11 +9,8 @@ use Rattle.pst_cli.proofs.keep.keeping_on_output.Goals as goal
 
 pub returns-in-Err : goal.returns-in-Err
 returns-in-Err g c =
-    let HasText : Output → Type 0 = λ o. o.text.items ≡ refusal_line c.in-Err.refusal in
-    let IsRefused : Output → Type 0 = λ o. o.status ≡ Refused in
-    let IsSo : Output → Type 0 = λ o. IsKeepingOnOutput c.args.input.now o.text.items o.status in
-    if_ok_both HasText IsRefused IsSo (λ o t s. refused c.in-Err.refusal (rw c.in-Err.is at c.in_ok-file.ensures) t s)
-    c.refusal_output.result c.refusal_output.ensures.text c.refusal_output.ensures.status
+    refused c.in-Err.refusal (rw c.in-Err.is at c.in_ok-file.ensures)
+    c.in_ok-refusal_output-in-Err.ensures.text c.in_ok-refusal_output-in-Err.ensures.status
 
 pub returns : goal.returns
 returns g c =
@@ -27,5 +21,5 @@ returns g c =
     let AreAnswered : List Form → Type 0 = λ forms. AllZip (IsAnswer m) forms answers in
     answered m trees answers (rw c.in-Ok.is at c.in_ok-file.ensures)
     (subst AreAnswered (sym items) c.in_ok-answers.ensures)
-    (c.new.ensures.text ∙ c.in_ok-text.ensures ∙ ap (answer_lines 1) c.as_slice-2.ensures.value)
-    (c.new.ensures.status ∙ c.worst_status.ensures ∙ ap (worst_status Accepted) c.as_slice-3.ensures.value)
+    (c.new-output.ensures.text ∙ c.in_ok-text.ensures ∙ ap (answer_lines 1) c.as_slice-2.ensures.value)
+    (c.new-output.ensures.status ∙ c.worst_status.ensures ∙ ap (worst_status Accepted) c.as_slice-3.ensures.value)

@@ -1,6 +1,6 @@
 use Rattle.pst_cli.proofs.Printing.{prints}
 use Rattle.pst_cli.specs.KeepingOn.{IsKeepingOnOutput}
-use Rattle.pst_cli.proofs.keep.judge_text_keeping_on.Goals as goal
+use Rattle.pst_cli.proofs.keep.judge_file_keeping_on.Goals as goal
 
 pub returns-in-Ok : goal.returns-in-Ok
 returns-in-Ok g c =

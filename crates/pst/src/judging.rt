@@ -1,0 +1,96 @@
+//! `pst judge`, with warnings on standard error.
+ghost use Rattle.std.specs.Prelude.{◌≡◌, false, IfSome};
+ghost use Rattle.pst_runs.specs.Lawful.{AreLawful};
+
+use clap::ArgMatches;
+use pst_cli::{
+    AnsweredFile, JudgedFile, Status, judge_file, judge_file_keeping_on, judge_text,
+    judge_text_keeping_on,
+};
+use pst_sink::Sink;
+use pst_sources::{Input, SourceFile};
+use pst_warnings::{warnings_on_answers, warnings_on_runs};
+use std::alloc::{AllocError, Global};
+use std::thread::Threads;
+
+/// Writes warnings to standard error. Where memory was refused for them or they cannot be written, nothing more is said.
+fn warn<R: Eprint>(rt: &R, warnings: Result<Option<String>, AllocError>) {
+    if let Ok(Some(warnings)) = warnings {
+        let _ = eprint!(rt; "{warnings}");
+    }
+}
+
+/// Writes the warnings on items that were judged.
+fn warn_on_runs<R: Eprint>(
+    rt: &R,
+    alloc: Global,
+    files: &[SourceFile<'_>],
+    bytes: &[u8],
+    judged: Option<JudgedFile>,
+)
+    requires { IfSome judged (λ judged. AreLawful judged.file.compiled judged.runs.items) }
+{
+    if let Some(JudgedFile { file, runs, judged }) = judged {
+        let input = Input { files, bytes };
+        let warnings = warnings_on_runs(
+            &file.compiled,
+            alloc,
+            file.compiled.typed(),
+            input,
+            file.trees.as_slice(),
+            runs.as_slice(),
+            judged.as_slice(),
+        );
+        warn(rt, warnings)
+    }
+}
+
+/// Writes the warnings on items to which there are answers.
+fn warn_on_answers<R: Eprint>(
+    rt: &R,
+    alloc: Global,
+    files: &[SourceFile<'_>],
+    bytes: &[u8],
+    answered: Option<AnsweredFile>,
+) {
+    if let Some(AnsweredFile { file, answers }) = answered {
+        let input = Input { files, bytes };
+        let warnings = warnings_on_answers(
+            &file.compiled,
+            alloc,
+            file.compiled.typed(),
+            input,
+            file.trees.as_slice(),
+            answers.as_slice(),
+        );
+        warn(rt, warnings)
+    }
+}
+
+/// Judges the items of the input, up to the first that is refused, or all of them where the words ask for it. Behind
+/// the lines on standard output warnings may stand on standard error, unless the words forbid it.
+pub fn judge<W: Sink, R: Threads + Sync + Eprint>(
+    rt: &R,
+    alloc: Global,
+    words: &ArgMatches<'_>,
+    files: &[SourceFile<'_>],
+    input: &[u8],
+    out: &mut W,
+) -> Status
+    requires { W.broken out.old ≡ false }
+{
+    match (words.get_flag("keep-going"), words.get_flag("quiet")) {
+        (false, true) => judge_text(rt, alloc, input, out),
+        (true, true) => judge_text_keeping_on(rt, alloc, input, out),
+        (false, false) => {
+            let (status, judged) = judge_file(rt, alloc, input, out);
+            warn_on_runs(rt, alloc, files, input, judged);
+            status
+        }
+        (true, false) => {
+            let (status, answered) = judge_file_keeping_on(rt, alloc, input, out);
+            warn_on_answers(rt, alloc, files, input, answered);
+            status
+        }
+    }
+}

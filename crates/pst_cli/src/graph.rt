@@ -1,0 +1,163 @@
+//! `pst explain --dot`.
+ghost use Rattle.std.specs.Prelude.{◌≡◌, false, IfOk, MatchOption, string_bytes};
+ghost use Rattle.pst_cli.specs.GraphOutput.{
+  IsGraphOf,
+  IsGraphOutput,
+  IsItem,
+  drawn_number,
+  first_failed,
+  no_item_line,
+};
+ghost use Rattle.pst_cli.specs.Output.{AreJudged};
+ghost use Rattle.pst_cli.specs.Sending.{Prints};
+ghost use Rattle.pst_cli.specs.declared.status.Status.TheVariants.{Refused};
+ghost use Rattle.pst_runs.specs.Lawful.{AreLawful};
+
+use crate::compiled::load_compiled;
+use crate::judge::{is_good, refused_run, runs_in, status_of};
+use crate::output::{Output, send};
+use crate::refusal::refusal_output;
+use crate::sharing::may_share_compiled;
+use crate::status::Status;
+use pst_case::Run;
+use pst_compile::Compiled;
+use pst_graph::graph_item;
+use pst_judge::Judged;
+use pst_load::items_of;
+use pst_rejudge::rejudge;
+use pst_sink::Sink;
+use std::alloc::{AllocError, Global};
+use std::thread::Threads;
+
+/// The number, from 1, of the first item that is neither explained nor valid; 1 where there is none.
+fn first_failed(all: &[Judged]) -> usize
+    ensures { result ≡ first_failed 1 all.now }
+{
+    for (index, judged) in all.iter().enumerate() {
+        if !is_good(judged) {
+            return index + 1;
+        }
+    }
+    1
+}
+
+/// The number of the item that is drawn: the one that is asked for, or else the first that is neither
+/// explained nor valid.
+fn drawn_number(item: Option<usize>, all: &[Judged]) -> usize
+    ensures { result ≡ drawn_number item all.now }
+{
+    match item {
+        Some(number) => number,
+        None => first_failed(all),
+    }
+}
+
+/// The graph of the item of the number, from 1, if there is one.
+fn item_graph(
+    alloc: Global,
+    compiled: &Compiled,
+    number: usize,
+    runs: &[Run],
+    all: &[Judged],
+) -> Result<Option<Vec<u8>>, AllocError>
+    requires lawful { AreLawful compiled.now runs.now }
+    requires judged { AreJudged compiled.now runs.now all.now }
+    ensures { IfOk result (λ graph.
+        MatchOption graph (IsItem number all.now → ⊥) (λ text. IsItem number all.now)) }
+{
+    let Some(index) = number.checked_sub(1) else {
+        return Ok(None);
+    };
+    let Some(run) = runs.get(index) else {
+        return Ok(None);
+    };
+    let Some(judged) = all.get(index) else {
+        return Ok(None);
+    };
+    let graph = graph_item(compiled, alloc, compiled.typed(), run, judged, number)?;
+    Ok(Some(graph))
+}
+
+/// `refused item N of COUNT`.
+fn no_item_line(alloc: Global, number: usize, count: usize) -> Result<String, AllocError>
+    ensures { IfOk result (λ line. string_bytes line ≡ no_item_line number count) }
+{
+    format!(in alloc; "refused item {number} of {count}\n")
+}
+
+/// The line of an item that there is none of, and how the program ends then.
+fn refused_item(alloc: Global, number: usize, count: usize) -> Result<Output, AllocError>
+    ensures text { IfOk result (λ output. output.text.items ≡ no_item_line number count) }
+    ensures status { IfOk result (λ output. output.status ≡ Refused) }
+{
+    let line = no_item_line(alloc, number, count)?;
+    Ok(Output::new(line, Status::Refused))
+}
+
+/// The graph of the item that is asked for, or the refusal where there is none.
+fn chosen_graph(
+    alloc: Global,
+    compiled: &Compiled,
+    item: Option<usize>,
+    runs: &[Run],
+    all: &[Judged],
+) -> Result<Output, AllocError>
+    requires lawful { AreLawful compiled.now runs.now }
+    requires judged { AreJudged compiled.now runs.now all.now }
+    ensures { IfOk result (λ output. IsGraphOf item all.now output.text.items output.status) }
+{
+    let number = drawn_number(item, all);
+    match item_graph(alloc, compiled, number, runs, all)? {
+        Some(text) => Ok(Output {
+            text,
+            status: status_of(all),
+        }),
+        None => refused_item(alloc, number, all.len()),
+    }
+}
+
+/// The graph of the item that is asked for, or the first refusal.
+fn graph_output<R: Threads + Sync>(
+    rt: &R,
+    alloc: Global,
+    input: &[u8],
+    item: Option<usize>,
+) -> Result<Output, AllocError>
+    ensures { IfOk result (λ output. IsGraphOutput input.now item output.text.items output.status) }
+{
+    let file = match load_compiled(alloc, input)? {
+        Ok(file) => file,
+        Err(refusal) => return refusal_output(alloc, &refusal),
+    };
+    let items = items_of(file.trees.as_slice());
+    match runs_in(alloc, file.compiled.typed(), items)? {
+        Ok(runs) => {
+            may_share_compiled();
+            let all = rejudge(rt, &file.compiled, alloc, runs.as_slice())?;
+            chosen_graph(alloc, &file.compiled, item, runs.as_slice(), all.as_slice())
+        }
+        Err(fault) => refused_run(alloc, &fault),
+    }
+}
+
+/// Draws the search of an item behind the model that the input begins with: writes it as a graph for
+/// Graphviz. `item` is its number, from 1; where it is absent, the first item is drawn that is neither
+/// explained nor valid, and item 1 where there is none. Where there is no such item, `refused item N of
+/// COUNT` alone is written, and else the first refusal alone, as `judge_text` does. The status is that of
+/// `judge_text`. Where memory is refused, `refused memory` alone is written.
+pub fn graph_text<W: Sink, R: Threads + Sync>(
+    rt: &R,
+    alloc: Global,
+    input: &[u8],
+    item: Option<usize>,
+    sink: &mut W,
+) -> Status
+    requires { W.broken sink.old ≡ false }
+    ensures { Prints (IsGraphOutput input.now item)
+        (W.taken sink.old) (W.taken sink.new) (W.broken sink.new) result }
+{
+    match graph_output(rt, alloc, input, item) {
+        Ok(output) => send(output.text.as_slice(), output.status, sink),
+        Err(AllocError) => send(b"refused memory\n", Status::Lost, sink),
+    }
+}
