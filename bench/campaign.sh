@@ -1,6 +1,6 @@
 #!/usr/bin/env bash
 # Trials of `pst campaign` in a second, on sample systems, by the number of workers and of repeats, and how the time of a trial divides: of the built
-# program, each run once, and of the division each the least of five runs. No test asserts any of them; run it on an idle machine.
+# program, each time the least of five runs. No test asserts any of them; run it on an idle machine.
 source "$(dirname "$0")/program.sh"
 model="$top/examples/counter.model"
 trials=2000
@@ -21,7 +21,7 @@ least() { for _ in 1 2 3 4 5; do "$@"; done | sort -n | sed -n 1p; }
 campaign() { nanoseconds "$program" campaign "$@" --quiet --trials "$trials"; }
 
 # Trials in a second of a campaign with these words.
-rate() { awk -v nanoseconds="$(campaign "$@")" -v trials="$trials" 'BEGIN { printf "%.0f", trials / (nanoseconds / 1e9) }'; }
+rate() { awk -v nanoseconds="$(least campaign "$@")" -v trials="$trials" 'BEGIN { printf "%.0f", trials / (nanoseconds / 1e9) }'; }
 
 for repeats in 1 5; do
   for workers in 1 2 4; do
