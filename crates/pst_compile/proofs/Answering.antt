@@ -134,4 +134,3 @@ well_of m t k e f w = subst WellModel (e ∙ f) w
 
 pub compiled_of : (m t : Source) (code : List FunCode) (base : ℕ) → t ≡ m → IsCompiled t.items code base → IsCompiled m.items code base
 compiled_of m t code base f c = let C : Source → Type 0 = λ s. IsCompiled s.items code base in subst C f c
-

@@ -36,7 +36,10 @@ fn is_within(message: &str, text: &[u8]) -> bool {
     let Some((line, column)) = place_in(message) else {
         return false;
     };
-    match text.split(|byte| *byte == b'\n').nth(line.saturating_sub(1)) {
+    match text
+        .split(|byte| *byte == b'\n')
+        .nth(line.saturating_sub(1))
+    {
         Some(found) => line > 0 && column > 0 && column <= found.len().saturating_add(1),
         None => false,
     }
@@ -56,7 +59,9 @@ fn cuts(alloc: Global) -> Result<String, AllocError> {
             }
         }
     }
-    format!(in alloc; "{within} of {all} beginnings of a refused model have a message at a place in them\n\n")
+    format!(in alloc;
+        "{within} of {all} beginnings of a refused model have a message at a place in them\n\n"
+    )
 }
 
 /// A text with others behind it, each so often as its number says.

@@ -4,8 +4,8 @@ use crate::applied::{applied, called};
 use crate::operands::{wanted_list, wanted_map, wanted_type};
 use pst_items::{Items, Text};
 use pst_problems::{
-    Judged, Problem, below, form_text, head_of, is_of_maps, key_word, listed, meant, noted, text, ty_text,
-    wrong,
+    Judged, Problem, below, form_text, head_of, is_of_maps, key_word, listed, meant, noted, text,
+    ty_text, wrong,
 };
 use pst_sexpr::{Form, node_of, word_of};
 use pst_typing::{Context, holds_ref};
