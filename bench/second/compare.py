@@ -1,0 +1,78 @@
+"""Asks the program and this implementation of random inputs: `compare.py PROGRAM FIRST COUNT`.
+
+The random numbers of each input come from its number, from FIRST on. An input on which the two differ is printed
+whole, and ends the comparison with status 1.
+"""
+import collections
+import pathlib
+import subprocess
+import sys
+import tempfile
+from random import Random
+
+from campaigns import report
+from inputs import Inputs, campaign_model, campaign_plan
+from judging import lines
+from language import Model
+from trees import read
+
+ITEMS = 6
+
+
+def output_of(program, *words):
+    ran = subprocess.run([program, *words, "--quiet"], stdout=subprocess.PIPE, timeout=120, check=False)
+    return ran.stdout.decode()
+
+
+def compare(source, wanted, found):
+    if wanted != found:
+        print(f"{source}\n\nthis implementation:\n{wanted}\nthe program:\n{found}")
+        sys.exit(1)
+
+
+def compare_judging(program, file, random):
+    """`pst check` and `pst judge` on a random model and items; the lines that were wanted."""
+    inputs = Inputs(random)
+    source = inputs.model()
+    model = Model(read(source)[0])
+    ill = model.first_ill_typed()
+    if ill is not None:
+        wanted = (f"refused type item {ill}\n", f"refused type item {ill}\n")
+    else:
+        source += "\n" + "\n".join(inputs.item(model) for _ in range(ITEMS)) + "\n"
+        wanted = (f"ok {model.name}\n", lines(model, read(source)[1:]))
+    file.write_text(source)
+    compare(source, wanted, (output_of(program, "check", file), output_of(program, "judge", file)))
+    return wanted[1]
+
+
+def compare_campaign(program, file, random):
+    """`pst campaign stuck` on a random model and plan; the report that was wanted."""
+    source, plan = campaign_model(random), campaign_plan(random)
+    model = Model(read(source)[0])
+    if model.first_ill_typed() is not None:
+        raise AssertionError(source)
+    wanted = report(model, plan)
+    file.write_text(source)
+    words = [word for name, number in plan.items() for word in (f"--{name}", str(number))]
+    workers = str(random.choice([1, 2]))
+    compare(f"{source}\n{plan}", wanted, output_of(program, "campaign", "stuck", file, *words, "--workers", workers))
+    return wanted
+
+
+def main():
+    program, first, count = sys.argv[1], int(sys.argv[2]), int(sys.argv[3])
+    sys.setrecursionlimit(100_000)
+    kinds = collections.Counter()
+    with tempfile.TemporaryDirectory() as folder:
+        file = pathlib.Path(folder, "input")
+        for number in range(first, first + count):
+            for line in compare_judging(program, file, Random(2 * number)).splitlines():
+                kinds[line.split()[1]] += 1
+            text = compare_campaign(program, file, Random(2 * number + 1))
+            kinds["campaigns that fail" if "least none" not in text else "campaigns that pass"] += 1
+    print(f"{count} models with {ITEMS} items each and {count} campaigns: no difference")
+    print(", ".join(f"{kind} {kinds[kind]}" for kind in sorted(kinds)))
+
+
+main()

@@ -1,0 +1,259 @@
+"""Cases and recorded runs: how they are read, and the verdict on them, by a walk along every interleaving."""
+from collections import namedtuple
+
+from language import Fault
+from trees import Word, is_headed
+from values import NoValue, Reference, Variable, fits, value_of_tree, variables_in, with_parts
+
+# A command: the number of its operation and its arguments.
+Command = namedtuple("Command", "operation arguments")
+# The parts are the prefix, the branches and the suffix. `replies` has the answer of each command, or None where it is
+# no value; it is None itself where nothing is recorded.
+Item = namedtuple("Item", "parts replies")
+Answer = namedtuple("Answer", "value")
+LETTERS = "LRST"
+
+
+class Refused(Exception):
+    def __init__(self, command, kind):
+        super().__init__(command, kind)
+        self.command, self.kind = command, kind
+
+
+def lengths(parts):
+    return [len(part) for part in parts]
+
+
+def commands_of(parts):
+    return [command for part in parts for command in part]
+
+
+# ---- reading
+
+
+def read_item(model, tree):
+    parts, replies = parts_of_item(tree)
+    for part in parts:
+        if any(not isinstance(one, list) or one == [] or not isinstance(one[0], Word) for one in part):
+            raise Refused(0, "BadForm")
+    if replies is not None and any(not isinstance(part, list) for part in replies):
+        raise Refused(0, "BadForm")
+    if not within_limits(lengths(parts)):
+        raise Refused(0, "OverLimit")
+    commands = read_commands(model, parts)
+    if replies is None:
+        return Item(commands, None)
+    if lengths(replies) != lengths(parts):
+        raise Refused(0, "NotAFit")
+    return Item(commands, read_replies(model, commands_of(commands), commands_of(replies)))
+
+
+def parts_of_item(tree):
+    """The trees of the commands of each part, and those of the replies, if the item is a run."""
+    if not is_headed(tree, "case") and not is_headed(tree, "run"):
+        raise Refused(0, "BadForm")
+    rest, replies = tree[1:], None
+    if is_headed(tree, "run"):
+        if not rest or not is_headed(rest[-1], "replies"):
+            raise Refused(0, "BadForm")
+        replies = rest.pop()[1:]
+    if not rest or not is_headed(rest[0], "prefix"):
+        raise Refused(0, "BadForm")
+    prefix, *rest = rest
+    has_suffix = rest != [] and is_headed(rest[-1], "suffix")
+    suffix = rest.pop()[1:] if has_suffix else []
+    if len(rest) == 2 and is_headed(rest[0], "left") and is_headed(rest[1], "right"):
+        branches = [branch[1:] for branch in rest]
+    elif len(rest) == 1 and is_headed(rest[0], "branches") and 2 <= len(rest[0]) - 1 <= 4:
+        branches = rest[0][1:]
+    else:
+        raise Refused(0, "BadForm")
+    if any(not isinstance(branch, list) for branch in branches):
+        raise Refused(0, "BadForm")
+    parts = [prefix[1:], *branches, suffix]
+    if replies is not None:
+        if len(replies) != len(parts) - (not has_suffix):
+            raise Refused(0, "BadForm")
+        replies += [] if has_suffix else [[]]
+    return parts, replies
+
+
+def within_limits(counts):
+    prefix, *branches, suffix = counts
+    return prefix <= 64 and max(branches) <= 8 and sum(branches) <= 16 and suffix <= 8
+
+
+def read_commands(model, parts):
+    owners = [number for number, part in enumerate(parts) for _ in part]
+    results, read = [], []
+    for part in parts:
+        read.append([])
+        for tree in part:
+            read[-1].append(read_command(model, tree, owners, results, len(parts) - 1))
+            results.append(model.operations[read[-1][-1].operation].result)
+    return read
+
+
+def read_command(model, tree, owners, results, suffix):
+    own = len(results) + 1
+    if tree[0] not in model.numbers:
+        raise Refused(own, "UnknownOp")
+    number = model.numbers[tree[0]]
+    arguments, all_are_values = [], True
+    for argument in tree[1:]:
+        try:
+            arguments.append(value_of_tree(argument, model.has_maps, True))
+        except NoValue:
+            all_are_values = False
+    fault = fault_of(model.operations[number], arguments, own, owners, results, suffix)
+    if fault is None and not all_are_values:
+        fault = "BadArgument"
+    if fault is not None:
+        raise Refused(own, fault)
+    return Command(number, tuple(arguments))
+
+
+def fault_of(operation, arguments, own, owners, results, suffix):
+    """The first fault of a command's arguments that are values, if they have one."""
+    used = [number for argument in arguments for number in variables_in(argument)]
+    if any(number == 0 or number >= own for number in used):
+        return "ForwardVar"
+    if owners[own - 1] != suffix and any(owners[number - 1] not in (0, owners[own - 1]) for number in used):
+        return "CrossVar"
+    kinds = [kind for _, kind in operation.params]
+    fit = len(arguments) <= len(kinds) and all(fits(value, kind, results) for value, kind in zip(arguments, kinds))
+    return None if fit and len(arguments) == len(kinds) else "BadArgument"
+
+
+def read_replies(model, commands, trees):
+    replies = []
+    for number, (command, tree) in enumerate(zip(commands, trees), 1):
+        if isinstance(tree, Word) and tree in ("misfit", "failed", "not-run"):
+            replies.append(None)
+            continue
+        try:
+            value = value_of_tree(tree, model.has_maps, False)
+        except NoValue:
+            raise Refused(number, "BadReply") from None
+        is_fit = fits(value, model.operations[command.operation].result, [])
+        replies.append(Answer(value) if is_fit else None)
+    return replies
+
+
+# ---- interleavings
+
+
+def merges(counts):
+    """The interleavings of branches with so many commands each, as lists of branch numbers, in their order."""
+    if sum(counts) == 0:
+        yield []
+    for branch, count in enumerate(counts):
+        if count > 0:
+            fewer = [*counts[:branch], count - 1, *counts[branch + 1:]]
+            for merge in merges(fewer):
+                yield [branch, *merge]
+
+
+def merges_of(parts):
+    return merges(lengths(parts)[1:-1])
+
+
+def spelled(merge):
+    return "".join(LETTERS[branch] for branch in merge) or "-"
+
+
+def order_of(parts, merge):
+    """The indices of the commands as they come along a merge: those of the prefix, of the merge, and of the suffix."""
+    prefix, *branches, suffix = lengths(parts)
+    places, first = [], prefix
+    for count in branches:
+        places.append(first)
+        first += count
+    order = list(range(prefix))
+    for branch in merge:
+        order.append(places[branch])
+        places[branch] += 1
+    return order + list(range(first, first + suffix))
+
+
+# ---- verdicts
+
+
+def judged(model, item):
+    return validity(model, item.parts) if item.replies is None else verdict(model, item.parts, item.replies)
+
+
+def validity(model, parts):
+    try:
+        start = model.run(model.single["init"], {})
+    except Fault as fault:
+        return f"casefault 0 init {fault} merge {spelled(next(merges_of(parts)))}"
+    for merge in merges_of(parts):
+        why = why_not_valid(model, parts, start, merge)
+        if why is not None:
+            return f"{why} merge {spelled(merge)}"
+    return "valid"
+
+
+def why_not_valid(model, parts, state, merge):
+    commands = commands_of(parts)
+    for index in order_of(parts, merge):
+        operation = model.operations[commands[index].operation]
+        names = operation.names(state, commands[index].arguments)
+        callback = "pre"
+        try:
+            if not model.run(operation.callbacks["pre"], names):
+                return f"prefalse {index + 1}"
+            callback = "next"
+            state = model.run(operation.callbacks["next"], {**names, "r": Variable(index + 1)})
+        except Fault as fault:
+            return f"casefault {index + 1} {callback} {fault}"
+    return None
+
+
+def verdict(model, parts, replies):
+    if None in replies:
+        return f"broken {replies.index(None) + 1}"
+    try:
+        start = model.run(model.single["init"], {})
+    except Fault as fault:
+        return f"fault 0 init {fault}"
+    first_fault, far = None, -1
+    for merge in merges_of(parts):
+        fault, true_events, is_true = replay(model, parts, replies, start, merge)
+        if is_true:
+            return f"explained {spelled(merge)}"
+        if fault is None:
+            far = max(far, true_events)
+        first_fault = first_fault or fault
+    return first_fault or f"unexplained far {far}"
+
+
+def replay(model, parts, replies, state, merge):
+    """The fault of a merge, if it faults; how many of its events are true before that or a false one; and whether all are."""
+    commands, true_events = commands_of(parts), 0
+    recorded = lambda variable: Reference(variable.number, replies[variable.number - 1].value)
+    for index in order_of(parts, merge):
+        operation, answer = model.operations[commands[index].operation], replies[index].value
+        names = operation.names(state, [with_parts(argument, recorded) for argument in commands[index].arguments])
+        callback = "post"
+        try:
+            if not model.run(operation.callbacks["post"], {**names, "r": answer}):
+                return None, true_events, False
+            callback = "next"
+            state = model.run(operation.callbacks["next"], {**names, "r": Reference(index + 1, answer)})
+        except Fault as fault:
+            return f"fault {index + 1} {callback} {fault}", true_events, False
+        true_events += 1
+    return None, true_events, True
+
+
+def lines(model, trees):
+    """What `pst judge` prints of the items."""
+    text = ""
+    for number, tree in enumerate(trees, 1):
+        try:
+            text += f"{number} {judged(model, read_item(model, tree))}\n"
+        except Refused as refused:
+            return f"refused run {number} command {refused.command} {refused.kind}\n"
+    return text
