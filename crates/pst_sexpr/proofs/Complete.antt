@@ -21,7 +21,7 @@ abbrev pub plainly : ℕ → List Form → List Level → Scanner
 plainly q done nodes = scanner Plain q [] done nodes
 
 module _ (limit : ℕ) where
-  step_word : (at b q : ℕ) (part : List ℕ) (done : List Form) (nodes : List Level) → is_word_byte b ≡ true →
+  pub step_word : (at b q : ℕ) (part : List ℕ) (done : List Form) (nodes : List Level) → is_word_byte b ≡ true →
       step limit (scanner Plain q part done nodes) at b ≡ Ok (scanner Plain q (part ++ b ∷ []) done nodes)
   unfolding plain
   step_word at b q part done nodes h = rw h refl

@@ -1,5 +1,6 @@
 pub mod Classes
 pub mod Complete
+pub mod Skips
 pub mod Digits
 pub mod Sound
 pub mod Ended

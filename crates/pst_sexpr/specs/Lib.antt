@@ -8,3 +8,4 @@ pub mod Parts
 -- what the contracts of the reader and the writer cite within the crate
 pub mod Bytes
 pub mod Scan
+pub mod Spans

@@ -21,6 +21,10 @@ abbrev pub scanner : Mode → ℕ → List ℕ → List Form → List Level → 
 scanner mode quote part done nodes =
     record { mode = mode; quote = quote; part = part; done = done; nodes = nodes }
 
+-- the state with other bytes of its word or text
+abbrev pub with_part : List ℕ → Scanner → Scanner
+with_part part s = record s { part = part }
+
 -- the trees of this level, with the word that has just ended
 abbrev pub with_word : List ℕ → List Form → List Form
 with_word [] done = done

@@ -1,7 +1,7 @@
 //! The nodes that are open, the innermost first.
 
 ghost use Rattle.pst_sexpr.specs.declared.levels.Level.{Level};
-ghost use Rattle.std.specs.Prelude.{◌≡◌, List, [], ◌∷◌, length, OnOk, MatchOption};
+ghost use Rattle.std.specs.Prelude.{◌≡◌, List, [], ◌∷◌, length, IfOk, OnOk, MatchOption};
 
 use crate::form::Form;
 use pst_items::Items;
@@ -16,9 +16,13 @@ pub struct Level {
 }
 
 /// The open nodes. Contracts see the innermost first.
+///
+/// Trees are gathered in lists that are longer than needed, and a node keeps a list of the exact length. The longer
+/// ones serve again.
 #[derive(Drop)]
 pub struct Levels {
     levels: Vec<Level>,
+    spare: Vec<Vec<Form>>,
 }
 
 impl Model for Levels {
@@ -42,7 +46,38 @@ impl Levels {
     {
         Levels {
             levels: Vec::new(alloc),
+            spare: Vec::new(alloc),
         }
+    }
+
+    /// A list of no trees.
+    pub fn empty_list(&mut self, alloc: Global) -> Items<Form>
+        ensures empty { result ≡ [] }
+        ensures same { self.new ≡ self.old }
+    {
+        match self.spare.pop() {
+            Some(mut list) => {
+                list.clear();
+                Items::from_vec(list)
+            }
+            None => Items::new(alloc),
+        }
+    }
+
+    /// The list, in a block of memory that has no more room than it needs.
+    pub fn exact_list(
+        &mut self,
+        alloc: Global,
+        list: Items<Form>,
+    ) -> Result<Items<Form>, AllocError>
+        ensures list { IfOk result (λ exact. exact ≡ list) }
+        ensures same { self.new ≡ self.old }
+    {
+        let mut list = list.into_vec();
+        let mut exact = Vec::with_capacity(alloc, list.len())?;
+        exact.append(&mut list)?;
+        self.spare.push(list)?;
+        Ok(Items::from_vec(exact))
     }
 
     /// How many nodes are open.

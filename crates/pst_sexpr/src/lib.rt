@@ -15,6 +15,7 @@ mod nodes;
 mod parts;
 mod reader;
 mod scan;
+mod spans;
 mod tree;
 mod writer;
 

@@ -1,16 +1,18 @@
 //! One pass over the bytes, with a stack of the open nodes.
 
-ghost use Rattle.std.specs.Prelude.{◌≡◌, ◌∷◌, ◌++◌, [], IsTrue, length, ◌<◌, ℕ};
+ghost use Rattle.std.specs.Prelude.{◌≡◌, ◌⊎◌, ◌∷◌, ◌++◌, [], IsTrue, length, drop, ◌<◌, ◌≤◌, ℕ, IfOk, OnOk, MatchResult};
 ghost use Rattle.pst_sexpr.specs.Scan as spec;
-ghost use Rattle.pst_sexpr.specs.Fault.{Gives};
+ghost use Rattle.pst_sexpr.specs.Fault.{Gives, no_memory};
+ghost use Rattle.pst_sexpr.specs.Spans.{IsSpan, IsSpanOf};
 
 use crate::bytes::{is_blank, is_escaped_byte, is_text_byte, is_word_byte};
 use crate::fault::{FaultKind, SexprFault};
 use crate::form::Form;
 use crate::levels::{Level, Levels};
 use crate::limits::MAX_LEVELS;
+use crate::spans::{span_of_text, span_of_word, with_ascii};
 use pst_items::{Items, Text};
-use std::alloc::Global;
+use std::alloc::{AllocError, Global};
 use std::mem;
 
 #[derive(Clone, Copy, Debug, Drop, PartialEq, Eq)]
@@ -75,13 +77,14 @@ impl Scanner {
                 place,
             });
         }
-        let done = mem::replace(&mut self.done, Items::new(alloc));
+        let inner = self.nodes.empty_list(alloc);
+        let done = mem::replace(&mut self.done, inner);
         self.nodes.push(Level { place, done })?;
         Ok(())
     }
 
     /// Ends the innermost node.
-    fn close(&mut self, place: usize) -> Result<(), SexprFault>
+    fn close(&mut self, alloc: Global, place: usize) -> Result<(), SexprFault>
         ensures { Gives (λ _. self.new) result (spec.closed place self.old) }
     {
         match self.nodes.pop() {
@@ -91,7 +94,8 @@ impl Scanner {
             }),
             Some(level) => {
                 let inner = mem::replace(&mut self.done, level.done);
-                self.done.push(Form::Node(inner))?;
+                let parts = self.nodes.exact_list(alloc, inner)?;
+                self.done.push(Form::Node(parts))?;
                 Ok(())
             }
         }
@@ -107,7 +111,7 @@ impl Scanner {
         }
         match byte {
             b'(' => self.open(alloc, place),
-            b')' => self.close(place),
+            b')' => self.close(alloc, place),
             b'"' => {
                 self.mode = Mode::Quoted;
                 self.quote = place;
@@ -203,6 +207,50 @@ impl Scanner {
         }
     }
 
+    /// The bytes in front that belong to the word or text, where they may be read at once.
+    #[tactic(auto, using(crate::proofs::Skips::nil_is_span))]
+    fn span<'a>(&self, bytes: &'a [u8]) -> &'a [u8]
+        ensures class { IsSpan self.now.mode result.now }
+        ensures front { IsSpanOf bytes.now result.now }
+    {
+        match self.mode {
+            Mode::Plain => span_of_word(bytes),
+            Mode::Quoted => span_of_text(bytes),
+            Mode::Escaped | Mode::Comment => &[],
+        }
+    }
+
+    /// Adds bytes of the word or text.
+    #[tactic(auto, using(crate::proofs::Skips::span_ascii))]
+    fn add(&mut self, alloc: Global, span: &[u8]) -> Result<(), AllocError>
+        requires { IsSpan self.old.mode span.now }
+        ensures { OnOk result (self.new ≡ spec.with_part (self.old.part ++ span.now) self.old) }
+    {
+        let part = mem::replace(&mut self.part, Text::new(alloc));
+        self.part = with_ascii(alloc, part, span)?;
+        Ok(())
+    }
+
+    /// Reads the byte at the place, and all that follow it in the same word or text. Answers the place behind them.
+    #[tactic(auto, using(crate::proofs::Skips::reading))]
+    fn advance(&mut self, alloc: Global, bytes: &[u8], place: usize) -> Result<usize, SexprFault>
+        requires { place < length bytes.now }
+        ensures further { IfOk result (λ next. (place < next) × (next ≤ length bytes.now)) }
+        ensures read { MatchResult result
+            (λ next. spec.run MAX_LEVELS self.old place (drop place bytes.now)
+            ≡ spec.run MAX_LEVELS self.new next (drop next bytes.now))
+            (λ fault. (fault ≡ no_memory)
+            ⊎ (spec.run MAX_LEVELS self.old place (drop place bytes.now) ≡ Err fault)) }
+    {
+        let span = self.span(&bytes[place..]);
+        if span.is_empty() {
+            self.step(alloc, place, bytes[place])?;
+            return Ok(place + 1);
+        }
+        self.add(alloc, span)?;
+        Ok(place + span.len())
+    }
+
     /// The trees, where the bytes end here.
     fn finish(mut self, alloc: Global) -> Result<Items<Form>, SexprFault>
         ensures { Gives (λ trees. trees) result (spec.finish self) }
@@ -232,8 +280,9 @@ fn scan(alloc: Global, bytes: &[u8]) -> Result<Scanner, SexprFault>
     ensures { Gives (λ scanner. scanner) result (spec.run MAX_LEVELS spec.start 0 bytes.now) }
 {
     let mut scanner = Scanner::new(alloc);
-    for (place, byte) in bytes.iter().enumerate() {
-        scanner.step(alloc, place, *byte)?;
+    let mut place = 0;
+    while place < bytes.len() {
+        place = scanner.advance(alloc, bytes, place)?;
     }
     Ok(scanner)
 }
