@@ -107,15 +107,15 @@ module _ {S F : Type 0} (turn : S → ℕ → ℕ → Turn S F) (rest : S → En
         least [] k r = absurd k.0
         least (c ∷ v) k r = inr (sym k.0, fill_least lengths (one_more done b) v (Completes-tail lengths done b (IsAt-branch lengths done b at left) v (subst (λ a. Completes lengths done (a ∷ v)) k.0 k.1)))
 
-  pub true-again : (keys : List (Position S)) (test : Position S → Bool) (done : List ℕ) → list_any test keys ≡ true → ((k : Position S) → test k ≡ true → (k.done.items ≡ done) × (k.state ≡ state))
+  pub true-again : (keys : List (Position S)) (test : Position S → Bool) (done : List ℕ) → list_any test keys ≡ true → ((k : Position S) → test k ≡ true → (k.done ≡ done) × (k.state ≡ state))
       → AreAllTrue turn rest lengths keys → AreTrue turn rest done state (Completes lengths done)
   true-again keys test done found same all =
-      let k = Each-find (Position S) (λ k. AreTrue turn rest k.done.items k.state (Completes lengths k.done.items)) test keys found all in
+      let k = Each-find (Position S) (λ k. AreTrue turn rest k.done k.state (Completes lengths k.done)) test keys found all in
       let s = same k.0 k.1 in
-      subst (λ d. AreTrue turn rest d state (Completes lengths d)) s.0 (subst (λ n. AreTrue turn rest k.0.done.items n (Completes lengths k.0.done.items)) s.1 k.2)
+      subst (λ d. AreTrue turn rest d state (Completes lengths d)) s.0 (subst (λ n. AreTrue turn rest k.0.done n (Completes lengths k.0.done)) s.1 k.2)
 
-  pub true-remembered : (there : Bool) (keys new : List (Position S)) (k : Position S) (done : List ℕ) → new ≡ (if there then keys else keys ++ k ∷ []) → k.done.items ≡ done → k.state ≡ state
+  pub true-remembered : (there : Bool) (keys new : List (Position S)) (k : Position S) (done : List ℕ) → new ≡ (if there then keys else keys ++ k ∷ []) → k.done ≡ done → k.state ≡ state
       → AreAllTrue turn rest lengths keys → AreTrue turn rest done state (Completes lengths done) → AreAllTrue turn rest lengths new
   true-remembered there keys new k done e d n h a =
-      Each-insert (λ k. AreTrue turn rest k.done.items k.state (Completes lengths k.done.items)) there keys new k e h
+      Each-insert (λ k. AreTrue turn rest k.done k.state (Completes lengths k.done)) there keys new k e h
       (subst (λ x. AreTrue turn rest x k.state (Completes lengths x)) (sym d) (subst (λ y. AreTrue turn rest done y (Completes lengths done)) (sym n) a))

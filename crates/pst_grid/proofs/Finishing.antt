@@ -204,7 +204,7 @@ module _ {S F : Type 0} (turn : S → ℕ → ℕ → Turn S F) (rest : S → En
   -- and then it is remembered
   module _ (lengths : List ℕ) (old new : Search F) (there : Bool) (keys after : List (Position S)) (k : Position S)
       (at : IsAt lengths old.done.items) (full : (b : ℕ) → get_or lengths b 0 ≤ get_or old.done.items b 0)
-      (is : after ≡ (if there then keys else keys ++ k ∷ [])) (items : k.done.items ≡ old.done.items) (same : k.state ≡ state) where
+      (is : after ≡ (if there then keys else keys ++ k ∷ [])) (items : k.done ≡ old.done.items) (same : k.state ≡ state) where
     pub ended-searched : (found : Bool) → sum old.done.items ≡ length old.word.items
         → IsExplored turn rest state IsEmpty old new found → AreAccounted turn rest lengths old.best keys
         → IsSearched turn rest lengths state (Completes lengths old.done.items) old new after found

@@ -29,7 +29,7 @@ none-append K test (k ∷ ks) ls e h = by (test k) refl (λ f. none-append K tes
 module _ {S : Type 0} (lengths : List ℕ) where
   ends-append : (ks ls : List (Position S)) → ends_of lengths (ks ++ ls) ≡ ends_of lengths ks ++ ends_of lengths ls
   ends-append [] ls = refl
-  ends-append (k ∷ ks) ls = by (bytes_eq k.done.items lengths) (ends-append ks ls)
+  ends-append (k ∷ ks) ls = by (bytes_eq k.done lengths) (ends-append ks ls)
     where
       by : (b : Bool) → ends_of lengths (ks ++ ls) ≡ ends_of lengths ks ++ ends_of lengths ls
           → (if b then k.state ∷ ends_of lengths (ks ++ ls) else ends_of lengths (ks ++ ls))
@@ -44,8 +44,8 @@ module _ {S : Type 0} (lengths : List ℕ) where
       ap (λ n. most * n) (ap length (ends-append ks ls) ∙ length-append (ends_of lengths ks) (ends_of lengths ls)) ∙ (omega arith)
 
   -- one end is one
-  end-once : (k : Position S) → k.done.items ≡ lengths → length (ends_of lengths (k ∷ [])) ≡ 1
-  end-once k e = ap (λ b. length (if b then k.state ∷ [] else [])) ((bytes_eq-Decides k.done.items lengths).1 e)
+  end-once : (k : Position S) → k.done ≡ lengths → length (ends_of lengths (k ∷ [])) ≡ 1
+  end-once k e = ap (λ b. length (if b then k.state ∷ [] else [])) ((bytes_eq-Decides k.done lengths).1 e)
 
 module _ {S F : Type 0} (turn : S → ℕ → ℕ → Turn S F) (lengths : List ℕ) (most : ℕ) where
   module _ (n : ℕ) (done : List ℕ) (state : S) where
@@ -58,7 +58,7 @@ module _ {S F : Type 0} (turn : S → ℕ → ℕ → Turn S F) (lengths : List 
       added = p.added ++ q.added;
       keys = q.keys ∙ ap (λ ks. ks ++ q.added) p.keys ∙ append_assoc a p.added q.added;
       reached = Each-append (IsReachedFrom turn lengths most done state) p.added q.added p.reached q.reached;
-      deep = Each-append (λ k. n ≤ sum k.done.items) p.added q.added p.deep q.deep;
+      deep = Each-append (λ k. n ≤ sum k.done) p.added q.added p.deep q.deep;
       steps = let e = length-append p.added q.added in let x = p.steps in let y = q.steps in
           let z : length lengths * length (p.added ++ q.added) ≡ length lengths * length p.added + length lengths * length q.added = ap (λ k. length lengths * k) e ∙ (omega arith) in
           let r = ends-more lengths most p.added q.added in omega arith;
@@ -74,26 +74,26 @@ module _ {S F : Type 0} (turn : S → ℕ → ℕ → Turn S F) (lengths : List 
         added = p.added;
         keys = p.keys;
         reached = Each-map (IsReachedFrom turn lengths most (one_more done b) next) (IsReachedFrom turn lengths most done state) (λ k r. (b ∷ r.0, (left, (next, e, r.1)))) p.added p.reached;
-        deep = Each-map (λ k. sum (one_more done b) ≤ sum k.done.items) (λ k. sum done + 1 ≤ sum k.done.items) (λ k r. omega arith) p.added p.deep;
+        deep = Each-map (λ k. sum (one_more done b) ≤ sum k.done) (λ k. sum done + 1 ≤ sum k.done) (λ k r. omega arith) p.added p.deep;
         steps = let x = p.steps in omega arith;
       }
 
   -- the position itself, which is new
   pub grown-insert : (done : List ℕ) (state : S) (i : ℕ) (old now new : List (Position S)) (s t : ℕ) (k : Position S) (test : Position S → Bool) → i ≤ length lengths
-      → IsGrown turn lengths most i (sum done + 1) done state old now s t → k.done.items ≡ done → k.state ≡ state
-      → list_any test old ≡ false → ((l : Position S) → test l ≡ true → l.done.items ≡ done) → new ≡ (if list_any test now then now else now ++ k ∷ [])
+      → IsGrown turn lengths most i (sum done + 1) done state old now s t → k.done ≡ done → k.state ≡ state
+      → list_any test old ≡ false → ((l : Position S) → test l ≡ true → l.done ≡ done) → new ≡ (if list_any test now then now else now ++ k ∷ [])
       → IsGrown turn lengths most 0 (sum done) done state old new s t
   grown-insert done state i old now new s t k test h p d e absent same is = record {
     added = p.added ++ k ∷ [];
     keys = is ∙ ap (λ b. if b then now else now ++ k ∷ []) not_there ∙ ap (λ ks. ks ++ k ∷ []) p.keys ∙ append_assoc old p.added (k ∷ []);
     reached = Each-append (IsReachedFrom turn lengths most done state) p.added (k ∷ []) p.reached (([], (sym d, sym e)), tt);
-    deep = Each-append (λ l. sum done ≤ sum l.done.items) p.added (k ∷ []) (Each-map (λ l. sum done + 1 ≤ sum l.done.items) (λ l. sum done ≤ sum l.done.items) (λ l r. omega arith) p.added p.deep) (omega (arith, ap sum d), tt);
+    deep = Each-append (λ l. sum done ≤ sum l.done) p.added (k ∷ []) (Each-map (λ l. sum done + 1 ≤ sum l.done) (λ l. sum done ≤ sum l.done) (λ l r. omega arith) p.added p.deep) (omega (arith, ap sum d), tt);
     steps = let x = p.steps in let f = length-append p.added (k ∷ []) in
         let z : length lengths * length (p.added ++ k ∷ []) ≡ length lengths * length p.added + length lengths = ap (λ n. length lengths * n) f ∙ (omega arith) in
         let r = ends-more lengths most p.added (k ∷ []) in omega arith;
   }
     where
-      others : (l : Position S) → sum done + 1 ≤ sum l.done.items → test l ≡ false
+      others : (l : Position S) → sum done + 1 ≤ sum l.done → test l ≡ false
       others l r = by (test l) refl
         where
           by : (b : Bool) → test l ≡ b → test l ≡ false
@@ -101,11 +101,11 @@ module _ {S F : Type 0} (turn : S → ℕ → ℕ → Turn S F) (lengths : List 
           by false f = f
 
       not_there : list_any test now ≡ false
-      not_there = ap (list_any test) p.keys ∙ none-append (Position S) test old p.added absent (Each-map (λ l. sum done + 1 ≤ sum l.done.items) (λ l. test l ≡ false) others p.added p.deep)
+      not_there = ap (list_any test) p.keys ∙ none-append (Position S) test old p.added absent (Each-map (λ l. sum done + 1 ≤ sum l.done) (λ l. test l ≡ false) others p.added p.deep)
 
   -- a position at which all branches have ended, which is new
   pub grown-end : (done : List ℕ) (state : S) (old new : List (Position S)) (s t : ℕ) (k : Position S) (there : Bool)
-      → done ≡ lengths → t ≤ s + most → k.done.items ≡ done → k.state ≡ state → there ≡ false
+      → done ≡ lengths → t ≤ s + most → k.done ≡ done → k.state ≡ state → there ≡ false
       → new ≡ (if there then old else old ++ k ∷ []) → IsGrown turn lengths most 0 (sum done) done state old new s t
   grown-end done state old new s t k there all h d e absent is = record {
     added = k ∷ [];
@@ -120,9 +120,9 @@ module _ {S F : Type 0} (turn : S → ℕ → ℕ → Turn S F) (lengths : List 
 
 -- the place and the state
 abbrev pub seen_as : {S : Type 0} → Position S → List ℕ × S
-seen_as k = (k.done.items, k.state)
+seen_as k = (k.done, k.state)
 
-module _ {S : Type 0} (eq : Position S → Position S → Bool) (law : (a b : Position S) → a.done.items ≡ b.done.items → a.state ≡ b.state → eq a b ≡ true) where
+module _ {S : Type 0} (eq : Position S → Position S → Bool) (law : (a b : Position S) → a.done ≡ b.done → a.state ≡ b.state → eq a b ≡ true) where
   others-differ : (k : Position S) (ks : List (Position S)) → AllByRecursion (λ l. eq k l ≡ false) ks → Each (λ p. seen_as k ≡ p → ⊥) (map seen_as ks)
   others-differ k [] h = tt
   others-differ k (l ∷ ks) h = ((λ e. true≢false (sym (law k l (ap (λ p. p.0) e) (ap (λ p. p.1) e)) ∙ h.0)), others-differ k ks h.1)
@@ -133,26 +133,26 @@ module _ {S : Type 0} (eq : Position S → Position S → Bool) (law : (a b : Po
   no-repeats (k ∷ ks) h = (others-differ k ks h.0, no-repeats ks h.1)
 
 module _ {S : Type 0} (eq : Position S → Position S → Bool)
-    (law : (a b : Position S) → a.done.items ≡ b.done.items → a.state ≡ b.state → eq a b ≡ true) (lengths : List ℕ) where
-  ends-differ : (k : Position S) (ks : List (Position S)) → k.done.items ≡ lengths
+    (law : (a b : Position S) → a.done ≡ b.done → a.state ≡ b.state → eq a b ≡ true) (lengths : List ℕ) where
+  ends-differ : (k : Position S) (ks : List (Position S)) → k.done ≡ lengths
       → AllByRecursion (λ l. eq k l ≡ false) ks → Each (λ s. k.state ≡ s → ⊥) (ends_of lengths ks)
   ends-differ k [] e h = tt
-  ends-differ k (l ∷ ks) e h = by (bytes_eq l.done.items lengths) refl h.0 (ends-differ k ks e h.1)
+  ends-differ k (l ∷ ks) e h = by (bytes_eq l.done lengths) refl h.0 (ends-differ k ks e h.1)
     where
-      by : (b : Bool) → bytes_eq l.done.items lengths ≡ b → eq k l ≡ false → Each (λ s. k.state ≡ s → ⊥) (ends_of lengths ks)
+      by : (b : Bool) → bytes_eq l.done lengths ≡ b → eq k l ≡ false → Each (λ s. k.state ≡ s → ⊥) (ends_of lengths ks)
           → Each (λ s. k.state ≡ s → ⊥) (if b then l.state ∷ ends_of lengths ks else ends_of lengths ks)
       by true f n r =
-          ((λ g. true≢false (sym (law k l (e ∙ sym ((bytes_eq-Decides l.done.items lengths).0 f)) g) ∙ n)), r)
+          ((λ g. true≢false (sym (law k l (e ∙ sym ((bytes_eq-Decides l.done lengths).0 f)) g) ∙ n)), r)
       by false f n r = r
 
   pub ends-distinct : (ks : List (Position S)) → IsDistinct eq ks → HasNoRepeats (ends_of lengths ks)
   unfolding IsDistinct
   ends-distinct [] h = tt
-  ends-distinct (k ∷ ks) h = by (bytes_eq k.done.items lengths) refl h.0 (ends-distinct ks h.1)
+  ends-distinct (k ∷ ks) h = by (bytes_eq k.done lengths) refl h.0 (ends-distinct ks h.1)
     where
-      by : (b : Bool) → bytes_eq k.done.items lengths ≡ b → AllByRecursion (λ l. eq k l ≡ false) ks → HasNoRepeats (ends_of lengths ks)
+      by : (b : Bool) → bytes_eq k.done lengths ≡ b → AllByRecursion (λ l. eq k l ≡ false) ks → HasNoRepeats (ends_of lengths ks)
           → HasNoRepeats (if b then k.state ∷ ends_of lengths ks else ends_of lengths ks)
-      by true f n r = (ends-differ k ks ((bytes_eq-Decides k.done.items lengths).0 f) n, r)
+      by true f n r = (ends-differ k ks ((bytes_eq-Decides k.done lengths).0 f) n, r)
       by false f n r = r
 
 module _ {S : Type 0} (P : List ℕ × S → Type 0) where
@@ -163,16 +163,16 @@ module _ {S : Type 0} (P : List ℕ × S → Type 0) where
   Each-end : (lengths : List ℕ) (ks : List (Position S)) → Each (λ k. P (seen_as k)) ks
       → Each (λ s. P (lengths, s)) (ends_of lengths ks)
   Each-end lengths [] h = tt
-  Each-end lengths (k ∷ ks) h = by (bytes_eq k.done.items lengths) refl h.0 (Each-end lengths ks h.1)
+  Each-end lengths (k ∷ ks) h = by (bytes_eq k.done lengths) refl h.0 (Each-end lengths ks h.1)
     where
-      by : (b : Bool) → bytes_eq k.done.items lengths ≡ b → P (seen_as k) → Each (λ s. P (lengths, s)) (ends_of lengths ks)
+      by : (b : Bool) → bytes_eq k.done lengths ≡ b → P (seen_as k) → Each (λ s. P (lengths, s)) (ends_of lengths ks)
           → Each (λ s. P (lengths, s)) (if b then k.state ∷ ends_of lengths ks else ends_of lengths ks)
-      by true f p r = (subst (λ d. P (d, k.state)) ((bytes_eq-Decides k.done.items lengths).0 f) p, r)
+      by true f p r = (subst (λ d. P (d, k.state)) ((bytes_eq-Decides k.done lengths).0 f) p, r)
       by false f p r = r
 
 module _ {S F : Type 0} (turn : S → ℕ → ℕ → Turn S F) (lengths : List ℕ) (most : ℕ) where
   pub bounded : (done : List ℕ) (start state : S) (old new : List (Position S)) (s t : ℕ) (eq : Position S → Position S → Bool)
-      → ((a b : Position S) → a.done.items ≡ b.done.items → a.state ≡ b.state → eq a b ≡ true) → IsDistinct eq new
+      → ((a b : Position S) → a.done ≡ b.done → a.state ≡ b.state → eq a b ≡ true) → IsDistinct eq new
       → done ≡ none_done lengths → state ≡ start → old ≡ [] → s ≡ 0
       → IsGrown turn lengths most 0 (sum done) done state old new s t → IsBounded turn lengths most start t
   bounded done start state old new s t eq law distinct d e none zero_steps p =

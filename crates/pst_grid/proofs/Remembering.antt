@@ -34,18 +34,18 @@ pub Each-insert : {K : Type 0} (P : K → Type 0) (b : Bool) (ks new : List K) (
 Each-insert P true ks new k e h p = subst (Each P) (sym e) h
 Each-insert P false ks new k e h p = subst (Each P) (sym e) (Each-append P ks (k ∷ []) h (p, tt))
 
-and-true : (b c : Bool) → b && c ≡ true → (b ≡ true) × (c ≡ true)
+pub and-true : (b c : Bool) → b && c ≡ true → (b ≡ true) × (c ≡ true)
 and-true true c h = (refl, h)
 and-true false c h = absurd (true≢false (sym h))
 
 module _ {S : Type 0} (eq : S → S → Bool) where
   -- equal positions are the same
-  pub position-same : ((a b : S) → eq a b ≡ true → a ≡ b) → (v done : List ℕ) (s : S) (k : Position S) → v ≡ done → bytes_eq v k.done.items && eq s k.state ≡ true → (k.done.items ≡ done) × (k.state ≡ s)
-  position-same law v done s k e h = let b = and-true _ _ h in (sym ((bytes_eq-Decides v k.done.items).0 b.0) ∙ e, sym (law s k.state b.1))
+  pub position-same : ((a b : S) → eq a b ≡ true → a ≡ b) → (v done : List ℕ) (s : S) (k : Position S) → v ≡ done → bytes_eq v k.done && eq s k.state ≡ true → (k.done ≡ done) × (k.state ≡ s)
+  position-same law v done s k e h = let b = and-true _ _ h in (sym ((bytes_eq-Decides v k.done).0 b.0) ∙ e, sym (law s k.state b.1))
 
   -- and positions that are the same are equal
-  pub position-equal : ((a : S) → eq a a ≡ true) → (k l : Position S) → k.done.items ≡ l.done.items → k.state ≡ l.state → bytes_eq k.done.items l.done.items && eq k.state l.state ≡ true
-  position-equal law k l d e = ap (λ b. b && eq k.state l.state) ((bytes_eq-Decides k.done.items l.done.items).1 d) ∙ subst (λ s. eq k.state s ≡ true) e (law k.state)
+  pub position-equal : ((a : S) → eq a a ≡ true) → (k l : Position S) → k.done ≡ l.done → k.state ≡ l.state → bytes_eq k.done l.done && eq k.state l.state ≡ true
+  position-equal law k l d e = ap (λ b. b && eq k.state l.state) ((bytes_eq-Decides k.done l.done).1 d) ∙ subst (λ s. eq k.state s ≡ true) e (law k.state)
 
 module _ {S F : Type 0} (turn : S → ℕ → ℕ → Turn S F) (rest : S → Ending F) (lengths : List ℕ) where
   -- what was covered is accounted for
@@ -83,19 +83,19 @@ module _ {S F : Type 0} (turn : S → ℕ → ℕ → Turn S F) (rest : S → En
   pub all-accounted-on : (done before : List ℕ) (state : S) (W : List ℕ → Type 0) (old new : Best F) (keys : List (Position S)) → Covered turn rest done state before W old new
       → AreAccounted turn rest lengths old keys → AreAccounted turn rest lengths new keys
   all-accounted-on done before state W old new keys c h =
-      Each-map (λ k. IsAccounted turn rest lengths old k.done.items k.state) (λ k. IsAccounted turn rest lengths new k.done.items k.state) (λ k a. accounted-on old new c.kept c.grows k.done.items k.state a) keys h
+      Each-map (λ k. IsAccounted turn rest lengths old k.done k.state) (λ k. IsAccounted turn rest lengths new k.done k.state) (λ k a. accounted-on old new c.kept c.grows k.done k.state a) keys h
 
   -- a position that is met again
   pub met-again : (best : Best F) (keys : List (Position S)) (test : Position S → Bool) (done before : List ℕ) (state : S)
-      → list_any test keys ≡ true → ((k : Position S) → test k ≡ true → (k.done.items ≡ done) × (k.state ≡ state)) → sum done ≡ length before
+      → list_any test keys ≡ true → ((k : Position S) → test k ≡ true → (k.done ≡ done) × (k.state ≡ state)) → sum done ≡ length before
       → AreAccounted turn rest lengths best keys → Covered turn rest done state before (Completes lengths done) best best
   met-again best keys test done before state found same e all =
-      let k = Each-find (Position S) (λ k. IsAccounted turn rest lengths best k.done.items k.state) test keys found all in
+      let k = Each-find (Position S) (λ k. IsAccounted turn rest lengths best k.done k.state) test keys found all in
       let s = same k.0 k.1 in
-      covered done before state best e (subst (λ d. IsAccounted turn rest lengths best d state) s.0 (subst (λ n. IsAccounted turn rest lengths best k.0.done.items n) s.1 k.2))
+      covered done before state best e (subst (λ d. IsAccounted turn rest lengths best d state) s.0 (subst (λ n. IsAccounted turn rest lengths best k.0.done n) s.1 k.2))
 
   -- one position more
-  pub remembered : (best : Best F) (there : Bool) (keys new : List (Position S)) (k : Position S) (done : List ℕ) → new ≡ (if there then keys else keys ++ k ∷ []) → k.done.items ≡ done
+  pub remembered : (best : Best F) (there : Bool) (keys new : List (Position S)) (k : Position S) (done : List ℕ) → new ≡ (if there then keys else keys ++ k ∷ []) → k.done ≡ done
       → AreAccounted turn rest lengths best keys → IsAccounted turn rest lengths best done k.state → AreAccounted turn rest lengths best new
   remembered best there keys new k done e d h a =
-      Each-insert (λ k. IsAccounted turn rest lengths best k.done.items k.state) there keys new k e h (subst (λ d. IsAccounted turn rest lengths best d k.state) (sym d) a)
+      Each-insert (λ k. IsAccounted turn rest lengths best k.done k.state) there keys new k e h (subst (λ d. IsAccounted turn rest lengths best d k.state) (sym d) a)

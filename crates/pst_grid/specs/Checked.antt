@@ -28,7 +28,7 @@ module _ {S F : Type 0} (turn : S → ℕ → ℕ → Turn S F) (rest : S → En
 module _ {S F : Type 0} (turn : S → ℕ → ℕ → Turn S F) (rest : S → Ending F) (lengths : List ℕ) where
   -- all words behind each position that is remembered are all true
   abbrev pub AreAllTrue : List (Position S) → Type 0
-  AreAllTrue keys = Each (λ k. AreTrue turn rest k.done.items k.state (Completes lengths k.done.items)) keys
+  AreAllTrue keys = Each (λ k. AreTrue turn rest k.done k.state (Completes lengths k.done)) keys
 
   -- the search is where it was, the words of W are all true, and so are those behind what is remembered
   pub record HasChecked (s : S) (W : List ℕ → Type 0) (old new : Search F) (keys : List (Position S)) :

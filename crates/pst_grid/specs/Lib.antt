@@ -10,3 +10,5 @@ pub mod Covered
 pub mod Remembered
 pub mod Checked
 pub mod Hashing
+pub mod Places
+pub mod Packings

@@ -23,7 +23,7 @@ module _ {S F : Type 0} (turn : S → ℕ → ℕ → Turn S F) (rest : S → En
 
   -- so it is with each position that is remembered
   abbrev pub AreAccounted : Best F → List (Position S) → Type 0
-  AreAccounted best keys = Each (λ k. IsAccounted best k.done.items k.state) keys
+  AreAccounted best keys = Each (λ k. IsAccounted best k.done k.state) keys
 
   -- the search has covered the words of W, and all that is remembered is accounted for
   pub record HasCoveredAll (s : S) (W : List ℕ → Type 0) (old new : Search F) (keys : List (Position S)) :
@@ -43,12 +43,12 @@ module _ {S F : Type 0} (turn : S → ℕ → ℕ → Turn S F) (rest : S → En
 abbrev pub ends_of : {S : Type 0} → List ℕ → List (Position S) → List S
 ends_of lengths [] = []
 ends_of lengths (k ∷ ks) =
-    if bytes_eq k.done.items lengths then k.state ∷ ends_of lengths ks else ends_of lengths ks
+    if bytes_eq k.done lengths then k.state ∷ ends_of lengths ks else ends_of lengths ks
 
 module _ {S F : Type 0} (turn : S → ℕ → ℕ → Turn S F) (lengths : List ℕ) (most_rest : ℕ) where
   -- the position is reached from a place and a state
   abbrev pub IsReachedFrom : List ℕ → S → Position S → Type 0
-  IsReachedFrom done s k = (u : List ℕ) × Leads turn lengths done s u k.done.items k.state
+  IsReachedFrom done s k = (u : List ℕ) × Leads turn lengths done s u k.done k.state
 
   -- The positions that were remembered on the way from a place and a state, each with at least so many
   -- commands done, and how many steps that took at most: as many as there are branches for each of the
@@ -58,6 +58,6 @@ module _ {S F : Type 0} (turn : S → ℕ → ℕ → Turn S F) (lengths : List 
     pub added : List (Position S)
     pub keys : new ≡ old ++ added
     pub reached : Each (IsReachedFrom done s) added
-    pub deep : Each (λ k. depth ≤ sum k.done.items) added
+    pub deep : Each (λ k. depth ≤ sum k.done) added
     pub steps :
         now ≤ before + extra + length lengths * length added + most_rest * length (ends_of lengths added)

@@ -11,6 +11,7 @@ ghost use Rattle.pst_grid.specs.Remembered.{IsGrown};
 ghost use Rattle.pst_grid.specs.Turns.{AreCommands};
 
 use crate::hasher::BuildWordHasher;
+use crate::place::Place;
 use crate::position::Position;
 use crate::search::{Search, is_done};
 use crate::{Ending, EveryAnswer, Steps, Turn, Why};
@@ -98,7 +99,7 @@ fn check<S: Steps>(
         (Completes lengths.now search.old.done.items) search.old search.new seen.new.keys) }
 {
     let position = Position {
-        done: search.done.to_vec(alloc)?,
+        done: Place::new(alloc, &search.done)?,
         state,
     };
     if seen.contains(&position) {

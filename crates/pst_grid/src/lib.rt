@@ -22,6 +22,7 @@ mod every_search;
 mod finish;
 mod hasher;
 mod laws;
+mod place;
 mod plain_search;
 mod position;
 mod search;

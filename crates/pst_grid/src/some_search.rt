@@ -8,6 +8,7 @@ ghost use Rattle.pst_grid.specs.Turns.{AreCommands};
 
 use crate::finish::finish;
 use crate::hasher::BuildWordHasher;
+use crate::place::Place;
 use crate::position::Position;
 use crate::search::{Search, is_done};
 use crate::{SomeAnswer, Steps, Turn, Why};
@@ -38,7 +39,7 @@ fn explore<S: Steps>(
         (Completes lengths.now search.old.done.items) search.old search.new seen.new.keys) }
 {
     let position = Position {
-        done: search.done.to_vec(alloc)?,
+        done: Place::new(alloc, &search.done)?,
         state,
     };
     if seen.contains(&position) {

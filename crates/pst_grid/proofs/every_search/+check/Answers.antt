@@ -14,22 +14,22 @@ use Rattle.pst_grid.proofs.every_search.+check.Goals as goal
 pub check-returns-then-is_done-clause-checked : goal.check-returns-then-is_done-clause-checked
 check-returns-then-is_done-clause-checked g t c =
     let here = c.args.search.now in
-    let items : c.in_ok-to_vec.field-0.items ≡ here.done.items = search rules in
+    let items : c.in_ok-new.field-0 ≡ here.done.items = search rules in
     let full = subst (λ d. (b : ℕ) → get_or c.args.lengths.now b 0 ≤ get_or d b 0) c.deref-2.ensures.value c.if-is_done.ensures in
     let e = c.in_ok-stopped.ensures in
     ended-checked (g.S.Steps.turn c.args.steps.now) (g.S.Steps.rest c.args.steps.now) c.args.state c.args.lengths.now here
-    c.check_rest.new.search _ c.args.seen.now.keys c.insert.new.self.keys (record { done = c.in_ok-to_vec.field-0; state = c.args.state })
+    c.check_rest.new.search _ c.args.seen.now.keys c.insert.new.self.keys (record { done = c.in_ok-new.field-0; state = c.args.state })
     c.requires.place full c.in_ok-insert.ensures.keys items refl c.in_ok-stopped.stopped e.done e.word e.checked c.requires.all_true
 
 pub check-returns-then-contains-clause-checked : goal.check-returns-then-contains-clause-checked
 check-returns-then-contains-clause-checked g t c =
     let here = c.args.search.now in
-    let items : c.in_ok-to_vec.field-0.items ≡ here.done.items = search rules in
+    let items : c.in_ok-new.field-0 ≡ here.done.items = search rules in
     record {
       word = refl;
       done = refl;
       are_true = true-again (g.S.Steps.turn c.args.steps.now) (g.S.Steps.rest c.args.steps.now) c.args.lengths.now c.args.state c.args.seen.now.keys _ here.done.items (sym c.contains.ensures ∙ c.if-contains.true)
-          (λ k e. position-same g.S.State.PartialEq.eq g.met.S.Steps.exact c.in_ok-to_vec.field-0.items here.done.items c.args.state k items e) c.requires.all_true;
+          (λ k e. position-same g.S.State.PartialEq.eq g.met.S.Steps.exact c.in_ok-new.field-0 here.done.items c.args.state k items e) c.requires.all_true;
       all_true = c.requires.all_true;
     }
 
@@ -81,13 +81,13 @@ check-returns-clause-checked g t c =
     let state = c.args.state in
     let here = c.args.search.now in
     let h = c.loop-branch.invariant.checked in
-    let items : c.in_ok-to_vec.field-0.items ≡ here.done.items = search rules in
+    let items : c.in_ok-new.field-0 ≡ here.done.items = search rules in
     let all = true-all turn rest c.args.lengths.now state here.done.items c.loop-branch.branch c.loop-branch.invariant.some_left (omega arith) h.are_true in
     record {
       word = h.word;
       done = h.done;
       are_true = all;
-      all_true = true-remembered turn rest c.args.lengths.now state _ c.loop-branch.seen.keys c.insert-2.new.self.keys (record { done = c.in_ok-to_vec.field-0; state = c.args.state }) here.done.items
+      all_true = true-remembered turn rest c.args.lengths.now state _ c.loop-branch.seen.keys c.insert-2.new.self.keys (record { done = c.in_ok-new.field-0; state = c.args.state }) here.done.items
           c.in_ok-insert-2.ensures.keys items refl h.all_true all;
     }
 
@@ -135,12 +135,12 @@ check_branch-returns-in_ok-failed_merge-in-Stop-clause-checked g t c =
 pub check-returns-then-is_done-clause-grown : goal.check-returns-then-is_done-clause-grown
 check-returns-then-is_done-clause-grown g t c =
     let here = c.args.search.now in
-    let items : c.in_ok-to_vec.field-0.items ≡ here.done.items = search rules in
+    let items : c.in_ok-new.field-0 ≡ here.done.items = search rules in
     let full = subst (λ d. (b : ℕ) → get_or c.args.lengths.now b 0 ≤ get_or d b 0) c.deref-2.ensures.value c.if-is_done.ensures in
     let at = c.requires.place in
     grown-end (g.S.Steps.turn c.args.steps.now) c.args.lengths.now (g.S.Steps.most_rest c.args.steps.now) here.done.items c.args.state
     c.args.seen.now.keys c.insert.new.self.keys here.steps c.check_rest.new.search.steps
-    (record { done = c.in_ok-to_vec.field-0; state = c.args.state }) _ (all-done c.args.lengths.now here.done.items at.branches at.within full)
+    (record { done = c.in_ok-new.field-0; state = c.args.state }) _ (all-done c.args.lengths.now here.done.items at.branches at.within full)
     c.in_ok-stopped.ensures.steps items refl (sym c.contains.ensures ∙ c.if-contains.false) c.in_ok-insert.ensures.keys
 
 pub check-returns-then-contains-clause-grown : goal.check-returns-then-contains-clause-grown
@@ -151,22 +151,22 @@ check-returns-in-Some-clause-grown g t c =
     let here = c.args.search.now in
     let state = c.args.state in
     let now = c.loop-branch.search in
-    let items : c.in_ok-to_vec.field-0.items ≡ here.done.items = search rules in
+    let items : c.in_ok-new.field-0 ≡ here.done.items = search rules in
     let visited = subst (λ d. IsGrown (g.S.Steps.turn c.args.steps.now) c.args.lengths.now (g.S.Steps.most_rest c.args.steps.now) 1 (sum d + 1) d state c.loop-branch.seen.keys c.check_branch.new.seen.keys now.steps c.check_branch.new.search.steps) c.loop-branch.invariant.checked.done c.in_ok-failed.ensures.grown in
     let all = grown-more (g.S.Steps.turn c.args.steps.now) c.args.lengths.now (g.S.Steps.most_rest c.args.steps.now) (sum here.done.items + 1) here.done.items state c.loop-branch.branch c.args.seen.now.keys c.loop-branch.seen.keys c.check_branch.new.seen.keys here.steps now.steps c.check_branch.new.search.steps c.loop-branch.invariant.grown visited in
-    grown-insert (g.S.Steps.turn c.args.steps.now) c.args.lengths.now (g.S.Steps.most_rest c.args.steps.now) here.done.items state (c.loop-branch.branch + 1) c.args.seen.now.keys c.check_branch.new.seen.keys c.insert-in-Some.new.self.keys here.steps c.check_branch.new.search.steps (record { done = c.in_ok-to_vec.field-0; state = c.args.state }) _
+    grown-insert (g.S.Steps.turn c.args.steps.now) c.args.lengths.now (g.S.Steps.most_rest c.args.steps.now) here.done.items state (c.loop-branch.branch + 1) c.args.seen.now.keys c.check_branch.new.seen.keys c.insert-in-Some.new.self.keys here.steps c.check_branch.new.search.steps (record { done = c.in_ok-new.field-0; state = c.args.state }) _
     (omega arith) all items refl (sym c.contains.ensures ∙ c.if-contains.false)
-    (λ k e. (position-same g.S.State.PartialEq.eq g.met.S.Steps.exact c.in_ok-to_vec.field-0.items here.done.items c.args.state k items e).0) c.in_ok-insert-in-Some.ensures.keys
+    (λ k e. (position-same g.S.State.PartialEq.eq g.met.S.Steps.exact c.in_ok-new.field-0 here.done.items c.args.state k items e).0) c.in_ok-insert-in-Some.ensures.keys
 
 pub check-returns-clause-grown : goal.check-returns-clause-grown
 check-returns-clause-grown g t c =
     let here = c.args.search.now in
     let state = c.args.state in
     let now = c.loop-branch.search in
-    let items : c.in_ok-to_vec.field-0.items ≡ here.done.items = search rules in
-    grown-insert (g.S.Steps.turn c.args.steps.now) c.args.lengths.now (g.S.Steps.most_rest c.args.steps.now) here.done.items state c.loop-branch.branch c.args.seen.now.keys c.loop-branch.seen.keys c.insert-2.new.self.keys here.steps now.steps (record { done = c.in_ok-to_vec.field-0; state = c.args.state }) _
+    let items : c.in_ok-new.field-0 ≡ here.done.items = search rules in
+    grown-insert (g.S.Steps.turn c.args.steps.now) c.args.lengths.now (g.S.Steps.most_rest c.args.steps.now) here.done.items state c.loop-branch.branch c.args.seen.now.keys c.loop-branch.seen.keys c.insert-2.new.self.keys here.steps now.steps (record { done = c.in_ok-new.field-0; state = c.args.state }) _
     (omega arith) c.loop-branch.invariant.grown items refl (sym c.contains.ensures ∙ c.if-contains.false)
-    (λ k e. (position-same g.S.State.PartialEq.eq g.met.S.Steps.exact c.in_ok-to_vec.field-0.items here.done.items c.args.state k items e).0) c.in_ok-insert-2.ensures.keys
+    (λ k e. (position-same g.S.State.PartialEq.eq g.met.S.Steps.exact c.in_ok-new.field-0 here.done.items c.args.state k items e).0) c.in_ok-insert-2.ensures.keys
 
 pub check_branch-returns-then-index-lengths-clause-grown : goal.check_branch-returns-then-index-lengths-clause-grown
 check_branch-returns-then-index-lengths-clause-grown g t c = grown-none (g.S.Steps.turn c.args.steps.now) c.args.lengths.now (g.S.Steps.most_rest c.args.steps.now) _ _ _ c.args.seen.now.keys 1 c.args.search.now.steps c.args.search.now.steps (omega arith)

@@ -12,23 +12,23 @@ use Rattle.pst_grid.proofs.some_search.+search.Goals as goal
 pub explore-returns-then-is_done-clause-searched : goal.explore-returns-then-is_done-clause-searched
 explore-returns-then-is_done-clause-searched g t c =
     let here = c.args.search.now in
-    let items : c.in_ok-to_vec.field-0.items ≡ here.done.items = search rules in
+    let items : c.in_ok-new.field-0 ≡ here.done.items = search rules in
     let full = subst (λ d. (b : ℕ) → get_or c.args.lengths.now b 0 ≤ get_or d b 0) c.deref-2.ensures.value c.if-is_done.ensures in
     ended-searched (g.S.Steps.turn c.args.steps.now) (g.S.Steps.rest c.args.steps.now) c.args.state c.args.lengths.now here
-    c.finish.new.search _ c.args.seen.now.keys c.insert.new.self.keys (record { done = c.in_ok-to_vec.field-0; state = c.args.state })
+    c.finish.new.search _ c.args.seen.now.keys c.insert.new.self.keys (record { done = c.in_ok-new.field-0; state = c.args.state })
     c.requires.place full c.in_ok-insert.ensures.keys items refl c.in_ok-found.found c.requires.depth
     c.in_ok-found.ensures.explored c.requires.accounted
 
 pub explore-returns-then-contains-clause-searched : goal.explore-returns-then-contains-clause-searched
 explore-returns-then-contains-clause-searched g t c =
     let here = c.args.search.now in
-    let items : c.in_ok-to_vec.field-0.items ≡ here.done.items = search rules in
+    let items : c.in_ok-new.field-0 ≡ here.done.items = search rules in
     record {
       covered = record {
         word = refl;
         done = refl;
         covered = met-again (g.S.Steps.turn c.args.steps.now) (g.S.Steps.rest c.args.steps.now) c.args.lengths.now here.best c.args.seen.now.keys _ here.done.items here.word.items c.args.state
-            (sym c.contains.ensures ∙ c.if-contains.true) (λ k e. position-same g.S.State.PartialEq.eq g.met.S.Steps.exact c.in_ok-to_vec.field-0.items here.done.items c.args.state k items e) c.requires.depth c.requires.accounted;
+            (sym c.contains.ensures ∙ c.if-contains.true) (λ k e. position-same g.S.State.PartialEq.eq g.met.S.Steps.exact c.in_ok-new.field-0 here.done.items c.args.state k items e) c.requires.depth c.requires.accounted;
       };
       accounted = c.requires.accounted;
     }
@@ -59,11 +59,11 @@ pub explore-returns-clause-searched : goal.explore-returns-clause-searched
 explore-returns-clause-searched g t c =
     let here = c.args.search.now in
     let state = c.args.state in
-    let items : c.in_ok-to_vec.field-0.items ≡ here.done.items = search rules in
+    let items : c.in_ok-new.field-0 ≡ here.done.items = search rules in
     let h = explored-all (g.S.Steps.turn c.args.steps.now) (g.S.Steps.rest c.args.steps.now) c.args.lengths.now state here c.loop-branch.search c.loop-branch.branch c.loop-branch.invariant.some_left (omega arith) c.loop-branch.invariant.covered.covered in
     record {
       covered = h;
-      accounted = remembered (g.S.Steps.turn c.args.steps.now) (g.S.Steps.rest c.args.steps.now) c.args.lengths.now c.loop-branch.search.best _ c.loop-branch.seen.keys c.insert-2.new.self.keys (record { done = c.in_ok-to_vec.field-0; state = c.args.state }) here.done.items c.in_ok-insert-3.ensures.keys items
+      accounted = remembered (g.S.Steps.turn c.args.steps.now) (g.S.Steps.rest c.args.steps.now) c.args.lengths.now c.loop-branch.search.best _ c.loop-branch.seen.keys c.insert-2.new.self.keys (record { done = c.in_ok-new.field-0; state = c.args.state }) here.done.items c.in_ok-insert-3.ensures.keys items
           c.loop-branch.invariant.covered.accounted
           (accounted (g.S.Steps.turn c.args.steps.now) (g.S.Steps.rest c.args.steps.now) c.args.lengths.now here.done.items here.word.items state here.best c.loop-branch.search.best c.requires.depth h.covered);
     }
@@ -134,12 +134,12 @@ visit-returns-in_ok-note_fault-in-Stop-Fault-clause-searched g t c =
 pub explore-returns-then-is_done-clause-grown : goal.explore-returns-then-is_done-clause-grown
 explore-returns-then-is_done-clause-grown g t c =
     let here = c.args.search.now in
-    let items : c.in_ok-to_vec.field-0.items ≡ here.done.items = search rules in
+    let items : c.in_ok-new.field-0 ≡ here.done.items = search rules in
     let full = subst (λ d. (b : ℕ) → get_or c.args.lengths.now b 0 ≤ get_or d b 0) c.deref-2.ensures.value c.if-is_done.ensures in
     let at = c.requires.place in
     grown-end (g.S.Steps.turn c.args.steps.now) c.args.lengths.now (g.S.Steps.most_rest c.args.steps.now) here.done.items c.args.state
     c.args.seen.now.keys c.insert.new.self.keys here.steps c.finish.new.search.steps
-    (record { done = c.in_ok-to_vec.field-0; state = c.args.state }) _ (all-done c.args.lengths.now here.done.items at.branches at.within full)
+    (record { done = c.in_ok-new.field-0; state = c.args.state }) _ (all-done c.args.lengths.now here.done.items at.branches at.within full)
     c.in_ok-found.ensures.steps items refl (sym c.contains.ensures ∙ c.if-contains.false) c.in_ok-insert.ensures.keys
 
 pub explore-returns-then-contains-clause-grown : goal.explore-returns-then-contains-clause-grown
@@ -159,22 +159,22 @@ explore-returns-then-branch-clause-grown g t c =
     let here = c.args.search.now in
     let state = c.args.state in
     let now = c.loop-branch.search in
-    let items : c.in_ok-to_vec.field-0.items ≡ here.done.items = search rules in
+    let items : c.in_ok-new.field-0 ≡ here.done.items = search rules in
     let visited = subst (λ d. IsGrown (g.S.Steps.turn c.args.steps.now) c.args.lengths.now (g.S.Steps.most_rest c.args.steps.now) 1 (sum d + 1) d state c.loop-branch.seen.keys c.visit.new.seen.keys now.steps c.visit.new.search.steps) c.loop-branch.invariant.covered.covered.done c.in_ok-visit.ensures.grown in
     let all = grown-more (g.S.Steps.turn c.args.steps.now) c.args.lengths.now (g.S.Steps.most_rest c.args.steps.now) (sum here.done.items + 1) here.done.items state c.loop-branch.branch c.args.seen.now.keys c.loop-branch.seen.keys c.visit.new.seen.keys here.steps now.steps c.visit.new.search.steps c.loop-branch.invariant.grown visited in
-    grown-insert (g.S.Steps.turn c.args.steps.now) c.args.lengths.now (g.S.Steps.most_rest c.args.steps.now) here.done.items state (c.loop-branch.branch + 1) c.args.seen.now.keys c.visit.new.seen.keys c.insert-then-branch.new.self.keys here.steps c.visit.new.search.steps (record { done = c.in_ok-to_vec.field-0; state = c.args.state }) _
+    grown-insert (g.S.Steps.turn c.args.steps.now) c.args.lengths.now (g.S.Steps.most_rest c.args.steps.now) here.done.items state (c.loop-branch.branch + 1) c.args.seen.now.keys c.visit.new.seen.keys c.insert-then-branch.new.self.keys here.steps c.visit.new.search.steps (record { done = c.in_ok-new.field-0; state = c.args.state }) _
     (omega arith) all items refl (sym c.contains.ensures ∙ c.if-contains.false)
-    (λ k e. (position-same g.S.State.PartialEq.eq g.met.S.Steps.exact c.in_ok-to_vec.field-0.items here.done.items c.args.state k items e).0) c.in_ok-insert-2.ensures.keys
+    (λ k e. (position-same g.S.State.PartialEq.eq g.met.S.Steps.exact c.in_ok-new.field-0 here.done.items c.args.state k items e).0) c.in_ok-insert-2.ensures.keys
 
 pub explore-returns-clause-grown : goal.explore-returns-clause-grown
 explore-returns-clause-grown g t c =
     let here = c.args.search.now in
     let state = c.args.state in
     let now = c.loop-branch.search in
-    let items : c.in_ok-to_vec.field-0.items ≡ here.done.items = search rules in
-    grown-insert (g.S.Steps.turn c.args.steps.now) c.args.lengths.now (g.S.Steps.most_rest c.args.steps.now) here.done.items state c.loop-branch.branch c.args.seen.now.keys c.loop-branch.seen.keys c.insert-2.new.self.keys here.steps now.steps (record { done = c.in_ok-to_vec.field-0; state = c.args.state }) _
+    let items : c.in_ok-new.field-0 ≡ here.done.items = search rules in
+    grown-insert (g.S.Steps.turn c.args.steps.now) c.args.lengths.now (g.S.Steps.most_rest c.args.steps.now) here.done.items state c.loop-branch.branch c.args.seen.now.keys c.loop-branch.seen.keys c.insert-2.new.self.keys here.steps now.steps (record { done = c.in_ok-new.field-0; state = c.args.state }) _
     (omega arith) c.loop-branch.invariant.grown items refl (sym c.contains.ensures ∙ c.if-contains.false)
-    (λ k e. (position-same g.S.State.PartialEq.eq g.met.S.Steps.exact c.in_ok-to_vec.field-0.items here.done.items c.args.state k items e).0) c.in_ok-insert-3.ensures.keys
+    (λ k e. (position-same g.S.State.PartialEq.eq g.met.S.Steps.exact c.in_ok-new.field-0 here.done.items c.args.state k items e).0) c.in_ok-insert-3.ensures.keys
 
 pub visit-returns-then-index-lengths-clause-grown : goal.visit-returns-then-index-lengths-clause-grown
 visit-returns-then-index-lengths-clause-grown g t c = grown-none (g.S.Steps.turn c.args.steps.now) c.args.lengths.now (g.S.Steps.most_rest c.args.steps.now) _ _ _ c.args.seen.now.keys 1 c.args.search.now.steps c.args.search.now.steps (omega arith)

@@ -1,0 +1,115 @@
+//! How many commands of each branch are done, in little memory.
+ghost use Rattle.std.specs.Prelude.{◌≡◌, IfOk};
+ghost use Rattle.pst_grid.specs.Places.{word_for};
+
+use std::alloc::{AllocError, Global};
+use std::hash::{Hash, Hasher};
+use std::marker::Model;
+
+/// The most counts that one word holds.
+const MOST_COUNTS: usize = 4;
+
+/// The least count that no word holds.
+const LEAST_LARGE: usize = 65_535;
+
+/// How a list of counts is kept.
+#[derive(Drop)]
+enum Packing {
+    /// All counts are digits of the word.
+    Word(u64),
+    /// The counts are too many or too large for a word.
+    Counts(Box<Vec<usize>>),
+}
+
+/// How many commands of each branch are done. Contracts see it as the list of these counts.
+///
+/// Four counts below 65,535 take one word and no further memory: the digits of the word, to the base 65,536, are the
+/// counts plus one, the first count lowest, so that a digit 0 ends the list.
+#[derive(Drop)]
+pub(crate) struct Place {
+    packing: Packing,
+}
+
+impl Model for Place {
+    ghost use Rattle.std.specs.Prelude.{List, ℕ};
+
+    ghost Value = { List ℕ };
+
+    ghost use Rattle.pst_grid.specs.Packings.{counts_of, IsPacked};
+
+    ghost view = { λ p. counts_of p.packing };
+
+    ghost invariant = { λ p. IsPacked p.packing };
+}
+
+/// The word of these counts, if one holds them.
+fn packed(done: &[usize]) -> Option<u64>
+    ensures { result ≡ word_for done.now }
+{
+    if done.len() > MOST_COUNTS {
+        return None;
+    }
+    let mut word: u64 = 0;
+    for branch in (0..done.len()).rev() {
+        let count = done[branch];
+        if count >= LEAST_LARGE {
+            return None;
+        }
+        word = word * 65_536 + (count as u64 + 1);
+    }
+    Some(word)
+}
+
+impl Place {
+    /// The place of these counts. It takes memory only where they are many or large.
+    pub(crate) fn new(alloc: Global, done: &[usize]) -> Result<Place, AllocError>
+        ensures { IfOk result (λ p. p ≡ done.now) }
+    {
+        let packing = match packed(done) {
+            Some(word) => Packing::Word(word),
+            None => Packing::Counts(Box::new(alloc, done.to_vec(alloc)?)?),
+        };
+        Ok(Place { packing })
+    }
+}
+
+impl PartialEq for Place {
+    ghost use Rattle.std.specs.Cmp.Lexicographic.{pointwise, nat_list_eq_equiv};
+    ghost use Rattle.std.specs.Prelude.{nat_eq};
+    ghost use Rattle.std.specs.Cmp as cmp;
+
+    ghost eq = { pointwise nat_eq };
+
+    ghost laws = { cmp.partial_equiv_from_equiv nat_list_eq_equiv };
+
+    fn eq(&self, other: &Self) -> bool {
+        match (&self.packing, &other.packing) {
+            (Packing::Word(one), Packing::Word(two)) => one == two,
+            (Packing::Counts(one), Packing::Counts(two)) => **one == **two,
+            _ => false,
+        }
+    }
+}
+
+impl Eq for Place {
+    ghost use Rattle.std.specs.Cmp.Lexicographic.{nat_list_eq_equiv};
+
+    ghost laws = { nat_list_eq_equiv };
+}
+
+impl Hash for Place {
+    ghost use Rattle.std.specs.Cmp.Lexicographic.{bytes_decides};
+    ghost use Rattle.std.proofs.Common.{ap};
+    ghost use Rattle.pst_grid.specs.Places.{hash_input_of};
+
+    ghost hash_input = { hash_input_of };
+
+    ghost respects_eq = { λ x y h. ap hash_input_of ((bytes_decides x y).0 h) };
+
+    fn hash<H: Hasher>(&self, state: &mut H) {
+        match &self.packing {
+            Packing::Word(word) => state.write_u64(*word),
+            Packing::Counts(counts) => (**counts).hash(state),
+        }
+    }
+}
