@@ -3,6 +3,7 @@ ghost use Rattle.std.specs.Prelude.{◌≡◌, ◌++◌, IfOk, map, option_copie
 ghost use Rattle.pst_model.specs.Parts.{number_of};
 ghost use Rattle.pst_runs.specs.Commands as spec;
 
+use crate::room::with_room;
 use crate::values::{Spelling, value_of};
 use pst_case::Command;
 use pst_items::{Items, Text};
@@ -54,7 +55,7 @@ fn arguments_of(alloc: Global, typed: &Typed, forms: &[Form]) -> Result<Argument
         args.are_all ≡ spec.are_present (spec.arguments_of typed.now forms.now)) }
 {
     let spelling = Spelling::of_arguments(typed);
-    let mut values = Items::new(alloc);
+    let mut values = with_room(alloc, forms.len())?;
     let mut are_all = true;
     for form in forms {
         match value_of(alloc, form, spelling)? {
@@ -97,7 +98,7 @@ pub fn commands_of(
 ) -> Result<Option<Items<Spelled>>, AllocError>
     ensures { IfOk result (λ commands. commands ≡ spec.commands_of typed.now forms.now) }
 {
-    let mut commands = Items::new(alloc);
+    let mut commands = with_room(alloc, forms.len())?;
     for form in forms {
         let Some(command) = command_of(alloc, typed, form)? else {
             return Ok(None);

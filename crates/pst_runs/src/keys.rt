@@ -2,6 +2,7 @@
 ghost use Rattle.std.specs.Prelude.{◌≡◌, IfOk, MatchOption, None, Some};
 ghost use Rattle.pst_runs.specs.Values as spec;
 
+use crate::room::with_room;
 use pst_items::{Items, Text};
 use pst_sexpr::{Form, node_of};
 use pst_value::Key;
@@ -48,7 +49,7 @@ fn key_of(alloc: Global, form: &Form) -> Result<Option<Key>, AllocError>
 pub fn keys_of(alloc: Global, entries: &[Form]) -> Result<Option<Items<Key>>, AllocError>
     ensures { IfOk result (λ keys. keys ≡ spec.each spec.entry_key entries.now) }
 {
-    let mut keys = Items::new(alloc);
+    let mut keys = with_room(alloc, entries.len())?;
     for entry in entries {
         let Some((key, _)) = pair_of(entry) else {
             return Ok(None);

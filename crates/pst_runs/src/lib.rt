@@ -8,6 +8,7 @@ mod parts;
 mod reader;
 mod reading;
 mod replies;
+mod room;
 mod values;
 
 pub use fault::{RunFault, RunFaultKind};

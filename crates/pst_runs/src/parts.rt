@@ -6,6 +6,7 @@ ghost use Rattle.pst_runs.specs.Shown.{shown_option, shown_sections};
 ghost use Rattle.pst_sexpr.specs.Parts.{node_of};
 
 use crate::commands::{Spelled, SpelledCase, commands_of};
+use crate::room::with_room;
 use pst_items::Items;
 use pst_rules::Typed;
 use pst_sexpr::{Form, node_of, word_of};
@@ -80,7 +81,7 @@ fn two_branches(
     let Some(right) = section_commands(alloc, typed, "right", right)? else {
         return Ok(None);
     };
-    let mut branches = Items::new(alloc);
+    let mut branches = with_room(alloc, 2)?;
     branches.push(left)?;
     branches.push(right)?;
     Ok(Some(branches))
@@ -102,7 +103,7 @@ fn each_branch(
     if !are_two_to_four(forms) {
         return Ok(None);
     }
-    let mut branches = Items::new(alloc);
+    let mut branches = with_room(alloc, forms.len())?;
     for form in forms {
         let Some(branch) = branch_of(alloc, typed, form)? else {
             return Ok(None);

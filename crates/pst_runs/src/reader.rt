@@ -78,7 +78,7 @@ pub fn read_runs(alloc: Global, typed: &Typed, trees: &[Tree]) -> Result<Vec<Run
     ensures refused { IfErr result (λ fault.
         (spec.runs_of typed.now trees.now ≡ Err fault) ⊎ (fault ≡ spec.no_memory)) }
 {
-    let mut runs = Vec::new(alloc);
+    let mut runs = Vec::with_capacity(alloc, trees.len())?;
     for tree in trees {
         let run = runs.len() + 1;
         match item_of(alloc, typed, tree.form()) {

@@ -4,6 +4,7 @@ ghost use Rattle.pst_case.specs.Shape.{joined};
 ghost use Rattle.pst_runs.specs.Reading as spec;
 
 use crate::commands::{Spelled, SpelledCase};
+use crate::room::with_room;
 use pst_case::{
     Case, CaseFault, CaseFaultKind, Command, Shaped, are_over_limit, joined_len, shape,
 };
@@ -15,7 +16,7 @@ use std::alloc::{AllocError, Global};
 fn readable_part(alloc: Global, commands: Items<Spelled>) -> Result<Items<Command>, AllocError>
     ensures { IfOk result (λ readable. readable ≡ spec.readable_part commands) }
 {
-    let mut readable = Items::new(alloc);
+    let mut readable = with_room(alloc, commands.len())?;
     for command in commands.into_vec() {
         match command {
             Spelled::Whole(command) => readable.push(command)?,
@@ -32,7 +33,7 @@ fn readable_branches(
 ) -> Result<Items<Items<Command>>, AllocError>
     ensures { IfOk result (λ readable. readable ≡ map spec.readable_part branches) }
 {
-    let mut readable = Items::new(alloc);
+    let mut readable = with_room(alloc, branches.len())?;
     for branch in branches.into_vec() {
         readable.push(readable_part(alloc, branch)?)?;
     }

@@ -4,6 +4,7 @@ ghost use Rattle.pst_case.specs.Shape.{before_suffix, joined};
 ghost use Rattle.pst_runs.specs.Replies as spec;
 ghost use Rattle.pst_sexpr.specs.Parts.{word_of};
 
+use crate::room::with_room;
 use crate::values::{Spelling, value_of};
 use pst_case::{Case, Command, History, Reply, joined_len};
 use pst_items::Items;
@@ -117,7 +118,8 @@ fn part_replies(
     ensures { IfOk result (λ replies.
         replies ≡ spec.part_replies typed.now number commands.now forms.now) }
 {
-    replies_from(alloc, typed, number, Items::new(alloc), commands, forms)
+    let read = with_room(alloc, commands.len())?;
+    replies_from(alloc, typed, number, read, commands, forms)
 }
 
 /// The replies of branches after others, before which so many commands stand.
@@ -174,7 +176,7 @@ pub fn history_of(
         Err(number) => return Ok(Err(number)),
     };
     let before = commands.len() as u32;
-    let read = Items::new(alloc);
+    let read = with_room(alloc, branches.len())?;
     let branch_replies = match branches_from(alloc, typed, before, read, branches, lists)? {
         Ok(replies) => replies,
         Err(number) => return Ok(Err(number)),

@@ -3,6 +3,7 @@ ghost use Rattle.std.specs.Prelude.{◌≡◌, IfOk};
 ghost use Rattle.pst_runs.specs.Values as spec;
 
 use crate::keys::{keys_of, pair_of};
+use crate::room::with_room;
 use pst_items::{Items, Text};
 use pst_rules::Typed;
 use pst_sexpr::{Form, MAX_LEVELS, word_of};
@@ -148,7 +149,7 @@ fn values_in(
 ) -> Result<Option<Items<Value>>, AllocError>
     ensures { IfOk result (λ values. values ≡ spec.each (spec.value_in spelling room) forms.now) }
 {
-    let mut values = Items::new(alloc);
+    let mut values = with_room(alloc, forms.len())?;
     for form in forms {
         let Some(value) = value_in(alloc, form, spelling, room)? else {
             return Ok(None);
@@ -191,7 +192,7 @@ fn entry_values(
     ensures { IfOk result (λ values.
         values ≡ spec.each (spec.entry_value (spec.value_in spelling room)) entries.now) }
 {
-    let mut values = Items::new(alloc);
+    let mut values = with_room(alloc, entries.len())?;
     for entry in entries {
         let Some((_, form)) = pair_of(entry) else {
             return Ok(None);
