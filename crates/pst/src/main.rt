@@ -8,6 +8,7 @@ mod explaining;
 mod input;
 mod judging;
 mod least;
+mod overheard;
 mod progress;
 mod refused;
 mod warned;
@@ -21,6 +22,7 @@ use pst_campaign::Unwatched;
 use pst_cli::{
     Absence, KnownSystem, Status, campaign_text, check_text, list_text, refuse_text, run_text,
 };
+use pst_misfits::{Misfits, Overheard};
 use pst_samples::{Counter, Meet, Queue, Racy, Registry, Stuck};
 use pst_sink::{Out, Sink, put_all};
 use pst_sources::joined;
@@ -45,21 +47,29 @@ fn and_one(systems: Systems, system: Result<BoxedSystem, AllocError>) -> Systems
     Ok(systems)
 }
 
-/// Drives the items of the input on a system, if there is one.
-fn drive<W: Sink, R: Threads + Wait>(
+/// Drives the items of the input on a system, if there is one. Where misfits are kept, lines on standard error say in
+/// the end what was answered.
+fn drive<W: Sink, R: Threads + Wait + Eprint>(
     rt: &R,
     alloc: Global,
     name: &str,
     mut systems: Vec<BoxedSystem>,
+    misfits: Option<&Misfits>,
     input: &[u8],
     out: &mut W,
 ) -> Status
     requires { W.broken out.old ≡ false }
 {
-    match systems.pop() {
-        Some(mut system) => run_text(rt, alloc, input, &mut system, out),
-        None => refuse_text(Absence::NoSystem(name), out),
-    }
+    let Some(mut system) = systems.pop() else {
+        return refuse_text(Absence::NoSystem(name), out);
+    };
+    let Some(misfits) = misfits else {
+        return run_text(rt, alloc, input, &mut system, out);
+    };
+    overheard::begin(alloc, misfits, input);
+    let status = run_text(rt, alloc, input, &mut system, out);
+    overheard::report(rt, alloc, misfits);
+    status
 }
 
 /// Runs a campaign. Where standard error is a terminal a line on it says how far the campaign is.
@@ -147,11 +157,11 @@ fn campaign<W: Sink, R: Threads + Wait + Sync + Eprint + Clock>(
 }
 
 /// Does what the word says that takes a system.
-fn with_systems<W: Sink, R: Threads + Wait + Sync + Eprint + Clock>(
+fn with_systems<W: Sink, R: Threads + Wait + Sync + Eprint + Clock + AllocGlobal>(
     rt: &R,
-    alloc: Global,
     matches: &ArgMatches<'_>,
     systems: Systems,
+    misfits: Option<&Misfits>,
     is_terminal: bool,
     input: &[u8],
     out: &mut W,
@@ -161,9 +171,10 @@ fn with_systems<W: Sink, R: Threads + Wait + Sync + Eprint + Clock>(
     let Some((word, words)) = matches.subcommand() else {
         return Status::Refused;
     };
+    let alloc = rt.alloc();
     let name = words.get_str("SYSTEM").unwrap_or("");
     match systems {
-        Ok(systems) if word == "run" => drive(rt, alloc, name, systems, input, out),
+        Ok(systems) if word == "run" => drive(rt, alloc, name, systems, misfits, input, out),
         Ok(systems) => campaign(rt, alloc, words, name, systems, is_terminal, input, out),
         Err(AllocError) => refuse_text(Absence::NoMemory, out),
     }
@@ -175,6 +186,7 @@ fn run<R: Runtime + AllocGlobal + Threads + Wait + Sync>(
     rt: &R,
     matches: &ArgMatches<'_>,
     systems: Systems,
+    misfits: Option<&Misfits>,
     is_terminal: bool,
 ) -> Status {
     let Some((word, words)) = matches.subcommand() else {
@@ -195,7 +207,7 @@ fn run<R: Runtime + AllocGlobal + Threads + Wait + Sync>(
         "list" => list_text(alloc, input, &mut out),
         "judge" => judge(rt, alloc, words, files.as_slice(), input, &mut out),
         "explain" => explaining::explain(rt, alloc, words, files.as_slice(), input, &mut out),
-        _ => with_systems(rt, alloc, matches, systems, is_terminal, input, &mut out),
+        _ => with_systems(rt, matches, systems, misfits, is_terminal, input, &mut out),
     };
     if words.get_flag("quiet") {
         return status;
@@ -254,10 +266,10 @@ fn explain<R: Runtime>(rt: &R, error: &clap::Error) -> Status {
     }
 }
 
-/// A system in a box.
+/// A system in a box, whose misfits are kept if any are.
 macro_rules! boxed {
-    ($alloc:expr, $system:expr) => {
-        match Box::new($alloc, $system) {
+    ($alloc:expr, $misfits:expr, $system:expr) => {
+        match Box::new($alloc, Overheard::new($system, overheard::another(&$misfits))) {
             Ok(system) => Ok(system),
             Err(_) => Err(AllocError),
         }
@@ -278,20 +290,21 @@ fn main(rt: HostRuntime) -> ExitCode {
         Err(error) => return ExitCode::from(explain(&rt, &error).code()),
     };
     // Boxed systems are made here, since a function cannot hand one out.
+    let misfits = overheard::misfits_of(alloc, &matches);
     let mut systems: Systems = Ok(Vec::new(alloc));
     if let Some((known, count)) = wanted(&matches) {
         for _ in 0..count {
             let system: Result<BoxedSystem, AllocError> = match known {
-                KnownSystem::Counter => boxed!(alloc, Counter::new(rt)),
-                KnownSystem::Racy => boxed!(alloc, Racy::new()),
-                KnownSystem::Stuck => boxed!(alloc, Stuck),
-                KnownSystem::Registry => boxed!(alloc, Registry::new(rt, alloc)),
-                KnownSystem::Queue => boxed!(alloc, Queue::new(rt, alloc)),
-                KnownSystem::Meet => boxed!(alloc, Meet::new()),
+                KnownSystem::Counter => boxed!(alloc, misfits, Counter::new(rt)),
+                KnownSystem::Racy => boxed!(alloc, misfits, Racy::new()),
+                KnownSystem::Stuck => boxed!(alloc, misfits, Stuck),
+                KnownSystem::Registry => boxed!(alloc, misfits, Registry::new(rt, alloc)),
+                KnownSystem::Queue => boxed!(alloc, misfits, Queue::new(rt, alloc)),
+                KnownSystem::Meet => boxed!(alloc, misfits, Meet::new()),
             };
             systems = and_one(systems, system);
         }
     }
     let is_terminal = rt.stderr().is_terminal();
-    ExitCode::from(run(&rt, &matches, systems, is_terminal).code())
+    ExitCode::from(run(&rt, &matches, systems, misfits.as_deref(), is_terminal).code())
 }

@@ -177,7 +177,8 @@ pub fn allowed<C: Callbacks, P: Candidates>(
     ensures all { IfOk result (λ found. IsWhetherAll (C.model callbacks.now) shaped.now.case history.now
         (reasons.without number core.now) number found.all found.values) }
     ensures exact { IfOk result (λ found. (found.all ≡ true)
-        → HasOneAnswer (C.model callbacks.now) shaped.now.case history.now (reasons.without number core.now) number
+        → HasOneAnswer (C.model callbacks.now) shaped.now.case history.now
+        (reasons.without number core.now) number
         → HaveEachAllowed (C.model callbacks.now) shaped.now.case history.now
         (reasons.without number core.now) number found.values) }
     ensures distinct { IfOk result (λ found. AreDistinct found.values) }

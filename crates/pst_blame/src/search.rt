@@ -293,7 +293,8 @@ fn in_items(
     scope: &Scope<'_>,
 ) -> Result<Blame, AllocError>
     ensures { IfOk result (λ blame. (P : List Seen)
-        × ForParts (type_in context.now) (names_of scope.now) (clause.In name.now list.now ∷ rest.now) body.now P
+        × ForParts (type_in context.now) (names_of scope.now)
+        (clause.In name.now list.now ∷ rest.now) body.now P
         × Leads (type_in context.now) P blame.path) }
 {
     let alloc = context.alloc;

@@ -109,7 +109,8 @@ pub(crate) fn work_at_once<
         thread::scope_env(),
         rt,
         |scope| -> Vec<Seat<R>>
-            requires { All (IsFresh ledger.now.table) seats.items × (ledger.now.table.slots ≡ P.trials plan.now)
+            requires { All (IsFresh ledger.now.table) seats.items
+                × (ledger.now.table.slots ≡ P.trials plan.now)
                 × (length seats.items ≡ length systems.items) }
             ensures { AllZip
                 (λ (s : S) (t : SeatView R). IsWorked (P.may_give plan.entry.now s) ledger.entry.now.table t)

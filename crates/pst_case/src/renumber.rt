@@ -34,8 +34,11 @@ pub fn renumber_value(alloc: Global, value: &Value, numbers: &[u32]) -> Result<V
         Value::Tuple(items) => Ok(Value::Tuple(renumber_values(alloc, items.as_slice(), numbers)?)),
         Value::List(items) => Ok(Value::List(renumber_values(alloc, items.as_slice(), numbers)?)),
         Value::Map(keys, values) => Ok(Value::Map(
-            copy_keys(keys.as_slice(), alloc)?,
-            renumber_values(alloc, values.as_slice(), numbers)?,
+            Boxed::new(alloc, copy_keys(keys.get().as_slice(), alloc)?)?,
+            Boxed::new(
+                alloc,
+                renumber_values(alloc, values.get().as_slice(), numbers)?,
+            )?,
         )),
         Value::Var(n) => Ok(Value::Var(new_number(numbers, *n))),
         Value::Ref(n, value) => Ok(Value::Ref(

@@ -1,6 +1,6 @@
 //! Functions by hand.
 
-use pst_items::{Items, Text};
+use pst_items::{Boxed, Items, Text};
 use pst_machine::{FunCode, Instr};
 use pst_model::{Binary, Unary};
 use pst_value::{Key, Value};
@@ -60,15 +60,20 @@ pub fn division(alloc: Global) -> Result<Items<FunCode>, AllocError> {
     one_function(alloc, 0, 3, body)
 }
 
+/// The map of these keys and values.
+fn map_of(alloc: Global, keys: Items<Key>, values: Items<Value>) -> Result<Value, AllocError> {
+    Ok(Value::Map(Boxed::new(alloc, keys)?, Boxed::new(alloc, values)?))
+}
+
 /// The map that has no keys.
-fn empty_map(alloc: Global) -> Value {
-    Value::Map(Items::new(alloc), Items::new(alloc))
+fn empty_map(alloc: Global) -> Result<Value, AllocError> {
+    map_of(alloc, Items::new(alloc), Items::new(alloc))
 }
 
 /// The keys 7, 3 and 5 are put into a map, and 7 is deleted: its keys then.
 pub fn kept_keys(alloc: Global) -> Result<Items<FunCode>, AllocError> {
     let body = [
-        Instr::Const(0, empty_map(alloc)),
+        Instr::Const(0, empty_map(alloc)?),
         Instr::Const(1, Value::Int(7)),
         Instr::Put(0, 0, 1, 1),
         Instr::Const(2, Value::Int(3)),
@@ -85,7 +90,7 @@ pub fn kept_keys(alloc: Global) -> Result<Items<FunCode>, AllocError> {
 /// The value of key 4 after 9 and then 8 are put there, where 4 is a key of the map.
 pub fn last_put(alloc: Global) -> Result<Items<FunCode>, AllocError> {
     let body = [
-        Instr::Const(0, empty_map(alloc)),
+        Instr::Const(0, empty_map(alloc)?),
         Instr::Const(1, Value::Int(4)),
         Instr::Const(2, Value::Int(9)),
         Instr::Put(0, 0, 1, 2),
@@ -102,7 +107,7 @@ pub fn last_put(alloc: Global) -> Result<Items<FunCode>, AllocError> {
 /// The value of key 4 of the map that has no keys.
 pub fn missing_key(alloc: Global) -> Result<Items<FunCode>, AllocError> {
     let body = [
-        Instr::Const(0, empty_map(alloc)),
+        Instr::Const(0, empty_map(alloc)?),
         Instr::Const(1, Value::Int(4)),
         Instr::Binary(Binary::Get, 2, 0, 1),
         Instr::Return(2),
@@ -118,7 +123,10 @@ pub fn constant_map(alloc: Global) -> Result<Items<FunCode>, AllocError> {
     let mut values = Items::new(alloc);
     values.push(Value::Int(-1))?;
     values.push(Value::List(Items::new(alloc)))?;
-    let body = [Instr::Const(0, Value::Map(keys, values)), Instr::Return(0)];
+    let body = [
+        Instr::Const(0, map_of(alloc, keys, values)?),
+        Instr::Return(0),
+    ];
     one_function(alloc, 0, 1, body)
 }
 

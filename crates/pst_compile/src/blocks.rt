@@ -7,7 +7,7 @@ ghost use Rattle.pst_operators.specs.Operators.{int};
 ghost use Rattle.pst_compile.specs.Code as spec;
 
 use crate::target::{Target, register_after};
-use pst_items::Items;
+use pst_items::{Boxed, Items};
 use pst_machine::Instr;
 use pst_value::Value;
 use std::alloc::{AllocError, Global};
@@ -26,10 +26,12 @@ fn place_after(place: usize, count: usize) -> Result<usize, AllocError>
 }
 
 /// The map that has no keys.
-pub fn empty_map(alloc: Global) -> Value
-    ensures { result ≡ map_of [] [] }
+pub fn empty_map(alloc: Global) -> Result<Value, AllocError>
+    ensures { IfOk result (λ map. map ≡ map_of [] []) }
 {
-    Value::Map(Items::new(alloc), Items::new(alloc))
+    let keys = Boxed::new(alloc, Items::new(alloc))?;
+    let values = Boxed::new(alloc, Items::new(alloc))?;
+    Ok(Value::Map(keys, values))
 }
 
 /// One instruction.

@@ -53,7 +53,7 @@ pub fn put(expr: &Expr, context: &Context<'_>, names: &Names<'_>, target: Target
             let operands = load_all(exprs.as_slice(), context, names, target)?;
             ended(operands.code, Instr::List(register, operands.registers))
         }
-        Expr::Map(_, _) => one(alloc, Instr::Const(register, empty_map(alloc))),
+        Expr::Map(_, _) => one(alloc, Instr::Const(register, empty_map(alloc)?)),
         Expr::Put(map, key, value) => put_entry(map, key, value, context, names, register, target),
         Expr::Call(name, exprs) => put_call(name, exprs, context, names, target),
         Expr::Apply(name, exprs) => put_apply(name, exprs, context, names, target),

@@ -2,7 +2,7 @@
 
 use crate::echo::Echo;
 use crate::hostile::{Liar, NoGet, Odd, ThreeFlags, TwoFlags};
-use crate::models::{COUNTER, MEETING};
+use crate::models::{COUNTER, MEETING, SAYING};
 use pst_case::{Run, shape};
 use pst_driver::{DriveFault, run};
 use pst_eval::Plain;
@@ -16,11 +16,6 @@ use std::alloc::Global;
 use std::sync::Wait;
 use std::test::Fail;
 use std::thread::Threads;
-
-/// A model whose operation answers a text.
-const SAYING: &str = "(model say (state int) (init 0)
-  (command (list call (call inc)))
-  (op inc () text (pre true) (next s) (post true)))";
 
 /// A model whose operations may answer what they are called with. `values` is called with references, and
 /// `other` has a map of another type as its result.
@@ -42,7 +37,7 @@ fn run_of(alloc: Global, typed: &Typed, item: &str) -> Option<Run> {
 }
 
 /// Whether the case of a run, driven on the system, has the replies of the run.
-fn is_driven_so<R: Threads + Wait>(
+pub fn is_driven_so<R: Threads + Wait>(
     rt: &R,
     alloc: Global,
     model: &str,

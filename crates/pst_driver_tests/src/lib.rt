@@ -10,6 +10,8 @@ mod hostile;
 #[cfg(test)]
 mod models;
 #[cfg(test)]
+mod overhearing;
+#[cfg(test)]
 mod samples;
 #[cfg(test)]
 mod systems;

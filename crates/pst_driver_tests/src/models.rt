@@ -23,3 +23,8 @@ pub const REGISTRY: &str = "(model registry (state (list (ref int))) (init (list
 pub const MEETING: &str = "(model meet (state int) (init 0)
   (command (list call (call meet 1)))
   (op meet ((n int)) bool (pre true) (next s) (post r)))";
+
+/// A model whose operation answers a text.
+pub const SAYING: &str = "(model say (state int) (init 0)
+  (command (list call (call inc)))
+  (op inc () text (pre true) (next s) (post true)))";

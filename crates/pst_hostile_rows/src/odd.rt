@@ -66,13 +66,18 @@ fn letters(alloc: Global, count: usize) -> Result<Value, AllocError> {
     Ok(Value::Text(Text::from_string("a".repeat(alloc, count)?)))
 }
 
+/// A map of these keys and values.
+fn entries(alloc: Global, keys: Items<Key>, values: Items<Value>) -> Result<Value, AllocError> {
+    Ok(Value::Map(Boxed::new(alloc, keys)?, Boxed::new(alloc, values)?))
+}
+
 /// A map of zeros with these keys and so many values.
 fn zero_map(alloc: Global, keys: &[Key], values: usize) -> Result<Value, AllocError> {
     let mut items = Items::new(alloc);
     for key in keys {
         items.push(key.copy(alloc)?)?;
     }
-    Ok(Value::Map(items, zeros(alloc, values)?))
+    entries(alloc, items, zeros(alloc, values)?)
 }
 
 /// A map of so many keys, which rise.
@@ -81,14 +86,15 @@ fn large_map(alloc: Global, count: u16) -> Result<Value, AllocError> {
     for key in 0..count {
         keys.push(Key::Int(i64::from(key)))?;
     }
-    Ok(Value::Map(keys, zeros(alloc, usize::from(count))?))
+    entries(alloc, keys, zeros(alloc, usize::from(count))?)
 }
 
 /// A map of the key 1 with this value.
 fn map_of(alloc: Global, value: Value) -> Result<Value, AllocError> {
     let mut keys = Items::new(alloc);
     keys.push(Key::Int(1))?;
-    Ok(Value::Map(keys, alone(alloc, value)?))
+    let values = alone(alloc, value)?;
+    entries(alloc, keys, values)
 }
 
 /// The answers that are maps.

@@ -42,6 +42,20 @@ impl<T> Boxed<T> {
     }
 }
 
+impl<T> Boxed<T> {
+    ghost use Rattle.std.specs.Prelude.{◌≡◌};
+    ghost use Rattle.std.specs.Borrow.{Lends, sem};
+    ghost use Rattle.pst_items.specs.contracts.boxed.Boxed.{the_row};
+
+    /// The value, to be changed in its place.
+    pub fn get_mut(&mut self) -> &mut T
+        ensures* writes_back { sem 𝓛 (Lends (the_row T.row) T.row self.entry result (λ value. value)) }
+        ensures value { result.now ≡ self.old }
+    {
+        self.inner.as_mut()
+    }
+}
+
 impl<T: Drop> Boxed<T> {
     /// A new `Box` of a value.
     pub fn new(alloc: Global, value: T) -> Result<Boxed<T>, AllocError>

@@ -1,5 +1,6 @@
 ghost use Rattle.std.specs.Prelude.{◌≡◌, [], ◌∷◌, ◌++◌, ◌<◌, ◌↔◌, IsTrue, length, slice_get, slice_set, IfOk, OnOk, OnErr, OnSome, MatchOption};
 ghost use Rattle.std.specs.Option.{option_copied};
+ghost use Rattle.std.specs.List.{insert, remove};
 
 use std::alloc::{AllocError, Global};
 use std::hash::{Hash, Hasher};
@@ -102,6 +103,28 @@ impl<T: Drop> Items<T> {
     {
         let Items { mut items } = more;
         self.items.append(&mut items)
+    }
+
+    /// Puts an element before the one at a place, or at the end where none stands there. Where memory is refused the
+    /// elements stay as they were.
+    pub fn insert(&mut self, at: usize, item: T) -> Result<(), AllocError>
+        ensures ok { OnOk result (self.new ≡ insert self.old at item) }
+        ensures err { OnErr result (self.new ≡ self.old) }
+    {
+        if at >= self.items.len() {
+            return self.push(item);
+        }
+        self.items.insert(at, item)?;
+        Ok(())
+    }
+
+    /// Takes the element at a place out, if one stands there.
+    pub fn remove(&mut self, at: usize)
+        ensures { self.new ≡ remove self.old at }
+    {
+        if at < self.items.len() {
+            self.items.remove(at);
+        }
     }
 
     /// Puts another element at a place.

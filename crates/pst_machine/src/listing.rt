@@ -220,8 +220,8 @@ fn value_text(alloc: Global, value: &Value) -> Bytes
         Value::Tuple(parts) => bracketed(alloc, b"(tuple", parts_text(alloc, parts.as_slice())?),
         Value::List(parts) => bracketed(alloc, b"(list", parts_text(alloc, parts.as_slice())?),
         Value::Map(keys, parts) => {
-            let parts = each_text(alloc, parts.as_slice())?;
-            let entries = entries_text(alloc, keys.as_slice(), parts.as_slice())?;
+            let parts = each_text(alloc, parts.get().as_slice())?;
+            let entries = entries_text(alloc, keys.get().as_slice(), parts.as_slice())?;
             bracketed(alloc, b"(map", entries)
         }
         Value::Var(number) => variable_text(alloc, *number),

@@ -13,7 +13,8 @@ same_option None (Some y) h = absurd (true≢false (sym h))
 same_option (Some x) None h = absurd (true≢false (sym h))
 same_option (Some x) (Some y) h = ap Some ((Decides-eqb x y).0 h)
 
-pub same_left : (a b : Left) → same_value a.state b.state && option_eq (λ x y. x == y) a.left b.left ≡ true → a ≡ b
+pub same_left : (a b : Left) → same_value a.state b.state && option_eq (λ x y. x == y) a.left b.left ≡ true
+    → a ≡ b
 same_left a b h =
     let p = same_value-exact a.state b.state (both_first (same_value a.state b.state) _ h) in
     let q = same_option a.left b.left (both_second (same_value a.state b.state) _ h) in

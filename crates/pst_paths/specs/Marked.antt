@@ -45,7 +45,8 @@ true_letters (Found word) = word.items
 true_letters (Faulted word at fault) = take at word.items
 true_letters (Nothing far) = []
 
-module _ (turn : Value → ℕ → ℕ → Turn Value Place) (rest : Value → Ending Place) (lengths : List ℕ) (s : Value) where
+module _ (turn : Value → ℕ → ℕ → Turn Value Place) (rest : Value → Ending Place) (lengths : List ℕ)
+    (s : Value) where
   -- no merge is true to its end, and one stops by a false event behind so many true ones
   abbrev pub IsReached : ℕ → Type 0
   IsReached far =

@@ -96,7 +96,8 @@ pub fn furthest<C: Callbacks>(
 ) -> Result<Vec<usize>, AllocError>
     requires model { shaped.now.model ≡ C.model callbacks.now }
     requires matches { matches (C.model callbacks.now) shaped.now.case history.now ≡ true }
-    requires verdict { IsVerdict (C.model callbacks.now) shaped.now.case history.now (verdict.Unexplained far) }
+    requires verdict { IsVerdict (C.model callbacks.now) shaped.now.case history.now
+        (verdict.Unexplained far) }
     ensures { IfOk result
         (λ word. IsFurthest (C.model callbacks.now) shaped.now.case history.now far word.items) }
 {

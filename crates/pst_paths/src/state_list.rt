@@ -123,8 +123,8 @@ fn after_prefix<C: Callbacks, A: Condition>(
     requires lengths { length branches.now.events ≡ length branches.now.shaped.now.case.branches }
     requires few { length (joined branches.now.shaped.now.case.branches) ≤ 16 }
     ensures { let b = branches.now in let m = C.model b.callbacks.now in IfOk result
-        (λ all. all ≡ states ++ branch_states m (A.asked b.condition.now m) b.shaped.now.case b.events b.suffix
-        word.now state) }
+        (λ all. all ≡ states
+        ++ branch_states m (A.asked b.condition.now m) b.shaped.now.case b.events b.suffix word.now state) }
 {
     let parts = branches.shaped.case().branches.as_slice();
     let done = vec![in alloc; 0; parts.len()]?;

@@ -57,10 +57,10 @@ fn leave_out_one<C: Callbacks>(
         core.items }
     requires rising { AreRising 0 (number_of_commands shaped.now.case)
         ((first.now ++ number ∷ []) ++ core.items) }
-    ensures impossible { IfOk result (λ core. IsImpossible (C.model callbacks.now) shaped.now.case history.now
-        (first.now ++ core.items)) }
-    ensures needed { IfOk result (λ core. IsNeeded (C.model callbacks.now) shaped.now.case history.now first.now
-        core.items) }
+    ensures impossible { IfOk result (λ core. IsImpossible (C.model callbacks.now) shaped.now.case
+        history.now (first.now ++ core.items)) }
+    ensures needed { IfOk result (λ core. IsNeeded (C.model callbacks.now) shaped.now.case
+        history.now first.now core.items) }
     ensures rising { IfOk result (λ core. AreRising 0 (number_of_commands shaped.now.case)
         (first.now ++ core.items)) }
 {

@@ -4,7 +4,7 @@ ghost use Rattle.pst_runs.specs.Values as spec;
 
 use crate::keys::{keys_of, pair_of};
 use crate::room::with_room;
-use pst_items::{Items, Text};
+use pst_items::{Boxed, Items, Text};
 use pst_rules::Typed;
 use pst_sexpr::{Form, MAX_LEVELS, word_of};
 use pst_value::{Value, rising};
@@ -176,7 +176,7 @@ fn map_value(
         return Ok(None);
     };
     if rising(keys.as_slice()) {
-        Ok(Some(Value::Map(keys, values)))
+        Ok(Some(Value::Map(Boxed::new(alloc, keys)?, Boxed::new(alloc, values)?)))
     } else {
         Ok(None)
     }

@@ -71,7 +71,13 @@ pub fn add_value(
         }
         Value::Map(keys, values) => {
             add(out, "(map")?;
-            add_entries(out, alloc, model, keys.as_slice(), values.as_slice())
+            add_entries(
+                out,
+                alloc,
+                model,
+                keys.get().as_slice(),
+                values.get().as_slice(),
+            )
         }
         Value::Var(number) => add_variable(out, alloc, *number),
         Value::Ref(number, value) => {

@@ -5,7 +5,7 @@ ghost use Rattle.pst_case.specs.Shape.{commands_of, joined};
 ghost use Rattle.pst_shrink.specs.Weight.{weight};
 
 use pst_case::{Case, Command};
-use pst_items::Items;
+use pst_items::{Boxed, Items};
 use pst_value::{Key, Value};
 use std::alloc::{AllocError, Global};
 
@@ -22,7 +22,7 @@ fn map_of(alloc: Global, first: u8, second: u8) -> Result<Value, AllocError> {
     let mut values = Items::new(alloc);
     values.push(variable_of(first))?;
     values.push(variable_of(second))?;
-    Ok(Value::Map(keys, values))
+    Ok(Value::Map(Boxed::new(alloc, keys)?, Boxed::new(alloc, values)?))
 }
 
 /// The arguments that the digits of variables spell: none, a variable, or a map of two.

@@ -16,7 +16,7 @@ fn mapped(alloc: Global, first: u32, second: u32) -> Result<Value, AllocError> {
     let mut values = Items::new(alloc);
     values.push(Value::Var(first))?;
     values.push(Value::List(inner))?;
-    Ok(Value::Map(keys, values))
+    Ok(Value::Map(Boxed::new(alloc, keys)?, Boxed::new(alloc, values)?))
 }
 
 /// A variable, a reference to a variable, a call with a variable, a map, and a variable of no command.

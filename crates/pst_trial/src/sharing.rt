@@ -1,10 +1,12 @@
 //! What threads may send and share. These functions do nothing: their contracts say it of the types of plans and
 //! records, each by those of its parts.
 ghost use Rattle.std.specs.Thread.{IsSend, IsSync};
+ghost use Rattle.std.specs.contracts.option.Option.{the_row as option_row};
 ghost use Rattle.pst_case.specs.contracts.case.Case.{the_row as case_row};
 ghost use Rattle.pst_eval.specs.contracts.place.Place.{the_row as place_row};
 ghost use Rattle.pst_items.specs.contracts.items.Items.{the_row as items_row};
 ghost use Rattle.pst_shrink.specs.contracts.shrunk.Shrunk.{the_row as shrunk_row};
+ghost use Rattle.pst_shrink.specs.contracts.shrunk.Taken.{the_row as taken_row};
 ghost use Rattle.pst_trial.specs.contracts.run.JudgedRun.{the_row as run_row};
 ghost use Rattle.pst_trial.specs.contracts.outcome.TrialOutcome.{the_row as outcome_row};
 ghost use Rattle.pst_trial.specs.contracts.plan.Plan.{the_row as plan_row};
@@ -18,7 +20,7 @@ use pst_eval::Place;
 use pst_items::Items;
 use pst_machine::Code;
 use pst_rules::Typed;
-use pst_shrink::Shrunk;
+use pst_shrink::Taken;
 
 /// What is `Send` may be sent to a thread.
 fn may_send<T: Send>()
@@ -45,6 +47,31 @@ fn may_share_plans()
     may_share::<Plan>()
 }
 
+/// The parts of what came of shrinking may be sent to threads, and shared by them.
+fn may_share_taken()
+    ensures taken_sent { IsSend (taken_row run_row) }
+    ensures taken_shared { IsSync (taken_row run_row) }
+    ensures all_taken_sent { IsSend (items_row (taken_row run_row)) }
+    ensures all_taken_shared { IsSync (items_row (taken_row run_row)) }
+    ensures tried_sent { IsSend (items_row (option_row (items_row run_row))) }
+    ensures tried_shared { IsSync (items_row (option_row (items_row run_row))) }
+{
+    may_send::<Taken<JudgedRun>>();
+    may_share::<Taken<JudgedRun>>();
+    may_send::<Items<Taken<JudgedRun>>>();
+    may_share::<Items<Taken<JudgedRun>>>();
+    may_send::<Items<Option<Items<JudgedRun>>>>();
+    may_share::<Items<Option<Items<JudgedRun>>>>()
+}
+
+/// What came of shrinking may be sent to threads, and shared by them.
+fn may_share_shrunk()
+    ensures sent { IsSend (shrunk_row run_row) }
+    ensures shared { IsSync (shrunk_row run_row) }
+{
+    may_share_taken()
+}
+
 /// The parts of outcomes may be sent to threads, and shared by them.
 fn may_share_parts()
     ensures place_sent { IsSend place_row }
@@ -62,8 +89,7 @@ fn may_share_parts()
     may_share::<Case>();
     may_send::<Items<JudgedRun>>();
     may_share::<Items<JudgedRun>>();
-    may_send::<Shrunk<JudgedRun>>();
-    may_share::<Shrunk<JudgedRun>>()
+    may_share_shrunk()
 }
 
 /// Outcomes of trials may be sent to threads, and shared by them.

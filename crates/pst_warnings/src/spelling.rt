@@ -67,7 +67,12 @@ fn value_text(alloc: Global, model: &Source, value: &Value) -> Result<String, Al
         Value::Text(text) => quoted(alloc, text.as_str()),
         Value::Tuple(parts) => node_text(alloc, model, "tuple", parts.as_slice()),
         Value::List(parts) => node_text(alloc, model, "list", parts.as_slice()),
-        Value::Map(keys, values) => map_text(alloc, model, keys.as_slice(), values.as_slice()),
+        Value::Map(keys, values) => map_text(
+            alloc,
+            model,
+            keys.get().as_slice(),
+            values.get().as_slice(),
+        ),
         Value::Var(number) => {
             let number = *number;
             format!(in alloc; "${number}")

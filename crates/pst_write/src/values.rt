@@ -69,7 +69,7 @@ pub fn value_form(alloc: Global, value: &Value) -> Result<Form, AllocError>
             headed(
                 alloc,
                 "map",
-                each_entry(alloc, keys.as_slice(), values.as_slice())?,
+                each_entry(alloc, keys.get().as_slice(), values.get().as_slice())?,
             )
         }
         Value::Var(number) => variable(alloc, *number),

@@ -1,0 +1,96 @@
+//! Systems that are overheard.
+
+use crate::driving::is_driven_so;
+use crate::hostile::{Liar, NoGet, Odd};
+use crate::models::{COUNTER, SAYING};
+use pst_load::load;
+use pst_misfits::{MOST_KEPT, Misfits, Overheard, misfits_text};
+use pst_system::BoxedSystem;
+use std::alloc::{AllocError, Global};
+use std::sync::Arc;
+use std::test::Fail;
+
+/// Two calls at once, to each of which a liar answers true.
+const TWO_MISFITS: &str =
+    "(run (prefix) (left (get)) (right (get)) (replies () (misfit) (misfit)))";
+
+/// A place for misfits, compared with a model.
+fn misfits_over(alloc: Global, model: &str) -> Result<Arc<Misfits, Global>, AllocError> {
+    let misfits = Misfits::new(alloc)?;
+    if let Ok(file) = load(alloc, model.as_bytes())? {
+        misfits.compare_with(file.typed);
+    }
+    Ok(Arc::new(alloc, misfits)?)
+}
+
+/// Five times a misfit in each of two branches at once: eight of the ten are kept, and the replies are those of the
+/// system.
+#[test]
+fn eight_misfits_are_kept(rt: HostRuntime) -> Result<(), Fail> {
+    let alloc = rt.alloc();
+    let misfits = misfits_over(alloc, COUNTER)?;
+    let mut liar: BoxedSystem = Box::new(alloc, Overheard::new(Liar, Some(misfits.clone()?)))?;
+    for _ in 0..5u8 {
+        assert!(rt; is_driven_so(&rt, alloc, COUNTER, TWO_MISFITS, &mut liar) == Some(true));
+    }
+    assert_eq!(rt; misfits.count(), 10);
+    let text = misfits_text(alloc, &misfits)?;
+    let line = "misfit: (get) answered true, wanted int";
+    let lines = text.as_str().lines().filter(|other| *other == line).count();
+    assert_eq!(rt; lines, MOST_KEPT);
+    assert!(rt; text.as_str().ends_with("\nmisfit: 2 more\n"));
+    Ok(())
+}
+
+/// Answers that are of no type are spelled: a variable, a reference, and a text that is too long, which is cut.
+#[test]
+fn odd_answers_are_spelled(rt: HostRuntime) -> Result<(), Fail> {
+    let alloc = rt.alloc();
+    let misfits = misfits_over(alloc, SAYING)?;
+    let mut odd: BoxedSystem = Box::new(
+        alloc,
+        Overheard::new(Odd::new(alloc), Some(misfits.clone()?)),
+    )?;
+    let item = "(run (prefix (inc)) (left) (right) (replies (misfit) () ()))";
+    for _ in 0..3u8 {
+        assert!(rt; is_driven_so(&rt, alloc, SAYING, item, &mut odd) == Some(true));
+    }
+    let text = misfits_text(alloc, &misfits)?;
+    let wanted = "misfit: (inc) answered $1, wanted text\n\
+        misfit: (inc) answered $1=1, wanted text\n\
+        misfit: (inc) answered \"aaaaaaaaaaaaaaaaaaaaaaaaaaaaaaaaaaaaaaaaaaaaaaaaaaaaaaaaaaa.., wanted text\n";
+    assert_eq!(rt; text.as_str(), wanted);
+    Ok(())
+}
+
+/// A call that is refused and an answer of the operation's result type are no misfits.
+#[test]
+fn what_fits_is_not_noted(rt: HostRuntime) -> Result<(), Fail> {
+    let alloc = rt.alloc();
+    let misfits = misfits_over(alloc, COUNTER)?;
+    let mut no_get: BoxedSystem = Box::new(
+        alloc,
+        Overheard::new(NoGet::new(), Some(misfits.clone()?)),
+    )?;
+    let item =
+        "(run (prefix (inc)) (left (get) (inc)) (right (inc)) (replies (1) (failed not-run) (2)))";
+    // Driven twice, since each drive resets the system.
+    for _ in 0..2u8 {
+        assert!(rt; is_driven_so(&rt, alloc, COUNTER, item, &mut no_get) == Some(true));
+    }
+    assert!(rt; misfits_text(alloc, &misfits)?.is_empty());
+    Ok(())
+}
+
+/// Without a place for misfits, and before a model stands there, nothing is noted.
+#[test]
+fn nothing_is_noted_without_a_model(rt: HostRuntime) -> Result<(), Fail> {
+    let alloc = rt.alloc();
+    let misfits = Arc::new(alloc, Misfits::new(alloc)?)?;
+    for place in [Some(misfits.clone()?), None] {
+        let mut liar: BoxedSystem = Box::new(alloc, Overheard::new(Liar, place))?;
+        assert!(rt; is_driven_so(&rt, alloc, COUNTER, TWO_MISFITS, &mut liar) == Some(true));
+    }
+    assert_eq!(rt; misfits.count(), 0);
+    Ok(())
+}

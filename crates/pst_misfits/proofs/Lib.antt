@@ -1,0 +1,2 @@
+-- the lemmas of pst_misfits
+pub mod Sent

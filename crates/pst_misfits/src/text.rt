@@ -1,0 +1,85 @@
+//! Misfits as people read them.
+
+use crate::misfits::{MOST_KEPT, Misfit, Misfits};
+use pst_model::{Source, operation_of};
+use pst_print::ty_form;
+use pst_scene::{add, add_form, add_value, text_of, value_text};
+use pst_system::RealCall;
+use pst_value::Ty;
+use std::alloc::{AllocError, Global};
+
+/// The most characters that are shown of a call, and of an answer.
+const MOST_SHOWN: usize = 60;
+
+/// The beginning of a spelling on one line, where control characters stand as `\x0a`.
+fn shown(alloc: Global, spelling: &[u8]) -> Result<String, AllocError> {
+    let mut shown = String::new(alloc);
+    let Ok(text) = std::str::from_utf8(spelling) else {
+        return Ok(shown);
+    };
+    for (place, character) in text.chars().enumerate() {
+        if place == MOST_SHOWN {
+            shown.push_str("..")?;
+            return Ok(shown);
+        }
+        if character.is_control() {
+            let code = u32::from(character);
+            shown.push_str(format!(in alloc; "\\x{code:02x}")?.as_str())?;
+        } else {
+            shown.push(character)?;
+        }
+    }
+    Ok(shown)
+}
+
+/// The call as items spell it.
+fn call_text(alloc: Global, model: &Source, call: &RealCall) -> Result<Vec<u8>, AllocError> {
+    let mut text = text_of(alloc, "(")?;
+    add(&mut text, call.name.as_str())?;
+    for arg in call.args.as_slice() {
+        add(&mut text, " ")?;
+        add_value(&mut text, alloc, model, arg)?;
+    }
+    add(&mut text, ")")?;
+    Ok(text)
+}
+
+/// The type as models spell it.
+fn type_text(alloc: Global, ty: &Ty) -> Result<Vec<u8>, AllocError> {
+    let mut text = Vec::new(alloc);
+    add_form(&mut text, &ty_form(alloc, ty)?)?;
+    Ok(text)
+}
+
+/// `misfit: (get) answered "x", wanted int`, and a line end.
+fn line_of(alloc: Global, model: &Source, misfit: &Misfit) -> Result<String, AllocError> {
+    let call = shown(alloc, call_text(alloc, model, &misfit.call)?.as_slice())?;
+    let answer = shown(alloc, value_text(alloc, model, &misfit.answer)?.as_slice())?;
+    match operation_of(model.items.as_slice(), misfit.call.op as usize) {
+        Some(operation) => {
+            let wanted = shown(alloc, type_text(alloc, &operation.result)?.as_slice())?;
+            format!(in alloc; "misfit: {call} answered {answer}, wanted {wanted}\n")
+        }
+        None => format!(in alloc; "misfit: {call} answered {answer}\n"),
+    }
+}
+
+/// A line for each misfit that is kept, as `misfit: (get) answered "x", wanted int`, and the line `misfit: 3 more` where
+/// there were others. No text where there were none.
+pub fn misfits_text(alloc: Global, misfits: &Misfits) -> Result<String, AllocError> {
+    let mut text = String::new(alloc);
+    let Some(model) = misfits.model() else {
+        return Ok(text);
+    };
+    let mut others = misfits.count();
+    for place in 0..MOST_KEPT {
+        if let Some(misfit) = misfits.get(place) {
+            text.push_str(line_of(alloc, model, misfit)?.as_str())?;
+            others = others.saturating_sub(1);
+        }
+    }
+    if others > 0 {
+        text.push_str(format!(in alloc; "misfit: {others} more\n")?.as_str())?;
+    }
+    Ok(text)
+}
