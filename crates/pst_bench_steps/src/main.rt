@@ -16,12 +16,15 @@ struct Reads {
 
 impl Steps for Reads {
     ghost use Rattle.std.specs.Prelude.{◌==◌, ◌&&◌, if◌then◌else◌};
-    ghost use Rattle.std.proofs.Common.{rules};
+    ghost use Rattle.std.proofs.Common.{refl, rules};
+    ghost use Rattle.std.specs.Hash.{bool};
     ghost use Rattle.pst_grid.specs.declared.answer.Ending.TheVariants.{AllTrue};
     ghost use Rattle.pst_grid.specs.declared.answer.Turn.TheVariants.{Next, Stop};
     ghost use Rattle.pst_grid.specs.declared.answer.Why.TheVariants.{False};
 
     type State = bool;
+
+    type Kept = bool;
 
     type Fault = usize;
 
@@ -35,7 +38,15 @@ impl Steps for Reads {
 
     ghost most_rest = { λ _. 0 };
 
+    ghost state_of = { λ kept. kept };
+
+    ghost fed = { bool };
+
     ghost exact = { Prim.search rules };
+
+    ghost same = { λ a b. refl };
+
+    ghost feeds = { λ kept. refl };
 
     fn step(
         &self,
@@ -58,7 +69,7 @@ impl Steps for Reads {
         Ok((Ending::AllTrue, 0))
     }
 
-    fn copy(&self, _alloc: Global, state: &bool) -> Result<bool, AllocError> {
+    fn keep(&self, _alloc: Global, state: &bool) -> Result<bool, AllocError> {
         Ok(*state)
     }
 }

@@ -201,34 +201,54 @@ module _ {S F : Type 0} (turn : S → ℕ → ℕ → Turn S F) (rest : S → En
   ended-explored lengths old new (Ok found) at full h = completes-explored lengths old new found at full h
   ended-explored lengths old new (Err e) at full h = tt
 
-  -- and then it is remembered
-  module _ (lengths : List ℕ) (old new : Search F) (there : Bool) (keys after : List (Position S)) (k : Position S)
-      (at : IsAt lengths old.done.items) (full : (b : ℕ) → get_or lengths b 0 ≤ get_or old.done.items b 0)
-      (is : after ≡ (if there then keys else keys ++ k ∷ [])) (items : k.done ≡ old.done.items) (same : k.state ≡ state) where
-    pub ended-searched : (found : Bool) → sum old.done.items ≡ length old.word.items
-        → IsExplored turn rest state IsEmpty old new found → AreAccounted turn rest lengths old.best keys
-        → IsSearched turn rest lengths state (Completes lengths old.done.items) old new after found
-    ended-searched true depth h all = completes-explored lengths old new true at full h
-    ended-searched false depth h all =
+  -- and what is remembered stays so
+  module _ (lengths : List ℕ) (old new : Search F) (keys : List (Position S))
+      (at : IsAt lengths old.done.items) (full : (b : ℕ) → get_or lengths b 0 ≤ get_or old.done.items b 0) where
+    pub ended-searched : (found : Bool) → IsExplored turn rest state IsEmpty old new found
+        → AreAccounted turn rest lengths old.best keys
+        → IsSearched turn rest lengths state (Completes lengths old.done.items) old new keys found
+    ended-searched true h all = completes-explored lengths old new true at full h
+    ended-searched false h all =
         let c = completes-explored lengths old new false at full h in
-        let a = accounted turn rest lengths old.done.items old.word.items state old.best new.best depth c.covered in
         record {
           covered = c;
-          accounted = remembered turn rest lengths new.best there keys after k old.done.items is items
-              (all-accounted-on turn rest lengths old.done.items old.word.items state _ old.best new.best keys c.covered all)
-              (subst (IsAccounted turn rest lengths new.best old.done.items) (sym same) a);
+          accounted = all-accounted-on turn rest lengths old.done.items old.word.items state _ old.best new.best keys c.covered all;
         }
 
     pub ended-checked : (stopped : Option (FailedMerge F)) → new.done.items ≡ old.done.items → new.word.items ≡ old.word.items
         → MatchOption stopped (rest state ≡ AllTrue) (IsLeastFailed turn rest old.done.items state old.word.items IsEmpty)
         → AreAllTrue turn rest lengths keys
-        → IsChecked turn rest lengths state (Completes lengths old.done.items) old new after stopped
-    ended-checked None done word h all =
-        let t = completes-are_true lengths old.done.items old.word.items at full h in
-        record {
-          word = word;
-          done = done;
-          are_true = t;
-          all_true = true-remembered turn rest lengths state there keys after k old.done.items is items same all t;
-        }
+        → IsChecked turn rest lengths state (Completes lengths old.done.items) old new keys stopped
+    ended-checked None done word h all = record {
+      word = word;
+      done = done;
+      are_true = completes-are_true lengths old.done.items old.word.items at full h;
+      all_true = all;
+    }
     ended-checked (Some x) done word h all = completes-failed lengths old.done.items old.word.items at full x h
+
+  -- and then the position is remembered
+  module _ (lengths : List ℕ) (old new : Search F) (there : Bool) (keys after : List (Position S)) (k : Position S)
+      (is : after ≡ (if there then keys else keys ++ k ∷ [])) (items : k.done ≡ old.done.items) (same : k.state ≡ state) where
+    pub searched-remembered : (found : Bool) → sum old.done.items ≡ length old.word.items
+        → IsSearched turn rest lengths state (Completes lengths old.done.items) old new keys found
+        → IsSearched turn rest lengths state (Completes lengths old.done.items) old new after found
+    searched-remembered true depth h = h
+    searched-remembered false depth h =
+        let a = accounted turn rest lengths old.done.items old.word.items state old.best new.best depth h.covered.covered in
+        record {
+          covered = h.covered;
+          accounted = remembered turn rest lengths new.best there keys after k old.done.items is items h.accounted
+              (subst (IsAccounted turn rest lengths new.best old.done.items) (sym same) a);
+        }
+
+    pub checked-remembered : (failed : Option (FailedMerge F))
+        → IsChecked turn rest lengths state (Completes lengths old.done.items) old new keys failed
+        → IsChecked turn rest lengths state (Completes lengths old.done.items) old new after failed
+    checked-remembered None h = record {
+      word = h.word;
+      done = h.done;
+      are_true = h.are_true;
+      all_true = true-remembered turn rest lengths state there keys after k old.done.items is items same h.all_true h.are_true;
+    }
+    checked-remembered (Some x) h = h

@@ -1,5 +1,5 @@
 -- How many steps are made for the positions that are remembered.
-use Rattle.std.proofs.Common.{◌≡◌, ℕ, ◌+◌, ◌*◌, ◌<◌, ◌≤◌, List, [], ◌∷◌, ◌++◌, length, sum, get_or, Bool, true, false, ◌||◌, if◌then◌else◌, refl, sym, ap, subst, ◌∙◌, arith, true≢false, append_assoc, length-append, map}
+use Rattle.std.proofs.Common.{◌≡◌, ℕ, ◌+◌, ◌*◌, ◌<◌, ◌≤◌, List, [], ◌∷◌, ◌++◌, length, sum, get_or, Bool, true, false, ◌||◌, ◌⊎◌, inl, inr, if◌then◌else◌, refl, sym, ap, subst, ◌∙◌, arith, true≢false, append_assoc, length-append, map}
 use Rattle.std.specs.List.{list_any, IsDistinct, AllByRecursion}
 use Rattle.std.proofs.lemmas.List.{length-map}
 use Rattle.std.proofs.lemmas.Slice.Eq.{bytes_eq-Decides}
@@ -64,6 +64,12 @@ module _ {S F : Type 0} (turn : S → ℕ → ℕ → Turn S F) (lengths : List 
           let r = ends-more lengths most p.added q.added in omega arith;
     }
 
+    -- more steps may be made than were
+    pub grown-within : (i j : ℕ) (old new : List (Position S)) (s t : ℕ) → i ≤ j → IsGrown turn lengths most i n done state old new s t
+        → IsGrown turn lengths most j n done state old new s t
+    grown-within i j old new s t h p =
+        record { added = p.added; keys = p.keys; reached = p.reached; deep = p.deep; steps = let x = p.steps in omega arith }
+
   -- behind a true event
   pub grown-behind : (done : List ℕ) (state : S) (b : ℕ) (next : S) (there : List ℕ) (old new : List (Position S)) (s t u : ℕ) → get_or done b 0 < get_or lengths b 0 → turn state b (get_or done b 0) ≡ Next next
       → there ≡ one_more done b → sum (one_more done b) ≡ sum done + 1 → t ≤ s + 1
@@ -117,6 +123,17 @@ module _ {S F : Type 0} (turn : S → ℕ → ℕ → Turn S F) (lengths : List 
         let same : most * 1 ≡ most = omega arith in
         omega arith;
   }
+
+  -- a position which is new, at which all branches have ended or behind which all branches were searched
+  pub grown-once : (done : List ℕ) (state : S) (old now new : List (Position S)) (s t : ℕ) (k : Position S) (test : Position S → Bool)
+      → ((now ≡ old) × (done ≡ lengths) × (t ≤ s + most)) ⊎ IsGrown turn lengths most (length lengths) (sum done + 1) done state old now s t
+      → k.done ≡ done → k.state ≡ state → list_any test old ≡ false → ((l : Position S) → test l ≡ true → l.done ≡ done)
+      → new ≡ (if list_any test now then now else now ++ k ∷ []) → IsGrown turn lengths most 0 (sum done) done state old new s t
+  grown-once done state old now new s t k test (inl p) d e absent same is =
+      grown-end done state old new s t k (list_any test old) p.1 p.2 d e absent
+      (subst (λ x. new ≡ (if list_any test x then x else x ++ k ∷ [])) p.0 is)
+  grown-once done state old now new s t k test (inr p) d e absent same is =
+      grown-insert done state (length lengths) old now new s t k test (omega arith) p d e absent same is
 
 -- the place and the state
 abbrev pub seen_as : {S : Type 0} → Position S → List ℕ × S

@@ -40,8 +40,10 @@ and-true false c h = absurd (true≢false (sym h))
 
 module _ {S : Type 0} (eq : S → S → Bool) where
   -- equal positions are the same
-  pub position-same : ((a b : S) → eq a b ≡ true → a ≡ b) → (v done : List ℕ) (s : S) (k : Position S) → v ≡ done → bytes_eq v k.done && eq s k.state ≡ true → (k.done ≡ done) × (k.state ≡ s)
-  position-same law v done s k e h = let b = and-true _ _ h in (sym ((bytes_eq-Decides v k.done).0 b.0) ∙ e, sym (law s k.state b.1))
+  pub position-same : ((a b : S) → eq a b ≡ true → a ≡ b) → (v done : List ℕ) (kept s : S) (k : Position S) → v ≡ done → kept ≡ s
+      → bytes_eq v k.done && eq kept k.state ≡ true → (k.done ≡ done) × (k.state ≡ s)
+  position-same law v done kept s k e f h =
+      let b = and-true _ _ h in (sym ((bytes_eq-Decides v k.done).0 b.0) ∙ e, sym (law kept k.state b.1) ∙ f)
 
   -- and positions that are the same are equal
   pub position-equal : ((a : S) → eq a a ≡ true) → (k l : Position S) → k.done ≡ l.done → k.state ≡ l.state → bytes_eq k.done l.done && eq k.state l.state ≡ true

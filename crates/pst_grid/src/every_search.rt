@@ -12,7 +12,7 @@ ghost use Rattle.pst_grid.specs.Turns.{AreCommands};
 
 use crate::hasher::BuildWordHasher;
 use crate::place::Place;
-use crate::position::Position;
+use crate::position::{Kept, Position};
 use crate::search::{Search, is_done};
 use crate::{Ending, EveryAnswer, Steps, Turn, Why};
 use indexmap::IndexSet;
@@ -84,42 +84,64 @@ fn check<S: Steps>(
     steps: &S,
     lengths: &[usize],
     search: &mut Search<S::Fault>,
-    seen: &mut IndexSet<Position<S::State>, BuildWordHasher>,
-    state: S::State,
+    seen: &mut IndexSet<Position<Kept<S>>, BuildWordHasher>,
+    state: &S::State,
 ) -> Result<Option<FailedMerge<S::Fault>>, AllocError>
     requires place { IsAt lengths.now search.old.done.items }
-    requires state { S.is_state steps.now state }
+    requires state { S.is_state steps.now state.now }
     requires commands { AreCommands (S.is_command steps.now) lengths.now }
     requires room { S.most_rest steps.now < 2 ^ 32 }
     requires all_true { AreAllTrue (S.turn steps.now) (S.rest steps.now) lengths.now seen.old.keys }
     ensures grown { OnOk result (IsGrown (S.turn steps.now) lengths.now (S.most_rest steps.now)
-        0 (sum search.old.done.items) search.old.done.items state
+        0 (sum search.old.done.items) search.old.done.items state.now
         seen.old.keys seen.new.keys search.old.steps search.new.steps) }
-    ensures checked { IfOk result (IsChecked (S.turn steps.now) (S.rest steps.now) lengths.now state
+    ensures checked { IfOk result (IsChecked (S.turn steps.now) (S.rest steps.now) lengths.now state.now
         (Completes lengths.now search.old.done.items) search.old search.new seen.new.keys) }
 {
     let position = Position {
         done: Place::new(alloc, &search.done)?,
-        state,
+        state: Kept::new(alloc, steps, state)?,
     };
     if seen.contains(&position) {
         return Ok(None);
     }
-    if is_done(lengths, &search.done) {
-        let stopped = check_rest(alloc, steps, search, &position.state)?;
-        seen.insert(position)?;
-        return Ok(stopped);
-    }
+    let failed = if is_done(lengths, &search.done) {
+        check_rest(alloc, steps, search, state)?
+    } else {
+        check_branches(alloc, steps, lengths, search, seen, state)?
+    };
+    seen.insert(position)?;
+    Ok(failed)
+}
+
+/// Searches the completions of the word where some command is left, branch by branch.
+#[cycle(check)]
+fn check_branches<S: Steps>(
+    alloc: Global,
+    steps: &S,
+    lengths: &[usize],
+    search: &mut Search<S::Fault>,
+    seen: &mut IndexSet<Position<Kept<S>>, BuildWordHasher>,
+    state: &S::State,
+) -> Result<Option<FailedMerge<S::Fault>>, AllocError>
+    requires place { IsAt lengths.now search.old.done.items }
+    requires state { S.is_state steps.now state.now }
+    requires commands { AreCommands (S.is_command steps.now) lengths.now }
+    requires room { S.most_rest steps.now < 2 ^ 32 }
+    requires left { (b : ℕ) × (slice_index search.old.done.items b < slice_index lengths.now b) }
+    requires all_true { AreAllTrue (S.turn steps.now) (S.rest steps.now) lengths.now seen.old.keys }
+    ensures grown { OnOk result (IsGrown (S.turn steps.now) lengths.now (S.most_rest steps.now)
+        (length lengths.now) (sum search.old.done.items + 1) search.old.done.items state.now
+        seen.old.keys seen.new.keys search.old.steps search.new.steps) }
+    ensures checked { IfOk result (IsChecked (S.turn steps.now) (S.rest steps.now) lengths.now state.now
+        (Completes lengths.now search.old.done.items) search.old search.new seen.new.keys) }
+{
     for branch in 0..lengths.len() {
-        match check_branch(alloc, steps, lengths, search, seen, &position.state, branch)? {
-            Some(failed) => {
-                seen.insert(position)?;
-                return Ok(Some(failed));
-            }
+        match check_branch(alloc, steps, lengths, search, seen, state, branch)? {
+            Some(failed) => return Ok(Some(failed)),
             None => {}
         }
     }
-    seen.insert(position)?;
     Ok(None)
 }
 
@@ -130,7 +152,7 @@ fn check_branch<S: Steps>(
     steps: &S,
     lengths: &[usize],
     search: &mut Search<S::Fault>,
-    seen: &mut IndexSet<Position<S::State>, BuildWordHasher>,
+    seen: &mut IndexSet<Position<Kept<S>>, BuildWordHasher>,
     state: &S::State,
     branch: usize,
 ) -> Result<Option<FailedMerge<S::Fault>>, AllocError>
@@ -154,7 +176,7 @@ fn check_branch<S: Steps>(
     match steps.step(alloc, state, branch, index)? {
         Turn::Next(next) => {
             search.enter(lengths, branch)?;
-            match check(alloc, steps, lengths, search, seen, next)? {
+            match check(alloc, steps, lengths, search, seen, &next)? {
                 Some(failed) => Ok(Some(failed)),
                 None => {
                     search.leave(branch);
@@ -200,8 +222,7 @@ pub fn every<S: Steps>(
 {
     let mut search = Search::new(alloc, lengths)?;
     let mut seen = IndexSet::with_hasher(alloc, BuildWordHasher::new());
-    let first = steps.copy(alloc, start)?;
-    let failed = check(alloc, steps, lengths, &mut search, &mut seen, first)?;
+    let failed = check(alloc, steps, lengths, &mut search, &mut seen, start)?;
     // The length is not used: `len` says that the set has no repeats.
     let _ = seen.len();
     Ok((every_answer(failed), search.steps))

@@ -7,9 +7,9 @@
 //! where no step of its run stops it, and the rest does not stop it either.
 //!
 //! [`some`] finds the least merge whose run is true to its end, and [`every`] tells whether all are. Both remember the
-//! places and states that they have searched from, so they make few steps also where there are many merges, and they
-//! run the rest once for each state in which all branches end. [`some_plainly`] answers the same as [`some`] and
-//! remembers nothing: it is the slow program that tests compare with.
+//! places and states that they have searched from, each state in the form that [`Steps::keep`] gives it, so they make
+//! few steps also where there are many merges, and they run the rest once for each state in which all branches end.
+//! [`some_plainly`] answers the same as [`some`] and remembers nothing: it is the slow program that tests compare with.
 //!
 //! [`run_is_alone`], [`true_by_events`] and [`few_steps_in_one_state`] are laws: they do nothing, and their contracts
 //! are theorems of runs and of the number of steps.

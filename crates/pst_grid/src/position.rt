@@ -1,6 +1,62 @@
 //! What a search remembers.
+ghost use Rattle.std.specs.Prelude.{◌≡◌, IfOk};
 
+use crate::Steps;
 use crate::place::Place;
+use std::alloc::{AllocError, Global};
+use std::hash::{Hash, Hasher};
+use std::marker::Model;
+
+/// A state in the form that is remembered. Contracts see it as the state.
+#[derive(Drop)]
+pub(crate) struct Kept<S: Steps> {
+    kept: S::Kept,
+}
+
+impl<S: Steps> Model for Kept<S> {
+    ghost Value = { S.State };
+
+    ghost coded = { S.State.code };
+
+    ghost view = { λ k. S.state_of k.kept };
+}
+
+impl<S: Steps> Kept<S> {
+    /// The state in the form that is remembered. `AllocError` where memory is refused.
+    pub(crate) fn new(alloc: Global, steps: &S, state: &S::State) -> Result<Kept<S>, AllocError>
+        ensures { IfOk result (λ k. k ≡ state.now) }
+    {
+        Ok(Kept {
+            kept: steps.keep(alloc, state)?,
+        })
+    }
+}
+
+impl<S: Steps> PartialEq for Kept<S> {
+    ghost eq = { S.State.PartialEq.eq };
+
+    ghost laws = { S.State.PartialEq.laws };
+
+    fn eq(&self, other: &Self) -> bool {
+        self.kept == other.kept
+    }
+}
+
+impl<S: Steps> Eq for Kept<S> {
+    ghost laws = { S.State.Eq.laws };
+}
+
+impl<S: Steps> Hash for Kept<S> {
+    ghost use Rattle.std.proofs.Common.{ap};
+
+    ghost hash_input = { S.fed };
+
+    ghost respects_eq = { λ a b h. ap S.fed (S.exact a b h) };
+
+    fn hash<H: Hasher>(&self, state: &mut H) {
+        self.kept.hash(state);
+    }
+}
 
 /// How many commands of each branch are done, and the state there.
 #[derive(PartialEq, Eq, Hash, Drop)]

@@ -9,7 +9,7 @@ ghost use Rattle.pst_grid.specs.Turns.{AreCommands};
 use crate::finish::finish;
 use crate::hasher::BuildWordHasher;
 use crate::place::Place;
-use crate::position::Position;
+use crate::position::{Kept, Position};
 use crate::search::{Search, is_done};
 use crate::{SomeAnswer, Steps, Turn, Why};
 use indexmap::IndexSet;
@@ -22,41 +22,67 @@ fn explore<S: Steps>(
     steps: &S,
     lengths: &[usize],
     search: &mut Search<S::Fault>,
-    seen: &mut IndexSet<Position<S::State>, BuildWordHasher>,
-    state: S::State,
+    seen: &mut IndexSet<Position<Kept<S>>, BuildWordHasher>,
+    state: &S::State,
 ) -> Result<bool, AllocError>
     requires place { IsAt lengths.now search.old.done.items }
     requires depth { sum search.old.done.items ≡ length search.old.word.items }
-    requires state { S.is_state steps.now state }
+    requires state { S.is_state steps.now state.now }
     requires commands { AreCommands (S.is_command steps.now) lengths.now }
     requires room { S.most_rest steps.now < 2 ^ 32 }
     requires accounted { AreAccounted (S.turn steps.now) (S.rest steps.now) lengths.now
         search.old.best seen.old.keys }
     ensures grown { OnOk result (IsGrown (S.turn steps.now) lengths.now (S.most_rest steps.now)
-        0 (sum search.old.done.items) search.old.done.items state
+        0 (sum search.old.done.items) search.old.done.items state.now
         seen.old.keys seen.new.keys search.old.steps search.new.steps) }
-    ensures searched { IfOk result (IsSearched (S.turn steps.now) (S.rest steps.now) lengths.now state
+    ensures searched { IfOk result (IsSearched (S.turn steps.now) (S.rest steps.now) lengths.now state.now
         (Completes lengths.now search.old.done.items) search.old search.new seen.new.keys) }
 {
     let position = Position {
         done: Place::new(alloc, &search.done)?,
-        state,
+        state: Kept::new(alloc, steps, state)?,
     };
     if seen.contains(&position) {
         return Ok(false);
     }
-    if is_done(lengths, &search.done) {
-        let found = finish(alloc, steps, search, &position.state)?;
-        seen.insert(position)?;
-        return Ok(found);
-    }
+    let found = if is_done(lengths, &search.done) {
+        finish(alloc, steps, search, state)?
+    } else {
+        explore_branches(alloc, steps, lengths, search, seen, state)?
+    };
+    seen.insert(position)?;
+    Ok(found)
+}
+
+/// Searches the completions of the word where some command is left, branch by branch.
+#[cycle(search)]
+fn explore_branches<S: Steps>(
+    alloc: Global,
+    steps: &S,
+    lengths: &[usize],
+    search: &mut Search<S::Fault>,
+    seen: &mut IndexSet<Position<Kept<S>>, BuildWordHasher>,
+    state: &S::State,
+) -> Result<bool, AllocError>
+    requires place { IsAt lengths.now search.old.done.items }
+    requires depth { sum search.old.done.items ≡ length search.old.word.items }
+    requires state { S.is_state steps.now state.now }
+    requires commands { AreCommands (S.is_command steps.now) lengths.now }
+    requires room { S.most_rest steps.now < 2 ^ 32 }
+    requires left { (b : ℕ) × (slice_index search.old.done.items b < slice_index lengths.now b) }
+    requires accounted { AreAccounted (S.turn steps.now) (S.rest steps.now) lengths.now
+        search.old.best seen.old.keys }
+    ensures grown { OnOk result (IsGrown (S.turn steps.now) lengths.now (S.most_rest steps.now)
+        (length lengths.now) (sum search.old.done.items + 1) search.old.done.items state.now
+        seen.old.keys seen.new.keys search.old.steps search.new.steps) }
+    ensures searched { IfOk result (IsSearched (S.turn steps.now) (S.rest steps.now) lengths.now state.now
+        (Completes lengths.now search.old.done.items) search.old search.new seen.new.keys) }
+{
     for branch in 0..lengths.len() {
-        if visit(alloc, steps, lengths, search, seen, &position.state, branch)? {
-            seen.insert(position)?;
+        if visit(alloc, steps, lengths, search, seen, state, branch)? {
             return Ok(true);
         }
     }
-    seen.insert(position)?;
     Ok(false)
 }
 
@@ -67,7 +93,7 @@ fn visit<S: Steps>(
     steps: &S,
     lengths: &[usize],
     search: &mut Search<S::Fault>,
-    seen: &mut IndexSet<Position<S::State>, BuildWordHasher>,
+    seen: &mut IndexSet<Position<Kept<S>>, BuildWordHasher>,
     state: &S::State,
     branch: usize,
 ) -> Result<bool, AllocError>
@@ -93,7 +119,7 @@ fn visit<S: Steps>(
     match steps.step(alloc, state, branch, index)? {
         Turn::Next(next) => {
             search.enter(lengths, branch)?;
-            if explore(alloc, steps, lengths, search, seen, next)? {
+            if explore(alloc, steps, lengths, search, seen, &next)? {
                 return Ok(true);
             }
             search.leave(branch);
@@ -133,8 +159,7 @@ pub fn some<S: Steps>(
 {
     let mut search = Search::new(alloc, lengths)?;
     let mut seen = IndexSet::with_hasher(alloc, BuildWordHasher::new());
-    let first = steps.copy(alloc, start)?;
-    let found = explore(alloc, steps, lengths, &mut search, &mut seen, first)?;
+    let found = explore(alloc, steps, lengths, &mut search, &mut seen, start)?;
     // The length is not used: `len` says that the set has no repeats.
     let _ = seen.len();
     let steps_made = search.steps;

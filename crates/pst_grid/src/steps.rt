@@ -1,4 +1,5 @@
 //! The system that a search steps through.
+ghost use Rattle.std.specs.Hash.{HashWrites};
 ghost use Rattle.std.specs.Prelude.{◌≡◌, ◌≤◌, ℕ, IfOk, true};
 ghost use Rattle.pst_grid.specs.declared.answer.Ending.{Ending};
 ghost use Rattle.pst_grid.specs.declared.answer.Turn.{Turn};
@@ -10,9 +11,15 @@ use std::hash::Hash;
 
 /// States, a step of each command of each branch from a state, and what follows when all branches have ended. Both are
 /// functions of their arguments.
+///
+/// A search remembers the states that it has met. It keeps each in a form that the caller chooses, which may be smaller
+/// than the state itself.
 pub trait Steps {
     /// A state: plain data, of which `==` tells apart all that differ.
-    type State: Eq + Hash + Drop;
+    type State: Eq + Drop;
+
+    /// A state as a search remembers it.
+    type Kept: Eq + Hash + Drop;
 
     /// Why an event faults.
     type Fault: Drop;
@@ -31,6 +38,12 @@ pub trait Steps {
 
     // The most steps that the rest takes.
     ghost most_rest: { Self → ℕ };
+
+    // The state that is kept.
+    ghost state_of: { Self.Kept → Self.State };
+
+    // What a hasher is fed of a state.
+    ghost fed: { Self.State → HashWrites };
 
     /// The step of the command `index` (from 0) of the branch `branch` (from 0), from this state.
     /// `AllocError` where memory is refused.
@@ -58,10 +71,16 @@ pub trait Steps {
         ensures place { IfOk result (λ r. OnStop r.0 (λ at. at ≤ most_rest self.now)) }
         ensures steps { IfOk result (λ r. r.1 ≤ most_rest self.now) };
 
-    /// The same state once more. `AllocError` where memory is refused.
-    fn copy(&self, alloc: Global, state: &Self::State) -> Result<Self::State, AllocError>
-        ensures { IfOk result (λ s. s ≡ state.now) };
+    /// The state in the form that is remembered. `AllocError` where memory is refused.
+    fn keep(&self, alloc: Global, state: &Self::State) -> Result<Self::Kept, AllocError>
+        ensures { IfOk result (λ kept. state_of kept ≡ state.now) };
 
     // Equal states are the same state.
     ghost exact: { (a b : Self.State) → Self.State.eq a b ≡ true → a ≡ b };
+
+    // Two that are kept are compared as their states are.
+    ghost same: { (a b : Self.Kept) → Self.Kept.eq a b ≡ Self.State.eq (state_of a) (state_of b) };
+
+    // One that is kept feeds a hasher what its state does.
+    ghost feeds: { (k : Self.Kept) → Self.Kept.hash_input k ≡ fed (state_of k) };
 }

@@ -14,6 +14,7 @@ use pst_case::{Command, Shaped};
 use pst_eval::{Callbacks, Place};
 use pst_grid::{Ending, SomeAnswer, Steps, Turn, some};
 use pst_items::Items;
+use pst_packed::Packed;
 use pst_value::Value;
 use std::alloc::{AllocError, Global};
 
@@ -29,14 +30,18 @@ pub struct Branches<'a, C, A> {
 }
 
 impl<'a, C: Callbacks, A: Condition> Steps for Branches<'a, C, A> {
+    ghost use Rattle.std.proofs.Common.{refl};
     ghost use Rattle.std.specs.Prelude.{◌≡◌, Some, length};
     ghost use Rattle.pst_case.specs.Shape.{result_types};
     ghost use Rattle.pst_judge.specs.Replay.{EventFits, branch_turn_asking, event_at};
     ghost use Rattle.pst_judge.specs.Running.{EventsFit, IsRealState, last_events};
     ghost use Rattle.pst_judge.specs.declared.events.Event.{Event};
+    ghost use Rattle.pst_packed.specs.Feeding.{fed};
     ghost use Rattle.pst_value.proofs.Exact.{same_value-Decides};
 
     type State = Value;
+
+    type Kept = Packed;
 
     type Fault = Place;
 
@@ -85,11 +90,19 @@ impl<'a, C: Callbacks, A: Condition> Steps for Branches<'a, C, A> {
         }
     }
 
-    fn copy(&self, alloc: Global, state: &Value) -> Result<Value, AllocError> {
-        state.copy(alloc)
+    fn keep(&self, alloc: Global, state: &Value) -> Result<Packed, AllocError> {
+        Packed::new(alloc, state)
     }
 
+    ghost state_of = { λ kept. kept };
+
+    ghost fed = { fed };
+
     ghost exact = { λ a b h. (same_value-Decides a b).0 h };
+
+    ghost same = { λ a b. refl };
+
+    ghost feeds = { λ kept. refl };
 }
 
 /// How many commands each branch has.

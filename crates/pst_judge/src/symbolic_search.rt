@@ -13,6 +13,7 @@ use pst_case::{Command, Shaped};
 use pst_eval::Callbacks;
 use pst_grid::{Ending, EveryAnswer, Steps, Turn, every};
 use pst_items::Items;
+use pst_packed::Packed;
 use pst_value::Value;
 use std::alloc::{AllocError, Global};
 
@@ -27,14 +28,18 @@ pub struct SymbolicBranches<'a, C> {
 }
 
 impl<'a, C: Callbacks> Steps for SymbolicBranches<'a, C> {
+    ghost use Rattle.std.proofs.Common.{refl};
     ghost use Rattle.std.specs.Prelude.{◌≡◌, Some, length};
     ghost use Rattle.pst_case.specs.Shape.{result_types};
     ghost use Rattle.pst_judge.specs.Symbolic.{CommandFits, symbolic_turn, command_at};
     ghost use Rattle.pst_judge.specs.SymbolicSearch.{CommandsFit, IsSymbolicState, last_commands};
     ghost use Rattle.pst_judge.specs.declared.numbered.NumberedCommand.{NumberedCommand};
+    ghost use Rattle.pst_packed.specs.Feeding.{fed};
     ghost use Rattle.pst_value.proofs.Exact.{same_value-Decides};
 
     type State = Value;
+
+    type Kept = Packed;
 
     type Fault = Failing;
 
@@ -82,11 +87,19 @@ impl<'a, C: Callbacks> Steps for SymbolicBranches<'a, C> {
         }
     }
 
-    fn copy(&self, alloc: Global, state: &Value) -> Result<Value, AllocError> {
-        state.copy(alloc)
+    fn keep(&self, alloc: Global, state: &Value) -> Result<Packed, AllocError> {
+        Packed::new(alloc, state)
     }
 
+    ghost state_of = { λ kept. kept };
+
+    ghost fed = { fed };
+
     ghost exact = { λ a b h. (same_value-Decides a b).0 h };
+
+    ghost same = { λ a b. refl };
+
+    ghost feeds = { λ kept. refl };
 }
 
 /// The reason of a failing, in the merge that fails.

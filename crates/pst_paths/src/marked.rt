@@ -5,13 +5,21 @@ ghost use Rattle.pst_paths.specs.Marked as spec;
 use pst_eval::{Callbacks, Place};
 use pst_grid::{Ending, Steps, Turn, Why};
 use pst_judge::{Branches, Condition};
+use pst_packed::Packed;
 use pst_value::Value;
 use std::alloc::{AllocError, Global};
 
 /// A state, and how many true events are left up to the mark, where it is not passed.
-#[derive(Debug, PartialEq, Eq, Hash, Drop)]
+#[derive(Debug, PartialEq, Eq, Drop)]
 pub struct Left {
     pub state: Value,
+    pub left: Option<usize>,
+}
+
+/// The same in little memory, as the search remembers it.
+#[derive(PartialEq, Eq, Hash, Drop)]
+pub struct PackedLeft {
+    pub state: Packed,
     pub left: Option<usize>,
 }
 
@@ -58,15 +66,18 @@ fn marked_why(left: Option<usize>, at: usize, why: Why<Place>) -> Why<()>
 }
 
 impl<'a, C: Callbacks, A: Condition> Steps for MarkedSteps<'a, C, A> {
+    ghost use Rattle.std.proofs.Common.{refl};
     ghost use Rattle.std.specs.Prelude.{◌≡◌, Some, length};
     ghost use Rattle.pst_case.specs.Shape.{result_types};
     ghost use Rattle.pst_judge.specs.Replay.{EventFits, branch_turn_asking, event_at};
     ghost use Rattle.pst_judge.specs.Running.{EventsFit, IsRealState, last_events};
     ghost use Rattle.pst_judge.specs.declared.events.Event.{Event};
-    ghost use Rattle.pst_paths.specs.Lefts.{same_left};
+    ghost use Rattle.pst_paths.specs.Lefts.{fed_of_left, left_of, same_left};
     ghost use Rattle.pst_paths.specs.Marked.{marked_ending, marked_turn};
 
     type State = Left;
+
+    type Kept = PackedLeft;
 
     type Fault = ();
 
@@ -113,12 +124,20 @@ impl<'a, C: Callbacks, A: Condition> Steps for MarkedSteps<'a, C, A> {
         }
     }
 
-    fn copy(&self, alloc: Global, state: &Left) -> Result<Left, AllocError> {
-        Ok(Left {
-            state: state.state.copy(alloc)?,
+    fn keep(&self, alloc: Global, state: &Left) -> Result<PackedLeft, AllocError> {
+        Ok(PackedLeft {
+            state: Packed::new(alloc, &state.state)?,
             left: state.left,
         })
     }
 
+    ghost state_of = { left_of };
+
+    ghost fed = { fed_of_left };
+
     ghost exact = { λ a b h. same_left a b h };
+
+    ghost same = { λ a b. refl };
+
+    ghost feeds = { λ kept. refl };
 }

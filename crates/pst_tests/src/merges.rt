@@ -39,12 +39,15 @@ struct Lamp {
 
 impl Steps for Lamp {
     ghost use Rattle.std.specs.Prelude.{◌==◌, ◌&&◌, not, if◌then◌else◌, true, false};
-    ghost use Rattle.std.proofs.Common.{rules};
+    ghost use Rattle.std.proofs.Common.{refl, rules};
+    ghost use Rattle.std.specs.Hash.{bool};
     ghost use Rattle.pst_grid.specs.declared.answer.Ending.TheVariants.{AllTrue, StopsAt};
     ghost use Rattle.pst_grid.specs.declared.answer.Turn.TheVariants.{Next, Stop};
     ghost use Rattle.pst_grid.specs.declared.answer.Why.TheVariants.{False, Fault};
 
     type State = bool;
+
+    type Kept = bool;
 
     type Fault = usize;
 
@@ -64,7 +67,15 @@ impl Steps for Lamp {
 
     ghost most_rest = { λ _. 1 };
 
+    ghost state_of = { λ kept. kept };
+
+    ghost fed = { bool };
+
     ghost exact = { Prim.search rules };
+
+    ghost same = { λ a b. refl };
+
+    ghost feeds = { λ kept. refl };
 
     fn step(
         &self,
@@ -104,7 +115,7 @@ impl Steps for Lamp {
         }
     }
 
-    fn copy(&self, _alloc: Global, state: &bool) -> Result<bool, AllocError> {
+    fn keep(&self, _alloc: Global, state: &bool) -> Result<bool, AllocError> {
         Ok(*state)
     }
 }

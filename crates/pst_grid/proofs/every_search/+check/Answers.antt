@@ -1,63 +1,86 @@
-use Rattle.std.proofs.Common.{◌≡◌, ℕ, ◌+◌, ◌<◌, ◌≤◌, refl, ap, ◌∙◌, sym, subst, get_or, sum, arith, rules}
+use Rattle.std.proofs.Common.{◌≡◌, ℕ, ◌+◌, ◌<◌, ◌≤◌, ◌⊎◌, inl, inr, refl, ap, ◌∙◌, sym, subst, get_or, sum, length, arith}
 use Rattle.std.proofs.lemmas.Grind.{common_steps}
 use Rattle.pst_grid.specs.declared.answer.Turn.TheVariants.{Stop}
-use Rattle.pst_grid.specs.Checked.{AreTrue, IsLeastFailed}
-use Rattle.pst_grid.specs.Completions.{Begins}
+use Rattle.pst_grid.specs.Checked.{AreTrue, IsLeastFailed, IsChecked}
+use Rattle.pst_grid.specs.Completions.{Begins, Completes}
 use Rattle.pst_grid.specs.Remembered.{IsGrown}
-use Rattle.pst_grid.proofs.Finishing.{all-done, ended-checked}
-use Rattle.pst_grid.proofs.Growing.{grown-none, grown-more, grown-behind, grown-insert, grown-end}
+use Rattle.pst_grid.proofs.Finishing.{all-done, ended-checked, checked-remembered}
+use Rattle.pst_grid.proofs.Growing.{grown-none, grown-more, grown-within, grown-behind, grown-once}
 use Rattle.pst_grid.proofs.Searching.{back_again, take_again, IsAt-branch, sum-more}
 use Rattle.pst_grid.proofs.Remembering.{position-same}
-use Rattle.pst_grid.proofs.Checking.{true-full, true-start, true-more, true-all, failed-all, true-behind, failed-behind, failed-here, true-again, true-remembered}
+use Rattle.pst_grid.proofs.Checking.{true-full, true-start, true-more, true-all, failed-all, true-behind, failed-behind, failed-here, true-again}
 use Rattle.pst_grid.proofs.every_search.+check.Goals as goal
-
-pub check-returns-then-is_done-clause-checked : goal.check-returns-then-is_done-clause-checked
-check-returns-then-is_done-clause-checked g t c =
-    let here = c.args.search.now in
-    let items : c.in_ok-new.field-0 ≡ here.done.items = search rules in
-    let full = subst (λ d. (b : ℕ) → get_or c.args.lengths.now b 0 ≤ get_or d b 0) c.deref-2.ensures.value c.if-is_done.ensures in
-    let e = c.in_ok-stopped.ensures in
-    ended-checked (g.S.Steps.turn c.args.steps.now) (g.S.Steps.rest c.args.steps.now) c.args.state c.args.lengths.now here
-    c.check_rest.new.search _ c.args.seen.now.keys c.insert.new.self.keys (record { done = c.in_ok-new.field-0; state = c.args.state })
-    c.requires.place full c.in_ok-insert.ensures.keys items refl c.in_ok-stopped.stopped e.done e.word e.checked c.requires.all_true
+use Rattle.pst_grid.proofs.every_search.+check.Goals.{check-then-is_done+in_ok-failed, check-else-is_done+in_ok-failed-2}
 
 pub check-returns-then-contains-clause-checked : goal.check-returns-then-contains-clause-checked
 check-returns-then-contains-clause-checked g t c =
     let here = c.args.search.now in
-    let items : c.in_ok-new.field-0 ≡ here.done.items = search rules in
+    let items : c.in_ok-new.field-0 ≡ here.done.items = c.in_ok-new.ensures ∙ c.deref.ensures.value in
     record {
       word = refl;
       done = refl;
-      are_true = true-again (g.S.Steps.turn c.args.steps.now) (g.S.Steps.rest c.args.steps.now) c.args.lengths.now c.args.state c.args.seen.now.keys _ here.done.items (sym c.contains.ensures ∙ c.if-contains.true)
-          (λ k e. position-same g.S.State.PartialEq.eq g.met.S.Steps.exact c.in_ok-new.field-0 here.done.items c.args.state k items e) c.requires.all_true;
+      are_true = true-again (g.S.Steps.turn c.args.steps.now) (g.S.Steps.rest c.args.steps.now) c.args.lengths.now c.args.state.now c.args.seen.now.keys _ here.done.items (sym c.contains.ensures ∙ c.if-contains.true)
+          (λ k e. position-same g.S.State.PartialEq.eq g.met.S.Steps.exact c.in_ok-new.field-0 here.done.items c.in_ok-new-2.field-0 c.args.state.now k items c.in_ok-new-2.ensures e)
+          c.requires.all_true;
       all_true = c.requires.all_true;
     }
 
-pub check-loop-branch-init : goal.check-loop-branch-init
-check-loop-branch-init g t c = record {
-  checked = record { word = refl; done = refl; are_true = true-start (g.S.Steps.turn c.args.steps.now) (g.S.Steps.rest c.args.steps.now) c.args.lengths.now c.args.state c.args.search.now.done.items; all_true = c.requires.all_true };
+pub check-returns-then-contains-clause-grown : goal.check-returns-then-contains-clause-grown
+check-returns-then-contains-clause-grown g t c = grown-none (g.S.Steps.turn c.args.steps.now) c.args.lengths.now (g.S.Steps.most_rest c.args.steps.now) _ _ _ c.args.seen.now.keys 0 c.args.search.now.steps c.args.search.now.steps (omega arith)
+
+pub check-returns-clause-checked : goal.check-returns-clause-checked
+check-returns-clause-checked g t c =
+    let turn = g.S.Steps.turn c.args.steps.now in
+    let rest = g.S.Steps.rest c.args.steps.now in
+    let lengths = c.args.lengths.now in
+    let state = c.args.state.now in
+    let here = c.args.search.now in
+    let items : c.in_ok-new.field-0 ≡ here.done.items = c.in_ok-new.ensures ∙ c.deref.ensures.value in
+    let checked : IsChecked turn rest lengths state (Completes lengths here.done.items) here c.if-is_done.search c.if-is_done.seen.keys c.if-is_done.failed =
+    elim c.if-is_done.branch [
+      | check-then-is_done+in_ok-failed w ↦
+          let full = subst (λ d. (b : ℕ) → get_or lengths b 0 ≤ get_or d b 0) c.deref-2.ensures.value w.if-is_done.ensures in
+          let e = w.in_ok-failed.ensures in
+          rw (w.search-is, w.seen-is, w.failed-is)
+          (ended-checked turn rest state lengths here w.check_rest.new.search c.args.seen.now.keys c.requires.place full w.in_ok-failed.failed e.done e.word e.checked c.requires.all_true)
+      | check-else-is_done+in_ok-failed-2 w ↦ rw (w.search-is, w.seen-is, w.failed-is) w.in_ok-failed-2.ensures.checked
+    ] in
+    checked-remembered turn rest state lengths here c.if-is_done.search _ c.if-is_done.seen.keys c.insert.new.self.keys (record { done = c.in_ok-new.field-0; state = c.in_ok-new-2.field-0 })
+    c.in_ok-insert.ensures.keys items c.in_ok-new-2.ensures c.if-is_done.failed checked
+
+pub check-returns-clause-grown : goal.check-returns-clause-grown
+check-returns-clause-grown g t c =
+    let turn = g.S.Steps.turn c.args.steps.now in
+    let most = g.S.Steps.most_rest c.args.steps.now in
+    let lengths = c.args.lengths.now in
+    let state = c.args.state.now in
+    let here = c.args.search.now in
+    let at = c.requires.place in
+    let items : c.in_ok-new.field-0 ≡ here.done.items = c.in_ok-new.ensures ∙ c.deref.ensures.value in
+    let made : ((c.if-is_done.seen.keys ≡ c.args.seen.now.keys) × (here.done.items ≡ lengths) × (c.if-is_done.search.steps ≤ here.steps + most))
+    ⊎ IsGrown turn lengths most (length lengths) (sum here.done.items + 1) here.done.items state c.args.seen.now.keys c.if-is_done.seen.keys here.steps c.if-is_done.search.steps =
+    elim c.if-is_done.branch [
+      | check-then-is_done+in_ok-failed w ↦
+          let full = subst (λ d. (b : ℕ) → get_or lengths b 0 ≤ get_or d b 0) c.deref-2.ensures.value w.if-is_done.ensures in
+          rw (w.search-is, w.seen-is) (inl (refl, all-done lengths here.done.items at.branches at.within full, w.in_ok-failed.ensures.steps))
+      | check-else-is_done+in_ok-failed-2 w ↦ rw (w.search-is, w.seen-is) (inr w.in_ok-failed-2.ensures.grown)
+    ] in
+    grown-once turn lengths most here.done.items state c.args.seen.now.keys c.if-is_done.seen.keys c.insert.new.self.keys here.steps c.if-is_done.search.steps
+    (record { done = c.in_ok-new.field-0; state = c.in_ok-new-2.field-0 }) _ made items c.in_ok-new-2.ensures (sym c.contains.ensures ∙ c.if-contains.false)
+    (λ k e. (position-same g.S.State.PartialEq.eq g.met.S.Steps.exact c.in_ok-new.field-0 here.done.items c.in_ok-new-2.field-0 state k items c.in_ok-new-2.ensures e).0)
+    c.in_ok-insert.ensures.keys
+
+pub check_branches-loop-branch-init : goal.check_branches-loop-branch-init
+check_branches-loop-branch-init g t c = record {
+  checked = record { word = refl; done = refl; are_true = true-start (g.S.Steps.turn c.args.steps.now) (g.S.Steps.rest c.args.steps.now) c.args.lengths.now c.args.state.now c.args.search.now.done.items; all_true = c.requires.all_true };
   grown = grown-none (g.S.Steps.turn c.args.steps.now) c.args.lengths.now (g.S.Steps.most_rest c.args.steps.now) _ _ _ c.args.seen.now.keys 0 c.args.search.now.steps c.args.search.now.steps (omega arith);
-  some_left = subst (λ d. (b : ℕ) × (get_or d b 0 < get_or c.args.lengths.now b 0)) c.deref-2.ensures.value c.if-is_done.ensures;
 }
 
-pub check-returns-in-Some-clause-checked : goal.check-returns-in-Some-clause-checked
-check-returns-in-Some-clause-checked g t c =
+pub check_branches-loop-branch-preserved : goal.check_branches-loop-branch-preserved
+check_branches-loop-branch-preserved g t c =
     let turn = g.S.Steps.turn c.args.steps.now in
     let rest = g.S.Steps.rest c.args.steps.now in
-    let state = c.args.state in
-    let here = c.args.search.now in
-    let h = c.loop-branch.invariant.checked in
-    let x = c.in-Some.failed in
-    let l = rw c.in-Some.is at c.in_ok-failed.ensures.checked in
-    let k = subst (λ d. IsLeastFailed turn rest d state c.loop-branch.search.word.items (Begins c.args.lengths.now d c.loop-branch.branch) x) h.done l in
-    let j = subst (λ u. IsLeastFailed turn rest here.done.items state u (Begins c.args.lengths.now here.done.items c.loop-branch.branch) x) h.word k in
-    failed-all turn rest c.args.lengths.now state here.done.items here.word.items c.loop-branch.branch x h.are_true j
-
-pub check-loop-branch-preserved : goal.check-loop-branch-preserved
-check-loop-branch-preserved g t c =
-    let turn = g.S.Steps.turn c.args.steps.now in
-    let rest = g.S.Steps.rest c.args.steps.now in
-    let state = c.args.state in
+    let state = c.args.state.now in
     let here = c.args.search.now in
     let h = c.loop-branch.invariant.checked in
     let k = rw c.in-None.is at c.in_ok-failed.ensures.checked in
@@ -71,25 +94,46 @@ check-loop-branch-preserved g t c =
       grown = grown-more turn c.args.lengths.now (g.S.Steps.most_rest c.args.steps.now) (sum here.done.items + 1) here.done.items state c.loop-branch.branch c.args.seen.now.keys c.loop-branch.seen.keys c.check_branch.new.seen.keys here.steps c.loop-branch.search.steps c.check_branch.new.search.steps
           c.loop-branch.invariant.grown
           (subst (λ d. IsGrown turn c.args.lengths.now (g.S.Steps.most_rest c.args.steps.now) 1 (sum d + 1) d state c.loop-branch.seen.keys c.check_branch.new.seen.keys c.loop-branch.search.steps c.check_branch.new.search.steps) h.done c.in_ok-failed.ensures.grown);
-      some_left = c.loop-branch.invariant.some_left;
     }
 
-pub check-returns-clause-checked : goal.check-returns-clause-checked
-check-returns-clause-checked g t c =
+pub check_branches-returns-in-Some-clause-checked : goal.check_branches-returns-in-Some-clause-checked
+check_branches-returns-in-Some-clause-checked g t c =
     let turn = g.S.Steps.turn c.args.steps.now in
     let rest = g.S.Steps.rest c.args.steps.now in
-    let state = c.args.state in
+    let state = c.args.state.now in
     let here = c.args.search.now in
     let h = c.loop-branch.invariant.checked in
-    let items : c.in_ok-new.field-0 ≡ here.done.items = search rules in
-    let all = true-all turn rest c.args.lengths.now state here.done.items c.loop-branch.branch c.loop-branch.invariant.some_left (omega arith) h.are_true in
+    let x = c.in-Some.failed in
+    let l = rw c.in-Some.is at c.in_ok-failed.ensures.checked in
+    let k = subst (λ d. IsLeastFailed turn rest d state c.loop-branch.search.word.items (Begins c.args.lengths.now d c.loop-branch.branch) x) h.done l in
+    let j = subst (λ u. IsLeastFailed turn rest here.done.items state u (Begins c.args.lengths.now here.done.items c.loop-branch.branch) x) h.word k in
+    failed-all turn rest c.args.lengths.now state here.done.items here.word.items c.loop-branch.branch x h.are_true j
+
+pub check_branches-returns-in-Some-clause-grown : goal.check_branches-returns-in-Some-clause-grown
+check_branches-returns-in-Some-clause-grown g t c =
+    let here = c.args.search.now in
+    let state = c.args.state.now in
+    let now = c.loop-branch.search in
+    let visited = subst (λ d. IsGrown (g.S.Steps.turn c.args.steps.now) c.args.lengths.now (g.S.Steps.most_rest c.args.steps.now) 1 (sum d + 1) d state c.loop-branch.seen.keys c.check_branch.new.seen.keys now.steps c.check_branch.new.search.steps) c.loop-branch.invariant.checked.done c.in_ok-failed.ensures.grown in
+    let all = grown-more (g.S.Steps.turn c.args.steps.now) c.args.lengths.now (g.S.Steps.most_rest c.args.steps.now) (sum here.done.items + 1) here.done.items state c.loop-branch.branch c.args.seen.now.keys c.loop-branch.seen.keys c.check_branch.new.seen.keys here.steps now.steps c.check_branch.new.search.steps c.loop-branch.invariant.grown visited in
+    grown-within (g.S.Steps.turn c.args.steps.now) c.args.lengths.now (g.S.Steps.most_rest c.args.steps.now) (sum here.done.items + 1) here.done.items state (c.loop-branch.branch + 1) (length c.args.lengths.now) c.args.seen.now.keys c.check_branch.new.seen.keys here.steps c.check_branch.new.search.steps
+    (omega arith) all
+
+pub check_branches-returns-clause-checked : goal.check_branches-returns-clause-checked
+check_branches-returns-clause-checked g t c =
+    let h = c.loop-branch.invariant.checked in
     record {
       word = h.word;
       done = h.done;
-      are_true = all;
-      all_true = true-remembered turn rest c.args.lengths.now state _ c.loop-branch.seen.keys c.insert-2.new.self.keys (record { done = c.in_ok-new.field-0; state = c.args.state }) here.done.items
-          c.in_ok-insert-2.ensures.keys items refl h.all_true all;
+      are_true = true-all (g.S.Steps.turn c.args.steps.now) (g.S.Steps.rest c.args.steps.now) c.args.lengths.now c.args.state.now c.args.search.now.done.items c.loop-branch.branch c.requires.left (omega arith) h.are_true;
+      all_true = h.all_true;
     }
+
+pub check_branches-returns-clause-grown : goal.check_branches-returns-clause-grown
+check_branches-returns-clause-grown g t c =
+    let here = c.args.search.now in
+    grown-within (g.S.Steps.turn c.args.steps.now) c.args.lengths.now (g.S.Steps.most_rest c.args.steps.now) (sum here.done.items + 1) here.done.items c.args.state.now c.loop-branch.branch (length c.args.lengths.now) c.args.seen.now.keys c.loop-branch.seen.keys here.steps c.loop-branch.search.steps
+    (omega arith) c.loop-branch.invariant.grown
 
 pub check_branch-returns-then-index-lengths-clause-checked : goal.check_branch-returns-then-index-lengths-clause-checked
 check_branch-returns-then-index-lengths-clause-checked g t c =
@@ -107,8 +151,8 @@ check_branch-returns-in-Some-clause-checked g t c =
     c.in-Next.next c.enter.new.self.done.items c.enter.new.self.word.items c.in-Some.failed
     (rw index_is at turn_is) c.in_ok-enter-in-Next.ensures.done c.in_ok-enter-in-Next.ensures.word (rw c.in-Some.is at c.in_ok-failed-in-Next.ensures.checked)
 
-pub check_branch-returns-in-None-clause-checked : goal.check_branch-returns-in-None-clause-checked
-check_branch-returns-in-None-clause-checked g t c =
+pub check_branch-returns-in-Next-clause-checked : goal.check_branch-returns-in-Next-clause-checked
+check_branch-returns-in-Next-clause-checked g t c =
     let here = c.args.search.now in
     let index_is : c.index-index.result.now ≡ get_or here.done.items c.args.branch 0 = grind (arith, common_steps) in
     let left : get_or here.done.items c.args.branch 0 < get_or c.args.lengths.now c.args.branch 0 = grind (arith, common_steps) in
@@ -122,8 +166,8 @@ check_branch-returns-in-None-clause-checked g t c =
       all_true = h.all_true;
     }
 
-pub check_branch-returns-in_ok-failed_merge-in-Stop-clause-checked : goal.check_branch-returns-in_ok-failed_merge-in-Stop-clause-checked
-check_branch-returns-in_ok-failed_merge-in-Stop-clause-checked g t c =
+pub check_branch-returns-clause-checked : goal.check_branch-returns-clause-checked
+check_branch-returns-clause-checked g t c =
     let here = c.args.search.now in
     let index_is : c.index-index.result.now ≡ get_or here.done.items c.args.branch 0 = grind (arith, common_steps) in
     let left : get_or here.done.items c.args.branch 0 < get_or c.args.lengths.now c.args.branch 0 = grind (arith, common_steps) in
@@ -131,42 +175,6 @@ check_branch-returns-in_ok-failed_merge-in-Stop-clause-checked g t c =
     let turn_is = sym c.in_ok-next.ensures.answer ∙ c.in-Stop.is in
     failed-here (g.S.Steps.turn c.args.steps.now) (g.S.Steps.rest c.args.steps.now) c.args.lengths.now c.args.state.now here.done.items here.word.items c.args.branch c.requires.place left
     c.in_ok-failed_merge-in-Stop.field-0 ((rw index_is at turn_is) ∙ ap (λ w. Stop w) (sym e.why)) e.at e.word
-
-pub check-returns-then-is_done-clause-grown : goal.check-returns-then-is_done-clause-grown
-check-returns-then-is_done-clause-grown g t c =
-    let here = c.args.search.now in
-    let items : c.in_ok-new.field-0 ≡ here.done.items = search rules in
-    let full = subst (λ d. (b : ℕ) → get_or c.args.lengths.now b 0 ≤ get_or d b 0) c.deref-2.ensures.value c.if-is_done.ensures in
-    let at = c.requires.place in
-    grown-end (g.S.Steps.turn c.args.steps.now) c.args.lengths.now (g.S.Steps.most_rest c.args.steps.now) here.done.items c.args.state
-    c.args.seen.now.keys c.insert.new.self.keys here.steps c.check_rest.new.search.steps
-    (record { done = c.in_ok-new.field-0; state = c.args.state }) _ (all-done c.args.lengths.now here.done.items at.branches at.within full)
-    c.in_ok-stopped.ensures.steps items refl (sym c.contains.ensures ∙ c.if-contains.false) c.in_ok-insert.ensures.keys
-
-pub check-returns-then-contains-clause-grown : goal.check-returns-then-contains-clause-grown
-check-returns-then-contains-clause-grown g t c = grown-none (g.S.Steps.turn c.args.steps.now) c.args.lengths.now (g.S.Steps.most_rest c.args.steps.now) _ _ _ c.args.seen.now.keys 0 c.args.search.now.steps c.args.search.now.steps (omega arith)
-
-pub check-returns-in-Some-clause-grown : goal.check-returns-in-Some-clause-grown
-check-returns-in-Some-clause-grown g t c =
-    let here = c.args.search.now in
-    let state = c.args.state in
-    let now = c.loop-branch.search in
-    let items : c.in_ok-new.field-0 ≡ here.done.items = search rules in
-    let visited = subst (λ d. IsGrown (g.S.Steps.turn c.args.steps.now) c.args.lengths.now (g.S.Steps.most_rest c.args.steps.now) 1 (sum d + 1) d state c.loop-branch.seen.keys c.check_branch.new.seen.keys now.steps c.check_branch.new.search.steps) c.loop-branch.invariant.checked.done c.in_ok-failed.ensures.grown in
-    let all = grown-more (g.S.Steps.turn c.args.steps.now) c.args.lengths.now (g.S.Steps.most_rest c.args.steps.now) (sum here.done.items + 1) here.done.items state c.loop-branch.branch c.args.seen.now.keys c.loop-branch.seen.keys c.check_branch.new.seen.keys here.steps now.steps c.check_branch.new.search.steps c.loop-branch.invariant.grown visited in
-    grown-insert (g.S.Steps.turn c.args.steps.now) c.args.lengths.now (g.S.Steps.most_rest c.args.steps.now) here.done.items state (c.loop-branch.branch + 1) c.args.seen.now.keys c.check_branch.new.seen.keys c.insert-in-Some.new.self.keys here.steps c.check_branch.new.search.steps (record { done = c.in_ok-new.field-0; state = c.args.state }) _
-    (omega arith) all items refl (sym c.contains.ensures ∙ c.if-contains.false)
-    (λ k e. (position-same g.S.State.PartialEq.eq g.met.S.Steps.exact c.in_ok-new.field-0 here.done.items c.args.state k items e).0) c.in_ok-insert-in-Some.ensures.keys
-
-pub check-returns-clause-grown : goal.check-returns-clause-grown
-check-returns-clause-grown g t c =
-    let here = c.args.search.now in
-    let state = c.args.state in
-    let now = c.loop-branch.search in
-    let items : c.in_ok-new.field-0 ≡ here.done.items = search rules in
-    grown-insert (g.S.Steps.turn c.args.steps.now) c.args.lengths.now (g.S.Steps.most_rest c.args.steps.now) here.done.items state c.loop-branch.branch c.args.seen.now.keys c.loop-branch.seen.keys c.insert-2.new.self.keys here.steps now.steps (record { done = c.in_ok-new.field-0; state = c.args.state }) _
-    (omega arith) c.loop-branch.invariant.grown items refl (sym c.contains.ensures ∙ c.if-contains.false)
-    (λ k e. (position-same g.S.State.PartialEq.eq g.met.S.Steps.exact c.in_ok-new.field-0 here.done.items c.args.state k items e).0) c.in_ok-insert-2.ensures.keys
 
 pub check_branch-returns-then-index-lengths-clause-grown : goal.check_branch-returns-then-index-lengths-clause-grown
 check_branch-returns-then-index-lengths-clause-grown g t c = grown-none (g.S.Steps.turn c.args.steps.now) c.args.lengths.now (g.S.Steps.most_rest c.args.steps.now) _ _ _ c.args.seen.now.keys 1 c.args.search.now.steps c.args.search.now.steps (omega arith)
@@ -182,8 +190,8 @@ check_branch-returns-in-Some-clause-grown g t c =
     here.steps c.enter.new.self.steps c.check.new.search.steps left (rw index_is at turn_is) c.in_ok-enter-in-Next.ensures.done (sum-more c.args.lengths.now here.done.items c.args.branch c.requires.place left) made
     c.in_ok-failed-in-Next.ensures.grown
 
-pub check_branch-returns-in-None-clause-grown : goal.check_branch-returns-in-None-clause-grown
-check_branch-returns-in-None-clause-grown g t c =
+pub check_branch-returns-in-Next-clause-grown : goal.check_branch-returns-in-Next-clause-grown
+check_branch-returns-in-Next-clause-grown g t c =
     let here = c.args.search.now in
     let index_is : c.index-index.result.now ≡ get_or here.done.items c.args.branch 0 = grind (arith, common_steps) in
     let left : get_or here.done.items c.args.branch 0 < get_or c.args.lengths.now c.args.branch 0 = grind (arith, common_steps) in
@@ -193,7 +201,7 @@ check_branch-returns-in-None-clause-grown g t c =
     here.steps c.enter.new.self.steps c.leave.new.self.steps left (rw index_is at turn_is) c.in_ok-enter-in-Next.ensures.done (sum-more c.args.lengths.now here.done.items c.args.branch c.requires.place left) made
     (subst (λ n. IsGrown (g.S.Steps.turn c.args.steps.now) c.args.lengths.now (g.S.Steps.most_rest c.args.steps.now) 0 (sum c.enter.new.self.done.items) c.enter.new.self.done.items c.in-Next.next c.args.seen.now.keys c.check.new.seen.keys c.enter.new.self.steps n) (sym c.leave.ensures.steps) c.in_ok-failed-in-Next.ensures.grown)
 
-pub check_branch-returns-in_ok-failed_merge-in-Stop-clause-grown : goal.check_branch-returns-in_ok-failed_merge-in-Stop-clause-grown
-check_branch-returns-in_ok-failed_merge-in-Stop-clause-grown g t c =
+pub check_branch-returns-clause-grown : goal.check_branch-returns-clause-grown
+check_branch-returns-clause-grown g t c =
     let made : c.saturating_add-search.result ≤ c.args.search.now.steps + 1 = grind (arith, c.saturating_add-search.ensures) in
     grown-none (g.S.Steps.turn c.args.steps.now) c.args.lengths.now (g.S.Steps.most_rest c.args.steps.now) _ _ _ c.args.seen.now.keys 1 c.args.search.now.steps c.saturating_add-search.result made

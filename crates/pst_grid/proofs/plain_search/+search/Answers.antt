@@ -63,7 +63,7 @@ visit-returns-in-Stop-False g t c =
     let left : get_or here.done.items c.args.branch 0 < get_or c.args.lengths.now c.args.branch 0 = grind (arith, common_steps) in
     let stops : c.in_ok-next.field-0 ≡ Stop False = cc in
     let turn_is = sym c.in_ok-next.ensures.answer ∙ stops in
-    let depth : c.len-at.result ≡ length here.word.items = search common_steps in
+    let depth : c.len-at.result ≡ length here.word.items = c.len-at.ensures ∙ here.word.ok.0 in
     let far = c.note_false.ensures.far ∙ ap (max here.best.far) depth in
     record {
       word = c.note_false.ensures.word;

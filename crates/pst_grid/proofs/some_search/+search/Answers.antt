@@ -1,72 +1,126 @@
-use Rattle.std.proofs.Common.{◌≡◌, ℕ, ◌+◌, ◌<◌, ◌≤◌, refl, ap, ◌∙◌, sym, subst, get_or, sum, length, max, arith, rules}
+use Rattle.std.proofs.Common.{◌≡◌, ℕ, ◌+◌, ◌<◌, ◌≤◌, ◌⊎◌, inl, inr, refl, ap, ◌∙◌, sym, subst, get_or, sum, length, max, arith}
 use Rattle.std.proofs.lemmas.Grind.{common_steps}
 use Rattle.pst_grid.specs.declared.answer.Turn.TheVariants.{Stop}
 use Rattle.pst_grid.specs.declared.answer.Why.TheVariants.{False, Fault}
-use Rattle.pst_grid.specs.Remembered.{AreAccounted, IsGrown}
-use Rattle.pst_grid.proofs.Finishing.{all-done, ended-searched}
-use Rattle.pst_grid.proofs.Growing.{grown-none, grown-more, grown-behind, grown-insert, grown-end}
+use Rattle.pst_grid.specs.Completions.{Completes}
+use Rattle.pst_grid.specs.Remembered.{AreAccounted, IsSearched, IsGrown}
+use Rattle.pst_grid.proofs.Finishing.{all-done, ended-searched, searched-remembered}
+use Rattle.pst_grid.proofs.Growing.{grown-none, grown-more, grown-within, grown-behind, grown-once}
 use Rattle.pst_grid.proofs.Searching.{explored-start, explored-true, explored-more, explored-all, visited-true, visited-Next, visited-False, visited-Fault, back_again, take_again, IsAt-branch, sum-more}
-use Rattle.pst_grid.proofs.Remembering.{accounted, all-accounted-on, met-again, position-same, remembered}
+use Rattle.pst_grid.proofs.Remembering.{all-accounted-on, met-again, position-same}
 use Rattle.pst_grid.proofs.some_search.+search.Goals as goal
-
-pub explore-returns-then-is_done-clause-searched : goal.explore-returns-then-is_done-clause-searched
-explore-returns-then-is_done-clause-searched g t c =
-    let here = c.args.search.now in
-    let items : c.in_ok-new.field-0 ≡ here.done.items = search rules in
-    let full = subst (λ d. (b : ℕ) → get_or c.args.lengths.now b 0 ≤ get_or d b 0) c.deref-2.ensures.value c.if-is_done.ensures in
-    ended-searched (g.S.Steps.turn c.args.steps.now) (g.S.Steps.rest c.args.steps.now) c.args.state c.args.lengths.now here
-    c.finish.new.search _ c.args.seen.now.keys c.insert.new.self.keys (record { done = c.in_ok-new.field-0; state = c.args.state })
-    c.requires.place full c.in_ok-insert.ensures.keys items refl c.in_ok-found.found c.requires.depth
-    c.in_ok-found.ensures.explored c.requires.accounted
+use Rattle.pst_grid.proofs.some_search.+search.Goals.{explore-then-is_done+in_ok-found, explore-else-is_done+in_ok-found-2}
 
 pub explore-returns-then-contains-clause-searched : goal.explore-returns-then-contains-clause-searched
 explore-returns-then-contains-clause-searched g t c =
     let here = c.args.search.now in
-    let items : c.in_ok-new.field-0 ≡ here.done.items = search rules in
+    let items : c.in_ok-new.field-0 ≡ here.done.items = c.in_ok-new.ensures ∙ c.deref.ensures.value in
     record {
       covered = record {
         word = refl;
         done = refl;
-        covered = met-again (g.S.Steps.turn c.args.steps.now) (g.S.Steps.rest c.args.steps.now) c.args.lengths.now here.best c.args.seen.now.keys _ here.done.items here.word.items c.args.state
-            (sym c.contains.ensures ∙ c.if-contains.true) (λ k e. position-same g.S.State.PartialEq.eq g.met.S.Steps.exact c.in_ok-new.field-0 here.done.items c.args.state k items e) c.requires.depth c.requires.accounted;
+        covered = met-again (g.S.Steps.turn c.args.steps.now) (g.S.Steps.rest c.args.steps.now) c.args.lengths.now here.best c.args.seen.now.keys _ here.done.items here.word.items c.args.state.now
+            (sym c.contains.ensures ∙ c.if-contains.true)
+            (λ k e. position-same g.S.State.PartialEq.eq g.met.S.Steps.exact c.in_ok-new.field-0 here.done.items c.in_ok-new-2.field-0 c.args.state.now k items c.in_ok-new-2.ensures e)
+            c.requires.depth c.requires.accounted;
       };
       accounted = c.requires.accounted;
     }
 
-pub explore-returns-then-branch-clause-searched : goal.explore-returns-then-branch-clause-searched
-explore-returns-then-branch-clause-searched g t c =
-    explored-true (g.S.Steps.turn c.args.steps.now) (g.S.Steps.rest c.args.steps.now) c.args.lengths.now c.args.state c.args.search.now c.loop-branch.search c.loop-branch.branch _ c.loop-branch.invariant.covered.covered
-    (rw c.if-branch.true at c.in_ok-visit.ensures.searched)
+pub explore-returns-then-contains-clause-grown : goal.explore-returns-then-contains-clause-grown
+explore-returns-then-contains-clause-grown g t c = grown-none (g.S.Steps.turn c.args.steps.now) c.args.lengths.now (g.S.Steps.most_rest c.args.steps.now) _ _ _ c.args.seen.now.keys 0 c.args.search.now.steps c.args.search.now.steps (omega arith)
 
-pub explore-loop-branch-preserved : goal.explore-loop-branch-preserved
-explore-loop-branch-preserved g t c =
+pub explore-returns-clause-searched : goal.explore-returns-clause-searched
+explore-returns-clause-searched g t c =
+    let turn = g.S.Steps.turn c.args.steps.now in
+    let rest = g.S.Steps.rest c.args.steps.now in
+    let lengths = c.args.lengths.now in
+    let state = c.args.state.now in
     let here = c.args.search.now in
-    let state = c.args.state in
+    let items : c.in_ok-new.field-0 ≡ here.done.items = c.in_ok-new.ensures ∙ c.deref.ensures.value in
+    let searched : IsSearched turn rest lengths state (Completes lengths here.done.items) here c.if-is_done.search c.if-is_done.seen.keys c.if-is_done.found =
+    elim c.if-is_done.branch [
+      | explore-then-is_done+in_ok-found w ↦
+          let full = subst (λ d. (b : ℕ) → get_or lengths b 0 ≤ get_or d b 0) c.deref-2.ensures.value w.if-is_done.ensures in
+          rw (w.search-is, w.seen-is, w.found-is)
+          (ended-searched turn rest state lengths here w.finish.new.search c.args.seen.now.keys c.requires.place full w.in_ok-found.found w.in_ok-found.ensures.explored c.requires.accounted)
+      | explore-else-is_done+in_ok-found-2 w ↦ rw (w.search-is, w.seen-is, w.found-is) w.in_ok-found-2.ensures.searched
+    ] in
+    searched-remembered turn rest state lengths here c.if-is_done.search _ c.if-is_done.seen.keys c.insert.new.self.keys (record { done = c.in_ok-new.field-0; state = c.in_ok-new-2.field-0 })
+    c.in_ok-insert.ensures.keys items c.in_ok-new-2.ensures c.if-is_done.found c.requires.depth searched
+
+pub explore-returns-clause-grown : goal.explore-returns-clause-grown
+explore-returns-clause-grown g t c =
+    let turn = g.S.Steps.turn c.args.steps.now in
+    let most = g.S.Steps.most_rest c.args.steps.now in
+    let lengths = c.args.lengths.now in
+    let state = c.args.state.now in
+    let here = c.args.search.now in
+    let at = c.requires.place in
+    let items : c.in_ok-new.field-0 ≡ here.done.items = c.in_ok-new.ensures ∙ c.deref.ensures.value in
+    let made : ((c.if-is_done.seen.keys ≡ c.args.seen.now.keys) × (here.done.items ≡ lengths) × (c.if-is_done.search.steps ≤ here.steps + most))
+    ⊎ IsGrown turn lengths most (length lengths) (sum here.done.items + 1) here.done.items state c.args.seen.now.keys c.if-is_done.seen.keys here.steps c.if-is_done.search.steps =
+    elim c.if-is_done.branch [
+      | explore-then-is_done+in_ok-found w ↦
+          let full = subst (λ d. (b : ℕ) → get_or lengths b 0 ≤ get_or d b 0) c.deref-2.ensures.value w.if-is_done.ensures in
+          rw (w.search-is, w.seen-is) (inl (refl, all-done lengths here.done.items at.branches at.within full, w.in_ok-found.ensures.steps))
+      | explore-else-is_done+in_ok-found-2 w ↦ rw (w.search-is, w.seen-is) (inr w.in_ok-found-2.ensures.grown)
+    ] in
+    grown-once turn lengths most here.done.items state c.args.seen.now.keys c.if-is_done.seen.keys c.insert.new.self.keys here.steps c.if-is_done.search.steps
+    (record { done = c.in_ok-new.field-0; state = c.in_ok-new-2.field-0 }) _ made items c.in_ok-new-2.ensures (sym c.contains.ensures ∙ c.if-contains.false)
+    (λ k e. (position-same g.S.State.PartialEq.eq g.met.S.Steps.exact c.in_ok-new.field-0 here.done.items c.in_ok-new-2.field-0 state k items c.in_ok-new-2.ensures e).0)
+    c.in_ok-insert.ensures.keys
+
+pub explore_branches-loop-branch-init : goal.explore_branches-loop-branch-init
+explore_branches-loop-branch-init g t c =
+    let here = c.args.search.now in
+    record {
+      covered = record { covered = explored-start (g.S.Steps.turn c.args.steps.now) (g.S.Steps.rest c.args.steps.now) c.args.lengths.now c.args.state.now here; accounted = c.requires.accounted };
+      grown = grown-none (g.S.Steps.turn c.args.steps.now) c.args.lengths.now (g.S.Steps.most_rest c.args.steps.now) _ _ _ c.args.seen.now.keys 0 here.steps here.steps (omega arith);
+    }
+
+pub explore_branches-loop-branch-preserved : goal.explore_branches-loop-branch-preserved
+explore_branches-loop-branch-preserved g t c =
+    let here = c.args.search.now in
+    let state = c.args.state.now in
     let all = rw c.if-branch.false at c.in_ok-visit.ensures.searched in
     record {
       covered = record {
-        covered = explored-more (g.S.Steps.turn c.args.steps.now) (g.S.Steps.rest c.args.steps.now) c.args.lengths.now c.args.state c.args.search.now c.loop-branch.search c.visit.new.search c.loop-branch.branch
+        covered = explored-more (g.S.Steps.turn c.args.steps.now) (g.S.Steps.rest c.args.steps.now) c.args.lengths.now c.args.state.now c.args.search.now c.loop-branch.search c.visit.new.search c.loop-branch.branch
             c.loop-branch.invariant.covered.covered all.covered;
         accounted = all.accounted;
       };
       grown = grown-more (g.S.Steps.turn c.args.steps.now) c.args.lengths.now (g.S.Steps.most_rest c.args.steps.now) (sum here.done.items + 1) here.done.items state c.loop-branch.branch c.args.seen.now.keys c.loop-branch.seen.keys c.visit.new.seen.keys here.steps c.loop-branch.search.steps c.visit.new.search.steps
           c.loop-branch.invariant.grown
           (subst (λ d. IsGrown (g.S.Steps.turn c.args.steps.now) c.args.lengths.now (g.S.Steps.most_rest c.args.steps.now) 1 (sum d + 1) d state c.loop-branch.seen.keys c.visit.new.seen.keys c.loop-branch.search.steps c.visit.new.search.steps) c.loop-branch.invariant.covered.covered.done c.in_ok-visit.ensures.grown);
-      some_left = c.loop-branch.invariant.some_left;
     }
 
-pub explore-returns-clause-searched : goal.explore-returns-clause-searched
-explore-returns-clause-searched g t c =
+pub explore_branches-returns-then-branch-clause-searched : goal.explore_branches-returns-then-branch-clause-searched
+explore_branches-returns-then-branch-clause-searched g t c =
+    explored-true (g.S.Steps.turn c.args.steps.now) (g.S.Steps.rest c.args.steps.now) c.args.lengths.now c.args.state.now c.args.search.now c.loop-branch.search c.loop-branch.branch _ c.loop-branch.invariant.covered.covered
+    (rw c.if-branch.true at c.in_ok-visit.ensures.searched)
+
+pub explore_branches-returns-then-branch-clause-grown : goal.explore_branches-returns-then-branch-clause-grown
+explore_branches-returns-then-branch-clause-grown g t c =
     let here = c.args.search.now in
-    let state = c.args.state in
-    let items : c.in_ok-new.field-0 ≡ here.done.items = search rules in
-    let h = explored-all (g.S.Steps.turn c.args.steps.now) (g.S.Steps.rest c.args.steps.now) c.args.lengths.now state here c.loop-branch.search c.loop-branch.branch c.loop-branch.invariant.some_left (omega arith) c.loop-branch.invariant.covered.covered in
-    record {
-      covered = h;
-      accounted = remembered (g.S.Steps.turn c.args.steps.now) (g.S.Steps.rest c.args.steps.now) c.args.lengths.now c.loop-branch.search.best _ c.loop-branch.seen.keys c.insert-2.new.self.keys (record { done = c.in_ok-new.field-0; state = c.args.state }) here.done.items c.in_ok-insert-3.ensures.keys items
-          c.loop-branch.invariant.covered.accounted
-          (accounted (g.S.Steps.turn c.args.steps.now) (g.S.Steps.rest c.args.steps.now) c.args.lengths.now here.done.items here.word.items state here.best c.loop-branch.search.best c.requires.depth h.covered);
-    }
+    let state = c.args.state.now in
+    let now = c.loop-branch.search in
+    let visited = subst (λ d. IsGrown (g.S.Steps.turn c.args.steps.now) c.args.lengths.now (g.S.Steps.most_rest c.args.steps.now) 1 (sum d + 1) d state c.loop-branch.seen.keys c.visit.new.seen.keys now.steps c.visit.new.search.steps) c.loop-branch.invariant.covered.covered.done c.in_ok-visit.ensures.grown in
+    let all = grown-more (g.S.Steps.turn c.args.steps.now) c.args.lengths.now (g.S.Steps.most_rest c.args.steps.now) (sum here.done.items + 1) here.done.items state c.loop-branch.branch c.args.seen.now.keys c.loop-branch.seen.keys c.visit.new.seen.keys here.steps now.steps c.visit.new.search.steps c.loop-branch.invariant.grown visited in
+    grown-within (g.S.Steps.turn c.args.steps.now) c.args.lengths.now (g.S.Steps.most_rest c.args.steps.now) (sum here.done.items + 1) here.done.items state (c.loop-branch.branch + 1) (length c.args.lengths.now) c.args.seen.now.keys c.visit.new.seen.keys here.steps c.visit.new.search.steps
+    (omega arith) all
+
+pub explore_branches-returns-clause-searched : goal.explore_branches-returns-clause-searched
+explore_branches-returns-clause-searched g t c = record {
+  covered = explored-all (g.S.Steps.turn c.args.steps.now) (g.S.Steps.rest c.args.steps.now) c.args.lengths.now c.args.state.now c.args.search.now c.loop-branch.search c.loop-branch.branch c.requires.left (omega arith) c.loop-branch.invariant.covered.covered;
+  accounted = c.loop-branch.invariant.covered.accounted;
+}
+
+pub explore_branches-returns-clause-grown : goal.explore_branches-returns-clause-grown
+explore_branches-returns-clause-grown g t c =
+    let here = c.args.search.now in
+    grown-within (g.S.Steps.turn c.args.steps.now) c.args.lengths.now (g.S.Steps.most_rest c.args.steps.now) (sum here.done.items + 1) here.done.items c.args.state.now c.loop-branch.branch (length c.args.lengths.now) c.args.seen.now.keys c.loop-branch.seen.keys here.steps c.loop-branch.search.steps
+    (omega arith) c.loop-branch.invariant.grown
 
 pub visit-returns-then-branch-clause-searched : goal.visit-returns-then-branch-clause-searched
 visit-returns-then-branch-clause-searched g t c =
@@ -107,7 +161,7 @@ visit-returns-in-Stop-False-clause-searched g t c =
     let left : get_or here.done.items c.args.branch 0 < get_or c.args.lengths.now c.args.branch 0 = grind (arith, common_steps) in
     let stops : c.in_ok-next.field-0 ≡ Stop False = cc in
     let turn_is = sym c.in_ok-next.ensures.answer ∙ stops in
-    let depth : c.len-at.result ≡ length here.word.items = search common_steps in
+    let depth : c.len-at.result ≡ length here.word.items = c.len-at.ensures ∙ here.word.ok.0 in
     let far = c.note_false.ensures.far ∙ ap (max here.best.far) depth in
     let k = visited-False (g.S.Steps.turn c.args.steps.now) (g.S.Steps.rest c.args.steps.now) c.args.lengths.now c.args.state.now here.done.items here.word.items c.args.branch c.requires.place left
     here.best c.note_false.new.self.best (rw index_is at turn_is) c.note_false.ensures.fault far in
@@ -130,51 +184,6 @@ visit-returns-in_ok-note_fault-in-Stop-Fault-clause-searched g t c =
       covered = record { word = e.word; done = e.done; covered = k };
       accounted = all-accounted-on (g.S.Steps.turn c.args.steps.now) (g.S.Steps.rest c.args.steps.now) c.args.lengths.now here.done.items here.word.items c.args.state.now _ here.best c.note_fault.new.self.best c.args.seen.now.keys k c.requires.accounted;
     }
-
-pub explore-returns-then-is_done-clause-grown : goal.explore-returns-then-is_done-clause-grown
-explore-returns-then-is_done-clause-grown g t c =
-    let here = c.args.search.now in
-    let items : c.in_ok-new.field-0 ≡ here.done.items = search rules in
-    let full = subst (λ d. (b : ℕ) → get_or c.args.lengths.now b 0 ≤ get_or d b 0) c.deref-2.ensures.value c.if-is_done.ensures in
-    let at = c.requires.place in
-    grown-end (g.S.Steps.turn c.args.steps.now) c.args.lengths.now (g.S.Steps.most_rest c.args.steps.now) here.done.items c.args.state
-    c.args.seen.now.keys c.insert.new.self.keys here.steps c.finish.new.search.steps
-    (record { done = c.in_ok-new.field-0; state = c.args.state }) _ (all-done c.args.lengths.now here.done.items at.branches at.within full)
-    c.in_ok-found.ensures.steps items refl (sym c.contains.ensures ∙ c.if-contains.false) c.in_ok-insert.ensures.keys
-
-pub explore-returns-then-contains-clause-grown : goal.explore-returns-then-contains-clause-grown
-explore-returns-then-contains-clause-grown g t c = grown-none (g.S.Steps.turn c.args.steps.now) c.args.lengths.now (g.S.Steps.most_rest c.args.steps.now) _ _ _ c.args.seen.now.keys 0 c.args.search.now.steps c.args.search.now.steps (omega arith)
-
-pub explore-loop-branch-init : goal.explore-loop-branch-init
-explore-loop-branch-init g t c =
-    let here = c.args.search.now in
-    record {
-      covered = record { covered = explored-start (g.S.Steps.turn c.args.steps.now) (g.S.Steps.rest c.args.steps.now) c.args.lengths.now c.args.state here; accounted = c.requires.accounted };
-      grown = grown-none (g.S.Steps.turn c.args.steps.now) c.args.lengths.now (g.S.Steps.most_rest c.args.steps.now) _ _ _ c.args.seen.now.keys 0 here.steps here.steps (omega arith);
-      some_left = subst (λ d. (b : ℕ) × (get_or d b 0 < get_or c.args.lengths.now b 0)) c.deref-2.ensures.value c.if-is_done.ensures;
-    }
-
-pub explore-returns-then-branch-clause-grown : goal.explore-returns-then-branch-clause-grown
-explore-returns-then-branch-clause-grown g t c =
-    let here = c.args.search.now in
-    let state = c.args.state in
-    let now = c.loop-branch.search in
-    let items : c.in_ok-new.field-0 ≡ here.done.items = search rules in
-    let visited = subst (λ d. IsGrown (g.S.Steps.turn c.args.steps.now) c.args.lengths.now (g.S.Steps.most_rest c.args.steps.now) 1 (sum d + 1) d state c.loop-branch.seen.keys c.visit.new.seen.keys now.steps c.visit.new.search.steps) c.loop-branch.invariant.covered.covered.done c.in_ok-visit.ensures.grown in
-    let all = grown-more (g.S.Steps.turn c.args.steps.now) c.args.lengths.now (g.S.Steps.most_rest c.args.steps.now) (sum here.done.items + 1) here.done.items state c.loop-branch.branch c.args.seen.now.keys c.loop-branch.seen.keys c.visit.new.seen.keys here.steps now.steps c.visit.new.search.steps c.loop-branch.invariant.grown visited in
-    grown-insert (g.S.Steps.turn c.args.steps.now) c.args.lengths.now (g.S.Steps.most_rest c.args.steps.now) here.done.items state (c.loop-branch.branch + 1) c.args.seen.now.keys c.visit.new.seen.keys c.insert-then-branch.new.self.keys here.steps c.visit.new.search.steps (record { done = c.in_ok-new.field-0; state = c.args.state }) _
-    (omega arith) all items refl (sym c.contains.ensures ∙ c.if-contains.false)
-    (λ k e. (position-same g.S.State.PartialEq.eq g.met.S.Steps.exact c.in_ok-new.field-0 here.done.items c.args.state k items e).0) c.in_ok-insert-2.ensures.keys
-
-pub explore-returns-clause-grown : goal.explore-returns-clause-grown
-explore-returns-clause-grown g t c =
-    let here = c.args.search.now in
-    let state = c.args.state in
-    let now = c.loop-branch.search in
-    let items : c.in_ok-new.field-0 ≡ here.done.items = search rules in
-    grown-insert (g.S.Steps.turn c.args.steps.now) c.args.lengths.now (g.S.Steps.most_rest c.args.steps.now) here.done.items state c.loop-branch.branch c.args.seen.now.keys c.loop-branch.seen.keys c.insert-2.new.self.keys here.steps now.steps (record { done = c.in_ok-new.field-0; state = c.args.state }) _
-    (omega arith) c.loop-branch.invariant.grown items refl (sym c.contains.ensures ∙ c.if-contains.false)
-    (λ k e. (position-same g.S.State.PartialEq.eq g.met.S.Steps.exact c.in_ok-new.field-0 here.done.items c.args.state k items e).0) c.in_ok-insert-3.ensures.keys
 
 pub visit-returns-then-index-lengths-clause-grown : goal.visit-returns-then-index-lengths-clause-grown
 visit-returns-then-index-lengths-clause-grown g t c = grown-none (g.S.Steps.turn c.args.steps.now) c.args.lengths.now (g.S.Steps.most_rest c.args.steps.now) _ _ _ c.args.seen.now.keys 1 c.args.search.now.steps c.args.search.now.steps (omega arith)

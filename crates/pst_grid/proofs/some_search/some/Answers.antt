@@ -1,5 +1,4 @@
-use Rattle.std.proofs.Common.{subst}
-use Rattle.pst_grid.specs.Answers.{IsAnswer}
+use Rattle.std.proofs.Common.{refl}
 use Rattle.pst_grid.proofs.Answering.{ended}
 use Rattle.pst_grid.proofs.Growing.{bounded}
 use Rattle.pst_grid.proofs.Remembering.{position-equal}
@@ -9,14 +8,13 @@ pub returns-clause-answer : goal.returns-clause-answer
 returns-clause-answer g c =
     let new = c.in_ok-search.ensures in
     let search = c.in_ok-search.search in
-    subst (λ state. IsAnswer (g.S.Steps.turn c.args.steps.now) (g.S.Steps.rest c.args.steps.now) c.args.lengths.now state c.into_answer.result) c.in_ok-first.ensures
-    (ended (g.S.Steps.turn c.args.steps.now) (g.S.Steps.rest c.args.steps.now) c.args.lengths.now c.in_ok-first.first _ search.done.items search.word.items search.best c.explore.new.search.best
-    c.explore.new.search.word c.in_ok-found.found c.into_answer.result new.done new.word new.fault new.far (λ h. h.covered.covered) c.in_ok-found.ensures.searched c.into_answer.ensures)
+    ended (g.S.Steps.turn c.args.steps.now) (g.S.Steps.rest c.args.steps.now) c.args.lengths.now c.args.start.now _ search.done.items search.word.items search.best c.explore.new.search.best
+    c.explore.new.search.word c.in_ok-found.found c.into_answer.result new.done new.word new.fault new.far (λ h. h.covered.covered) c.in_ok-found.ensures.searched c.into_answer.ensures
 
 pub returns-clause-bound : goal.returns-clause-bound
 returns-clause-bound g c =
     let new = c.in_ok-search.ensures in
     let search = c.in_ok-search.search in
-    bounded (g.S.Steps.turn c.args.steps.now) c.args.lengths.now (g.S.Steps.most_rest c.args.steps.now) search.done.items c.args.start.now c.in_ok-first.first
+    bounded (g.S.Steps.turn c.args.steps.now) c.args.lengths.now (g.S.Steps.most_rest c.args.steps.now) search.done.items c.args.start.now c.args.start.now
     c.with_hasher-seen.result.keys c.explore.new.seen.keys search.steps c.explore.new.search.steps _ (position-equal g.S.State.PartialEq.eq g.met.S.State.Eq.laws.refl) c.len.ensures.unique
-    new.done c.in_ok-first.ensures c.with_hasher-seen.ensures.empty new.steps c.in_ok-found.ensures.grown
+    new.done refl c.with_hasher-seen.ensures.empty new.steps c.in_ok-found.ensures.grown

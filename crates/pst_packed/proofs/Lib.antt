@@ -1,0 +1,5 @@
+pub mod Apart
+pub mod Coding
+pub mod Feeding
+pub mod Numbers
+pub mod Same
