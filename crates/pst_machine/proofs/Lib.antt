@@ -4,3 +4,4 @@ pub mod Reaching
 pub mod Writing
 pub mod Stepping
 pub mod ValueTexts
+pub mod Briefly

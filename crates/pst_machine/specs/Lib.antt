@@ -6,3 +6,4 @@ pub mod Outcomes
 -- what the contracts within cite
 pub mod Meets
 pub mod Slots
+pub mod Cells

@@ -5,6 +5,8 @@
 //! the machine does.
 #![tactic(auto)]
 
+mod brief;
+mod cells;
 mod check;
 mod code;
 mod in_place;
