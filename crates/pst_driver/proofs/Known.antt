@@ -6,7 +6,7 @@ use Rattle.pst_case.specs.Shape.{before_suffix, result_types, part_fault, branch
 use Rattle.pst_case.specs.declared.case.Case.{Case}
 use Rattle.pst_case.specs.declared.case.Command.{Command}
 use Rattle.pst_driver.proofs.Arguments.{part_none}
-use Rattle.pst_driver.proofs.Faultless.{if_none, or_else_none}
+use Rattle.pst_judge.proofs.NoFault.{if_none, or_else_none}
 use Rattle.pst_driver.specs.Progress.{calls_known, all_known}
 use Rattle.pst_model.specs.declared.model.Source.{Source}
 use Rattle.pst_value.specs.declared.ty.Ty.{Ty}

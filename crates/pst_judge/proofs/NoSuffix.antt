@@ -7,7 +7,7 @@ use Rattle.pst_eval.specs.Callbacks.{init_of}
 use Rattle.pst_grid.specs.Merges.{run, none_done}
 use Rattle.pst_grid.specs.declared.answer.Ending.TheVariants.{AllTrue}
 use Rattle.pst_judge.specs.Laws.{EmptySuffixAddsNothing}
-use Rattle.pst_judge.specs.Replay.{replayed, replayed_asking, from_opening, run_events, part_events, prefix_events, branch_events, branch_turn, branch_lengths}
+use Rattle.pst_judge.specs.Replay.{replayed_asking, from_opening, run_events, part_events, prefix_events, branch_events, branch_turn, branch_lengths}
 use Rattle.pst_judge.specs.Symbolic.{symbolic, symbolic_opening, run_commands, with_numbers, prefix_commands, branch_commands, symbolic_turn}
 
 pub empty_suffix : EmptySuffixAddsNothing

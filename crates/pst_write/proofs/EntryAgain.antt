@@ -1,24 +1,23 @@
 -- The entries of a map are read again from what is written for them.
-use Rattle.std.proofs.Common.{◌≡◌, ℕ, ℤ, suc, ◌<◌, ◌≤◌, Bool, true, false, length, List, [], ◌∷◌, Option, Some, None, refl, ap, ◌∙◌, arith}
+use Rattle.std.proofs.Common.{◌≡◌, ℕ, ℤ, suc, ◌<◌, Bool, true, false, length, List, [], ◌∷◌, Option, Some, refl, ap, ◌∙◌, arith}
 use Rattle.std.specs.Prelude.{codes}
 use Rattle.std.specs.Fmt.{signed_decimal}
 use Rattle.std.specs.List.{list_all}
-use Rattle.std.specs.Option.{option_map}
 use Rattle.std.specs.Str.{bytes_eq}
 use Rattle.pst_runs.specs.Values.{each, key_word, key_at, key_of, pair_in, pair_of, entry_key, entry_value}
 use Rattle.pst_sexpr.specs.Bytes.{is_word_byte}
 use Rattle.pst_sexpr.specs.Parts.{and_then, node_at}
 use Rattle.pst_sexpr.specs.declared.form.Form.TheVariants.{Word, Text, Node, outs-Word, outs-Text, outs-Node}
-use Rattle.pst_sexpr.specs.declared.form.Form.{Form, out-Form}
+use Rattle.pst_sexpr.specs.declared.form.Form.{Form}
 use Rattle.pst_value.specs.Keys.{is_key}
-use Rattle.pst_value.specs.Text.{is_i64, is_text, is_printable, limit}
+use Rattle.pst_value.specs.Text.{is_i64, is_text, is_printable}
 use Rattle.pst_value.specs.declared.key.Key.{Key}
 use Rattle.pst_value.specs.declared.key.Key.TheVariants as key
 use Rattle.pst_value.specs.declared.key.KeyTy.{KeyTy}
 use Rattle.pst_value.specs.declared.key.KeyTy.TheVariants as kind
 use Rattle.pst_value.specs.declared.value.Value.{Value}
 use Rattle.pst_words.proofs.Numbers.{both_hold}
-use Rattle.pst_write.proofs.Numbers.{IsEarly, early_apart, SpellsInteger, spells_integer}
+use Rattle.pst_write.proofs.Numbers.{early_apart, SpellsInteger, spells_integer}
 use Rattle.pst_write.proofs.Sized.{Sized, AllSized, none_sized, more_sized, word_sized, text_sized, letters_sized, node_sized}
 use Rattle.pst_write.proofs.Texts.{text_bytes}
 use Rattle.pst_write.specs.Written.{truth_word, key_form, entries_form}

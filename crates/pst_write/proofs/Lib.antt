@@ -3,6 +3,7 @@ pub mod CommandAgain
 pub mod EntryAgain
 pub mod Forms
 pub mod ItemAgain
+pub mod LevelOf
 pub mod Lines
 pub mod Numbers
 pub mod ReplyAgain

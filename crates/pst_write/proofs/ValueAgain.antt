@@ -1,11 +1,9 @@
 -- A value that fits a type is read again from what is written for it.
-use Rattle.std.proofs.Common.{◌≡◌, ◌≢◌, ℕ, zero, suc, max, ◌-◌, ◌*◌, ◌<◌, ◌≤◌, ◌||◌, ◌&&◌, ◌==◌, eqb-true, not, nat_le, nat_lt, ℤ, Bool, true, false, length, slice_get, List, [], ◌∷◌, map, Option, Some, None, refl, sym, ap, ◌∙◌, subst, ◌⊎◌, inl, inr, arith}
+use Rattle.std.proofs.Common.{◌≡◌, ◌≢◌, ℕ, zero, suc, max, ◌-◌, ◌*◌, ◌<◌, ◌≤◌, ◌||◌, ◌&&◌, ◌==◌, eqb-true, nat_le, ℤ, Bool, true, false, length, slice_get, List, [], ◌∷◌, map, Option, Some, None, refl, sym, ap, ◌∙◌, subst, arith}
 use Rattle.std.specs.Prelude.{codes, decimal, if◌then◌else◌}
 use Rattle.std.specs.Fmt.{signed_decimal}
 use Rattle.std.specs.List.{AllByRecursion, list_any, list_all}
 use Rattle.std.specs.Str.{bytes_eq}
-use Rattle.std.proofs.lemmas.Bool.Decides.{nat_tests}
-use Rattle.std.proofs.lemmas.Bool.{cases_Bool}
 use Rattle.std.proofs.lemmas.List.{length-map}
 use Rattle.pst_case.proofs.Variables.{reference-Int, reference-Truth, reference-Text, reference-Tuple, reference-ListOf, reference-MapOf, reference-Var, reference-Ref, reference-Call}
 use Rattle.pst_case.specs.Shape.{holds_reference}
@@ -15,9 +13,9 @@ use Rattle.pst_rules.specs.Kinds.{holds_call, holds_call_at}
 use Rattle.pst_runs.proofs.Rooms.{value_word, value_text, value_node}
 use Rattle.pst_runs.specs.Replies.{reply_word}
 use Rattle.pst_runs.specs.declared.values.Spelling.{Spelling}
-use Rattle.pst_runs.specs.Values.{each, word_value, headed_value, map_of, entry_key, entry_value, value_in}
+use Rattle.pst_runs.specs.Values.{each, word_value, headed_value, map_of, entry_value, value_in}
 use Rattle.pst_sexpr.specs.Parts.{and_then, where_true, word_of, word_at}
-use Rattle.pst_sexpr.specs.Bytes.{is_word_byte, is_text_byte, is_escaped_byte}
+use Rattle.pst_sexpr.specs.Bytes.{is_word_byte}
 use Rattle.pst_sexpr.specs.Lawful.{IsTextBytes}
 use Rattle.pst_sexpr.specs.declared.form.Form.TheVariants.{Word, Node, outs-Word, outs-Text, outs-Node}
 use Rattle.pst_sexpr.specs.declared.form.Form.{Form}
@@ -28,39 +26,18 @@ use Rattle.pst_value.specs.Keys.{are_keys, is_key, rising}
 use Rattle.pst_value.specs.Subst.{numbered}
 use Rattle.pst_value.specs.Text.{is_i64, is_text, is_printable, limit}
 use Rattle.pst_value.specs.declared.key.Key.{Key}
-use Rattle.pst_value.specs.declared.key.KeyTy.{KeyTy}
 use Rattle.pst_value.specs.declared.ty.Ty.TheOpen.{Ty-F}
-use Rattle.pst_value.specs.declared.ty.Ty.{Ty, out-Ty, roll-out-Ty, map-Ty, fold-roll-Ty}
+use Rattle.pst_value.specs.declared.ty.Ty.{Ty, out-Ty, map-Ty}
 use Rattle.pst_value.specs.declared.value.Value.TheOpen.{Value-F}
 use Rattle.pst_value.specs.declared.value.Value.{Value, Int, Text, Tuple, List as ListOf, Map as MapOf, Var, Bool as Truth}
-use Rattle.pst_words.proofs.Numbers.{both_hold, both_from}
+use Rattle.pst_words.proofs.Numbers.{both_hold}
 use Rattle.pst_write.proofs.Forms.{form_Int, form_Truth, form_Text, form_Tuple, form_ListOf, form_MapOf, form_Var}
 use Rattle.pst_write.proofs.Texts.{text_bytes}
 use Rattle.pst_write.proofs.EntryAgain.{EntriesAgain, entries_again}
+use Rattle.pst_write.proofs.LevelOf.{level_of, call_of, maps_of, neither, true_is_no_false}
 use Rattle.pst_write.proofs.Numbers.{IsEarly, early_apart, spells_integer, integer_read, variable_read, variable_is_tree}
 use Rattle.pst_write.proofs.Sized.{Sized, AllSized, wider, all_wider, none_sized, more_sized, word_sized, text_sized, letters_sized, headed_sized}
 use Rattle.pst_write.specs.Written.{truth_word, entries_form, value_form}
-
--- ---- one level of a type
-
-level_of : (t : Ty) → ty_levels.levels t ≡ ty_levels.layer_levels (map-Ty Ty ℕ ty_levels.levels (out-Ty t))
-unfolding ty_levels.levels
-level_of t = ap ty_levels.levels (sym (roll-out-Ty t)) ∙ fold-roll-Ty ℕ ty_levels.layer_levels (out-Ty t)
-
-call_of : (t : Ty) → holds_call t ≡ holds_call_at (map-Ty Ty Bool holds_call (out-Ty t))
-unfolding holds_call
-call_of t = ap holds_call (sym (roll-out-Ty t)) ∙ fold-roll-Ty Bool holds_call_at (out-Ty t)
-
-maps_of : (t : Ty) → holds_map t ≡ layer_maps (map-Ty Ty Bool holds_map (out-Ty t))
-unfolding holds_map
-maps_of t = ap holds_map (sym (roll-out-Ty t)) ∙ fold-roll-Ty Bool layer_maps (out-Ty t)
-
-neither : (x y : Bool) → (x || y) ≡ false → (x ≡ false) × (y ≡ false)
-neither true y h = absurd (cc)
-neither false y h = (refl, h)
-
-true_is_no_false : true ≡ false → ⊥
-true_is_no_false h = absurd (cc)
 
 -- ---- what is shown of a value
 

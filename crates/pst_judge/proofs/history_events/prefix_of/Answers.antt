@@ -1,4 +1,4 @@
-use Rattle.std.proofs.Common.{◌≡◌, ◌+◌, length, ap, ◌∙◌, arith}
+use Rattle.std.proofs.Common.{◌≡◌, length, ap, ◌∙◌, arith}
 use Rattle.pst_judge.proofs.Fitted.{prefix_within}
 use Rattle.pst_judge.proofs.history_events.prefix_of.Goals as goal
 

@@ -1,4 +1,4 @@
-use Rattle.std.proofs.Common.{◌≡◌, [], ap, sym, ◌∙◌}
+use Rattle.std.proofs.Common.{[], ap, sym, ◌∙◌}
 use Rattle.pst_case.specs.Shape.{result_types}
 use Rattle.pst_judge.proofs.Fitted.{prefix_fits, prefix_length}
 use Rattle.pst_judge.proofs.Furthest.{if_ok_map}
