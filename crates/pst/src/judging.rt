@@ -11,6 +11,7 @@ use pst_sink::Sink;
 use pst_sources::{Input, SourceFile};
 use pst_warnings::{warnings_on_answers, warnings_on_runs};
 use std::alloc::{AllocError, Global};
+use std::mem::forget;
 use std::thread::Threads;
 
 /// Writes warnings to standard error. Where memory was refused for them or they cannot be written, nothing more is said.
@@ -21,6 +22,9 @@ fn warn<R: Eprint>(rt: &R, warnings: Result<Option<String>, AllocError>) {
 }
 
 /// Writes the warnings on items that were judged.
+///
+/// The program ends behind this, and the system takes its memory back at once. So the items are not let go one by one,
+/// which would take as long as a fifth of the judging.
 fn warn_on_runs<R: Eprint>(
     rt: &R,
     alloc: Global,
@@ -41,7 +45,8 @@ fn warn_on_runs<R: Eprint>(
             runs.as_slice(),
             judged.as_slice(),
         );
-        warn(rt, warnings)
+        warn(rt, warnings);
+        forget((file, runs, judged));
     }
 }
 

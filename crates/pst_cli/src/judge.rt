@@ -1,5 +1,5 @@
 //! `pst judge`.
-ghost use Rattle.std.specs.Prelude.{◌≡◌, false, IfOk, IfSome, MatchResult, string_bytes};
+ghost use Rattle.std.specs.Prelude.{◌≡◌, ◌++◌, false, IfOk, IfSome, OnOk, MatchResult, string_bytes};
 ghost use Rattle.std.specs.List.{list_all};
 ghost use Rattle.pst_cli.specs.Output.{IsJudgeOutput, is_good, item_line, item_lines, run_line, status_of};
 ghost use Rattle.pst_cli.specs.Sending.{Prints};
@@ -13,6 +13,7 @@ use crate::refusal::refusal_output;
 use crate::sharing::may_share_compiled;
 use crate::status::Status;
 use pst_case::{CaseFaultKind, Run};
+use pst_each::read_each;
 use pst_judge::{Judged, Verdict};
 use pst_load::items_of;
 use pst_rejudge::rejudge;
@@ -35,6 +36,29 @@ pub fn runs_in(
     ensures lawful { IfOk result (λ read. IfOk read (λ runs. AreLawful typed.now runs.items)) }
 {
     match read_runs(alloc, typed, trees) {
+        Ok(runs) => Ok(Ok(runs)),
+        Err(fault) => {
+            if fault.kind == RunFaultKind::Case(CaseFaultKind::NoMemory) {
+                return Err(AllocError);
+            }
+            Ok(Err(fault))
+        }
+    }
+}
+
+/// The same, which several threads read at once.
+fn runs_at_once<R: Threads + Sync>(
+    rt: &R,
+    alloc: Global,
+    typed: &Typed,
+    trees: &[Tree],
+) -> Result<Result<Vec<Run>, RunFault>, AllocError>
+    ensures runs { IfOk result (λ read. MatchResult read
+        (λ runs. runs_of typed.now trees.now ≡ Ok runs.items)
+        (λ fault. runs_of typed.now trees.now ≡ Err fault)) }
+    ensures lawful { IfOk result (λ read. IfOk read (λ runs. AreLawful typed.now runs.items)) }
+{
+    match read_each(rt, alloc, typed, trees) {
         Ok(runs) => Ok(Ok(runs)),
         Err(fault) => {
             if fault.kind == RunFaultKind::Case(CaseFaultKind::NoMemory) {
@@ -72,14 +96,19 @@ pub fn status_of(all: &[Judged]) -> Status
     }
 }
 
+/// Adds the line `NUMBER VERDICT` to a text.
+pub fn add_item_line(text: &mut String, number: usize, judged: &Judged) -> Result<(), AllocError>
+    ensures { OnOk result (string_bytes text.new ≡ string_bytes text.old ++ item_line number judged.now) }
+{
+    write!(text, "{number} {judged}\n")
+}
+
 /// `NUMBER VERDICT`.
 pub fn item_line(alloc: Global, number: usize, judged: &Judged) -> Result<String, AllocError>
     ensures { IfOk result (λ line. string_bytes line ≡ item_line number judged.now) }
 {
-    let verdict = judged.text(alloc)?;
-    let mut line = format!(in alloc; "{number} ")?;
-    line.push_str(verdict.as_str())?;
-    line.push_str("\n")?;
+    let mut line = String::new(alloc);
+    add_item_line(&mut line, number, judged)?;
     Ok(line)
 }
 
@@ -89,8 +118,7 @@ fn item_lines(alloc: Global, all: &[Judged]) -> Result<String, AllocError>
 {
     let mut text = String::new(alloc);
     for (index, judged) in all.iter().enumerate() {
-        let line = item_line(alloc, index + 1, judged)?;
-        text.push_str(line.as_str())?;
+        add_item_line(&mut text, index + 1, judged)?;
     }
     Ok(text)
 }
@@ -136,7 +164,7 @@ fn judge_output<R: Threads + Sync>(
         Err(refusal) => return Ok((refusal_output(alloc, &refusal)?, None)),
     };
     let items = items_of(file.trees.as_slice());
-    match runs_in(alloc, file.compiled.typed(), items)? {
+    match runs_at_once(rt, alloc, file.compiled.typed(), items)? {
         Ok(runs) => {
             may_share_compiled();
             let judged = rejudge(rt, &file.compiled, alloc, runs.as_slice())?;

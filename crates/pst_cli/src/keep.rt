@@ -1,11 +1,11 @@
 //! `pst judge --keep-going`.
-ghost use Rattle.std.specs.Prelude.{◌≡◌, false, IfOk, string_bytes};
+ghost use Rattle.std.specs.Prelude.{◌≡◌, ◌++◌, false, IfOk, OnOk, string_bytes};
 ghost use Rattle.pst_cli.specs.KeepingOn.{IsKeepingOnOutput, answer_line, answer_lines, answer_status, worst_status};
 ghost use Rattle.pst_cli.specs.Sending.{Prints};
 ghost use Rattle.pst_cli.specs.declared.status.Status.TheVariants.{Accepted};
 
 use crate::compiled::{CompiledFile, load_compiled};
-use crate::judge::{item_line, run_line};
+use crate::judge::{add_item_line, run_line};
 use crate::output::{Output, send};
 use crate::refusal::refusal_output;
 use crate::run::status_of_one;
@@ -18,19 +18,25 @@ use pst_sink::Sink;
 use std::alloc::{AllocError, Global};
 use std::thread::Threads;
 
-/// `NUMBER VERDICT`, or `refused run NUMBER command C KIND`.
-fn answer_line(alloc: Global, number: usize, answer: &Answer) -> Result<String, AllocError>
-    ensures { IfOk result (λ line. string_bytes line ≡ answer_line number answer.now) }
+/// Adds the line `NUMBER VERDICT`, or `refused run NUMBER command C KIND`, to a text.
+fn add_answer_line(
+    alloc: Global,
+    text: &mut String,
+    number: usize,
+    answer: &Answer,
+) -> Result<(), AllocError>
+    ensures { OnOk result (string_bytes text.new ≡ string_bytes text.old ++ answer_line number answer.now) }
 {
     match answer {
-        Answer::Judged(judged) => item_line(alloc, number, judged),
+        Answer::Judged(judged) => add_item_line(text, number, judged),
         Answer::Refused { kind, command } => {
             let fault = RunFault {
                 run: number,
                 command: *command,
                 kind: *kind,
             };
-            run_line(alloc, &fault)
+            let line = run_line(alloc, &fault)?;
+            text.push_str(line.as_str())
         }
     }
 }
@@ -41,8 +47,7 @@ fn answer_lines(alloc: Global, answers: &[Answer]) -> Result<String, AllocError>
 {
     let mut text = String::new(alloc);
     for (index, answer) in answers.iter().enumerate() {
-        let line = answer_line(alloc, index + 1, answer)?;
-        text.push_str(line.as_str())?;
+        add_answer_line(alloc, &mut text, index + 1, answer)?;
     }
     Ok(text)
 }

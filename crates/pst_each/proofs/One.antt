@@ -1,10 +1,10 @@
 -- One tree that is read by itself.
-use Rattle.std.proofs.Common.{◌≡◌, ◌∙◌, ℕ, true, List, [], ◌∷◌, ◌++◌, Option, Some, None, IfSome, Result, Ok, Err, ap, subst}
+use Rattle.std.proofs.Common.{◌≡◌, ◌∙◌, true, List, [], ◌∷◌, ◌++◌, Option, Some, None, IfSome, Result, Ok, Err, ap, subst}
 use Rattle.pst_case.specs.Matches.{matches}
 use Rattle.pst_case.specs.declared.case.Case.{Case}
 use Rattle.pst_case.specs.declared.history.History.{History}
 use Rattle.pst_case.specs.declared.history.Run.{Run}
-use Rattle.pst_judge.specs.Judgement.{MatchesIfAny, HistoryMatches}
+use Rattle.pst_judge.specs.Judgement.{MatchesIfAny}
 use Rattle.pst_model.specs.declared.model.Source.{Source}
 use Rattle.pst_rejudge.specs.Judging.{MayBeJudged}
 use Rattle.pst_runs.specs.Items.{item_of, numbered, runs_of}

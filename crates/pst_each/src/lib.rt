@@ -1,23 +1,24 @@
-//! Judges each tree behind a model by itself, so that one that is refused leaves the others their verdicts.
+//! Reads and judges each tree behind a model by itself, several at once, so that one that is refused leaves the others
+//! their verdicts.
 #![tactic(auto)]
 
-ghost use Rattle.std.specs.Prelude.{◌≡◌, IfOk, MatchResult, Ok, Err};
+ghost use Rattle.std.specs.Prelude.{◌≡◌, IfOk};
 ghost use Rattle.std.specs.List.{AllZip};
-ghost use Rattle.std.specs.Thread.{IsSync};
 ghost use Rattle.pst_each.specs.Answers.{IsAnswer};
-ghost use Rattle.pst_rejudge.specs.Judging.{MayBeJudged};
-ghost use Rattle.pst_rules.specs.contracts.typed.Typed.{the_row as typed_row};
-ghost use Rattle.pst_runs.specs.Items.{item_of};
 
-use pst_case::{CaseFaultKind, Run};
+mod reading;
+mod sharing;
+
+use crate::reading::read_one;
+use crate::sharing::may_share_models;
 use pst_eval::Callbacks;
 use pst_judge::{Judged, judge_one};
 use pst_rules::Typed;
-use pst_runs::{RunFault, RunFaultKind, read_runs};
+use pst_runs::{RunFault, RunFaultKind};
 use pst_sexpr::Tree;
 use rayon::prelude::*;
+pub use reading::read_each;
 use std::alloc::{AllocError, Global};
-use std::slice;
 use std::thread::Threads;
 
 /// What is answered of an item.
@@ -34,29 +35,6 @@ pub enum Answer {
     },
 }
 
-/// The run that a tree spells, or its first fault.
-#[tactic(auto, using(crate::proofs::One::one))]
-fn read_one(alloc: Global, typed: &Typed, tree: &Tree) -> Result<Result<Run, RunFault>, AllocError>
-    ensures read { IfOk result (λ read. MatchResult read
-        (λ run. item_of typed.now tree.now ≡ Ok run)
-        (λ fault. item_of typed.now tree.now
-        ≡ Err (record { kind = fault.kind; command = fault.command }))) }
-    ensures lawful { IfOk result (λ read. IfOk read (MayBeJudged typed.now)) }
-{
-    match read_runs(alloc, typed, slice::from_ref(tree)) {
-        Ok(mut runs) => match runs.pop() {
-            Some(run) => Ok(Ok(run)),
-            None => Err(AllocError),
-        },
-        Err(fault) => {
-            if fault.kind == RunFaultKind::Case(CaseFaultKind::NoMemory) {
-                return Err(AllocError);
-            }
-            Ok(Err(fault))
-        }
-    }
-}
-
 /// What is answered of the item that a tree spells. `AllocError`: memory was refused.
 fn answer_of<C: Callbacks>(
     callbacks: &C,
@@ -71,18 +49,6 @@ fn answer_of<C: Callbacks>(
         Ok(run) => Ok(Answer::Judged(judge_one(callbacks, alloc, &run)?)),
         Err(RunFault { kind, command, .. }) => Ok(Answer::Refused { kind, command }),
     }
-}
-
-/// What is `Sync` may be shared by threads. It does nothing, and its contract says it of the type.
-fn may_share<T: Sync>()
-    ensures { IsSync T.row }
-{}
-
-/// Well-typed models may be shared by threads.
-fn may_share_models()
-    ensures { IsSync typed_row }
-{
-    may_share::<Typed>()
 }
 
 /// What is answered of each of the items that trees spell, in their order: the judgement on it, or why it is
