@@ -23,8 +23,8 @@ fn warn<R: Eprint>(rt: &R, warnings: Result<Option<String>, AllocError>) {
 
 /// Writes the warnings on items that were judged.
 ///
-/// The program ends behind this, and the system takes its memory back at once. So the items are not let go one by one,
-/// which would take as long as a fifth of the judging.
+/// The program ends behind this, and the system takes its memory back at once. So the items are not let go one by one:
+/// with many small items that would be a sixth of the whole run.
 fn warn_on_runs<R: Eprint>(
     rt: &R,
     alloc: Global,
