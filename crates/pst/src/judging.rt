@@ -24,7 +24,7 @@ fn warn<R: Eprint>(rt: &R, warnings: Result<Option<String>, AllocError>) {
 /// Writes the warnings on items that were judged.
 ///
 /// The program ends behind this, and the system takes its memory back at once. So the items are not let go one by one:
-/// with many small items that would be a sixth of the whole run.
+/// with many small items that would be an eighth of the instructions of the whole run.
 fn warn_on_runs<R: Eprint>(
     rt: &R,
     alloc: Global,

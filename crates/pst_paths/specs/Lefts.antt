@@ -1,4 +1,5 @@
--- States with what is left up to the mark: those that are equal by `==` are the same, and how they are remembered.
+-- States with what is left up to the mark: those that are equal by `==` are the same,
+-- and how they are remembered.
 use Rattle.std.proofs.Common.{◌≡◌, ◌==◌, ◌&&◌, ℕ, true, Option, Some, None, refl, sym, ap, true≢false}
 use Rattle.std.proofs.lemmas.Bool.Decides.{Decides-eqb}
 use Rattle.std.specs.Hash.{HashWrites}
