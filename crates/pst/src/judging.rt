@@ -32,21 +32,27 @@ fn warn_on_runs<R: Eprint>(
     bytes: &[u8],
     judged: Option<JudgedFile>,
 )
-    requires { IfSome judged (λ judged. AreLawful judged.file.compiled judged.runs.items) }
+    requires { IfSome judged (λ judged. AreLawful judged.compiled judged.runs.items) }
 {
-    if let Some(JudgedFile { file, runs, judged }) = judged {
+    if let Some(
+        JudgedFile {
+            compiled,
+            runs,
+            judged,
+        },
+    ) = judged
+    {
         let input = Input { files, bytes };
         let warnings = warnings_on_runs(
-            &file.compiled,
+            &compiled,
             alloc,
-            file.compiled.typed(),
+            compiled.typed(),
             input,
-            file.trees.as_slice(),
             runs.as_slice(),
             judged.as_slice(),
         );
         warn(rt, warnings);
-        forget((file, runs, judged));
+        forget((compiled, runs, judged));
     }
 }
 

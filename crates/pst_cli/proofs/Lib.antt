@@ -5,4 +5,5 @@ pub mod KeepingOn
 pub mod Keeping
 pub mod OneOutput
 pub mod Printing
+pub mod Reading
 pub mod Reporting

@@ -33,6 +33,12 @@ pub data IsCheckOutput (input text : List ℕ) (status : Status) : Type 0 where
 
 -- ---- `pst judge`
 
+-- the input is a file of the model, which is well typed, and behind it of the runs
+pub record HoldsRuns (input : List ℕ) (m : Source) (runs : List Run) : Type 0 where
+  pub trees : List Form
+  pub holds : Holds input m trees
+  pub read : runs_of m (items_of trees) ≡ Ok runs
+
 abbrev pub run_line : RunFault → List ℕ
 run_line fault = codes "refused run " ++ runs.text_of fault ++ line_end
 

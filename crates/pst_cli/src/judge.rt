@@ -7,15 +7,13 @@ ghost use Rattle.pst_cli.specs.declared.status.Status.TheVariants.{Refused};
 ghost use Rattle.pst_runs.specs.Items.{runs_of};
 ghost use Rattle.pst_runs.specs.Lawful.{AreLawful};
 
-use crate::compiled::{CompiledFile, load_compiled};
+use crate::items::{ModelAndRuns, read_items};
 use crate::output::{Output, send};
-use crate::refusal::refusal_output;
 use crate::sharing::may_share_compiled;
 use crate::status::Status;
 use pst_case::{CaseFaultKind, Run};
-use pst_each::read_each;
+use pst_compile::Compiled;
 use pst_judge::{Judged, Verdict};
-use pst_load::items_of;
 use pst_rejudge::rejudge;
 use pst_rules::Typed;
 use pst_runs::{RunFault, RunFaultKind, read_runs};
@@ -36,29 +34,6 @@ pub fn runs_in(
     ensures lawful { IfOk result (λ read. IfOk read (λ runs. AreLawful typed.now runs.items)) }
 {
     match read_runs(alloc, typed, trees) {
-        Ok(runs) => Ok(Ok(runs)),
-        Err(fault) => {
-            if fault.kind == RunFaultKind::Case(CaseFaultKind::NoMemory) {
-                return Err(AllocError);
-            }
-            Ok(Err(fault))
-        }
-    }
-}
-
-/// The same, which several threads read at once.
-fn runs_at_once<R: Threads + Sync>(
-    rt: &R,
-    alloc: Global,
-    typed: &Typed,
-    trees: &[Tree],
-) -> Result<Result<Vec<Run>, RunFault>, AllocError>
-    ensures runs { IfOk result (λ read. MatchResult read
-        (λ runs. runs_of typed.now trees.now ≡ Ok runs.items)
-        (λ fault. runs_of typed.now trees.now ≡ Err fault)) }
-    ensures lawful { IfOk result (λ read. IfOk read (λ runs. AreLawful typed.now runs.items)) }
-{
-    match read_each(rt, alloc, typed, trees) {
         Ok(runs) => Ok(Ok(runs)),
         Err(fault) => {
             if fault.kind == RunFaultKind::Case(CaseFaultKind::NoMemory) {
@@ -138,11 +113,11 @@ pub fn refused_run(alloc: Global, fault: &RunFault) -> Result<Output, AllocError
     Ok(Output::new(run_line(alloc, fault)?, Status::Refused))
 }
 
-/// The items behind a model with the judgement on each.
+/// A model, the items behind it, and the judgement on each.
 #[derive(Drop)]
 pub struct JudgedFile {
-    /// The model, and all trees of the input.
-    pub file: CompiledFile,
+    /// The model.
+    pub compiled: Compiled,
     /// The items behind the model.
     pub runs: Vec<Run>,
     /// Their judgements, in the same order.
@@ -157,23 +132,22 @@ fn judge_output<R: Threads + Sync>(
 ) -> Result<(Output, Option<JudgedFile>), AllocError>
     ensures output { IfOk result (λ r. IsJudgeOutput input.now r.0.text.items r.0.status) }
     ensures lawful { IfOk result
-        (λ r. IfSome r.1 (λ judged. AreLawful judged.file.compiled judged.runs.items)) }
+        (λ r. IfSome r.1 (λ judged. AreLawful judged.compiled judged.runs.items)) }
 {
-    let file = match load_compiled(alloc, input)? {
-        Ok(file) => file,
-        Err(refusal) => return Ok((refusal_output(alloc, &refusal)?, None)),
+    let ModelAndRuns { compiled, runs } = match read_items(rt, alloc, input)? {
+        Ok(read) => read,
+        Err(output) => return Ok((output, None)),
     };
-    let items = items_of(file.trees.as_slice());
-    match runs_at_once(rt, alloc, file.compiled.typed(), items)? {
-        Ok(runs) => {
-            may_share_compiled();
-            let judged = rejudge(rt, &file.compiled, alloc, runs.as_slice())?;
-            let text = item_lines(alloc, judged.as_slice())?;
-            let output = Output::new(text, status_of(judged.as_slice()));
-            Ok((output, Some(JudgedFile { file, runs, judged })))
-        }
-        Err(fault) => Ok((refused_run(alloc, &fault)?, None)),
-    }
+    may_share_compiled();
+    let judged = rejudge(rt, &compiled, alloc, runs.as_slice())?;
+    let text = item_lines(alloc, judged.as_slice())?;
+    let output = Output::new(text, status_of(judged.as_slice()));
+    let file = JudgedFile {
+        compiled,
+        runs,
+        judged,
+    };
+    Ok((output, Some(file)))
 }
 
 /// Does what [`judge_text`] does, and gives back the items with their judgements where all of them were judged.
@@ -186,7 +160,7 @@ pub fn judge_file<W: Sink, R: Threads + Sync>(
     requires { W.broken sink.old ≡ false }
     ensures prints { Prints (IsJudgeOutput input.now)
         (W.taken sink.old) (W.taken sink.new) (W.broken sink.new) result.0 }
-    ensures lawful { IfSome result.1 (λ judged. AreLawful judged.file.compiled judged.runs.items) }
+    ensures lawful { IfSome result.1 (λ judged. AreLawful judged.compiled judged.runs.items) }
 {
     match judge_output(rt, alloc, input) {
         Ok((output, judged)) => (send(output.text.as_slice(), output.status, sink), judged),

@@ -7,6 +7,7 @@ mod check;
 mod compiled;
 mod explain;
 mod graph;
+mod items;
 mod judge;
 mod keep;
 mod known;

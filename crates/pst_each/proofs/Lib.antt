@@ -1,3 +1,5 @@
 pub mod Collected
+pub mod Joined
 pub mod One
+pub mod Pushed
 pub mod Together

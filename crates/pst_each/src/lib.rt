@@ -1,23 +1,25 @@
 //! Reads and judges each tree behind a model by itself, several at once, so that one that is refused leaves the others
-//! their verdicts.
+//! their verdicts; and reads the trees of an input in parts, several at once.
 #![tactic(auto)]
 
 ghost use Rattle.std.specs.Prelude.{◌≡◌, IfOk};
 ghost use Rattle.std.specs.List.{AllZip};
 ghost use Rattle.pst_each.specs.Answers.{IsAnswer};
 
+mod parts;
 mod reading;
 mod sharing;
 
 use crate::reading::read_one;
 use crate::sharing::may_share_models;
+pub use parts::head_and_rest;
 use pst_eval::Callbacks;
 use pst_judge::{Judged, judge_one};
 use pst_rules::Typed;
 use pst_runs::{RunFault, RunFaultKind};
 use pst_sexpr::Tree;
 use rayon::prelude::*;
-pub use reading::read_each;
+pub use reading::read_in_parts;
 use std::alloc::{AllocError, Global};
 use std::thread::Threads;
 

@@ -13,7 +13,7 @@ use pst_judge::{Judged, Verdict};
 use pst_model::Source;
 use pst_rules::Typed;
 use pst_runs::read_runs;
-use pst_sexpr::Tree;
+use pst_sexpr::{Tree, read};
 use pst_sources::Input;
 use std::alloc::{AllocError, Global};
 use std::slice;
@@ -21,30 +21,30 @@ use std::slice;
 /// The most warnings on preconditions that are written.
 const MOST: usize = 8;
 
-/// What is warned of: an input, its trees, its model, and the operations of which a precondition is asked.
+/// What is warned of: an input, its model, and the operations of which a precondition is asked.
 #[derive(Drop)]
 struct Subject<'a> {
     input: Input<'a>,
-    trees: &'a [Tree],
     source: &'a Source,
     conditional: Vec<bool>,
 }
 
-/// The warnings so far: the text of the first ones, and how many there are.
+/// The items with a command whose precondition is not true: the first ones by their numbers, and how many there are.
 #[derive(Drop)]
 struct Found {
-    text: String,
+    first: Vec<(usize, Failing)>,
     count: usize,
 }
 
-/// The warning on a command of the item of a number, from 1.
+/// The warning on a command of the item of a number, from 1, of the trees of the input.
 fn on_command(
     alloc: Global,
     subject: &Subject<'_>,
+    trees: &[Tree],
     item: usize,
     failing: &Failing,
 ) -> Result<String, AllocError> {
-    let Some(tree) = subject.trees.get(item) else {
+    let Some(tree) = trees.get(item) else {
         return Ok(String::new(alloc));
     };
     let Some(Spot { path, place, call }) = spot_of(alloc, tree.form(), item, failing.command)?
@@ -69,7 +69,7 @@ fn on_command(
     )
 }
 
-/// Adds the warning on the recorded run of an item that the interleaving of a word explains, if it is warned of.
+/// Adds the recorded run of an item that the interleaving of a word explains, if it is warned of.
 fn add_run<C: Callbacks>(
     found: &mut Found,
     callbacks: &C,
@@ -88,8 +88,7 @@ fn add_run<C: Callbacks>(
         return Ok(());
     };
     if found.count < MOST {
-        let warning = on_command(alloc, subject, item, &failing)?;
-        found.text.push_str(warning.as_str())?;
+        found.first.push((item, failing))?;
     }
     found.count = found.count.saturating_add(1);
     Ok(())
@@ -103,11 +102,20 @@ fn word_of(judged: &Judged) -> Option<&[usize]> {
     }
 }
 
-/// The text of the warnings, if there are some.
-fn text_of(alloc: Global, found: Found) -> Result<Option<String>, AllocError> {
-    let Found { mut text, count } = found;
-    if count > MOST {
-        let more = count - MOST;
+/// The text of the warnings on what was found in the trees of the input, if there are some.
+fn text_of(
+    alloc: Global,
+    subject: &Subject<'_>,
+    trees: &[Tree],
+    found: &Found,
+) -> Result<Option<String>, AllocError> {
+    let mut text = String::new(alloc);
+    for (item, failing) in found.first.as_slice() {
+        let warning = on_command(alloc, subject, trees, *item, failing)?;
+        text.push_str(warning.as_str())?;
+    }
+    if found.count > MOST {
+        let more = found.count - MOST;
         let items = if more == 1 { "item has" } else { "items have" };
         let line = format!(in alloc; "warning: {more} more {items} such a command\n")?;
         text.push_str(line.as_str())?;
@@ -119,7 +127,7 @@ fn text_of(alloc: Global, found: Found) -> Result<Option<String>, AllocError> {
     }
 }
 
-/// Adds the warnings on items that were judged, of which the first has the number, from 1.
+/// Adds the items that are warned of, of those that were judged and of which the first has the number, from 1.
 fn add_runs<C: Callbacks>(
     found: &mut Found,
     callbacks: &C,
@@ -148,13 +156,14 @@ fn add_runs<C: Callbacks>(
     Ok(())
 }
 
-/// Adds the warning on the item of a number, from 1, that a tree spells, where it was judged.
+/// Adds the item of a number, from 1, of the trees of the input, where it was judged and is warned of.
 fn add_answer<C: Callbacks>(
     found: &mut Found,
     callbacks: &C,
     alloc: Global,
     typed: &Typed,
     subject: &Subject<'_>,
+    trees: &[Tree],
     item: usize,
     answer: &Answer,
 ) -> Result<(), AllocError>
@@ -163,7 +172,7 @@ fn add_answer<C: Callbacks>(
     let Answer::Judged(judged) = answer else {
         return Ok(());
     };
-    let Some(tree) = subject.trees.get(item) else {
+    let Some(tree) = trees.get(item) else {
         return Ok(());
     };
     if word_of(judged).is_none() {
@@ -188,7 +197,6 @@ fn subject_of<'a>(
     alloc: Global,
     typed: &'a Typed,
     input: Input<'a>,
-    trees: &'a [Tree],
 ) -> Result<Option<Subject<'a>>, AllocError> {
     let source = typed.source();
     let conditional = conditional(alloc, source.items.as_slice())?;
@@ -197,15 +205,23 @@ fn subject_of<'a>(
     }
     Ok(Some(Subject {
         input,
-        trees,
         source,
         conditional,
     }))
 }
 
+/// Nothing that is warned of.
+fn nothing_found(alloc: Global) -> Found {
+    Found {
+        first: Vec::new(alloc),
+        count: 0,
+    }
+}
+
 /// Warnings on items that were judged, for a person to read, each in the form of a message: a recorded run that an
-/// interleaving explains in which a precondition is not true. `trees` are the trees of the input, `typed` is its model,
-/// and `runs` are the items behind it, with their judgements. `None` where there are none.
+/// interleaving explains in which a precondition is not true. `typed` is the model of the input, and `runs` are the items
+/// behind it, with their judgements. `None` where there are none. The trees of the input are read once more where there are
+/// some.
 ///
 /// Of the warnings eight are written, and behind them how many more there are.
 ///
@@ -215,25 +231,27 @@ pub fn warnings_on_runs<C: Callbacks>(
     alloc: Global,
     typed: &Typed,
     input: Input<'_>,
-    trees: &[Tree],
     runs: &[Run],
     judged: &[Judged],
 ) -> Result<Option<String>, AllocError>
     requires { AreLawful (C.model callbacks.now) runs.now }
 {
-    let Some(subject) = subject_of(alloc, typed, input, trees)? else {
+    let Some(subject) = subject_of(alloc, typed, input)? else {
         return Ok(None);
     };
-    let mut found = Found {
-        text: String::new(alloc),
-        count: 0,
-    };
+    let mut found = nothing_found(alloc);
     add_runs(&mut found, callbacks, alloc, &subject, 1, runs, judged)?;
-    text_of(alloc, found)
+    if found.count == 0 {
+        return Ok(None);
+    }
+    match read(alloc, subject.input.bytes) {
+        Ok(trees) => text_of(alloc, &subject, trees.as_slice(), &found),
+        Err(_) => Ok(None),
+    }
 }
 
 /// The same warnings, where items that are refused leave the others their verdicts: on the items to which there is an
-/// answer.
+/// answer. `trees` are the trees of the input.
 ///
 /// `AllocError`: memory was refused.
 pub fn warnings_on_answers<C: Callbacks>(
@@ -246,16 +264,15 @@ pub fn warnings_on_answers<C: Callbacks>(
 ) -> Result<Option<String>, AllocError>
     requires { typed.now ≡ C.model callbacks.now }
 {
-    let Some(subject) = subject_of(alloc, typed, input, trees)? else {
+    let Some(subject) = subject_of(alloc, typed, input)? else {
         return Ok(None);
     };
-    let mut found = Found {
-        text: String::new(alloc),
-        count: 0,
-    };
+    let mut found = nothing_found(alloc);
     for (index, answer) in answers.iter().enumerate() {
         let item = index.saturating_add(1);
-        add_answer(&mut found, callbacks, alloc, typed, &subject, item, answer)?;
+        add_answer(
+            &mut found, callbacks, alloc, typed, &subject, trees, item, answer,
+        )?;
     }
-    text_of(alloc, found)
+    text_of(alloc, &subject, trees, &found)
 }

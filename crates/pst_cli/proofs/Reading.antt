@@ -1,0 +1,20 @@
+-- An input whose model is read by itself, and the items behind it.
+use Rattle.std.proofs.Common.{◌≡◌, ◌≤◌, ℕ, List, [], ◌∷◌, ◌++◌, length, arith}
+use Rattle.pst_case.specs.declared.history.Run.{Run}
+use Rattle.pst_cli.specs.Output.{HoldsRuns}
+use Rattle.pst_each.proofs.Joined.{joined}
+use Rattle.pst_each.specs.Parts.{EndsLine, SpellsRuns}
+use Rattle.pst_load.specs.Loading.{Holds}
+use Rattle.pst_model.specs.declared.model.Source.{Source}
+use Rattle.pst_sexpr.specs.Reading.{max_bytes}
+use Rattle.pst_sexpr.specs.declared.form.Form.{Form}
+
+pub holds_both : (m : Source) (head rest : List ℕ) (trees : List Form) (runs : List Run) → length (head ++ rest) ≤ max_bytes → EndsLine head
+    → length trees ≡ 1 → Holds head m trees → SpellsRuns m rest runs → HoldsRuns (head ++ rest) m runs
+holds_both m head rest [] runs small e one h k = absurd (omega arith)
+holds_both m head rest (tree ∷ []) runs small e one h k = record {
+  trees = tree ∷ k.trees;
+  holds = record { file = record { small = small; spelled = joined e h.file.spelled k.spelled }; model = h.model; typed = h.typed };
+  read = k.read;
+}
+holds_both m head rest (tree ∷ next ∷ trees) runs small e one h k = absurd (omega arith)

@@ -1,0 +1,23 @@
+-- An input that is read in parts.
+use Rattle.std.specs.Prelude.{◌≡◌, ℕ, List, [], ◌∷◌, ◌++◌, Ok}
+use Rattle.pst_case.specs.declared.history.Run.{Run}
+use Rattle.pst_model.specs.declared.model.Source.{Source}
+use Rattle.pst_runs.specs.Items.{runs_of}
+use Rattle.pst_sexpr.specs.Reading.{Spells}
+use Rattle.pst_sexpr.specs.declared.form.Form.{Form}
+
+-- the last byte is a line end
+abbrev pub EndsLine : List ℕ → Type 0
+EndsLine bytes = (before : List ℕ) × (bytes ≡ before ++ 10 ∷ [])
+
+-- One behind the other the parts are the bytes, and each but the last ends with a line end.
+pub data AreParts : List ℕ → List (List ℕ) → Type 0 where
+  last : {bytes : List ℕ} → AreParts bytes (bytes ∷ [])
+  before : {part bytes : List ℕ} {parts : List (List ℕ)} →
+      EndsLine part → AreParts bytes parts → AreParts (part ++ bytes) (part ∷ parts)
+
+-- the bytes are a file of trees, and these are read as the runs
+pub record SpellsRuns (m : Source) (bytes : List ℕ) (runs : List Run) : Type 0 where
+  pub trees : List Form
+  pub spelled : Spells bytes trees
+  pub read : runs_of m trees ≡ Ok runs
