@@ -1,5 +1,5 @@
 #!/usr/bin/env bash
-# Whether Graphviz accepts what `pst explain --dot` writes: of each item of the files of `pst_explain_rows` and of the examples, and of a search that is
+# Whether Graphviz accepts what `pst explain --dot` writes: of each item that the rows explain, of each item of the examples, and of a search that is
 # larger than a graph. Prints each graph that it refuses or complains of, with which it ends with status 1. The gate does not run it, since it needs `dot`.
 source "$(dirname "$0")/program.sh"
 command -v dot > /dev/null || { echo 'there is no dot (Graphviz)'; exit 1; }
@@ -23,13 +23,13 @@ draw_all() {
   done
 }
 
-for file in "$top"/crates/pst_explain_rows/data/*.runs "$top"/examples/*.runs; do
+for file in "$top"/crates/pst_rows/data/explained/*.runs "$top"/examples/*.runs; do
   draw_all "$file"
 done
 
 # Three branches that put three elements each into a queue: each interleaving leads to another queue, to more than 300 positions.
 {
-  sed '/^(run/,$d' "$top/crates/pst_explain_rows/data/queue.runs"
+  sed '/^(run/,$d' "$top/crates/pst_rows/data/explained/queue.runs"
   echo '(case (prefix) (branches ((put 1) (put 2) (put 3)) ((put 4) (put 5) (put 6)) ((put 7) (put 8) (put 9))))'
 } > "$room/many.runs"
 draw_all "$room/many.runs"

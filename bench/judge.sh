@@ -52,7 +52,7 @@ mean() {
   awk -v nanoseconds="$((end - begin))" -v runs="$runs" 'BEGIN { printf "%.2f", nanoseconds / runs / 1e6 }'
 }
 
-(cd "$top/crates/pst_bench_steps" && rt run 2> /dev/null)
+"$(built pst_bench)" steps
 echo "program's start                         $(mean 200 judge "$room/start") ms"
 echo "eight reads beside eight                $(mean 200 judge "$room/eight") ms"
 echo "four branches of four reads             $(mean 100 judge "$room/four") ms"

@@ -1,11 +1,11 @@
 #!/usr/bin/env bash
-# Refuses each growth of memory in turn: of the calls of the libraries that `pst_bench_memory` makes, and of the commands of the program. An answer has to be
+# Refuses each growth of memory in turn: of the calls of the libraries that `pst_bench memory` makes, and of the commands of the program. An answer has to be
 # the one with ample memory, or want of memory with status 3: nothing of a call, `refused memory` or an item that is lost of a command. A campaign may also end
 # with numbers lost for want of memory, or of a thread, which needs memory to be started; each other number has the record that it has with ample memory.
 # Prints for each how many growths were refused and how often that was want of memory, and any other answer, with which it ends with status 1. The gate does
 # not run it; it needs a C compiler.
 source "$(dirname "$0")/program.sh"
-calls="$(built pst_bench_memory)"
+benchmarks="$(built pst_bench)"
 
 # `malloc`, `calloc` and `realloc` that fail the time that REFUSE gives, and then make the file that MARK names.
 cat > "$room/refuse.c" <<'C'
@@ -43,6 +43,9 @@ cc -O1 -shared -fPIC -o "$room/refuse.so" "$room/refuse.c"
 { cat "$top/examples/counter.model"; echo '(case (prefix (inc)) (left (get) (get)) (right (get)))'; } > "$room/driven"
 echo '(model one (state int) (init 0) (command (list call (call inc)))
   (op inc () int (pre true) (next (+ s 1)) (post (= r (+ s 1)))))' > "$room/one"
+
+# Makes one call of the libraries.
+call() { "$benchmarks" memory "$1"; }
 
 # Whether an answer, with its status, is want of memory, where `wanted` is the one with ample memory.
 call_wants_memory() { [ "$status" = 3 ] && [ -z "$answer" ]; }
@@ -95,10 +98,10 @@ refuse_each() {
 
 failed=0
 for call in read read_model check compile read_runs some every generate trial report rejudge; do
-  refuse_each call_wants_memory "$calls" "$call"
+  refuse_each call_wants_memory call "$call"
 done
-refuse_each campaign_wants_memory "$calls" campaign
-refuse_each campaign_wants_memory "$calls" campaign_of_two
+refuse_each campaign_wants_memory call campaign
+refuse_each campaign_wants_memory call campaign_of_two
 refuse_each command_wants_memory "$program" check "$top/examples/counter.model"
 refuse_each command_wants_memory "$program" judge "$room/judged"
 refuse_each command_wants_memory "$program" explain "$room/judged"

@@ -4,7 +4,7 @@
 # Three turns, since the counts differ. No test asserts any of them.
 set -euo pipefail
 top="$(cd "$(dirname "$0")/.." && pwd)"
-(cd "$top/crates/pst_bench_races" && rt run > /dev/null)
-program="$top/crates/pst_bench_races/out/pst_bench_races"
+(cd "$top/crates/pst_bench" && rt run > /dev/null)
+program="$top/crates/pst_bench/out/pst_bench"
 
-for _ in 1 2 3; do "$program" run; done
+for _ in 1 2 3; do "$program" races run; done

@@ -3,7 +3,7 @@
 //!
 //! All functions evaluate by `Evaluation`, which keeps what is left to do on a stack of its own: however deep
 //! the functions of a model nest, it does not recurse. They serve explanations; of what they answer no
-//! contract speaks, and the rows of `pst_explain_rows` test it.
+//! contract speaks, and the explanations of `pst_rows` test it.
 #![tactic(auto)]
 
 mod binding;

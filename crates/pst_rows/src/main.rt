@@ -1,58 +1,49 @@
-//! Asks the rows of the tables in its folder, and prints how many rows each table has and which rows have another answer
-//! than the wanted one: a test that the gate runs as a program.
-//!
-//! A file of tables has tables that begin with a line `table NAME`. A table has a head, a blank line and its rows. The
-//! lines of the head are notes, which begin with `#`, what is asked (`ask QUESTION`), and what stands before and after
-//! each row's text (`before TEXT`, `after TEXT`). A row is `TEXT => WANTED`; its text may have several lines. In all
-//! texts `{NAME}` stands for the file `NAME.model`, and `{N*PART}` for the part, N times; in such a part each `#` is the
-//! next number, from 1 on.
+//! Asks the worked rows: those of the tables in its folder, explanations and graphs, the examples, messages and
+//! warnings, and the reports of campaigns. It is a test that the gate runs as a program, and prints what is wrong with
+//! the rows of the tables, and of all others the text that they have, which the gate compares with the file `stdout`.
 #![tactic(auto)]
 
 mod answers;
+mod campaigns;
+mod examples;
+mod explained;
 mod generated;
+mod hostile;
 mod items;
+mod judged;
+mod judged_rows;
+mod message_rows;
+mod messages;
+mod mistakes;
 mod models;
 mod questions;
 mod tables;
 mod texts;
 mod words;
 
-use std::{fs, io};
-use tables::ask_tables;
+use campaigns::{REGISTRIES, SYSTEMS, print_campaigns, print_waiting};
+use examples::print_examples;
+use explained::print_explained;
+use messages::print_messages;
+use pst_samples::{Counter, Registry};
+use pst_system::BoxedSystem;
+use tables::print_tables;
 
-/// The files of tables.
-const FILES: [&str; 23] = [
-    "trees.rows",
-    "forms.rows",
-    "expressions.rows",
-    "map_forms.rows",
-    "limits.rows",
-    "checks.rows",
-    "types.rows",
-    "printed.rows",
-    "lists.rows",
-    "openings.rows",
-    "map_openings.rows",
-    "values.rows",
-    "map_values.rows",
-    "refusals.rows",
-    "suffixes.rows",
-    "written.rows",
-    "generated.rows",
-    "validity.rows",
-    "verdicts.rows",
-    "lines.rows",
-    "maps.rows",
-    "judged_suffixes.rows",
-    "judged_many.rows",
-];
-
-fn main(rt: HostRuntime) -> io::Result<()> {
-    let mut rows: usize = 0;
-    for name in FILES {
-        let text = fs::read_to_string(&rt, name)?;
-        let asked = ask_tables(&rt, name, text.as_str())?;
-        rows = rows.saturating_add(asked);
+fn main(rt: HostRuntime) -> anyhow::Result<()> {
+    print_tables(&rt)?;
+    print_explained(&rt)?;
+    print_examples(&rt)?;
+    print_messages(&rt)?;
+    print_campaigns(&rt)?;
+    let alloc = rt.alloc();
+    // Boxes of systems that wait for a lock are made here, since no other function can make one.
+    let mut systems: Vec<BoxedSystem> = Vec::new(alloc);
+    for number in 0..SYSTEMS {
+        if number < REGISTRIES {
+            systems.push(Box::new(alloc, Registry::new(rt, alloc))?)?;
+        } else {
+            systems.push(Box::new(alloc, Counter::new(rt))?)?;
+        }
     }
-    println!(rt; "{rows} rows")
+    print_waiting(&rt, systems)
 }

@@ -1,11 +1,44 @@
-//! Tables of texts with the answers that are wanted.
+//! Tables of texts with the answers that are wanted: how many rows each has, and which rows have another answer.
+//!
+//! A file of tables has tables that begin with a line `table NAME`. A table has a head, a blank line and its rows. The
+//! lines of the head are notes, which begin with `#`, what is asked (`ask QUESTION`), and what stands before and after
+//! each row's text (`before TEXT`, `after TEXT`). A row is `TEXT => WANTED`; its text may have several lines. In all
+//! texts `{NAME}` stands for the file `NAME.model`, and `{N*PART}` for the part, N times; in such a part each `#` is the
+//! next number, from 1 on.
 
 use crate::answers::{Asked, answer_to};
 use crate::questions::{Question, question_named};
 use crate::texts::expanded;
 use std::fs::Files;
-use std::io;
 use std::thread::Threads;
+use std::{fs, io};
+
+/// The files of tables.
+const TABLES: [&str; 23] = [
+    "trees.rows",
+    "forms.rows",
+    "expressions.rows",
+    "map_forms.rows",
+    "limits.rows",
+    "checks.rows",
+    "types.rows",
+    "printed.rows",
+    "lists.rows",
+    "openings.rows",
+    "map_openings.rows",
+    "values.rows",
+    "map_values.rows",
+    "refusals.rows",
+    "suffixes.rows",
+    "written.rows",
+    "generated.rows",
+    "validity.rows",
+    "verdicts.rows",
+    "lines.rows",
+    "maps.rows",
+    "judged_suffixes.rows",
+    "judged_many.rows",
+];
 
 /// The head of a table: what is asked of its rows, and what stands before and after each row's text.
 #[derive(Drop)]
@@ -109,7 +142,7 @@ fn ask_table<R: Threads + Sync + Files + Print + AllocGlobal>(
 }
 
 /// Asks the rows of the tables of a file, and answers how many there are.
-pub fn ask_tables<R: Threads + Sync + Files + Print + AllocGlobal>(
+fn ask_tables<R: Threads + Sync + Files + Print + AllocGlobal>(
     rt: &R,
     file: &str,
     text: &str,
@@ -123,4 +156,16 @@ pub fn ask_tables<R: Threads + Sync + Files + Print + AllocGlobal>(
         }
     }
     Ok(rows)
+}
+
+/// Asks the rows of all tables, and prints how many rows each table has, which rows have another answer than the wanted
+/// one, and how many rows there are.
+pub fn print_tables<R: Threads + Sync + Files + Print + AllocGlobal>(rt: &R) -> io::Result<()> {
+    let mut rows: usize = 0;
+    for name in TABLES {
+        let text = fs::read_to_string(rt, name)?;
+        let asked = ask_tables(rt, name, text.as_str())?;
+        rows = rows.saturating_add(asked);
+    }
+    println!(rt; "{rows} rows")
 }
