@@ -225,7 +225,7 @@ fn nothing_found(alloc: Global) -> Found {
 ///
 /// Of the warnings eight are written, and behind them how many more there are.
 ///
-/// `AllocError`: memory was refused.
+/// `AllocError`: memory was refused. Where it is refused to the trees, the answer is `None`.
 pub fn warnings_on_runs<C: Callbacks>(
     callbacks: &C,
     alloc: Global,
