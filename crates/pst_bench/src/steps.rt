@@ -69,6 +69,10 @@ impl Steps for Reads {
         Ok((Ending::AllTrue, 0))
     }
 
+    fn has_rest(&self) -> bool {
+        false
+    }
+
     fn keep(&self, _alloc: Global, state: &bool) -> Result<bool, AllocError> {
         Ok(*state)
     }

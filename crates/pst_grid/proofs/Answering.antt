@@ -1,5 +1,5 @@
 -- From what a whole search has covered to its answer.
-use Rattle.std.proofs.Common.{◌≡◌, ℕ, zero, suc, ◌⊎◌, inl, inr, List, [], length, get_or, replicate, Bool, true, false, MatchBool, Option, Some, None, MatchOption, refl, sym, ap, subst, ◌∙◌, arith}
+use Rattle.std.proofs.Common.{◌≡◌, ℕ, zero, suc, ◌⊎◌, inl, inr, List, [], length, sum, get_or, replicate, Bool, true, false, MatchBool, Option, Some, None, MatchOption, refl, sym, ap, subst, ◌∙◌, arith}
 use Rattle.std.proofs.lemmas.List.{length-replicate}
 use Rattle.std.specs.declared.vec.Vec.{Vec}
 use Rattle.std.specs.declared.alloc.Global.{Global}
@@ -106,7 +106,7 @@ module _ {S F : Type 0} (turn : S → ℕ → ℕ → Turn S F) (rest : S → En
 
 module _ {S F : Type 0} (turn : S → ℕ → ℕ → Turn S F) (rest : S → Ending F) (lengths : List ℕ) (state : S) where
   pub ended-every : (old new : Search F) (keys : List (Position S)) (found_it : Option (FailedMerge F)) (answer : EveryAnswer F) → old.done.items ≡ none_done lengths → old.word.items ≡ []
-      → IsChecked turn rest lengths state (Completes lengths old.done.items) old new keys found_it → MatchOption found_it (answer ≡ All) (λ x. answer ≡ Not x.word x.at x.why) → IsEveryAnswer turn rest lengths state answer
+      → IsChecked turn rest lengths (sum old.done.items) state (Completes lengths old.done.items) old new keys found_it → MatchOption found_it (answer ≡ All) (λ x. answer ≡ Not x.word x.at x.why) → IsEveryAnswer turn rest lengths state answer
   ended-every old new keys None answer d w h e =
       let k = subst (λ x. AreTrue turn rest x state (Completes lengths x)) d h.are_true in
       subst (λ a. IsEveryAnswer turn rest lengths state a) (sym e) (λ v p. k v (merge lengths v p))

@@ -1,5 +1,5 @@
 -- The steps of a search for a merge that is not all true.
-use Rattle.std.proofs.Common.{◌≡◌, ℕ, suc, ◌+◌, ◌<◌, ◌≤◌, ◌⊎◌, inl, inr, List, [], ◌∷◌, ◌++◌, length, get_or, Bool, true, if◌then◌else◌, refl, sym, ap, subst, ◌∙◌, arith, append_assoc, length-append}
+use Rattle.std.proofs.Common.{◌≡◌, ℕ, suc, ◌+◌, ◌<◌, ◌≤◌, ◌⊎◌, inl, inr, List, [], ◌∷◌, ◌++◌, length, get_or, sum, Bool, true, if◌then◌else◌, refl, sym, ap, subst, ◌∙◌, arith, append_assoc, length-append}
 use Rattle.std.specs.List.{list_any}
 use Rattle.std.proofs.lemmas.Bool.{cases_lt}
 use Rattle.pst_grid.specs.declared.answer.Ending.{Ending}
@@ -15,7 +15,8 @@ use Rattle.pst_grid.proofs.Completing.{BeginsBelow, Completes-head, Completes-ta
 use Rattle.pst_grid.proofs.Filling.{Completes-fill, fill_least}
 use Rattle.pst_grid.proofs.Covering.{run-Next, run-Stop}
 use Rattle.pst_grid.proofs.Searching.{IsAt-branch, IsAt-more}
-use Rattle.pst_grid.proofs.Remembering.{Each-find, Each-insert}
+use Rattle.pst_grid.specs.Remembered.{IsRemembered}
+use Rattle.pst_grid.proofs.Remembering.{Each-remembered}
 
 module _ {S F : Type 0} (turn : S → ℕ → ℕ → Turn S F) (rest : S → Ending F) (lengths : List ℕ) (state : S) where
   pub true-full : (done : List ℕ) (b : ℕ) → get_or lengths b 0 ≤ get_or done b 0 → AreTrue turn rest done state (Begins lengths done b)
@@ -107,15 +108,7 @@ module _ {S F : Type 0} (turn : S → ℕ → ℕ → Turn S F) (rest : S → En
         least [] k r = absurd k.0
         least (c ∷ v) k r = inr (sym k.0, fill_least lengths (one_more done b) v (Completes-tail lengths done b (IsAt-branch lengths done b at left) v (subst (λ a. Completes lengths done (a ∷ v)) k.0 k.1)))
 
-  pub true-again : (keys : List (Position S)) (test : Position S → Bool) (done : List ℕ) → list_any test keys ≡ true → ((k : Position S) → test k ≡ true → (k.done ≡ done) × (k.state ≡ state))
-      → AreAllTrue turn rest lengths keys → AreTrue turn rest done state (Completes lengths done)
-  true-again keys test done found same all =
-      let k = Each-find (Position S) (λ k. AreTrue turn rest k.done k.state (Completes lengths k.done)) test keys found all in
-      let s = same k.0 k.1 in
-      subst (λ d. AreTrue turn rest d state (Completes lengths d)) s.0 (subst (λ n. AreTrue turn rest k.0.done n (Completes lengths k.0.done)) s.1 k.2)
-
-  pub true-remembered : (there : Bool) (keys new : List (Position S)) (k : Position S) (done : List ℕ) → new ≡ (if there then keys else keys ++ k ∷ []) → k.done ≡ done → k.state ≡ state
-      → AreAllTrue turn rest lengths keys → AreTrue turn rest done state (Completes lengths done) → AreAllTrue turn rest lengths new
-  true-remembered there keys new k done e d n h a =
-      Each-insert (λ k. AreTrue turn rest k.done k.state (Completes lengths k.done)) there keys new k e h
-      (subst (λ x. AreTrue turn rest x k.state (Completes lengths x)) (sym d) (subst (λ y. AreTrue turn rest done y (Completes lengths done)) (sym n) a))
+  pub true-again : (keys : List (Position S)) (done : List ℕ) → IsRemembered done state keys → AreAllTrue turn rest lengths (sum done) keys → AreTrue turn rest done state (Completes lengths done)
+  true-again keys done there all =
+      Each-remembered (λ k. sum done ≤ sum k.done → AreTrue turn rest k.done k.state (Completes lengths k.done)) (AreTrue turn rest done state (Completes lengths done)) done state keys
+      (λ k d s a. subst (λ x. AreTrue turn rest x state (Completes lengths x)) d (subst (λ y. AreTrue turn rest k.done y (Completes lengths k.done)) s (a (omega (arith, ap sum d))))) there all

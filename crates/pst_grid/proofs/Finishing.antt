@@ -1,7 +1,7 @@
 -- Where all branches have ended: the run goes on with the rest.
 use Rattle.std.proofs.Common.{◌≡◌, ℕ, suc, ◌+◌, ◌≤◌, inl, inr, List, [], ◌∷◌, ◌++◌, length, get_or, sum, max, Bool, true, false, if◌then◌else◌, Option, Some, None, MatchOption, refl, sym, ap, subst, ◌∙◌, arith}
 use Rattle.std.proofs.lemmas.Bool.{cases_lt}
-use Rattle.std.specs.Prelude.{Result, Ok, Err, IfOk}
+use Rattle.std.specs.Prelude.{Result, Ok, Err, IfOk, OnOk}
 use Rattle.std.specs.declared.alloc.AllocError.{AllocError}
 use Rattle.pst_grid.specs.declared.answer.Why.TheVariants.{False, Fault}
 use Rattle.pst_grid.specs.declared.answer.Ending.{Ending}
@@ -19,8 +19,22 @@ use Rattle.pst_grid.specs.declared.search.FaultedMerge.{FaultedMerge}
 use Rattle.pst_grid.specs.declared.search.Search.{Search}
 use Rattle.pst_grid.proofs.Completing.{Completes-head}
 use Rattle.pst_grid.proofs.Covering.{Covered-same}
-use Rattle.pst_grid.proofs.Checking.{true-remembered}
-use Rattle.pst_grid.proofs.Remembering.{accounted, all-accounted-on, remembered}
+use Rattle.pst_grid.specs.Bounds.{Each}
+use Rattle.pst_grid.proofs.Remembering.{Each-append, from-all, accounted, all-accounted-on}
+
+-- a fact of what is answered, from others of it
+pub if-ok : {A B : Type 0} (P Q : A → Type 0) (E : Type 0) (r : Result A B) → (E → (a : A) → P a → Q a) → OnOk r E → IfOk r P → IfOk r Q
+if-ok P Q E (Ok a) f e h = f e a h
+if-ok P Q E (Err b) f e h = tt
+
+-- a fact where something is answered
+pub on-ok : {A B : Type 0} (P Q : Type 0) (r : Result A B) → (P → Q) → OnOk r P → OnOk r Q
+on-ok P Q (Ok a) f h = f h
+on-ok P Q (Err b) f h = tt
+
+pub both-ok : {A B : Type 0} (P Q : Type 0) (r : Result A B) → OnOk r P → OnOk r Q → OnOk r (P × Q)
+both-ok P Q (Ok a) p q = (p, q)
+both-ok P Q (Err b) p q = tt
 
 append_nil : (xs : List ℕ) → xs ++ [] ≡ xs
 append_nil [] = refl
@@ -201,54 +215,72 @@ module _ {S F : Type 0} (turn : S → ℕ → ℕ → Turn S F) (rest : S → En
   ended-explored lengths old new (Ok found) at full h = completes-explored lengths old new found at full h
   ended-explored lengths old new (Err e) at full h = tt
 
-  -- and what is remembered stays so
-  module _ (lengths : List ℕ) (old new : Search F) (keys : List (Position S))
-      (at : IsAt lengths old.done.items) (full : (b : ℕ) → get_or lengths b 0 ≤ get_or old.done.items b 0) where
-    pub ended-searched : (found : Bool) → IsExplored turn rest state IsEmpty old new found
-        → AreAccounted turn rest lengths old.best keys
-        → IsSearched turn rest lengths state (Completes lengths old.done.items) old new keys found
-    ended-searched true h all = completes-explored lengths old new true at full h
-    ended-searched false h all =
+  -- where nothing follows, each completion is true
+  pub ended-true : (lengths : List ℕ) (old : Search F) (keys : List (Position S)) → IsAt lengths old.done.items → ((b : ℕ) → get_or lengths b 0 ≤ get_or old.done.items b 0)
+      → rest state ≡ AllTrue → IsSearched turn rest lengths (sum old.done.items) state (Completes lengths old.done.items) old old keys true
+  ended-true lengths old keys at full e =
+      completes-true lengths old.done.items old.word.items at full old.word.items (finished-true old.done.items old.word.items e)
+
+  -- and the position is remembered
+  module _ (lengths : List ℕ) (old new : Search F) (keys now : List (Position S)) (at : IsAt lengths old.done.items)
+      (full : (b : ℕ) → get_or lengths b 0 ≤ get_or old.done.items b 0)
+      (is : now ≡ keys ++ record { done = old.done.items; state = state } ∷ []) where
+    abbrev here : Position S
+    here = record { done = old.done.items; state = state }
+
+    pub ended-searched : (found : Bool) → sum old.done.items ≡ length old.word.items → IsExplored turn rest state IsEmpty old new found
+        → AreAccounted turn rest lengths (sum old.done.items) old.best keys
+        → IsSearched turn rest lengths (sum old.done.items) state (Completes lengths old.done.items) old new now found
+    ended-searched true depth h all = completes-explored lengths old new true at full h
+    ended-searched false depth h all =
         let c = completes-explored lengths old new false at full h in
         record {
           covered = c;
-          accounted = all-accounted-on turn rest lengths old.done.items old.word.items state _ old.best new.best keys c.covered all;
+          accounted = subst (AreAccounted turn rest lengths (sum old.done.items) new.best) (sym is)
+              (Each-append (λ k. sum old.done.items ≤ sum k.done → IsAccounted turn rest lengths new.best k.done k.state) keys (here ∷ [])
+                  (all-accounted-on turn rest lengths (sum old.done.items) old.done.items old.word.items state _ old.best new.best keys c.covered all)
+                  ((λ deep. accounted turn rest lengths old.done.items old.word.items state old.best new.best depth c.covered), tt));
         }
 
     pub ended-checked : (stopped : Option (FailedMerge F)) → new.done.items ≡ old.done.items → new.word.items ≡ old.word.items
         → MatchOption stopped (rest state ≡ AllTrue) (IsLeastFailed turn rest old.done.items state old.word.items IsEmpty)
-        → AreAllTrue turn rest lengths keys
-        → IsChecked turn rest lengths state (Completes lengths old.done.items) old new keys stopped
-    ended-checked None done word h all = record {
-      word = word;
-      done = done;
-      are_true = completes-are_true lengths old.done.items old.word.items at full h;
-      all_true = all;
-    }
+        → AreAllTrue turn rest lengths (sum old.done.items) keys
+        → IsChecked turn rest lengths (sum old.done.items) state (Completes lengths old.done.items) old new now stopped
+    ended-checked None done word h all =
+        let true_here = completes-are_true lengths old.done.items old.word.items at full h in
+        record {
+          word = word;
+          done = done;
+          are_true = true_here;
+          all_true = subst (AreAllTrue turn rest lengths (sum old.done.items)) (sym is)
+              (Each-append (λ k. sum old.done.items ≤ sum k.done → AreTrue turn rest k.done k.state (Completes lengths k.done)) keys (here ∷ []) all ((λ deep. true_here), tt));
+        }
     ended-checked (Some x) done word h all = completes-failed lengths old.done.items old.word.items at full x h
 
-  -- and then the position is remembered
-  module _ (lengths : List ℕ) (old new : Search F) (there : Bool) (keys after : List (Position S)) (k : Position S)
-      (is : after ≡ (if there then keys else keys ++ k ∷ [])) (items : k.done ≡ old.done.items) (same : k.state ≡ state) where
-    pub searched-remembered : (found : Bool) → sum old.done.items ≡ length old.word.items
-        → IsSearched turn rest lengths state (Completes lengths old.done.items) old new keys found
-        → IsSearched turn rest lengths state (Completes lengths old.done.items) old new after found
-    searched-remembered true depth h = h
-    searched-remembered false depth h =
-        let a = accounted turn rest lengths old.done.items old.word.items state old.best new.best depth h.covered.covered in
-        record {
-          covered = h.covered;
-          accounted = remembered turn rest lengths new.best there keys after k old.done.items is items h.accounted
-              (subst (IsAccounted turn rest lengths new.best old.done.items) (sym same) a);
-        }
+  -- what was searched behind a position that was remembered before
+  module _ (lengths : List ℕ) (old new : Search F) (keys now : List (Position S)) (added : List (Position S))
+      (is : now ≡ (keys ++ record { done = old.done.items; state = state } ∷ []) ++ added) (deep : Each (λ k. sum old.done.items + 1 ≤ sum k.done) added) where
+    abbrev at_this : Position S
+    at_this = record { done = old.done.items; state = state }
 
-    pub checked-remembered : (failed : Option (FailedMerge F))
-        → IsChecked turn rest lengths state (Completes lengths old.done.items) old new keys failed
-        → IsChecked turn rest lengths state (Completes lengths old.done.items) old new after failed
-    checked-remembered None h = record {
+    pub searched-behind : (found : Bool) → sum old.done.items ≡ length old.word.items → AreAccounted turn rest lengths (sum old.done.items) old.best keys
+        → IsSearched turn rest lengths (sum old.done.items + 1) state (Completes lengths old.done.items) old new now found
+        → IsSearched turn rest lengths (sum old.done.items) state (Completes lengths old.done.items) old new now found
+    searched-behind true depth all h = h
+    searched-behind false depth all h = record {
+      covered = h.covered;
+      accounted = from-all (λ k. IsAccounted turn rest lengths new.best k.done k.state) (sum old.done.items) keys added now at_this is deep
+          (all-accounted-on turn rest lengths (sum old.done.items) old.done.items old.word.items state _ old.best new.best keys h.covered.covered all)
+          (accounted turn rest lengths old.done.items old.word.items state old.best new.best depth h.covered.covered) h.accounted;
+    }
+
+    pub checked-behind : (failed : Option (FailedMerge F)) → AreAllTrue turn rest lengths (sum old.done.items) keys
+        → IsChecked turn rest lengths (sum old.done.items + 1) state (Completes lengths old.done.items) old new now failed
+        → IsChecked turn rest lengths (sum old.done.items) state (Completes lengths old.done.items) old new now failed
+    checked-behind None all h = record {
       word = h.word;
       done = h.done;
       are_true = h.are_true;
-      all_true = true-remembered turn rest lengths state there keys after k old.done.items is items same h.all_true h.are_true;
+      all_true = from-all (λ k. AreTrue turn rest k.done k.state (Completes lengths k.done)) (sum old.done.items) keys added now at_this is deep all h.are_true h.all_true;
     }
-    checked-remembered (Some x) h = h
+    checked-behind (Some x) all h = h

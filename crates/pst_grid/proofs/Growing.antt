@@ -16,16 +16,6 @@ append-nil : {K : Type 0} (xs : List K) → xs ++ [] ≡ xs
 append-nil [] = refl
 append-nil (x ∷ xs) = ap (λ ys. x ∷ ys) (append-nil xs)
 
--- none of a joined list passes a test that none of the parts passes
-none-append : (K : Type 0) (test : K → Bool) (ks ls : List K) → list_any test ks ≡ false → Each (λ k. test k ≡ false) ls → list_any test (ks ++ ls) ≡ false
-none-append K test [] [] e h = refl
-none-append K test [] (l ∷ ls) e h = ap (λ b. b || list_any test ls) h.0 ∙ none-append K test [] ls refl h.1
-none-append K test (k ∷ ks) ls e h = by (test k) refl (λ f. none-append K test ks ls f h)
-  where
-    by : (b : Bool) → test k ≡ b → (list_any test ks ≡ false → list_any test (ks ++ ls) ≡ false) → list_any test ((k ∷ ks) ++ ls) ≡ false
-    by true f rest = absurd (true≢false (sym (ap (λ b. b || list_any test ks) f) ∙ e))
-    by false f rest = ap (λ b. b || list_any test (ks ++ ls)) f ∙ rest (sym (ap (λ b. b || list_any test ks) f) ∙ e)
-
 module _ {S : Type 0} (lengths : List ℕ) where
   ends-append : (ks ls : List (Position S)) → ends_of lengths (ks ++ ls) ≡ ends_of lengths ks ++ ends_of lengths ls
   ends-append [] ls = refl
@@ -84,56 +74,39 @@ module _ {S F : Type 0} (turn : S → ℕ → ℕ → Turn S F) (lengths : List 
         steps = let x = p.steps in omega arith;
       }
 
-  -- the position itself, which is new
-  pub grown-insert : (done : List ℕ) (state : S) (i : ℕ) (old now new : List (Position S)) (s t : ℕ) (k : Position S) (test : Position S → Bool) → i ≤ length lengths
-      → IsGrown turn lengths most i (sum done + 1) done state old now s t → k.done ≡ done → k.state ≡ state
-      → list_any test old ≡ false → ((l : Position S) → test l ≡ true → l.done ≡ done) → new ≡ (if list_any test now then now else now ++ k ∷ [])
+  -- a new position, and those behind it
+  pub grown-first : (done : List ℕ) (state : S) (i : ℕ) (old now new : List (Position S)) (s t : ℕ) → i ≤ length lengths
+      → now ≡ old ++ record { done = done; state = state } ∷ [] → IsGrown turn lengths most i (sum done + 1) done state now new s t
       → IsGrown turn lengths most 0 (sum done) done state old new s t
-  grown-insert done state i old now new s t k test h p d e absent same is = record {
-    added = p.added ++ k ∷ [];
-    keys = is ∙ ap (λ b. if b then now else now ++ k ∷ []) not_there ∙ ap (λ ks. ks ++ k ∷ []) p.keys ∙ append_assoc old p.added (k ∷ []);
-    reached = Each-append (IsReachedFrom turn lengths most done state) p.added (k ∷ []) p.reached (([], (sym d, sym e)), tt);
-    deep = Each-append (λ l. sum done ≤ sum l.done) p.added (k ∷ []) (Each-map (λ l. sum done + 1 ≤ sum l.done) (λ l. sum done ≤ sum l.done) (λ l r. omega arith) p.added p.deep) (omega (arith, ap sum d), tt);
-    steps = let x = p.steps in let f = length-append p.added (k ∷ []) in
-        let z : length lengths * length (p.added ++ k ∷ []) ≡ length lengths * length p.added + length lengths = ap (λ n. length lengths * n) f ∙ (omega arith) in
-        let r = ends-more lengths most p.added (k ∷ []) in omega arith;
+  grown-first done state i old now new s t h is p = record {
+    added = k ∷ p.added;
+    keys = p.keys ∙ ap (λ ks. ks ++ p.added) is ∙ append_assoc old (k ∷ []) p.added;
+    reached = (([], (refl, refl)), p.reached);
+    deep = (omega arith, Each-map (λ l. sum done + 1 ≤ sum l.done) (λ l. sum done ≤ sum l.done) (λ l r. omega arith) p.added p.deep);
+    steps = let x = p.steps in let r = ends-more lengths most (k ∷ []) p.added in
+        let z : length lengths * length (k ∷ p.added) ≡ length lengths + length lengths * length p.added = omega arith in
+        omega arith;
   }
     where
-      others : (l : Position S) → sum done + 1 ≤ sum l.done → test l ≡ false
-      others l r = by (test l) refl
-        where
-          by : (b : Bool) → test l ≡ b → test l ≡ false
-          by true f = absurd (let q = ap sum (same l f) in omega arith)
-          by false f = f
-
-      not_there : list_any test now ≡ false
-      not_there = ap (list_any test) p.keys ∙ none-append (Position S) test old p.added absent (Each-map (λ l. sum done + 1 ≤ sum l.done) (λ l. test l ≡ false) others p.added p.deep)
+      k : Position S
+      k = record { done = done; state = state }
 
   -- a position at which all branches have ended, which is new
-  pub grown-end : (done : List ℕ) (state : S) (old new : List (Position S)) (s t : ℕ) (k : Position S) (there : Bool)
-      → done ≡ lengths → t ≤ s + most → k.done ≡ done → k.state ≡ state → there ≡ false
-      → new ≡ (if there then old else old ++ k ∷ []) → IsGrown turn lengths most 0 (sum done) done state old new s t
-  grown-end done state old new s t k there all h d e absent is = record {
+  pub grown-end : (done : List ℕ) (state : S) (old new : List (Position S)) (s t : ℕ) → done ≡ lengths → t ≤ s + most
+      → new ≡ old ++ record { done = done; state = state } ∷ [] → IsGrown turn lengths most 0 (sum done) done state old new s t
+  grown-end done state old new s t all h is = record {
     added = k ∷ [];
-    keys = is ∙ ap (λ b. if b then old else old ++ k ∷ []) absent;
-    reached = (([], (sym d, sym e)), tt);
-    deep = (omega (arith, ap sum d), tt);
+    keys = is;
+    reached = (([], (refl, refl)), tt);
+    deep = (omega arith, tt);
     steps =
-        let one = ap (λ n. most * n) (end-once lengths k (d ∙ all)) in
+        let one = ap (λ n. most * n) (end-once lengths k all) in
         let same : most * 1 ≡ most = omega arith in
         omega arith;
   }
-
-  -- a position which is new, at which all branches have ended or behind which all branches were searched
-  pub grown-once : (done : List ℕ) (state : S) (old now new : List (Position S)) (s t : ℕ) (k : Position S) (test : Position S → Bool)
-      → ((now ≡ old) × (done ≡ lengths) × (t ≤ s + most)) ⊎ IsGrown turn lengths most (length lengths) (sum done + 1) done state old now s t
-      → k.done ≡ done → k.state ≡ state → list_any test old ≡ false → ((l : Position S) → test l ≡ true → l.done ≡ done)
-      → new ≡ (if list_any test now then now else now ++ k ∷ []) → IsGrown turn lengths most 0 (sum done) done state old new s t
-  grown-once done state old now new s t k test (inl p) d e absent same is =
-      grown-end done state old new s t k (list_any test old) p.1 p.2 d e absent
-      (subst (λ x. new ≡ (if list_any test x then x else x ++ k ∷ [])) p.0 is)
-  grown-once done state old now new s t k test (inr p) d e absent same is =
-      grown-insert done state (length lengths) old now new s t k test (omega arith) p d e absent same is
+    where
+      k : Position S
+      k = record { done = done; state = state }
 
 -- the place and the state
 abbrev pub seen_as : {S : Type 0} → Position S → List ℕ × S

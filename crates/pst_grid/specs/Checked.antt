@@ -4,7 +4,7 @@ use Rattle.pst_grid.specs.declared.answer.Turn.{Turn}
 use Rattle.pst_grid.specs.declared.every_search.FailedMerge.{FailedMerge}
 use Rattle.pst_grid.specs.declared.search.Search.{Search}
 use Rattle.pst_grid.specs.declared.position.Position.{Position}
-use Rattle.pst_grid.specs.Bounds.{Each}
+use Rattle.pst_grid.specs.Remembered.{EachFrom}
 use Rattle.pst_grid.specs.Completions.{Completes}
 use Rattle.pst_grid.specs.Merges.{run, IsUpTo}
 use Rattle.pst_grid.specs.declared.answer.Ending.{Ending}
@@ -26,20 +26,21 @@ module _ {S F : Type 0} (turn : S → ℕ → ℕ → Turn S F) (rest : S → En
     pub least : (v : List ℕ) → W v → (run turn rest done s v ≡ AllTrue → ⊥) → IsUpTo letters v
 
 module _ {S F : Type 0} (turn : S → ℕ → ℕ → Turn S F) (rest : S → Ending F) (lengths : List ℕ) where
-  -- all words behind each position that is remembered are all true
-  abbrev pub AreAllTrue : List (Position S) → Type 0
-  AreAllTrue keys = Each (λ k. AreTrue turn rest k.done k.state (Completes lengths k.done)) keys
+  -- all words behind each position at which so many commands are done are all true
+  abbrev pub AreAllTrue : ℕ → List (Position S) → Type 0
+  AreAllTrue depth keys = EachFrom depth (λ k. AreTrue turn rest k.done k.state (Completes lengths k.done)) keys
 
-  -- the search is where it was, the words of W are all true, and so are those behind what is remembered
-  pub record HasChecked (s : S) (W : List ℕ → Type 0) (old new : Search F) (keys : List (Position S)) :
-      Type 0 where
+  -- The search is where it was, the words of W are all true, and so are those behind the remembered positions
+  -- where so many commands are done. A position is remembered before the words behind it are searched.
+  pub record HasChecked (depth : ℕ) (s : S) (W : List ℕ → Type 0) (old new : Search F)
+      (keys : List (Position S)) : Type 0 where
     pub word : new.word.items ≡ old.word.items
     pub done : new.done.items ≡ old.done.items
     pub are_true : AreTrue turn rest old.done.items s W
-    pub all_true : AreAllTrue keys
+    pub all_true : AreAllTrue depth keys
 
   -- where one was found it is the least of W that is not all true; else all of W are
-  abbrev pub IsChecked : (s : S) (W : List ℕ → Type 0) → Search F → Search F → List (Position S)
+  abbrev pub IsChecked : ℕ → (s : S) (W : List ℕ → Type 0) → Search F → Search F → List (Position S)
       → Option (FailedMerge F) → Type 0
-  IsChecked s W old new keys None = HasChecked s W old new keys
-  IsChecked s W old new keys (Some x) = IsLeastFailed turn rest old.done.items s old.word.items W x
+  IsChecked depth s W old new keys None = HasChecked depth s W old new keys
+  IsChecked depth s W old new keys (Some x) = IsLeastFailed turn rest old.done.items s old.word.items W x

@@ -1,5 +1,5 @@
 -- What a search that remembers knows of the positions that it has searched from.
-use Rattle.std.specs.Prelude.{◌≡◌, ℕ, ◌+◌, ◌*◌, ◌≤◌, List, [], ◌∷◌, ◌++◌, length, sum, None, Bool, MatchBool, bytes_eq, if◌then◌else◌}
+use Rattle.std.specs.Prelude.{◌≡◌, ℕ, ◌+◌, ◌*◌, ◌≤◌, List, [], ◌∷◌, ◌++◌, ◌⊎◌, length, sum, None, Bool, MatchBool, bytes_eq, if◌then◌else◌}
 use Rattle.pst_grid.specs.declared.answer.Why.TheVariants.{False}
 use Rattle.pst_grid.specs.declared.answer.Ending.{Ending}
 use Rattle.pst_grid.specs.declared.answer.Ending.TheVariants.{AllTrue, StopsAt}
@@ -12,6 +12,15 @@ use Rattle.pst_grid.specs.Completions.{Completes}
 use Rattle.pst_grid.specs.Covered.{FaultsOn, IsLeastTrue, HasCovered}
 use Rattle.pst_grid.specs.Merges.{run}
 
+-- a fact of each position at which so many commands are done
+abbrev pub EachFrom : {S : Type 0} → ℕ → (Position S → Type 0) → List (Position S) → Type 0
+EachFrom depth P keys = Each (λ k. depth ≤ sum k.done → P k) keys
+
+-- the position of a place and a state is among those that are remembered
+abbrev pub IsRemembered : {S : Type 0} → List ℕ → S → List (Position S) → Type 0
+IsRemembered done s [] = ⊥
+IsRemembered done s (k ∷ ks) = ((k.done ≡ done) × (k.state ≡ s)) ⊎ IsRemembered done s ks
+
 module _ {S F : Type 0} (turn : S → ℕ → ℕ → Turn S F) (rest : S → Ending F) (lengths : List ℕ) where
   -- all that the words behind this place and state could give is in what the search has seen
   pub record IsAccounted (best : Best F) (done : List ℕ) (s : S) : Type 0 where
@@ -21,23 +30,24 @@ module _ {S F : Type 0} (turn : S → ℕ → ℕ → Turn S F) (rest : S → En
     pub bounds : (w : List ℕ) (n : ℕ) →
         Completes lengths done w → run turn rest done s w ≡ StopsAt n False → sum done + n ≤ best.far
 
-  -- so it is with each position that is remembered
-  abbrev pub AreAccounted : Best F → List (Position S) → Type 0
-  AreAccounted best keys = Each (λ k. IsAccounted best k.done k.state) keys
+  -- so it is with each position at which so many commands are done
+  abbrev pub AreAccounted : ℕ → Best F → List (Position S) → Type 0
+  AreAccounted depth best keys = EachFrom depth (λ k. IsAccounted best k.done k.state) keys
 
-  -- the search has covered the words of W, and all that is remembered is accounted for
-  pub record HasCoveredAll (s : S) (W : List ℕ → Type 0) (old new : Search F) (keys : List (Position S)) :
-      Type 0 where
+  -- The search has covered the words of W, and the remembered positions where so many commands are done are
+  -- accounted for. A position is remembered before the words behind it are searched.
+  pub record HasCoveredAll (depth : ℕ) (s : S) (W : List ℕ → Type 0) (old new : Search F)
+      (keys : List (Position S)) : Type 0 where
     pub covered : HasCovered turn rest s W old new
-    pub accounted : AreAccounted new.best keys
+    pub accounted : AreAccounted depth new.best keys
 
   -- where one was found, the search's word is the least of W that is all true; else it has covered W
   abbrev pub IsSearched :
-      (s : S) (W : List ℕ → Type 0) → Search F → Search F → List (Position S) → Bool → Type 0
-  IsSearched s W old new keys found =
+      ℕ → (s : S) (W : List ℕ → Type 0) → Search F → Search F → List (Position S) → Bool → Type 0
+  IsSearched depth s W old new keys found =
       MatchBool found
       (IsLeastTrue turn rest s old.done.items old.word.items W new.word.items)
-      (HasCoveredAll s W old new keys)
+      (HasCoveredAll depth s W old new keys)
 
 -- the states of those positions at which all branches have ended
 abbrev pub ends_of : {S : Type 0} → List ℕ → List (Position S) → List S

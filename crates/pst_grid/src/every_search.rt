@@ -11,8 +11,7 @@ ghost use Rattle.pst_grid.specs.Remembered.{IsGrown};
 ghost use Rattle.pst_grid.specs.Turns.{AreCommands};
 
 use crate::hasher::BuildWordHasher;
-use crate::place::Place;
-use crate::position::{Kept, Position};
+use crate::position::{Kept, Position, remember};
 use crate::search::{Search, is_done};
 use crate::{Ending, EveryAnswer, Steps, Turn, Why};
 use indexmap::IndexSet;
@@ -77,6 +76,37 @@ fn check_rest<S: Steps>(
     }
 }
 
+/// Runs what follows the word, which is a merge, if it was not run from the state before.
+fn check_end<S: Steps>(
+    alloc: Global,
+    steps: &S,
+    lengths: &[usize],
+    search: &mut Search<S::Fault>,
+    seen: &mut IndexSet<Position<Kept<S>>, BuildWordHasher>,
+    state: &S::State,
+) -> Result<Option<FailedMerge<S::Fault>>, AllocError>
+    requires place { IsAt lengths.now search.old.done.items }
+    requires state { S.is_state steps.now state.now }
+    requires room { length search.old.word.items + S.most_rest steps.now < 2 ^ 64 }
+    requires ended { (b : ℕ) → slice_index lengths.now b ≤ slice_index search.old.done.items b }
+    requires all_true { AreAllTrue (S.turn steps.now) (S.rest steps.now) lengths.now
+        (sum search.old.done.items) seen.old.keys }
+    ensures grown { OnOk result (IsGrown (S.turn steps.now) lengths.now (S.most_rest steps.now)
+        0 (sum search.old.done.items) search.old.done.items state.now
+        seen.old.keys seen.new.keys search.old.steps search.new.steps) }
+    ensures checked { IfOk result (IsChecked (S.turn steps.now) (S.rest steps.now) lengths.now
+        (sum search.old.done.items) state.now
+        (Completes lengths.now search.old.done.items) search.old search.new seen.new.keys) }
+{
+    if !steps.has_rest() {
+        return Ok(None);
+    }
+    if !remember(alloc, steps, seen, &search.done, state)? {
+        return Ok(None);
+    }
+    check_rest(alloc, steps, search, state)
+}
+
 /// Searches the completions of the word for the least that is not true to its end.
 #[cycle(check)]
 fn check<S: Steps>(
@@ -91,27 +121,22 @@ fn check<S: Steps>(
     requires state { S.is_state steps.now state.now }
     requires commands { AreCommands (S.is_command steps.now) lengths.now }
     requires room { S.most_rest steps.now < 2 ^ 32 }
-    requires all_true { AreAllTrue (S.turn steps.now) (S.rest steps.now) lengths.now seen.old.keys }
+    requires all_true { AreAllTrue (S.turn steps.now) (S.rest steps.now) lengths.now
+        (sum search.old.done.items) seen.old.keys }
     ensures grown { OnOk result (IsGrown (S.turn steps.now) lengths.now (S.most_rest steps.now)
         0 (sum search.old.done.items) search.old.done.items state.now
         seen.old.keys seen.new.keys search.old.steps search.new.steps) }
-    ensures checked { IfOk result (IsChecked (S.turn steps.now) (S.rest steps.now) lengths.now state.now
+    ensures checked { IfOk result (IsChecked (S.turn steps.now) (S.rest steps.now) lengths.now
+        (sum search.old.done.items) state.now
         (Completes lengths.now search.old.done.items) search.old search.new seen.new.keys) }
 {
-    let position = Position {
-        done: Place::new(alloc, &search.done)?,
-        state: Kept::new(alloc, steps, state)?,
-    };
-    if seen.contains(&position) {
+    if is_done(lengths, &search.done) {
+        return check_end(alloc, steps, lengths, search, seen, state);
+    }
+    if !remember(alloc, steps, seen, &search.done, state)? {
         return Ok(None);
     }
-    let failed = if is_done(lengths, &search.done) {
-        check_rest(alloc, steps, search, state)?
-    } else {
-        check_branches(alloc, steps, lengths, search, seen, state)?
-    };
-    seen.insert(position)?;
-    Ok(failed)
+    check_branches(alloc, steps, lengths, search, seen, state)
 }
 
 /// Searches the completions of the word where some command is left, branch by branch.
@@ -129,11 +154,13 @@ fn check_branches<S: Steps>(
     requires commands { AreCommands (S.is_command steps.now) lengths.now }
     requires room { S.most_rest steps.now < 2 ^ 32 }
     requires left { (b : ℕ) × (slice_index search.old.done.items b < slice_index lengths.now b) }
-    requires all_true { AreAllTrue (S.turn steps.now) (S.rest steps.now) lengths.now seen.old.keys }
+    requires all_true { AreAllTrue (S.turn steps.now) (S.rest steps.now) lengths.now
+        (sum search.old.done.items + 1) seen.old.keys }
     ensures grown { OnOk result (IsGrown (S.turn steps.now) lengths.now (S.most_rest steps.now)
         (length lengths.now) (sum search.old.done.items + 1) search.old.done.items state.now
         seen.old.keys seen.new.keys search.old.steps search.new.steps) }
-    ensures checked { IfOk result (IsChecked (S.turn steps.now) (S.rest steps.now) lengths.now state.now
+    ensures checked { IfOk result (IsChecked (S.turn steps.now) (S.rest steps.now) lengths.now
+        (sum search.old.done.items + 1) state.now
         (Completes lengths.now search.old.done.items) search.old search.new seen.new.keys) }
 {
     for branch in 0..lengths.len() {
@@ -161,11 +188,13 @@ fn check_branch<S: Steps>(
     requires commands { AreCommands (S.is_command steps.now) lengths.now }
     requires branch { branch < length lengths.now }
     requires room { S.most_rest steps.now < 2 ^ 32 }
-    requires all_true { AreAllTrue (S.turn steps.now) (S.rest steps.now) lengths.now seen.old.keys }
+    requires all_true { AreAllTrue (S.turn steps.now) (S.rest steps.now) lengths.now
+        (sum search.old.done.items + 1) seen.old.keys }
     ensures grown { OnOk result (IsGrown (S.turn steps.now) lengths.now (S.most_rest steps.now)
         1 (sum search.old.done.items + 1) search.old.done.items state.now
         seen.old.keys seen.new.keys search.old.steps search.new.steps) }
-    ensures checked { IfOk result (IsChecked (S.turn steps.now) (S.rest steps.now) lengths.now state.now
+    ensures checked { IfOk result (IsChecked (S.turn steps.now) (S.rest steps.now) lengths.now
+        (sum search.old.done.items + 1) state.now
         (Begins lengths.now search.old.done.items branch) search.old search.new seen.new.keys) }
 {
     let index = search.done[branch];

@@ -1,8 +1,11 @@
 //! What a search remembers.
-ghost use Rattle.std.specs.Prelude.{◌≡◌, IfOk};
+ghost use Rattle.std.specs.Prelude.{◌≡◌, ◌∷◌, ◌++◌, [], IfOk, MatchBool};
+ghost use Rattle.pst_grid.specs.Remembered.{IsRemembered};
 
 use crate::Steps;
+use crate::hasher::BuildWordHasher;
 use crate::place::Place;
+use indexmap::IndexSet;
 use std::alloc::{AllocError, Global};
 use std::hash::{Hash, Hasher};
 use std::marker::Model;
@@ -63,4 +66,23 @@ impl<S: Steps> Hash for Kept<S> {
 pub(crate) struct Position<S> {
     pub done: Place,
     pub state: S,
+}
+
+/// Remembers a place and a state. The answer is whether they were not remembered before.
+pub(crate) fn remember<S: Steps>(
+    alloc: Global,
+    steps: &S,
+    seen: &mut IndexSet<Position<Kept<S>>, BuildWordHasher>,
+    done: &[usize],
+    state: &S::State,
+) -> Result<bool, AllocError>
+    ensures { IfOk result (λ is_new. MatchBool is_new
+        (seen.new.keys ≡ seen.old.keys ++ record { done = done.now; state = state.now } ∷ [])
+        (IsRemembered done.now state.now seen.old.keys × (seen.new.keys ≡ seen.old.keys))) }
+{
+    let position = Position {
+        done: Place::new(alloc, done)?,
+        state: Kept::new(alloc, steps, state)?,
+    };
+    Ok(seen.insert(position)?)
 }

@@ -8,12 +8,44 @@ ghost use Rattle.pst_grid.specs.Turns.{AreCommands};
 
 use crate::finish::finish;
 use crate::hasher::BuildWordHasher;
-use crate::place::Place;
-use crate::position::{Kept, Position};
+use crate::position::{Kept, Position, remember};
 use crate::search::{Search, is_done};
 use crate::{SomeAnswer, Steps, Turn, Why};
 use indexmap::IndexSet;
 use std::alloc::{AllocError, Global};
+
+/// Runs what follows the word, which is a merge, if it was not run from the state before. The answer is whether the
+/// merge is true to its end.
+fn explore_end<S: Steps>(
+    alloc: Global,
+    steps: &S,
+    lengths: &[usize],
+    search: &mut Search<S::Fault>,
+    seen: &mut IndexSet<Position<Kept<S>>, BuildWordHasher>,
+    state: &S::State,
+) -> Result<bool, AllocError>
+    requires place { IsAt lengths.now search.old.done.items }
+    requires depth { sum search.old.done.items ≡ length search.old.word.items }
+    requires state { S.is_state steps.now state.now }
+    requires room { length search.old.word.items + S.most_rest steps.now < 2 ^ 64 }
+    requires ended { (b : ℕ) → slice_index lengths.now b ≤ slice_index search.old.done.items b }
+    requires accounted { AreAccounted (S.turn steps.now) (S.rest steps.now) lengths.now
+        (sum search.old.done.items) search.old.best seen.old.keys }
+    ensures grown { OnOk result (IsGrown (S.turn steps.now) lengths.now (S.most_rest steps.now)
+        0 (sum search.old.done.items) search.old.done.items state.now
+        seen.old.keys seen.new.keys search.old.steps search.new.steps) }
+    ensures searched { IfOk result (IsSearched (S.turn steps.now) (S.rest steps.now) lengths.now
+        (sum search.old.done.items) state.now
+        (Completes lengths.now search.old.done.items) search.old search.new seen.new.keys) }
+{
+    if !steps.has_rest() {
+        return Ok(true);
+    }
+    if !remember(alloc, steps, seen, &search.done, state)? {
+        return Ok(false);
+    }
+    finish(alloc, steps, search, state)
+}
 
 /// Searches the completions of the word. The answer is whether one is true to its end, which is then the word.
 #[cycle(search)]
@@ -31,27 +63,21 @@ fn explore<S: Steps>(
     requires commands { AreCommands (S.is_command steps.now) lengths.now }
     requires room { S.most_rest steps.now < 2 ^ 32 }
     requires accounted { AreAccounted (S.turn steps.now) (S.rest steps.now) lengths.now
-        search.old.best seen.old.keys }
+        (sum search.old.done.items) search.old.best seen.old.keys }
     ensures grown { OnOk result (IsGrown (S.turn steps.now) lengths.now (S.most_rest steps.now)
         0 (sum search.old.done.items) search.old.done.items state.now
         seen.old.keys seen.new.keys search.old.steps search.new.steps) }
-    ensures searched { IfOk result (IsSearched (S.turn steps.now) (S.rest steps.now) lengths.now state.now
+    ensures searched { IfOk result (IsSearched (S.turn steps.now) (S.rest steps.now) lengths.now
+        (sum search.old.done.items) state.now
         (Completes lengths.now search.old.done.items) search.old search.new seen.new.keys) }
 {
-    let position = Position {
-        done: Place::new(alloc, &search.done)?,
-        state: Kept::new(alloc, steps, state)?,
-    };
-    if seen.contains(&position) {
+    if is_done(lengths, &search.done) {
+        return explore_end(alloc, steps, lengths, search, seen, state);
+    }
+    if !remember(alloc, steps, seen, &search.done, state)? {
         return Ok(false);
     }
-    let found = if is_done(lengths, &search.done) {
-        finish(alloc, steps, search, state)?
-    } else {
-        explore_branches(alloc, steps, lengths, search, seen, state)?
-    };
-    seen.insert(position)?;
-    Ok(found)
+    explore_branches(alloc, steps, lengths, search, seen, state)
 }
 
 /// Searches the completions of the word where some command is left, branch by branch.
@@ -71,11 +97,12 @@ fn explore_branches<S: Steps>(
     requires room { S.most_rest steps.now < 2 ^ 32 }
     requires left { (b : ℕ) × (slice_index search.old.done.items b < slice_index lengths.now b) }
     requires accounted { AreAccounted (S.turn steps.now) (S.rest steps.now) lengths.now
-        search.old.best seen.old.keys }
+        (sum search.old.done.items + 1) search.old.best seen.old.keys }
     ensures grown { OnOk result (IsGrown (S.turn steps.now) lengths.now (S.most_rest steps.now)
         (length lengths.now) (sum search.old.done.items + 1) search.old.done.items state.now
         seen.old.keys seen.new.keys search.old.steps search.new.steps) }
-    ensures searched { IfOk result (IsSearched (S.turn steps.now) (S.rest steps.now) lengths.now state.now
+    ensures searched { IfOk result (IsSearched (S.turn steps.now) (S.rest steps.now) lengths.now
+        (sum search.old.done.items + 1) state.now
         (Completes lengths.now search.old.done.items) search.old search.new seen.new.keys) }
 {
     for branch in 0..lengths.len() {
@@ -104,11 +131,12 @@ fn visit<S: Steps>(
     requires branch { branch < length lengths.now }
     requires room { S.most_rest steps.now < 2 ^ 32 }
     requires accounted { AreAccounted (S.turn steps.now) (S.rest steps.now) lengths.now
-        search.old.best seen.old.keys }
+        (sum search.old.done.items + 1) search.old.best seen.old.keys }
     ensures grown { OnOk result (IsGrown (S.turn steps.now) lengths.now (S.most_rest steps.now)
         1 (sum search.old.done.items + 1) search.old.done.items state.now
         seen.old.keys seen.new.keys search.old.steps search.new.steps) }
-    ensures searched { IfOk result (IsSearched (S.turn steps.now) (S.rest steps.now) lengths.now state.now
+    ensures searched { IfOk result (IsSearched (S.turn steps.now) (S.rest steps.now) lengths.now
+        (sum search.old.done.items + 1) state.now
         (Begins lengths.now search.old.done.items branch) search.old search.new seen.new.keys) }
 {
     let index = search.done[branch];

@@ -1,7 +1,8 @@
 //! The system that a search steps through.
 ghost use Rattle.std.specs.Hash.{HashWrites};
-ghost use Rattle.std.specs.Prelude.{◌≡◌, ◌≤◌, ℕ, IfOk, true};
+ghost use Rattle.std.specs.Prelude.{◌≡◌, ◌≤◌, ℕ, IfOk, MatchBool, true};
 ghost use Rattle.pst_grid.specs.declared.answer.Ending.{Ending};
+ghost use Rattle.pst_grid.specs.declared.answer.Ending.TheVariants.{AllTrue};
 ghost use Rattle.pst_grid.specs.declared.answer.Turn.{Turn};
 ghost use Rattle.pst_grid.specs.Turns.{OnNext, OnStop};
 
@@ -70,6 +71,11 @@ pub trait Steps {
         ensures ending { IfOk result (λ r. r.0 ≡ rest self.now state.now) }
         ensures place { IfOk result (λ r. OnStop r.0 (λ at. at ≤ most_rest self.now)) }
         ensures steps { IfOk result (λ r. r.1 ≤ most_rest self.now) };
+
+    /// Whether something follows when all branches have ended. Where nothing does, each run that comes so far is true to
+    /// its end.
+    fn has_rest(&self) -> bool
+        ensures { MatchBool result (Unit {0}) ((s : Self.State) → rest self.now s ≡ AllTrue) };
 
     /// The state in the form that is remembered. `AllocError` where memory is refused.
     fn keep(&self, alloc: Global, state: &Self::State) -> Result<Self::Kept, AllocError>

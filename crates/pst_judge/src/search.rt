@@ -90,6 +90,10 @@ impl<'a, C: Callbacks, A: Condition> Steps for Branches<'a, C, A> {
         }
     }
 
+    fn has_rest(&self) -> bool {
+        !self.suffix.is_empty()
+    }
+
     fn keep(&self, alloc: Global, state: &Value) -> Result<Packed, AllocError> {
         Packed::new(alloc, state)
     }

@@ -87,6 +87,10 @@ impl<'a, C: Callbacks> Steps for SymbolicBranches<'a, C> {
         }
     }
 
+    fn has_rest(&self) -> bool {
+        !self.suffix.is_empty()
+    }
+
     fn keep(&self, alloc: Global, state: &Value) -> Result<Packed, AllocError> {
         Packed::new(alloc, state)
     }

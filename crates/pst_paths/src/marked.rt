@@ -124,6 +124,10 @@ impl<'a, C: Callbacks, A: Condition> Steps for MarkedSteps<'a, C, A> {
         }
     }
 
+    fn has_rest(&self) -> bool {
+        self.branches.has_rest()
+    }
+
     fn keep(&self, alloc: Global, state: &Left) -> Result<PackedLeft, AllocError> {
         Ok(PackedLeft {
             state: Packed::new(alloc, &state.state)?,

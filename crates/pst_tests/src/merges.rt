@@ -115,6 +115,10 @@ impl Steps for Lamp {
         }
     }
 
+    fn has_rest(&self) -> bool {
+        self.asks_last
+    }
+
     fn keep(&self, _alloc: Global, state: &bool) -> Result<bool, AllocError> {
         Ok(*state)
     }

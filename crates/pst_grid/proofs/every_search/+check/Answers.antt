@@ -1,74 +1,15 @@
-use Rattle.std.proofs.Common.{◌≡◌, ℕ, ◌+◌, ◌<◌, ◌≤◌, ◌⊎◌, inl, inr, refl, ap, ◌∙◌, sym, subst, get_or, sum, length, arith}
+use Rattle.std.proofs.Common.{◌≡◌, ℕ, ◌∷◌, ◌++◌, [], rules, ◌+◌, ◌<◌, ◌≤◌, ◌⊎◌, inl, inr, refl, ap, ◌∙◌, sym, subst, get_or, sum, length, arith}
 use Rattle.std.proofs.lemmas.Grind.{common_steps}
 use Rattle.pst_grid.specs.declared.answer.Turn.TheVariants.{Stop}
-use Rattle.pst_grid.specs.Checked.{AreTrue, IsLeastFailed, IsChecked}
+use Rattle.pst_grid.specs.Checked.{AreTrue, AreAllTrue, IsChecked, IsLeastFailed}
 use Rattle.pst_grid.specs.Completions.{Begins, Completes}
 use Rattle.pst_grid.specs.Remembered.{IsGrown}
-use Rattle.pst_grid.proofs.Finishing.{all-done, ended-checked, checked-remembered}
-use Rattle.pst_grid.proofs.Growing.{grown-none, grown-more, grown-within, grown-behind, grown-once}
+use Rattle.pst_grid.proofs.Finishing.{checked-behind, if-ok, on-ok}
+use Rattle.pst_grid.proofs.Growing.{grown-none, grown-more, grown-within, grown-behind, grown-first}
 use Rattle.pst_grid.proofs.Searching.{back_again, take_again, IsAt-branch, sum-more}
-use Rattle.pst_grid.proofs.Remembering.{position-same}
+use Rattle.pst_grid.proofs.Remembering.{from-below}
 use Rattle.pst_grid.proofs.Checking.{true-full, true-start, true-more, true-all, failed-all, true-behind, failed-behind, failed-here, true-again}
 use Rattle.pst_grid.proofs.every_search.+check.Goals as goal
-use Rattle.pst_grid.proofs.every_search.+check.Goals.{check-then-is_done+in_ok-failed, check-else-is_done+in_ok-failed-2}
-
-pub check-returns-then-contains-clause-checked : goal.check-returns-then-contains-clause-checked
-check-returns-then-contains-clause-checked g t c =
-    let here = c.args.search.now in
-    let items : c.in_ok-new.field-0 ≡ here.done.items = c.in_ok-new.ensures ∙ c.deref.ensures.value in
-    record {
-      word = refl;
-      done = refl;
-      are_true = true-again (g.S.Steps.turn c.args.steps.now) (g.S.Steps.rest c.args.steps.now) c.args.lengths.now c.args.state.now c.args.seen.now.keys _ here.done.items (sym c.contains.ensures ∙ c.if-contains.true)
-          (λ k e. position-same g.S.State.PartialEq.eq g.met.S.Steps.exact c.in_ok-new.field-0 here.done.items c.in_ok-new-2.field-0 c.args.state.now k items c.in_ok-new-2.ensures e)
-          c.requires.all_true;
-      all_true = c.requires.all_true;
-    }
-
-pub check-returns-then-contains-clause-grown : goal.check-returns-then-contains-clause-grown
-check-returns-then-contains-clause-grown g t c = grown-none (g.S.Steps.turn c.args.steps.now) c.args.lengths.now (g.S.Steps.most_rest c.args.steps.now) _ _ _ c.args.seen.now.keys 0 c.args.search.now.steps c.args.search.now.steps (omega arith)
-
-pub check-returns-clause-checked : goal.check-returns-clause-checked
-check-returns-clause-checked g t c =
-    let turn = g.S.Steps.turn c.args.steps.now in
-    let rest = g.S.Steps.rest c.args.steps.now in
-    let lengths = c.args.lengths.now in
-    let state = c.args.state.now in
-    let here = c.args.search.now in
-    let items : c.in_ok-new.field-0 ≡ here.done.items = c.in_ok-new.ensures ∙ c.deref.ensures.value in
-    let checked : IsChecked turn rest lengths state (Completes lengths here.done.items) here c.if-is_done.search c.if-is_done.seen.keys c.if-is_done.failed =
-    elim c.if-is_done.branch [
-      | check-then-is_done+in_ok-failed w ↦
-          let full = subst (λ d. (b : ℕ) → get_or lengths b 0 ≤ get_or d b 0) c.deref-2.ensures.value w.if-is_done.ensures in
-          let e = w.in_ok-failed.ensures in
-          rw (w.search-is, w.seen-is, w.failed-is)
-          (ended-checked turn rest state lengths here w.check_rest.new.search c.args.seen.now.keys c.requires.place full w.in_ok-failed.failed e.done e.word e.checked c.requires.all_true)
-      | check-else-is_done+in_ok-failed-2 w ↦ rw (w.search-is, w.seen-is, w.failed-is) w.in_ok-failed-2.ensures.checked
-    ] in
-    checked-remembered turn rest state lengths here c.if-is_done.search _ c.if-is_done.seen.keys c.insert.new.self.keys (record { done = c.in_ok-new.field-0; state = c.in_ok-new-2.field-0 })
-    c.in_ok-insert.ensures.keys items c.in_ok-new-2.ensures c.if-is_done.failed checked
-
-pub check-returns-clause-grown : goal.check-returns-clause-grown
-check-returns-clause-grown g t c =
-    let turn = g.S.Steps.turn c.args.steps.now in
-    let most = g.S.Steps.most_rest c.args.steps.now in
-    let lengths = c.args.lengths.now in
-    let state = c.args.state.now in
-    let here = c.args.search.now in
-    let at = c.requires.place in
-    let items : c.in_ok-new.field-0 ≡ here.done.items = c.in_ok-new.ensures ∙ c.deref.ensures.value in
-    let made : ((c.if-is_done.seen.keys ≡ c.args.seen.now.keys) × (here.done.items ≡ lengths) × (c.if-is_done.search.steps ≤ here.steps + most))
-    ⊎ IsGrown turn lengths most (length lengths) (sum here.done.items + 1) here.done.items state c.args.seen.now.keys c.if-is_done.seen.keys here.steps c.if-is_done.search.steps =
-    elim c.if-is_done.branch [
-      | check-then-is_done+in_ok-failed w ↦
-          let full = subst (λ d. (b : ℕ) → get_or lengths b 0 ≤ get_or d b 0) c.deref-2.ensures.value w.if-is_done.ensures in
-          rw (w.search-is, w.seen-is) (inl (refl, all-done lengths here.done.items at.branches at.within full, w.in_ok-failed.ensures.steps))
-      | check-else-is_done+in_ok-failed-2 w ↦ rw (w.search-is, w.seen-is) (inr w.in_ok-failed-2.ensures.grown)
-    ] in
-    grown-once turn lengths most here.done.items state c.args.seen.now.keys c.if-is_done.seen.keys c.insert.new.self.keys here.steps c.if-is_done.search.steps
-    (record { done = c.in_ok-new.field-0; state = c.in_ok-new-2.field-0 }) _ made items c.in_ok-new-2.ensures (sym c.contains.ensures ∙ c.if-contains.false)
-    (λ k e. (position-same g.S.State.PartialEq.eq g.met.S.Steps.exact c.in_ok-new.field-0 here.done.items c.in_ok-new-2.field-0 state k items c.in_ok-new-2.ensures e).0)
-    c.in_ok-insert.ensures.keys
 
 pub check_branches-loop-branch-init : goal.check_branches-loop-branch-init
 check_branches-loop-branch-init g t c = record {
@@ -89,7 +30,7 @@ check_branches-loop-branch-preserved g t c =
         word = k.word ∙ h.word;
         done = k.done ∙ h.done;
         are_true = true-more turn rest c.args.lengths.now state here.done.items c.loop-branch.branch h.are_true (subst (λ d. AreTrue turn rest d state (Begins c.args.lengths.now d c.loop-branch.branch)) h.done k.are_true);
-        all_true = k.all_true;
+        all_true = subst (λ d. AreAllTrue turn rest c.args.lengths.now (sum d + 1) c.check_branch.new.seen.keys) h.done k.all_true;
       };
       grown = grown-more turn c.args.lengths.now (g.S.Steps.most_rest c.args.steps.now) (sum here.done.items + 1) here.done.items state c.loop-branch.branch c.args.seen.now.keys c.loop-branch.seen.keys c.check_branch.new.seen.keys here.steps c.loop-branch.search.steps c.check_branch.new.search.steps
           c.loop-branch.invariant.grown
@@ -163,7 +104,8 @@ check_branch-returns-in-Next-clause-checked g t c =
       done = c.leave.ensures.done ∙ back_again here.done.items c.check.new.search.done.items c.args.branch (IsAt-branch c.args.lengths.now here.done.items c.args.branch c.requires.place left) (h.done ∙ c.in_ok-enter-in-Next.ensures.done);
       are_true = true-behind (g.S.Steps.turn c.args.steps.now) (g.S.Steps.rest c.args.steps.now) c.args.lengths.now c.args.state.now here.done.items here.word.items c.args.branch c.requires.place left
           c.in-Next.next c.enter.new.self.done.items (rw index_is at turn_is) c.in_ok-enter-in-Next.ensures.done h.are_true;
-      all_true = h.all_true;
+      all_true = subst (λ n. AreAllTrue (g.S.Steps.turn c.args.steps.now) (g.S.Steps.rest c.args.steps.now) c.args.lengths.now n c.check.new.seen.keys)
+          (ap sum c.in_ok-enter-in-Next.ensures.done ∙ sum-more c.args.lengths.now here.done.items c.args.branch c.requires.place left) h.all_true;
     }
 
 pub check_branch-returns-clause-checked : goal.check_branch-returns-clause-checked
@@ -205,3 +147,84 @@ pub check_branch-returns-clause-grown : goal.check_branch-returns-clause-grown
 check_branch-returns-clause-grown g t c =
     let made : c.saturating_add-search.result ≤ c.args.search.now.steps + 1 = grind (arith, c.saturating_add-search.ensures) in
     grown-none (g.S.Steps.turn c.args.steps.now) c.args.lengths.now (g.S.Steps.most_rest c.args.steps.now) _ _ _ c.args.seen.now.keys 1 c.args.search.now.steps c.saturating_add-search.result made
+
+pub check-returns-then-not-branch-clause-grown : goal.check-returns-then-not-branch-clause-grown
+check-returns-then-not-branch-clause-grown g t c =
+    let turn = g.S.Steps.turn c.args.steps.now in
+    let rest = g.S.Steps.rest c.args.steps.now in
+    let most = g.S.Steps.most_rest c.args.steps.now in
+    let lengths = c.args.lengths.now in
+    let state = c.args.state.now in
+    let here = c.args.search.now in
+    let keys = c.args.seen.now.keys in
+    let there = rw (c.if-not-branch.true, c.deref-2.ensures.value) at c.in_ok-remember.ensures in
+    subst (λ ks. IsGrown turn lengths most 0 (sum here.done.items) here.done.items state keys ks here.steps here.steps) (sym there.1)
+    (grown-none turn lengths most _ _ _ keys 0 here.steps here.steps (omega arith))
+
+pub check-returns-then-not-branch-clause-checked : goal.check-returns-then-not-branch-clause-checked
+check-returns-then-not-branch-clause-checked g t c =
+    let turn = g.S.Steps.turn c.args.steps.now in
+    let rest = g.S.Steps.rest c.args.steps.now in
+    let most = g.S.Steps.most_rest c.args.steps.now in
+    let lengths = c.args.lengths.now in
+    let state = c.args.state.now in
+    let here = c.args.search.now in
+    let keys = c.args.seen.now.keys in
+    let there = rw (c.if-not-branch.true, c.deref-2.ensures.value) at c.in_ok-remember.ensures in
+    record {
+      word = refl;
+      done = refl;
+      are_true = true-again turn rest lengths state keys here.done.items there.0 c.requires.all_true;
+      all_true = subst (AreAllTrue turn rest lengths (sum here.done.items)) (sym there.1) c.requires.all_true;
+    }
+
+pub check-check_branches-requires : goal.check-check_branches-requires
+check-check_branches-requires g t c κs within =
+    let turn = g.S.Steps.turn c.args.steps.now in
+    let rest = g.S.Steps.rest c.args.steps.now in
+    let most = g.S.Steps.most_rest c.args.steps.now in
+    let lengths = c.args.lengths.now in
+    let state = c.args.state.now in
+    let here = c.args.search.now in
+    let keys = c.args.seen.now.keys in
+    let is = rw (c.if-not-branch.false, c.deref-2.ensures.value) at c.in_ok-remember.ensures in
+    let left = rw c.deref.ensures.value at c.if-is_done.ensures in
+    let all_true = from-below (λ k. AreTrue turn rest k.done k.state (Completes lengths k.done)) (sum here.done.items) keys c.remember.new.seen.keys
+    (record { done = here.done.items; state = state }) is (omega arith) c.requires.all_true in
+    let r = c.requires in
+    (search rules, (within.0, (within.1.0, (within.1.1.0, (within.1.1.1, (r.place, (r.state, (r.commands, (r.room, (left, all_true))))))))))
+
+pub check-returns-clause-grown : goal.check-returns-clause-grown
+check-returns-clause-grown g t c =
+    let turn = g.S.Steps.turn c.args.steps.now in
+    let rest = g.S.Steps.rest c.args.steps.now in
+    let most = g.S.Steps.most_rest c.args.steps.now in
+    let lengths = c.args.lengths.now in
+    let state = c.args.state.now in
+    let here = c.args.search.now in
+    let keys = c.args.seen.now.keys in
+    let is = rw (c.if-not-branch.false, c.deref-2.ensures.value) at c.in_ok-remember.ensures in
+    let seen = c.check_branches.new.seen.keys in
+    let steps = c.check_branches.new.search.steps in
+    on-ok (IsGrown turn lengths most (length lengths) (sum here.done.items + 1) here.done.items state c.remember.new.seen.keys seen here.steps steps)
+    (IsGrown turn lengths most 0 (sum here.done.items) here.done.items state keys seen here.steps steps) c.check_branches.result
+    (λ grown. grown-first turn lengths most here.done.items state (length lengths) keys c.remember.new.seen.keys seen here.steps steps (omega arith) is grown)
+    c.check_branches.ensures.grown
+
+pub check-returns-clause-checked : goal.check-returns-clause-checked
+check-returns-clause-checked g t c =
+    let turn = g.S.Steps.turn c.args.steps.now in
+    let rest = g.S.Steps.rest c.args.steps.now in
+    let most = g.S.Steps.most_rest c.args.steps.now in
+    let lengths = c.args.lengths.now in
+    let state = c.args.state.now in
+    let here = c.args.search.now in
+    let keys = c.args.seen.now.keys in
+    let is = rw (c.if-not-branch.false, c.deref-2.ensures.value) at c.in_ok-remember.ensures in
+    let seen = c.check_branches.new.seen.keys in
+    let new = c.check_branches.new.search in
+    if-ok (IsChecked turn rest lengths (sum here.done.items + 1) state (Completes lengths here.done.items) here new seen)
+    (IsChecked turn rest lengths (sum here.done.items) state (Completes lengths here.done.items) here new seen)
+    (IsGrown turn lengths most (length lengths) (sum here.done.items + 1) here.done.items state c.remember.new.seen.keys seen here.steps new.steps) c.check_branches.result
+    (λ grown failed h. checked-behind turn rest state lengths here new keys seen grown.added (grown.keys ∙ ap (λ ks. ks ++ grown.added) is) grown.deep failed c.requires.all_true h)
+    c.check_branches.ensures.grown c.check_branches.ensures.checked

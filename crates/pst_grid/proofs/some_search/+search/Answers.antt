@@ -1,75 +1,14 @@
-use Rattle.std.proofs.Common.{◌≡◌, ℕ, ◌+◌, ◌<◌, ◌≤◌, ◌⊎◌, inl, inr, refl, ap, ◌∙◌, sym, subst, get_or, sum, length, max, arith}
+use Rattle.std.proofs.Common.{◌≡◌, ◌++◌, rules, ◌+◌, ◌<◌, ◌≤◌, refl, ap, ◌∙◌, sym, subst, get_or, sum, length, max, arith}
 use Rattle.std.proofs.lemmas.Grind.{common_steps}
 use Rattle.pst_grid.specs.declared.answer.Turn.TheVariants.{Stop}
 use Rattle.pst_grid.specs.declared.answer.Why.TheVariants.{False, Fault}
 use Rattle.pst_grid.specs.Completions.{Completes}
-use Rattle.pst_grid.specs.Remembered.{AreAccounted, IsSearched, IsGrown}
-use Rattle.pst_grid.proofs.Finishing.{all-done, ended-searched, searched-remembered}
-use Rattle.pst_grid.proofs.Growing.{grown-none, grown-more, grown-within, grown-behind, grown-once}
+use Rattle.pst_grid.specs.Remembered.{AreAccounted, IsAccounted, IsSearched, IsGrown}
+use Rattle.pst_grid.proofs.Finishing.{if-ok, on-ok, searched-behind}
+use Rattle.pst_grid.proofs.Growing.{grown-none, grown-more, grown-within, grown-behind, grown-first}
 use Rattle.pst_grid.proofs.Searching.{explored-start, explored-true, explored-more, explored-all, visited-true, visited-Next, visited-False, visited-Fault, back_again, take_again, IsAt-branch, sum-more}
-use Rattle.pst_grid.proofs.Remembering.{all-accounted-on, met-again, position-same}
+use Rattle.pst_grid.proofs.Remembering.{all-accounted-on, met-again, from-below}
 use Rattle.pst_grid.proofs.some_search.+search.Goals as goal
-use Rattle.pst_grid.proofs.some_search.+search.Goals.{explore-then-is_done+in_ok-found, explore-else-is_done+in_ok-found-2}
-
-pub explore-returns-then-contains-clause-searched : goal.explore-returns-then-contains-clause-searched
-explore-returns-then-contains-clause-searched g t c =
-    let here = c.args.search.now in
-    let items : c.in_ok-new.field-0 ≡ here.done.items = c.in_ok-new.ensures ∙ c.deref.ensures.value in
-    record {
-      covered = record {
-        word = refl;
-        done = refl;
-        covered = met-again (g.S.Steps.turn c.args.steps.now) (g.S.Steps.rest c.args.steps.now) c.args.lengths.now here.best c.args.seen.now.keys _ here.done.items here.word.items c.args.state.now
-            (sym c.contains.ensures ∙ c.if-contains.true)
-            (λ k e. position-same g.S.State.PartialEq.eq g.met.S.Steps.exact c.in_ok-new.field-0 here.done.items c.in_ok-new-2.field-0 c.args.state.now k items c.in_ok-new-2.ensures e)
-            c.requires.depth c.requires.accounted;
-      };
-      accounted = c.requires.accounted;
-    }
-
-pub explore-returns-then-contains-clause-grown : goal.explore-returns-then-contains-clause-grown
-explore-returns-then-contains-clause-grown g t c = grown-none (g.S.Steps.turn c.args.steps.now) c.args.lengths.now (g.S.Steps.most_rest c.args.steps.now) _ _ _ c.args.seen.now.keys 0 c.args.search.now.steps c.args.search.now.steps (omega arith)
-
-pub explore-returns-clause-searched : goal.explore-returns-clause-searched
-explore-returns-clause-searched g t c =
-    let turn = g.S.Steps.turn c.args.steps.now in
-    let rest = g.S.Steps.rest c.args.steps.now in
-    let lengths = c.args.lengths.now in
-    let state = c.args.state.now in
-    let here = c.args.search.now in
-    let items : c.in_ok-new.field-0 ≡ here.done.items = c.in_ok-new.ensures ∙ c.deref.ensures.value in
-    let searched : IsSearched turn rest lengths state (Completes lengths here.done.items) here c.if-is_done.search c.if-is_done.seen.keys c.if-is_done.found =
-    elim c.if-is_done.branch [
-      | explore-then-is_done+in_ok-found w ↦
-          let full = subst (λ d. (b : ℕ) → get_or lengths b 0 ≤ get_or d b 0) c.deref-2.ensures.value w.if-is_done.ensures in
-          rw (w.search-is, w.seen-is, w.found-is)
-          (ended-searched turn rest state lengths here w.finish.new.search c.args.seen.now.keys c.requires.place full w.in_ok-found.found w.in_ok-found.ensures.explored c.requires.accounted)
-      | explore-else-is_done+in_ok-found-2 w ↦ rw (w.search-is, w.seen-is, w.found-is) w.in_ok-found-2.ensures.searched
-    ] in
-    searched-remembered turn rest state lengths here c.if-is_done.search _ c.if-is_done.seen.keys c.insert.new.self.keys (record { done = c.in_ok-new.field-0; state = c.in_ok-new-2.field-0 })
-    c.in_ok-insert.ensures.keys items c.in_ok-new-2.ensures c.if-is_done.found c.requires.depth searched
-
-pub explore-returns-clause-grown : goal.explore-returns-clause-grown
-explore-returns-clause-grown g t c =
-    let turn = g.S.Steps.turn c.args.steps.now in
-    let most = g.S.Steps.most_rest c.args.steps.now in
-    let lengths = c.args.lengths.now in
-    let state = c.args.state.now in
-    let here = c.args.search.now in
-    let at = c.requires.place in
-    let items : c.in_ok-new.field-0 ≡ here.done.items = c.in_ok-new.ensures ∙ c.deref.ensures.value in
-    let made : ((c.if-is_done.seen.keys ≡ c.args.seen.now.keys) × (here.done.items ≡ lengths) × (c.if-is_done.search.steps ≤ here.steps + most))
-    ⊎ IsGrown turn lengths most (length lengths) (sum here.done.items + 1) here.done.items state c.args.seen.now.keys c.if-is_done.seen.keys here.steps c.if-is_done.search.steps =
-    elim c.if-is_done.branch [
-      | explore-then-is_done+in_ok-found w ↦
-          let full = subst (λ d. (b : ℕ) → get_or lengths b 0 ≤ get_or d b 0) c.deref-2.ensures.value w.if-is_done.ensures in
-          rw (w.search-is, w.seen-is) (inl (refl, all-done lengths here.done.items at.branches at.within full, w.in_ok-found.ensures.steps))
-      | explore-else-is_done+in_ok-found-2 w ↦ rw (w.search-is, w.seen-is) (inr w.in_ok-found-2.ensures.grown)
-    ] in
-    grown-once turn lengths most here.done.items state c.args.seen.now.keys c.if-is_done.seen.keys c.insert.new.self.keys here.steps c.if-is_done.search.steps
-    (record { done = c.in_ok-new.field-0; state = c.in_ok-new-2.field-0 }) _ made items c.in_ok-new-2.ensures (sym c.contains.ensures ∙ c.if-contains.false)
-    (λ k e. (position-same g.S.State.PartialEq.eq g.met.S.Steps.exact c.in_ok-new.field-0 here.done.items c.in_ok-new-2.field-0 state k items c.in_ok-new-2.ensures e).0)
-    c.in_ok-insert.ensures.keys
 
 pub explore_branches-loop-branch-init : goal.explore_branches-loop-branch-init
 explore_branches-loop-branch-init g t c =
@@ -88,7 +27,7 @@ explore_branches-loop-branch-preserved g t c =
       covered = record {
         covered = explored-more (g.S.Steps.turn c.args.steps.now) (g.S.Steps.rest c.args.steps.now) c.args.lengths.now c.args.state.now c.args.search.now c.loop-branch.search c.visit.new.search c.loop-branch.branch
             c.loop-branch.invariant.covered.covered all.covered;
-        accounted = all.accounted;
+        accounted = subst (λ d. AreAccounted (g.S.Steps.turn c.args.steps.now) (g.S.Steps.rest c.args.steps.now) c.args.lengths.now (sum d + 1) c.visit.new.search.best c.visit.new.seen.keys) c.loop-branch.invariant.covered.covered.done all.accounted;
       };
       grown = grown-more (g.S.Steps.turn c.args.steps.now) c.args.lengths.now (g.S.Steps.most_rest c.args.steps.now) (sum here.done.items + 1) here.done.items state c.loop-branch.branch c.args.seen.now.keys c.loop-branch.seen.keys c.visit.new.seen.keys here.steps c.loop-branch.search.steps c.visit.new.search.steps
           c.loop-branch.invariant.grown
@@ -151,7 +90,9 @@ visit-returns-else-branch-clause-searched g t c =
             c.in-Next.next here.best entered explored c.leave.new.self.best
             (rw index_is at turn_is) c.in_ok-enter-in-Next.ensures.done c.in_ok-enter-in-Next.ensures.word c.in_ok-enter-in-Next.ensures.best h c.leave.ensures.best;
       };
-      accounted = subst (λ b. AreAccounted (g.S.Steps.turn c.args.steps.now) (g.S.Steps.rest c.args.steps.now) c.args.lengths.now b c.explore.new.seen.keys) (sym c.leave.ensures.best) all.accounted;
+      accounted = subst (λ b. AreAccounted (g.S.Steps.turn c.args.steps.now) (g.S.Steps.rest c.args.steps.now) c.args.lengths.now (sum here.done.items + 1) b c.explore.new.seen.keys) (sym c.leave.ensures.best)
+          (subst (λ n. AreAccounted (g.S.Steps.turn c.args.steps.now) (g.S.Steps.rest c.args.steps.now) c.args.lengths.now n explored.best c.explore.new.seen.keys)
+              (ap sum c.in_ok-enter-in-Next.ensures.done ∙ sum-more c.args.lengths.now here.done.items c.args.branch c.requires.place left) all.accounted);
     }
 
 pub visit-returns-in-Stop-False-clause-searched : goal.visit-returns-in-Stop-False-clause-searched
@@ -167,7 +108,7 @@ visit-returns-in-Stop-False-clause-searched g t c =
     here.best c.note_false.new.self.best (rw index_is at turn_is) c.note_false.ensures.fault far in
     record {
       covered = record { word = c.note_false.ensures.word; done = c.note_false.ensures.done; covered = k };
-      accounted = all-accounted-on (g.S.Steps.turn c.args.steps.now) (g.S.Steps.rest c.args.steps.now) c.args.lengths.now here.done.items here.word.items c.args.state.now _ here.best c.note_false.new.self.best c.args.seen.now.keys k c.requires.accounted;
+      accounted = all-accounted-on (g.S.Steps.turn c.args.steps.now) (g.S.Steps.rest c.args.steps.now) c.args.lengths.now (sum here.done.items + 1) here.done.items here.word.items c.args.state.now _ here.best c.note_false.new.self.best c.args.seen.now.keys k c.requires.accounted;
     }
 
 pub visit-returns-in_ok-note_fault-in-Stop-Fault-clause-searched : goal.visit-returns-in_ok-note_fault-in-Stop-Fault-clause-searched
@@ -182,7 +123,7 @@ visit-returns-in_ok-note_fault-in-Stop-Fault-clause-searched g t c =
     c.in-Stop-Fault.fault here.best c.note_fault.new.self.best (rw index_is at turn_is) e.far e.later e.first in
     record {
       covered = record { word = e.word; done = e.done; covered = k };
-      accounted = all-accounted-on (g.S.Steps.turn c.args.steps.now) (g.S.Steps.rest c.args.steps.now) c.args.lengths.now here.done.items here.word.items c.args.state.now _ here.best c.note_fault.new.self.best c.args.seen.now.keys k c.requires.accounted;
+      accounted = all-accounted-on (g.S.Steps.turn c.args.steps.now) (g.S.Steps.rest c.args.steps.now) c.args.lengths.now (sum here.done.items + 1) here.done.items here.word.items c.args.state.now _ here.best c.note_fault.new.self.best c.args.seen.now.keys k c.requires.accounted;
     }
 
 pub visit-returns-then-index-lengths-clause-grown : goal.visit-returns-then-index-lengths-clause-grown
@@ -219,3 +160,86 @@ pub visit-returns-in_ok-note_fault-in-Stop-Fault-clause-grown : goal.visit-retur
 visit-returns-in_ok-note_fault-in-Stop-Fault-clause-grown g t c =
     let made : c.note_fault.new.self.steps ≤ c.args.search.now.steps + 1 = grind (arith, c.saturating_add-search.ensures, c.note_fault.ensures.steps) in
     grown-none (g.S.Steps.turn c.args.steps.now) c.args.lengths.now (g.S.Steps.most_rest c.args.steps.now) _ _ _ c.args.seen.now.keys 1 c.args.search.now.steps c.note_fault.new.self.steps made
+
+pub explore-returns-then-not-branch-clause-grown : goal.explore-returns-then-not-branch-clause-grown
+explore-returns-then-not-branch-clause-grown g t c =
+    let turn = g.S.Steps.turn c.args.steps.now in
+    let rest = g.S.Steps.rest c.args.steps.now in
+    let most = g.S.Steps.most_rest c.args.steps.now in
+    let lengths = c.args.lengths.now in
+    let state = c.args.state.now in
+    let here = c.args.search.now in
+    let keys = c.args.seen.now.keys in
+    let there = rw (c.if-not-branch.true, c.deref-2.ensures.value) at c.in_ok-remember.ensures in
+    subst (λ ks. IsGrown turn lengths most 0 (sum here.done.items) here.done.items state keys ks here.steps here.steps) (sym there.1)
+    (grown-none turn lengths most _ _ _ keys 0 here.steps here.steps (omega arith))
+
+pub explore-returns-then-not-branch-clause-searched : goal.explore-returns-then-not-branch-clause-searched
+explore-returns-then-not-branch-clause-searched g t c =
+    let turn = g.S.Steps.turn c.args.steps.now in
+    let rest = g.S.Steps.rest c.args.steps.now in
+    let most = g.S.Steps.most_rest c.args.steps.now in
+    let lengths = c.args.lengths.now in
+    let state = c.args.state.now in
+    let here = c.args.search.now in
+    let keys = c.args.seen.now.keys in
+    let there = rw (c.if-not-branch.true, c.deref-2.ensures.value) at c.in_ok-remember.ensures in
+    record {
+      covered = record {
+        word = refl;
+        done = refl;
+        covered = met-again turn rest lengths here.best keys here.done.items here.word.items state there.0 c.requires.depth c.requires.accounted;
+      };
+      accounted = subst (AreAccounted turn rest lengths (sum here.done.items) here.best) (sym there.1) c.requires.accounted;
+    }
+
+pub explore-explore_branches-requires : goal.explore-explore_branches-requires
+explore-explore_branches-requires g t c κs within =
+    let turn = g.S.Steps.turn c.args.steps.now in
+    let rest = g.S.Steps.rest c.args.steps.now in
+    let most = g.S.Steps.most_rest c.args.steps.now in
+    let lengths = c.args.lengths.now in
+    let state = c.args.state.now in
+    let here = c.args.search.now in
+    let keys = c.args.seen.now.keys in
+    let is = rw (c.if-not-branch.false, c.deref-2.ensures.value) at c.in_ok-remember.ensures in
+    let left = rw c.deref.ensures.value at c.if-is_done.ensures in
+    let accounted = from-below (λ k. IsAccounted turn rest lengths here.best k.done k.state) (sum here.done.items) keys c.remember.new.seen.keys
+    (record { done = here.done.items; state = state }) is (omega arith) c.requires.accounted in
+    let r = c.requires in
+    (search rules, (within.0, (within.1.0, (within.1.1.0, (within.1.1.1, (r.place, (r.depth, (r.state, (r.commands, (r.room, (left, accounted)))))))))))
+
+pub explore-returns-clause-grown : goal.explore-returns-clause-grown
+explore-returns-clause-grown g t c =
+    let turn = g.S.Steps.turn c.args.steps.now in
+    let rest = g.S.Steps.rest c.args.steps.now in
+    let most = g.S.Steps.most_rest c.args.steps.now in
+    let lengths = c.args.lengths.now in
+    let state = c.args.state.now in
+    let here = c.args.search.now in
+    let keys = c.args.seen.now.keys in
+    let is = rw (c.if-not-branch.false, c.deref-2.ensures.value) at c.in_ok-remember.ensures in
+    let seen = c.explore_branches.new.seen.keys in
+    let steps = c.explore_branches.new.search.steps in
+    on-ok (IsGrown turn lengths most (length lengths) (sum here.done.items + 1) here.done.items state c.remember.new.seen.keys seen here.steps steps)
+    (IsGrown turn lengths most 0 (sum here.done.items) here.done.items state keys seen here.steps steps) c.explore_branches.result
+    (λ grown. grown-first turn lengths most here.done.items state (length lengths) keys c.remember.new.seen.keys seen here.steps steps (omega arith) is grown)
+    c.explore_branches.ensures.grown
+
+pub explore-returns-clause-searched : goal.explore-returns-clause-searched
+explore-returns-clause-searched g t c =
+    let turn = g.S.Steps.turn c.args.steps.now in
+    let rest = g.S.Steps.rest c.args.steps.now in
+    let most = g.S.Steps.most_rest c.args.steps.now in
+    let lengths = c.args.lengths.now in
+    let state = c.args.state.now in
+    let here = c.args.search.now in
+    let keys = c.args.seen.now.keys in
+    let is = rw (c.if-not-branch.false, c.deref-2.ensures.value) at c.in_ok-remember.ensures in
+    let seen = c.explore_branches.new.seen.keys in
+    let new = c.explore_branches.new.search in
+    if-ok (IsSearched turn rest lengths (sum here.done.items + 1) state (Completes lengths here.done.items) here new seen)
+    (IsSearched turn rest lengths (sum here.done.items) state (Completes lengths here.done.items) here new seen)
+    (IsGrown turn lengths most (length lengths) (sum here.done.items + 1) here.done.items state c.remember.new.seen.keys seen here.steps new.steps) c.explore_branches.result
+    (λ grown found h. searched-behind turn rest state lengths here new keys seen grown.added (grown.keys ∙ ap (λ ks. ks ++ grown.added) is) grown.deep found c.requires.depth c.requires.accounted h)
+    c.explore_branches.ensures.grown c.explore_branches.ensures.searched
