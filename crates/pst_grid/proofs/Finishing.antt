@@ -238,8 +238,8 @@ module _ {S F : Type 0} (turn : S → ℕ → ℕ → Turn S F) (rest : S → En
           covered = c;
           accounted = subst (AreAccounted turn rest lengths (sum old.done.items) new.best) (sym is)
               (Each-append (λ k. sum old.done.items ≤ sum k.done → IsAccounted turn rest lengths new.best k.done k.state) keys (here ∷ [])
-                  (all-accounted-on turn rest lengths (sum old.done.items) old.done.items old.word.items state _ old.best new.best keys c.covered all)
-                  ((λ deep. accounted turn rest lengths old.done.items old.word.items state old.best new.best depth c.covered), tt));
+              (all-accounted-on turn rest lengths (sum old.done.items) old.done.items old.word.items state _ old.best new.best keys c.covered all)
+              ((λ deep. accounted turn rest lengths old.done.items old.word.items state old.best new.best depth c.covered), tt));
         }
 
     pub ended-checked : (stopped : Option (FailedMerge F)) → new.done.items ≡ old.done.items → new.word.items ≡ old.word.items

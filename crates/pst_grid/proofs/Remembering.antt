@@ -140,4 +140,4 @@ module _ {S F : Type 0} (turn : S → ℕ → ℕ → Turn S F) (rest : S → En
   met-again best keys done before state there e all =
       covered done before state best e
       (Each-remembered (λ k. sum done ≤ sum k.done → IsAccounted turn rest lengths best k.done k.state) (IsAccounted turn rest lengths best done state) done state keys
-          (λ k d s a. subst (λ x. IsAccounted turn rest lengths best x state) d (subst (λ n. IsAccounted turn rest lengths best k.done n) s (a (omega (arith, ap sum d))))) there all)
+      (λ k d s a. subst (λ x. IsAccounted turn rest lengths best x state) d (subst (λ n. IsAccounted turn rest lengths best k.done n) s (a (omega (arith, ap sum d))))) there all)

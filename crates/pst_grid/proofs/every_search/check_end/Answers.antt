@@ -56,7 +56,7 @@ returns-clause-grown g c =
     on-ok (c.check_rest.new.search.steps ≤ here.steps + most)
     (IsGrown turn lengths most 0 (sum here.done.items) here.done.items state keys c.remember.new.seen.keys here.steps c.check_rest.new.search.steps) c.check_rest.result
     (λ made. grown-end turn lengths most here.done.items state keys c.remember.new.seen.keys here.steps c.check_rest.new.search.steps
-        (all-done lengths here.done.items at.branches at.within c.requires.ended) made is)
+    (all-done lengths here.done.items at.branches at.within c.requires.ended) made is)
     c.check_rest.ensures.steps
 
 pub returns-clause-checked : goal.returns-clause-checked

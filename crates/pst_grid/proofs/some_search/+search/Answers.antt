@@ -92,7 +92,7 @@ visit-returns-else-branch-clause-searched g t c =
       };
       accounted = subst (λ b. AreAccounted (g.S.Steps.turn c.args.steps.now) (g.S.Steps.rest c.args.steps.now) c.args.lengths.now (sum here.done.items + 1) b c.explore.new.seen.keys) (sym c.leave.ensures.best)
           (subst (λ n. AreAccounted (g.S.Steps.turn c.args.steps.now) (g.S.Steps.rest c.args.steps.now) c.args.lengths.now n explored.best c.explore.new.seen.keys)
-              (ap sum c.in_ok-enter-in-Next.ensures.done ∙ sum-more c.args.lengths.now here.done.items c.args.branch c.requires.place left) all.accounted);
+          (ap sum c.in_ok-enter-in-Next.ensures.done ∙ sum-more c.args.lengths.now here.done.items c.args.branch c.requires.place left) all.accounted);
     }
 
 pub visit-returns-in-Stop-False-clause-searched : goal.visit-returns-in-Stop-False-clause-searched

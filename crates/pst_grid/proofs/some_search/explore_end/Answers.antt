@@ -51,7 +51,7 @@ returns-clause-grown g c =
     on-ok (c.finish.new.search.steps ≤ here.steps + most)
     (IsGrown turn lengths most 0 (sum here.done.items) here.done.items state keys c.remember.new.seen.keys here.steps c.finish.new.search.steps) c.finish.result
     (λ made. grown-end turn lengths most here.done.items state keys c.remember.new.seen.keys here.steps c.finish.new.search.steps
-        (all-done lengths here.done.items at.branches at.within c.requires.ended) made is)
+    (all-done lengths here.done.items at.branches at.within c.requires.ended) made is)
     c.finish.ensures.steps
 
 pub returns-clause-searched : goal.returns-clause-searched
