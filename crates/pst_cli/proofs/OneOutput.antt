@@ -5,7 +5,7 @@ use Rattle.std.specs.List.{list_all}
 use Rattle.pst_case.specs.declared.history.Run.{Run}
 use Rattle.pst_cli.specs.Head.{refusal_line, line_end}
 use Rattle.pst_load.specs.Loading.{IsFile, Holds, items_of, IsRefusal}
-use Rattle.pst_cli.specs.Output.{IsCheckOutput, ok_line, IsJudgeOutput, run_line, AreJudged, item_line, item_lines, is_explained, is_good, status_of}
+use Rattle.pst_cli.specs.Output.{IsCheckOutput, ok_line, HoldsRuns, IsFirstRefusal, IsJudgeOutput, run_line, AreJudged, item_line, item_lines, is_explained, is_good, status_of}
 use Rattle.pst_cli.specs.Output as output
 use Rattle.pst_cli.specs.OneOutput.{OneCheckOutput, OneJudgeOutput}
 use Rattle.pst_load.specs.declared.refusal.Refusal.{Refusal}
@@ -162,32 +162,35 @@ same_items k m (run ∷ runs) (j ∷ js) (i ∷ ks) number p q =
       ap (λ b. b && list_all is_good js) e.1 ∙ ap (λ b. is_good i && b) f.1,
     )
 
-one_judge : (k : OfParts) (input text other : List ℕ) (status ending : Status) → IsJudgeOutput input text status → IsJudgeOutput input other ending → SameOutput text other status ending
-one_judge k input text other status ending (output.IsJudgeOutput.judged m trees runs js h r a t s) (output.IsJudgeOutput.judged n others more ks g q b u e) =
-    let o = one_model k input m n trees others h g in
-    let runs-are : runs_of n (items_of others) ≡ Ok runs = ap (λ x. runs_of n (items_of x)) (sym o.0) ∙ ap (λ x. runs_of x (items_of trees)) (sym o.1) ∙ r in
-    let same : runs ≡ more = is_ok (runs_of n (items_of others)) runs more runs-are q in
-    let a' : AreJudged n more js = subst (λ x. AreJudged x more js) o.1 (subst (λ x. AreJudged m x js) same a) in
-    let f = same_items k n more js ks 1 a' b in
-    (t ∙ f.0 ∙ sym u, s ∙ ap (λ good. if good then Accepted else Failed) f.1 ∙ sym e)
-one_judge k input text other status ending (output.IsJudgeOutput.judged m trees runs js h r a t s) (output.IsJudgeOutput.run_refused n others fault g q u e) =
-    let o = one_model k input m n trees others h g in
-    let runs-are : runs_of n (items_of others) ≡ Ok runs = ap (λ x. runs_of n (items_of x)) (sym o.0) ∙ ap (λ x. runs_of x (items_of trees)) (sym o.1) ∙ r in
-    absurd (not_both (runs_of n (items_of others)) runs fault runs-are q)
-one_judge k input text other status ending (output.IsJudgeOutput.judged m trees runs js h r a t s) (output.IsJudgeOutput.refused refusal q u e) = absurd (no_refusal k input m trees refusal h q)
-one_judge k input text other status ending (output.IsJudgeOutput.run_refused m trees fault h r t s) (output.IsJudgeOutput.judged n others runs js g q a u e) =
-    let o = one_model k input m n trees others h g in
-    let fault-is : runs_of n (items_of others) ≡ Err fault = ap (λ x. runs_of n (items_of x)) (sym o.0) ∙ ap (λ x. runs_of x (items_of trees)) (sym o.1) ∙ r in
-    absurd (not_both (runs_of n (items_of others)) runs fault q fault-is)
-one_judge k input text other status ending (output.IsJudgeOutput.run_refused m trees fault h r t s) (output.IsJudgeOutput.run_refused n others another g q u e) =
+one_refused : (k : OfParts) (input text other : List ℕ) (status ending : Status) → IsFirstRefusal input text status → IsFirstRefusal input other ending → SameOutput text other status ending
+one_refused k input text other status ending (output.IsFirstRefusal.of_item m trees fault h r t s) (output.IsFirstRefusal.of_item n others another g q u e) =
     let o = one_model k input m n trees others h g in
     let fault-is : runs_of n (items_of others) ≡ Err fault = ap (λ x. runs_of n (items_of x)) (sym o.0) ∙ ap (λ x. runs_of x (items_of trees)) (sym o.1) ∙ r in
     (t ∙ ap run_line (is_err (runs_of n (items_of others)) fault another fault-is q) ∙ sym u, s ∙ sym e)
-one_judge k input text other status ending (output.IsJudgeOutput.run_refused m trees fault h r t s) (output.IsJudgeOutput.refused refusal q u e) = absurd (no_refusal k input m trees refusal h q)
-one_judge k input text other status ending (output.IsJudgeOutput.refused refusal r t s) (output.IsJudgeOutput.judged m trees runs js h q a u e) = absurd (no_refusal k input m trees refusal h r)
-one_judge k input text other status ending (output.IsJudgeOutput.refused refusal r t s) (output.IsJudgeOutput.run_refused m trees fault h q u e) = absurd (no_refusal k input m trees refusal h r)
-one_judge k input text other status ending (output.IsJudgeOutput.refused refusal r t s) (output.IsJudgeOutput.refused another q u e) =
+one_refused k input text other status ending (output.IsFirstRefusal.of_item m trees fault h r t s) (output.IsFirstRefusal.of_model refusal q u e) = absurd (no_refusal k input m trees refusal h q)
+one_refused k input text other status ending (output.IsFirstRefusal.of_model refusal r t s) (output.IsFirstRefusal.of_item m trees fault h q u e) = absurd (no_refusal k input m trees refusal h r)
+one_refused k input text other status ending (output.IsFirstRefusal.of_model refusal r t s) (output.IsFirstRefusal.of_model another q u e) =
     (t ∙ ap refusal_line (one_refusal k input refusal another r q) ∙ sym u, s ∙ sym e)
+
+-- what is read is not refused
+not_refused : (k : OfParts) (input text : List ℕ) (status : Status) (m : Source) (runs : List Run) → HoldsRuns input m runs → IsFirstRefusal input text status → ⊥
+not_refused k input text status m runs h (output.IsFirstRefusal.of_item n others fault g q u e) =
+    let o = one_model k input m n h.trees others h.holds g in
+    let runs-are : runs_of n (items_of others) ≡ Ok runs = ap (λ x. runs_of n (items_of x)) (sym o.0) ∙ ap (λ x. runs_of x (items_of h.trees)) (sym o.1) ∙ h.read in
+    not_both (runs_of n (items_of others)) runs fault runs-are q
+not_refused k input text status m runs h (output.IsFirstRefusal.of_model refusal q u e) = no_refusal k input m h.trees refusal h.holds q
+
+one_judge : (k : OfParts) (input text other : List ℕ) (status ending : Status) → IsJudgeOutput input text status → IsJudgeOutput input other ending → SameOutput text other status ending
+one_judge k input text other status ending (output.IsOutput.judged m runs js h a t) (output.IsOutput.judged n more ks g b u) =
+    let o = one_model k input m n h.trees g.trees h.holds g.holds in
+    let runs-are : runs_of n (items_of g.trees) ≡ Ok runs = ap (λ x. runs_of n (items_of x)) (sym o.0) ∙ ap (λ x. runs_of x (items_of h.trees)) (sym o.1) ∙ h.read in
+    let same : runs ≡ more = is_ok (runs_of n (items_of g.trees)) runs more runs-are g.read in
+    let a' : AreJudged n more js = subst (λ x. AreJudged x more js) o.1 (subst (λ x. AreJudged m x js) same a) in
+    let f = same_items k n more js ks 1 a' b in
+    (t.0 ∙ f.0 ∙ sym u.0, t.1 ∙ ap (λ good. if good then Accepted else Failed) f.1 ∙ sym u.1)
+one_judge k input text other status ending (output.IsOutput.judged m runs js h a t) (output.IsOutput.refused q) = absurd (not_refused k input other ending m runs h q)
+one_judge k input text other status ending (output.IsOutput.refused r) (output.IsOutput.judged n runs js g a u) = absurd (not_refused k input text status n runs g r)
+one_judge k input text other status ending (output.IsOutput.refused r) (output.IsOutput.refused q) = one_refused k input text other status ending r q
 
 pub one_check_output : OfParts → OneCheckOutput
 one_check_output k input text other status ending p q = one_check k input text other status ending p q

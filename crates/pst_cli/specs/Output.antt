@@ -31,7 +31,7 @@ pub data IsCheckOutput (input text : List ℕ) (status : Status) : Type 0 where
   refused : (refusal : Refusal) → IsRefusal input refusal → text ≡ refusal_line refusal → status ≡ Refused
       → IsCheckOutput input text status
 
--- ---- `pst judge`
+-- ---- the items of an input, and the judgements on them
 
 -- the input is a file of the model, which is well typed, and behind it of the runs
 pub record HoldsRuns (input : List ℕ) (m : Source) (runs : List Run) : Type 0 where
@@ -74,13 +74,28 @@ is_good (kind.Invalid why) = false
 abbrev pub status_of : List Judged → Status
 status_of js = if list_all is_good js then Accepted else Failed
 
--- a line for each item, from 1; or the first refusal, that of the runs being the last
-pub data IsJudgeOutput (input text : List ℕ) (status : Status) : Type 0 where
-  judged : (m : Source) (trees : List Form) (runs : List Run) (js : List Judged) → Holds input m trees
-      → runs_of m (items_of trees) ≡ Ok runs → AreJudged m runs js →
-      text ≡ item_lines 1 js → status ≡ status_of js → IsJudgeOutput input text status
-  run_refused : (m : Source) (trees : List Form) (fault : RunFault) → Holds input m trees
-      → runs_of m (items_of trees) ≡ Err fault →
-      text ≡ run_line fault → status ≡ Refused → IsJudgeOutput input text status
-  refused : (refusal : Refusal) → IsRefusal input refusal → text ≡ refusal_line refusal → status ≡ Refused
-      → IsJudgeOutput input text status
+-- ---- what is written of an input whose items are judged
+
+-- the first refusal: that of the model, or else that of the first refused item
+pub data IsFirstRefusal (input text : List ℕ) (status : Status) : Type 0 where
+  of_model : (refusal : Refusal) → IsRefusal input refusal → text ≡ refusal_line refusal → status ≡ Refused
+      → IsFirstRefusal input text status
+  of_item : (m : Source) (trees : List Form) (fault : RunFault) → Holds input m trees
+      → runs_of m (items_of trees) ≡ Err fault
+      → text ≡ run_line fault → status ≡ Refused → IsFirstRefusal input text status
+
+-- what is said of the judgements on all items; or the first refusal
+pub data IsOutput (OfJudged : List Judged → List ℕ → Status → Type 0) (input text : List ℕ) (status : Status)
+    : Type 0 where
+  judged : (m : Source) (runs : List Run) (js : List Judged) → HoldsRuns input m runs → AreJudged m runs js
+      → OfJudged js text status → IsOutput OfJudged input text status
+  refused : IsFirstRefusal input text status → IsOutput OfJudged input text status
+
+-- ---- `pst judge`
+
+-- a line for each item, from 1, with the status of the judgements
+abbrev pub AreItemLines : List Judged → List ℕ → Status → Type 0
+AreItemLines js text status = (text ≡ item_lines 1 js) × (status ≡ status_of js)
+
+abbrev pub IsJudgeOutput : List ℕ → List ℕ → Status → Type 0
+IsJudgeOutput input text status = IsOutput AreItemLines input text status

@@ -5,18 +5,14 @@ ghost use Rattle.pst_cli.specs.Output.{AreJudged};
 ghost use Rattle.pst_cli.specs.Sending.{Prints};
 ghost use Rattle.pst_runs.specs.Lawful.{AreLawful};
 
-use crate::compiled::load_compiled;
-use crate::judge::{refused_run, runs_in, status_of};
+use crate::judge::status_of;
+use crate::judged::{JudgedFile, judged_file};
 use crate::output::{Output, send};
-use crate::refusal::refusal_output;
-use crate::sharing::may_share_compiled;
 use crate::status::Status;
 use pst_case::Run;
 use pst_compile::Compiled;
 use pst_explain::{explain_item, first_places};
 use pst_judge::Judged;
-use pst_load::items_of;
-use pst_rejudge::rejudge;
 use pst_sink::Sink;
 use pst_sources::SourceFile;
 use std::alloc::{AllocError, Global};
@@ -75,31 +71,27 @@ fn explain_output<R: Threads + Sync>(
 ) -> Result<Output, AllocError>
     ensures { IfOk result (λ output. IsExplainOutput input.now output.text.items output.status) }
 {
-    let file = match load_compiled(alloc, input)? {
+    let JudgedFile {
+        compiled,
+        runs,
+        judged,
+    } = match judged_file(rt, alloc, input)? {
         Ok(file) => file,
-        Err(refusal) => return refusal_output(alloc, &refusal),
+        Err(output) => return Ok(output),
     };
-    let items = items_of(file.trees.as_slice());
-    match runs_in(alloc, file.compiled.typed(), items)? {
-        Ok(runs) => {
-            may_share_compiled();
-            let all = rejudge(rt, &file.compiled, alloc, runs.as_slice())?;
-            let places = first_places(alloc, files, input)?;
-            let text = explanations(
-                alloc,
-                &file.compiled,
-                places.get(1..).unwrap_or(&[]),
-                width,
-                runs.as_slice(),
-                all.as_slice(),
-            )?;
-            Ok(Output {
-                text,
-                status: status_of(all.as_slice()),
-            })
-        }
-        Err(fault) => refused_run(alloc, &fault),
-    }
+    let places = first_places(alloc, files, input)?;
+    let text = explanations(
+        alloc,
+        &compiled,
+        places.get(1..).unwrap_or(&[]),
+        width,
+        runs.as_slice(),
+        judged.as_slice(),
+    )?;
+    Ok(Output {
+        text,
+        status: status_of(judged.as_slice()),
+    })
 }
 
 /// Explains the verdicts on the items behind the model that the input begins with: writes for each, in the

@@ -13,18 +13,14 @@ ghost use Rattle.pst_cli.specs.Sending.{Prints};
 ghost use Rattle.pst_cli.specs.declared.status.Status.TheVariants.{Refused};
 ghost use Rattle.pst_runs.specs.Lawful.{AreLawful};
 
-use crate::compiled::load_compiled;
-use crate::judge::{is_good, refused_run, runs_in, status_of};
+use crate::judge::{is_good, status_of};
+use crate::judged::{JudgedFile, judged_file};
 use crate::output::{Output, send};
-use crate::refusal::refusal_output;
-use crate::sharing::may_share_compiled;
 use crate::status::Status;
 use pst_case::Run;
 use pst_compile::Compiled;
 use pst_graph::graph_item;
 use pst_judge::Judged;
-use pst_load::items_of;
-use pst_rejudge::rejudge;
 use pst_sink::Sink;
 use std::alloc::{AllocError, Global};
 use std::thread::Threads;
@@ -125,18 +121,15 @@ fn graph_output<R: Threads + Sync>(
 ) -> Result<Output, AllocError>
     ensures { IfOk result (λ output. IsGraphOutput input.now item output.text.items output.status) }
 {
-    let file = match load_compiled(alloc, input)? {
-        Ok(file) => file,
-        Err(refusal) => return refusal_output(alloc, &refusal),
-    };
-    let items = items_of(file.trees.as_slice());
-    match runs_in(alloc, file.compiled.typed(), items)? {
-        Ok(runs) => {
-            may_share_compiled();
-            let all = rejudge(rt, &file.compiled, alloc, runs.as_slice())?;
-            chosen_graph(alloc, &file.compiled, item, runs.as_slice(), all.as_slice())
-        }
-        Err(fault) => refused_run(alloc, &fault),
+    match judged_file(rt, alloc, input)? {
+        Ok(
+            JudgedFile {
+                compiled,
+                runs,
+                judged,
+            },
+        ) => chosen_graph(alloc, &compiled, item, runs.as_slice(), judged.as_slice()),
+        Err(output) => Ok(output),
     }
 }
 

@@ -1,6 +1,6 @@
 //! The model that an input begins with, and the runs behind it.
 ghost use Rattle.std.specs.Prelude.{◌≡◌, IfOk, IfSome, MatchResult};
-ghost use Rattle.pst_cli.specs.Output.{HoldsRuns, IsJudgeOutput};
+ghost use Rattle.pst_cli.specs.Output.{HoldsRuns, IsFirstRefusal};
 
 use crate::compiled::{CompiledFile, load_compiled};
 use crate::judge::{refused_run, runs_in};
@@ -56,7 +56,7 @@ fn read_at_once<R: Threads + Sync>(
 fn read_in_order(alloc: Global, input: &[u8]) -> Result<Result<ModelAndRuns, Output>, AllocError>
     ensures { IfOk result (λ read. MatchResult read
         (λ file. HoldsRuns input.now file.compiled file.runs.items)
-        (λ output. IsJudgeOutput input.now output.text.items output.status)) }
+        (λ output. IsFirstRefusal input.now output.text.items output.status)) }
 {
     let CompiledFile { compiled, trees } = match load_compiled(alloc, input)? {
         Ok(file) => file,
@@ -76,7 +76,7 @@ pub fn read_items<R: Threads + Sync>(
 ) -> Result<Result<ModelAndRuns, Output>, AllocError>
     ensures { IfOk result (λ read. MatchResult read
         (λ file. HoldsRuns input.now file.compiled file.runs.items)
-        (λ output. IsJudgeOutput input.now output.text.items output.status)) }
+        (λ output. IsFirstRefusal input.now output.text.items output.status)) }
 {
     match read_at_once(rt, alloc, input)? {
         Some(read) => Ok(Ok(read)),

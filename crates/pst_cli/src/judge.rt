@@ -7,14 +7,11 @@ ghost use Rattle.pst_cli.specs.declared.status.Status.TheVariants.{Refused};
 ghost use Rattle.pst_runs.specs.Items.{runs_of};
 ghost use Rattle.pst_runs.specs.Lawful.{AreLawful};
 
-use crate::items::{ModelAndRuns, read_items};
+use crate::judged::{JudgedFile, judged_file};
 use crate::output::{Output, send};
-use crate::sharing::may_share_compiled;
 use crate::status::Status;
 use pst_case::{CaseFaultKind, Run};
-use pst_compile::Compiled;
 use pst_judge::{Judged, Verdict};
-use pst_rejudge::rejudge;
 use pst_rules::Typed;
 use pst_runs::{RunFault, RunFaultKind, read_runs};
 use pst_sexpr::Tree;
@@ -113,17 +110,6 @@ pub fn refused_run(alloc: Global, fault: &RunFault) -> Result<Output, AllocError
     Ok(Output::new(run_line(alloc, fault)?, Status::Refused))
 }
 
-/// A model, the items behind it, and the judgement on each.
-#[derive(Drop)]
-pub struct JudgedFile {
-    /// The model.
-    pub compiled: Compiled,
-    /// The items behind the model.
-    pub runs: Vec<Run>,
-    /// Their judgements, in the same order.
-    pub judged: Vec<Judged>,
-}
-
 /// The lines of the items behind the model, and the items; or the first refusal.
 fn judge_output<R: Threads + Sync>(
     rt: &R,
@@ -134,19 +120,12 @@ fn judge_output<R: Threads + Sync>(
     ensures lawful { IfOk result
         (λ r. IfSome r.1 (λ judged. AreLawful judged.compiled judged.runs.items)) }
 {
-    let ModelAndRuns { compiled, runs } = match read_items(rt, alloc, input)? {
-        Ok(read) => read,
+    let file = match judged_file(rt, alloc, input)? {
+        Ok(file) => file,
         Err(output) => return Ok((output, None)),
     };
-    may_share_compiled();
-    let judged = rejudge(rt, &compiled, alloc, runs.as_slice())?;
-    let text = item_lines(alloc, judged.as_slice())?;
-    let output = Output::new(text, status_of(judged.as_slice()));
-    let file = JudgedFile {
-        compiled,
-        runs,
-        judged,
-    };
+    let text = item_lines(alloc, file.judged.as_slice())?;
+    let output = Output::new(text, status_of(file.judged.as_slice()));
     Ok((output, Some(file)))
 }
 

@@ -1,69 +1,13 @@
-use Rattle.std.proofs.Common.{◌≡◌, List, Ok, Err, sym, ap, ◌∙◌, subst}
-use Rattle.pst_case.specs.declared.history.Run.{Run}
-use Rattle.pst_cli.proofs.Judging.{may_be_judged, are_judged}
-use Rattle.pst_cli.proofs.Reporting.{if_ok_both}
-use Rattle.pst_judge.specs.declared.judgement.Judged.{Judged}
-use Rattle.pst_cli.specs.ExplainOutput.{IsExplainOutput, explained, run_refused, refused}
-use Rattle.pst_cli.specs.Head.{refusal_line}
-use Rattle.pst_cli.specs.Output.{AreJudged, status_of, run_line}
-use Rattle.pst_cli.specs.declared.output.Output.{Output}
-use Rattle.pst_cli.specs.declared.status.Status.TheVariants.{Refused}
-use Rattle.pst_load.specs.Loading.{items_of}
-use Rattle.pst_runs.specs.Items.{runs_of}
-use Rattle.pst_runs.specs.Lawful.{AreLawful}
+use Rattle.std.proofs.Common.{ap, ◌∙◌}
+use Rattle.pst_cli.specs.Output.{judged, refused, status_of}
 use Rattle.pst_cli.proofs.explain.explain_output.Goals as goal
 
 pub returns-in-Err : goal.returns-in-Err
-returns-in-Err g c =
-    let HasText : Output → Type 0 = λ o. o.text.items ≡ refusal_line c.in-Err.refusal in
-    let IsRefused : Output → Type 0 = λ o. o.status ≡ Refused in
-    let IsSo : Output → Type 0 = λ o. IsExplainOutput c.args.input.now o.text.items o.status in
-    if_ok_both HasText IsRefused IsSo (λ o t s. refused c.in-Err.refusal (rw c.in-Err.is at c.in_ok-file.ensures) t s)
-    c.refusal_output.result c.refusal_output.ensures.text c.refusal_output.ensures.status
-
-pub rejudge-requires-after_bounds : goal.rejudge-requires-after_bounds
-rejudge-requires-after_bounds g c κs within =
-    let OfRuns : List Run → Type 0 = λ rs. AreLawful c.in-Ok.file.compiled rs in
-    may_be_judged c.in-Ok.file.compiled _
-    (subst OfRuns (sym c.as_slice-in-Ok-2.ensures.value)
-    (rw (c.typed.ensures, c.in-Ok-2.is) at c.in_ok-runs.ensures.lawful))
-
-pub explanations-requires-clause-lawful : goal.explanations-requires-clause-lawful
-explanations-requires-clause-lawful g c =
-    let OfRuns : List Run → Type 0 = λ rs. AreLawful c.in-Ok.file.compiled rs in
-    subst OfRuns (sym c.as_slice-in-Ok-2-2.ensures.value)
-    (rw (c.typed.ensures, c.in-Ok-2.is) at c.in_ok-runs.ensures.lawful)
-
-pub explanations-requires-clause-judged : goal.explanations-requires-clause-judged
-explanations-requires-clause-judged g c =
-    let m = c.in-Ok.file.compiled in
-    let all = c.in_ok-all-in-Ok-2.all.items in
-    let OfRuns : List Run → Type 0 = λ rs. AreJudged m rs all in
-    let OfAll : List Judged → Type 0 = λ js. AreJudged m c.as_slice-in-Ok-2-2.result.now js in
-    let those : AreJudged m c.in-Ok-2.runs.items all = subst OfRuns c.as_slice-in-Ok-2.ensures.value (are_judged m _ all c.in_ok-all-in-Ok-2.ensures) in
-    subst OfAll (sym c.as_slice-in-Ok-2-3.ensures.value) (subst OfRuns (sym c.as_slice-in-Ok-2-2.ensures.value) those)
-
-pub returns-in-Ok-2 : goal.returns-in-Ok-2
-returns-in-Ok-2 g c =
-    let m = c.in-Ok.file.compiled in
-    let trees = c.in-Ok.file.trees.items in
-    let runs = c.in-Ok-2.runs.items in
-    let all = c.in_ok-all-in-Ok-2.all.items in
-    let items : items_of trees ≡ c.items_of-items.result.now = ap items_of (sym c.as_slice.ensures.value) ∙ sym c.items_of-items.ensures in
-    let read : runs_of m c.items_of-items.result.now ≡ Ok runs = rw (c.typed.ensures, c.in-Ok-2.is) at c.in_ok-runs.ensures.runs in
-    let OfRuns : List Run → Type 0 = λ rs. AreJudged m rs all in
-    explained m trees runs all (rw c.in-Ok.is at c.in_ok-file.ensures) (ap (runs_of m) items ∙ read)
-    (subst OfRuns c.as_slice-in-Ok-2.ensures.value (are_judged m _ all c.in_ok-all-in-Ok-2.ensures))
-    (c.status_of.ensures ∙ ap status_of c.as_slice-in-Ok-2-4.ensures.value)
+returns-in-Err g c = refused (rw c.in-Err.is at c.in_ok-file.ensures.items)
 
 pub returns : goal.returns
 returns g c =
-    let m = c.in-Ok.file.compiled in
-    let trees = c.in-Ok.file.trees.items in
-    let items : items_of trees ≡ c.items_of-items.result.now = ap items_of (sym c.as_slice.ensures.value) ∙ sym c.items_of-items.ensures in
-    let read : runs_of m c.items_of-items.result.now ≡ Err c.in-Err-2.fault = rw (c.typed.ensures, c.in-Err-2.is) at c.in_ok-runs.ensures.runs in
-    let HasText : Output → Type 0 = λ o. o.text.items ≡ run_line c.in-Err-2.fault in
-    let IsRefused : Output → Type 0 = λ o. o.status ≡ Refused in
-    let IsSo : Output → Type 0 = λ o. IsExplainOutput c.args.input.now o.text.items o.status in
-    if_ok_both HasText IsRefused IsSo (λ o t s. run_refused m trees c.in-Err-2.fault (rw c.in-Ok.is at c.in_ok-file.ensures) (ap (runs_of m) items ∙ read) t s)
-    c.refused_run.result c.refused_run.ensures.text c.refused_run.ensures.status
+    let file = c.in-Ok.file in
+    let read = c.in_ok-file.ensures in
+    judged file.compiled file.runs.items file.judged.items (rw c.in-Ok.is at read.items) (rw c.in-Ok.is at read.judged)
+    (c.status_of.ensures ∙ ap status_of c.as_slice-3.ensures.value)

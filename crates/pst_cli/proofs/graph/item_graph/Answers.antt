@@ -1,8 +1,7 @@
-use Rattle.std.proofs.Common.{◌≡◌, ◌<◌, ◌≤◌, ◌-◌, length, get_or, sym, subst, arith}
+use Rattle.std.proofs.Common.{◌≡◌, ◌≤◌, ◌-◌, length, get_or, sym, subst, arith}
 use Rattle.pst_case.specs.declared.history.Run.{Run}
 use Rattle.pst_cli.proofs.Graphs.{same_length, judged_at}
 use Rattle.pst_cli.proofs.Judging.{lawful_here, history_matches}
-use Rattle.pst_cli.specs.GraphOutput.{IsItem}
 use Rattle.pst_judge.specs.Judgement.{IsJudgement}
 use Rattle.pst_judge.specs.declared.judgement.Judged.{Judged}
 use Rattle.pst_cli.proofs.graph.item_graph.Goals as goal
