@@ -28,7 +28,8 @@ module _ {S F : Type 0} (turn : S → ℕ → ℕ → Turn S F) (rest : S → En
 module _ {S F : Type 0} (turn : S → ℕ → ℕ → Turn S F) (rest : S → Ending F) (lengths : List ℕ) where
   -- all words behind each position at which so many commands are done are all true
   abbrev pub AreAllTrue : ℕ → List (Position S) → Type 0
-  AreAllTrue depth keys = EachFrom depth (λ k. AreTrue turn rest k.done k.state (Completes lengths k.done)) keys
+  AreAllTrue depth keys =
+      EachFrom depth (λ k. AreTrue turn rest k.done k.state (Completes lengths k.done)) keys
 
   -- The search is where it was, the words of W are all true, and so are those behind the remembered positions
   -- where so many commands are done. A position is remembered before the words behind it are searched.
