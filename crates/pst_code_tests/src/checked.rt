@@ -1,7 +1,7 @@
 //! Which code is admitted.
 
 use crate::functions::{
-    applies_itself, constant_map, jump_to_itself, kept_keys, last_put, sum, unwritten,
+    applies_itself, constant_map, identity, jump_to_itself, kept_keys, last_put, sum, unwritten,
 };
 use pst_items::Items;
 use pst_machine::{Code, FunCode, Instr};
@@ -47,6 +47,7 @@ fn lawful_code_keeps_its_functions(rt: HostRuntime) -> Result<(), Fail> {
         _ => assert!(rt; false),
     }
     assert!(rt; Code::check(unwritten(alloc)?).is_ok());
+    assert!(rt; Code::check(identity(alloc)?).is_ok());
     assert!(rt; Code::check(Items::new(alloc)).is_ok());
     Ok(())
 }

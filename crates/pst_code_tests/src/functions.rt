@@ -36,6 +36,11 @@ pub fn sum(alloc: Global) -> Result<Items<FunCode>, AllocError> {
     one_function(alloc, 1, 4, body)
 }
 
+/// The only argument, in the only register.
+pub fn identity(alloc: Global) -> Result<Items<FunCode>, AllocError> {
+    one_function(alloc, 1, 1, [Instr::Return(0)])
+}
+
 /// The items of a list, by `append` in a loop.
 pub fn copied_list(alloc: Global) -> Result<Items<FunCode>, AllocError> {
     let body = [
