@@ -31,24 +31,24 @@ fn a_function_that_applies_itself_is_refused(rt: HostRuntime) -> Result<(), Fail
     Ok(())
 }
 
+/// The arguments, the registers and the instructions of the only function, where the code is lawful.
+fn sizes(functions: Items<FunCode>) -> Option<(u32, u32, usize)> {
+    let code = Code::check(functions).ok()?;
+    match code.functions() {
+        [function] => Some((function.args, function.registers, function.body.len())),
+        _ => None,
+    }
+}
+
 #[test]
 fn lawful_code_keeps_its_functions(rt: HostRuntime) -> Result<(), Fail> {
     let alloc = rt.alloc();
-    let Ok(code) = Code::check(sum(alloc)?) else {
-        assert!(rt; false);
-        return Ok(());
-    };
-    match code.functions() {
-        [function] => {
-            assert_eq!(rt; function.args, 1);
-            assert_eq!(rt; function.registers, 4);
-            assert_eq!(rt; function.body.len(), 6);
-        }
-        _ => assert!(rt; false),
-    }
-    assert!(rt; Code::check(unwritten(alloc)?).is_ok());
-    assert!(rt; Code::check(identity(alloc)?).is_ok());
-    assert!(rt; Code::check(Items::new(alloc)).is_ok());
+    let of_sum = sizes(sum(alloc)?);
+    let of_unwritten = sizes(unwritten(alloc)?);
+    let of_identity = sizes(identity(alloc)?);
+    let is_lawful = Code::check(Items::new(alloc)).is_ok();
+    assert!(rt; (of_sum, of_unwritten) == (Some((1, 4, 6)), Some((0, 1, 1))));
+    assert!(rt; of_identity == Some((1, 1, 1)) && is_lawful);
     Ok(())
 }
 

@@ -3,7 +3,7 @@
 use crate::functions::{copied_list, division, kept_keys, last_put, missing_key, sum, unwritten};
 use pst_items::Items;
 use pst_machine::{Code, FunCode, Outcome};
-use pst_value::{Fault, Value};
+use pst_value::Value;
 use std::alloc::{AllocError, Global};
 use std::test::Fail;
 
@@ -34,122 +34,118 @@ fn list_argument(alloc: Global, items: &[i64]) -> Result<Items<Value>, AllocErro
     Ok(args)
 }
 
-/// Whether the run has the integer, with so many turns left.
-fn is_integer(outcome: Option<Outcome>, number: i64, left: u32) -> bool {
-    match outcome {
-        Some(Outcome::Value(Value::Int(n), turns)) => n == number && turns == left,
-        _ => false,
+/// The first function's outcome on integers in a list, as it is shown; `refused` where the code is.
+fn shown_on_list(
+    alloc: Global,
+    functions: Items<FunCode>,
+    items: &[i64],
+    turns: u32,
+) -> Result<String, AllocError> {
+    match outcome_of(alloc, functions, list_argument(alloc, items)?, turns)? {
+        Some(outcome) => format!(in alloc; "{outcome:?}"),
+        None => String::from_str(alloc, "refused"),
+    }
+}
+
+/// The first function's outcome without arguments or turns, as it is shown; `refused` where the code is.
+fn shown_alone(alloc: Global, functions: Items<FunCode>) -> Result<String, AllocError> {
+    match outcome_of(alloc, functions, Items::new(alloc), 0)? {
+        Some(outcome) => format!(in alloc; "{outcome:?}"),
+        None => String::from_str(alloc, "refused"),
     }
 }
 
 #[test]
 fn the_sum_of_three_takes_three_turns(rt: HostRuntime) -> Result<(), Fail> {
     let alloc = rt.alloc();
-    let outcome = outcome_of(alloc, sum(alloc)?, list_argument(alloc, &[4, 5, 6])?, 3)?;
-    assert!(rt; is_integer(outcome, 15, 0));
+    let shown = shown_on_list(alloc, sum(alloc)?, &[4, 5, 6], 3)?;
+    assert_eq!(rt; shown.as_str(), "Value(Int(15), 0)");
     Ok(())
 }
 
 #[test]
 fn two_turns_are_too_few_for_it(rt: HostRuntime) -> Result<(), Fail> {
     let alloc = rt.alloc();
-    let outcome = outcome_of(alloc, sum(alloc)?, list_argument(alloc, &[4, 5, 6])?, 2)?;
-    assert!(rt; matches!(&outcome, Some(Outcome::Fault(Fault::Turns))));
+    let shown = shown_on_list(alloc, sum(alloc)?, &[4, 5, 6], 2)?;
+    assert_eq!(rt; shown.as_str(), "Fault(Turns)");
     Ok(())
 }
 
 #[test]
 fn an_operator_faults(rt: HostRuntime) -> Result<(), Fail> {
-    let alloc = rt.alloc();
-    let outcome = outcome_of(alloc, division(alloc)?, Items::new(alloc), 0)?;
-    assert!(rt; matches!(&outcome, Some(Outcome::Fault(Fault::DivZero))));
+    let shown = shown_alone(rt.alloc(), division(rt.alloc())?)?;
+    assert_eq!(rt; shown.as_str(), "Fault(DivZero)");
     Ok(())
 }
 
 #[test]
 fn a_register_with_no_value_is_stuck(rt: HostRuntime) -> Result<(), Fail> {
-    let alloc = rt.alloc();
-    let outcome = outcome_of(alloc, unwritten(alloc)?, Items::new(alloc), 0)?;
-    assert!(rt; matches!(&outcome, Some(Outcome::Stuck)));
+    let shown = shown_alone(rt.alloc(), unwritten(rt.alloc())?)?;
+    assert_eq!(rt; shown.as_str(), "Stuck");
     Ok(())
 }
 
 #[test]
 fn another_count_of_arguments_is_stuck(rt: HostRuntime) -> Result<(), Fail> {
-    let alloc = rt.alloc();
-    let outcome = outcome_of(alloc, sum(alloc)?, Items::new(alloc), 3)?;
-    assert!(rt; matches!(&outcome, Some(Outcome::Stuck)));
+    let shown = shown_alone(rt.alloc(), sum(rt.alloc())?)?;
+    assert_eq!(rt; shown.as_str(), "Stuck");
     Ok(())
 }
 
 #[test]
 fn appending_keeps_the_order(rt: HostRuntime) -> Result<(), Fail> {
     let alloc = rt.alloc();
-    let list = list_argument(alloc, &[4, 5, 6])?;
-    let outcome = outcome_of(alloc, copied_list(alloc)?, list, 3)?;
-    match outcome {
-        Some(Outcome::Value(value, left)) => {
-            let wanted = list_argument(alloc, &[4, 5, 6])?;
-            assert!(rt; wanted.as_slice().first() == Some(&value));
-            assert_eq!(rt; left, 0);
-        }
-        _ => assert!(rt; false),
-    }
+    let shown = shown_on_list(alloc, copied_list(alloc)?, &[4, 5, 6], 3)?;
+    let wanted = "Value(List(Items { items: [Int(4), Int(5), Int(6)] }), 0)";
+    assert_eq!(rt; shown.as_str(), wanted);
     Ok(())
 }
 
 #[test]
 fn a_long_list_is_summed(rt: HostRuntime) -> Result<(), Fail> {
     let alloc = rt.alloc();
-    let list = list_argument(alloc, &[1; 60000])?;
-    let outcome = outcome_of(alloc, sum(alloc)?, list, 100000)?;
-    assert!(rt; is_integer(outcome, 60000, 40000));
+    let shown = shown_on_list(alloc, sum(alloc)?, &[1; 60000], 100000)?;
+    assert_eq!(rt; shown.as_str(), "Value(Int(60000), 40000)");
     Ok(())
 }
 
-/// Whether the run has a list of so many items, with so many turns left.
-fn is_list(outcome: &Option<Outcome>, length: usize, left: u32) -> bool {
+/// How many items a list has that is the outcome, and how many turns are left.
+fn length_of(outcome: &Option<Outcome>) -> Option<(usize, u32)> {
     match outcome {
-        Some(Outcome::Value(Value::List(items), turns)) => items.len() == length && *turns == left,
-        _ => false,
+        Some(Outcome::Value(Value::List(items), turns)) => Some((items.len(), *turns)),
+        _ => None,
     }
 }
 
 #[test]
 fn a_long_list_is_appended(rt: HostRuntime) -> Result<(), Fail> {
     let alloc = rt.alloc();
-    let list = list_argument(alloc, &[1; 60000])?;
-    let outcome = outcome_of(alloc, copied_list(alloc)?, list, 100000)?;
-    assert!(rt; is_list(&outcome, 60000, 40000));
+    let ones = list_argument(alloc, &[1; 60000])?;
+    let outcome = outcome_of(alloc, copied_list(alloc)?, ones, 100000)?;
+    assert!(rt; length_of(&outcome) == Some((60000, 40000)));
     Ok(())
 }
 
 #[test]
 fn the_keys_of_a_map_rise(rt: HostRuntime) -> Result<(), Fail> {
-    let alloc = rt.alloc();
-    let outcome = outcome_of(alloc, kept_keys(alloc)?, Items::new(alloc), 0)?;
-    match outcome {
-        Some(Outcome::Value(value, _)) => {
-            let wanted = list_argument(alloc, &[3, 5])?;
-            assert!(rt; wanted.as_slice().first() == Some(&value));
-        }
-        _ => assert!(rt; false),
-    }
+    let shown = shown_alone(rt.alloc(), kept_keys(rt.alloc())?)?;
+    assert_eq!(rt;
+        shown.as_str(),
+        "Value(List(Items { items: [Int(3), Int(5)] }), 0)"
+    );
     Ok(())
 }
 
 #[test]
 fn a_key_has_what_was_put_there_last(rt: HostRuntime) -> Result<(), Fail> {
-    let alloc = rt.alloc();
-    let outcome = outcome_of(alloc, last_put(alloc)?, Items::new(alloc), 0)?;
-    assert!(rt; is_integer(outcome, 8, 0));
+    let shown = shown_alone(rt.alloc(), last_put(rt.alloc())?)?;
+    assert_eq!(rt; shown.as_str(), "Value(Int(8), 0)");
     Ok(())
 }
 
 #[test]
 fn a_key_that_is_missing_faults(rt: HostRuntime) -> Result<(), Fail> {
-    let alloc = rt.alloc();
-    let outcome = outcome_of(alloc, missing_key(alloc)?, Items::new(alloc), 0)?;
-    assert!(rt; matches!(&outcome, Some(Outcome::Fault(Fault::Missing))));
+    let shown = shown_alone(rt.alloc(), missing_key(rt.alloc())?)?;
+    assert_eq!(rt; shown.as_str(), "Fault(Missing)");
     Ok(())
 }
