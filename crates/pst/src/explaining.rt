@@ -14,30 +14,47 @@ use std::thread::Threads;
 /// The width of lines where none is given.
 const WIDTH: usize = 80;
 
-/// `explain`, with files, the width of lines, and the item that is drawn.
-pub fn command<'a>(alloc: Global) -> Result<Command<'a>, AllocError> {
-    let width = Arg::new(alloc, "width")
+/// The option that gives the width of lines.
+fn width_option<'a>(alloc: Global) -> Arg<'a> {
+    Arg::new(alloc, "width")
         .long("width")
         .value_name("N")
         .value_parser(ValueParser::Unsigned(20, 1_000))
         .default_value("80")
-        .help("the width of lines");
-    let dot = Arg::new(alloc, "dot")
+        .help("the width of lines")
+}
+
+/// The option that asks for a graph.
+fn dot_option<'a>(alloc: Global) -> Arg<'a> {
+    Arg::new(alloc, "dot")
         .long("dot")
         .action(ArgAction::SetTrue)
-        .help("writes the search of one item as a graph for Graphviz, and no explanations");
-    let item = Arg::new(alloc, "item")
+        .help("writes the search of one item as a graph for Graphviz, and no explanations")
+}
+
+/// The option that names the item that is drawn.
+fn item_option<'a>(alloc: Global) -> Result<Arg<'a>, AllocError> {
+    Arg::new(alloc, "item")
         .long("item")
         .value_name("N")
         .value_parser(ValueParser::Unsigned(1, MAX_BYTES as u64))
         .help("with --dot, the item that is drawn; without it the first that is not explained")
-        .requires_arg("dot")?;
+        .requires_arg("dot")
+}
+
+/// `explain`, with files and the width of lines.
+fn with_files<'a>(alloc: Global) -> Result<Command<'a>, AllocError> {
     Command::new(alloc, "explain")
         .about("explains the verdicts on the cases and recorded runs behind a model")
         .arg(crate::words::files(alloc))?
-        .arg(width)?
-        .arg(dot)?
-        .arg(item)
+        .arg(width_option(alloc))
+}
+
+/// `explain`, with files, the width of lines, and the item that is drawn.
+pub fn command<'a>(alloc: Global) -> Result<Command<'a>, AllocError> {
+    with_files(alloc)?
+        .arg(dot_option(alloc))?
+        .arg(item_option(alloc)?)
 }
 
 /// The width of lines that the words ask for.

@@ -11,6 +11,7 @@ mod least;
 mod overheard;
 mod progress;
 mod refused;
+mod sample;
 mod warned;
 mod words;
 
@@ -23,11 +24,11 @@ use pst_cli::{
     Absence, KnownSystem, Status, campaign_text, check_text, list_text, refuse_text, run_text,
 };
 use pst_misfits::{Misfits, Overheard};
-use pst_samples::{Counter, Meet, Queue, Racy, Registry, Stuck};
 use pst_sink::{Out, Sink, put_all};
-use pst_sources::joined;
+use pst_sources::{Input, joined};
 use pst_system::BoxedSystem;
 use pst_trial::Settings;
+use sample::Sample;
 use std::alloc::{AllocError, Global};
 use std::io::IsTerminal;
 use std::process::ExitCode;
@@ -180,6 +181,62 @@ fn with_systems<W: Sink, R: Threads + Wait + Sync + Eprint + Clock + AllocGlobal
     }
 }
 
+/// Does what the words say of an input, on standard output.
+fn answer<W: Sink, R: Threads + Wait + Sync + Eprint + Clock + AllocGlobal>(
+    rt: &R,
+    matches: &ArgMatches<'_>,
+    systems: Systems,
+    misfits: Option<&Misfits>,
+    is_terminal: bool,
+    input: Input<'_>,
+    out: &mut W,
+) -> Status
+    requires { W.broken out.old ≡ false }
+{
+    let Some((word, words)) = matches.subcommand() else {
+        return Status::Refused;
+    };
+    let alloc = rt.alloc();
+    let Input { files, bytes } = input;
+    match word {
+        "check" => check_text(alloc, bytes, out),
+        "list" => list_text(alloc, bytes, out),
+        "judge" => judge(rt, alloc, words, files, bytes, out),
+        "explain" => explaining::explain(rt, alloc, words, files, bytes, out),
+        _ => with_systems(rt, matches, systems, misfits, is_terminal, bytes, out),
+    }
+}
+
+/// Writes messages beside refusals, and warnings beside a model that `check` accepts, to standard error, unless the words
+/// forbid it.
+fn say<R: Eprint + AllocGlobal>(
+    rt: &R,
+    matches: &ArgMatches<'_>,
+    status: Status,
+    input: Input<'_>,
+) {
+    let Some((word, words)) = matches.subcommand() else {
+        return;
+    };
+    if words.get_flag("quiet") {
+        return;
+    }
+    let Input { files, bytes } = input;
+    match status {
+        Status::Refused => refused::report(rt, word, words.get_flag("keep-going"), files, bytes),
+        Status::Accepted if word == "check" => warned::report(rt, files, bytes),
+        _ => {}
+    }
+}
+
+/// The names of the files that the words give.
+fn names<'a>(matches: &'a ArgMatches<'_>) -> &'a [&'a str] {
+    match matches.subcommand() {
+        Some((_, words)) => words.get_strs("FILE").unwrap_or(&[]),
+        None => &[],
+    }
+}
+
 /// Does what the words say, on standard output. Beside each refusal a message stands on standard error, and beside a
 /// model that is accepted by `check`, and behind the lines of `judge`, warnings may stand there, unless the words forbid it.
 fn run<R: Runtime + AllocGlobal + Threads + Wait + Sync>(
@@ -189,35 +246,20 @@ fn run<R: Runtime + AllocGlobal + Threads + Wait + Sync>(
     misfits: Option<&Misfits>,
     is_terminal: bool,
 ) -> Status {
-    let Some((word, words)) = matches.subcommand() else {
-        return Status::Refused;
-    };
-    let alloc = rt.alloc();
     let mut out = Out::new(io::writer(rt));
-    let files = match input::files(rt, words.get_strs("FILE").unwrap_or(&[])) {
+    let files = match input::files(rt, names(matches)) {
         Ok(files) => files,
         Err(why) => return refuse_text(why, &mut out),
     };
-    let Ok(text) = joined(alloc, files.as_slice()) else {
+    let Ok(text) = joined(rt.alloc(), files.as_slice()) else {
         return refuse_text(Absence::NoMemory, &mut out);
     };
-    let input = text.as_slice();
-    let status = match word {
-        "check" => check_text(alloc, input, &mut out),
-        "list" => list_text(alloc, input, &mut out),
-        "judge" => judge(rt, alloc, words, files.as_slice(), input, &mut out),
-        "explain" => explaining::explain(rt, alloc, words, files.as_slice(), input, &mut out),
-        _ => with_systems(rt, matches, systems, misfits, is_terminal, input, &mut out),
+    let input = Input {
+        files: files.as_slice(),
+        bytes: text.as_slice(),
     };
-    if words.get_flag("quiet") {
-        return status;
-    }
-    let files = files.as_slice();
-    match status {
-        Status::Refused => refused::report(rt, word, words.get_flag("keep-going"), files, input),
-        Status::Accepted if word == "check" => warned::report(rt, files, input),
-        _ => {}
-    }
+    let status = answer(rt, matches, systems, misfits, is_terminal, input, &mut out);
+    say(rt, matches, status, input);
     status
 }
 
@@ -266,16 +308,6 @@ fn explain<R: Runtime>(rt: &R, error: &clap::Error) -> Status {
     }
 }
 
-/// A system in a box, whose misfits are kept if any are.
-macro_rules! boxed {
-    ($alloc:expr, $misfits:expr, $system:expr) => {
-        match Box::new($alloc, Overheard::new($system, overheard::another(&$misfits))) {
-            Ok(system) => Ok(system),
-            Err(_) => Err(AllocError),
-        }
-    };
-}
-
 fn main(rt: HostRuntime) -> ExitCode {
     let alloc = rt.alloc();
     let started = match started_with(&rt) {
@@ -294,13 +326,11 @@ fn main(rt: HostRuntime) -> ExitCode {
     let mut systems: Systems = Ok(Vec::new(alloc));
     if let Some((known, count)) = wanted(&matches) {
         for _ in 0..count {
-            let system: Result<BoxedSystem, AllocError> = match known {
-                KnownSystem::Counter => boxed!(alloc, misfits, Counter::new(rt)),
-                KnownSystem::Racy => boxed!(alloc, misfits, Racy::new()),
-                KnownSystem::Stuck => boxed!(alloc, misfits, Stuck),
-                KnownSystem::Registry => boxed!(alloc, misfits, Registry::new(rt, alloc)),
-                KnownSystem::Queue => boxed!(alloc, misfits, Queue::new(rt, alloc)),
-                KnownSystem::Meet => boxed!(alloc, misfits, Meet::new()),
+            let sample = Sample::new(known, rt, alloc);
+            let overheard = Overheard::new(sample, overheard::another(&misfits));
+            let system: Result<BoxedSystem, AllocError> = match Box::new(alloc, overheard) {
+                Ok(system) => Ok(system),
+                Err(_) => Err(AllocError),
             };
             systems = and_one(systems, system);
         }

@@ -37,16 +37,34 @@ fn with_file<'a>(alloc: Global, name: &'a str, about: &'a str) -> Result<Command
         .arg(quiet(alloc))
 }
 
-/// `judge`, with the files of a model and its items.
-fn judge_command<'a>(alloc: Global) -> Result<Command<'a>, AllocError> {
-    let keep_going = Arg::new(alloc, "keep-going")
+/// `check`, with the file of a model.
+fn check_command<'a>(alloc: Global) -> Result<Command<'a>, AllocError> {
+    with_file(alloc, "check", "checks a model: `ok NAME`, or the refusal")
+}
+
+/// `list`, with the file of a model.
+fn list_command<'a>(alloc: Global) -> Result<Command<'a>, AllocError> {
+    with_file(
+        alloc,
+        "list",
+        "lists the code of a model: a line for each instruction, or the refusal",
+    )
+}
+
+/// The option that judges the items behind a refused one.
+fn keep_going<'a>(alloc: Global) -> Arg<'a> {
+    Arg::new(alloc, "keep-going")
         .long("keep-going")
         .action(ArgAction::SetTrue)
-        .help("judges the items behind one that is refused too");
+        .help("judges the items behind one that is refused too")
+}
+
+/// `judge`, with the files of a model and its items.
+fn judge_command<'a>(alloc: Global) -> Result<Command<'a>, AllocError> {
     Command::new(alloc, "judge")
         .about("judges the cases and recorded runs behind a model: a line for each")
         .arg(files(alloc))?
-        .arg(keep_going)?
+        .arg(keep_going(alloc))?
         .arg(quiet(alloc))
 }
 
@@ -162,28 +180,37 @@ fn campaign_command<'a>(alloc: Global) -> Result<Command<'a>, AllocError> {
     command.arg(quiet(alloc))
 }
 
+/// Adds the words whose input is a model.
+fn with_models<'a>(alloc: Global, command: Command<'a>) -> Result<Command<'a>, AllocError> {
+    command
+        .subcommand(check_command(alloc)?)?
+        .subcommand(list_command(alloc)?)
+}
+
+/// Adds the words whose input is a model and the items behind it.
+fn with_items<'a>(alloc: Global, command: Command<'a>) -> Result<Command<'a>, AllocError> {
+    command
+        .subcommand(judge_command(alloc)?)?
+        .subcommand(crate::explaining::command(alloc)?)
+}
+
+/// Adds the words that take a system.
+fn with_systems<'a>(alloc: Global, command: Command<'a>) -> Result<Command<'a>, AllocError> {
+    command
+        .subcommand(run_command(alloc)?)?
+        .subcommand(campaign_command(alloc)?)
+}
+
 /// The words that the program takes.
 pub fn command<'a>(alloc: Global) -> Result<Command<'a>, AllocError> {
-    let check = with_file(alloc, "check", "checks a model: `ok NAME`, or the refusal")?;
-    let list = with_file(
-        alloc,
-        "list",
-        "lists the code of a model: a line for each instruction, or the refusal",
-    )?;
-    let judge = judge_command(alloc)?;
-    let run = run_command(alloc)?;
-    let campaign = campaign_command(alloc)?;
-    Command::new(alloc, "pst")
+    let command = Command::new(alloc, "pst")
         .version("0.1.0")
         .about("a tester of systems against models")
         .subcommand_required(true)
-        .arg_required_else_help(true)
-        .subcommand(check)?
-        .subcommand(list)?
-        .subcommand(judge)?
-        .subcommand(crate::explaining::command(alloc)?)?
-        .subcommand(run)?
-        .subcommand(campaign)
+        .arg_required_else_help(true);
+    let command = with_models(alloc, command)?;
+    let command = with_items(alloc, command)?;
+    with_systems(alloc, command)
 }
 
 /// The number of an option.
