@@ -13,9 +13,9 @@ four='(get) (get) (get) (get)'
 
 # The start of the program: a model and no items.
 echo "$counter" > "$room/start"
-# Eight reads beside eight, 12,870 merges, none of which explains the last reply: at most 162 steps.
+# Eight reads beside eight, 12,870 merges, none of which explains the last reply: 136 steps, as a test of `pst_tests` counts.
 { echo "$counter"; echo "(run (prefix) (left $eight) (right $eight) (replies () (0 0 0 0 0 0 0 0) (0 0 0 0 0 0 0 1)))"; } > "$room/eight"
-# Four branches of four reads, 63,063,000 merges, none of which explains the last reply: at most 2,500 steps.
+# Four branches of four reads, 63,063,000 merges, none of which explains the last reply: 1,700 steps.
 { echo "$counter"; echo "(run (prefix) (branches ($four) ($four) ($four) ($four)) (replies () (0 0 0 0) (0 0 0 0) (0 0 0 0) (0 0 0 1)))"; } > "$room/four"
 # 3,000 runs, explained and lost in turn.
 { echo "$counter"; for _ in $(seq 1500); do echo "$explained"; echo "$lost"; done; } > "$room/many"
@@ -52,7 +52,6 @@ mean() {
   awk -v nanoseconds="$((end - begin))" -v runs="$runs" 'BEGIN { printf "%.2f", nanoseconds / runs / 1e6 }'
 }
 
-"$(built pst_bench)" steps
 echo "program's start                         $(mean 200 judge "$room/start") ms"
 echo "eight reads beside eight                $(mean 200 judge "$room/eight") ms"
 echo "four branches of four reads             $(mean 100 judge "$room/four") ms"

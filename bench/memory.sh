@@ -1,11 +1,11 @@
 #!/usr/bin/env bash
-# Refuses each growth of memory in turn: of the calls of the libraries that `pst_bench memory` makes, and of the commands of the program. An answer has to be
+# Refuses each growth of memory in turn: of the calls of the libraries that `pst_hostile_rows CALL` makes, and of the commands of the program. An answer has to be
 # the one with ample memory, or want of memory with status 3: nothing of a call, `refused memory` or an item that is lost of a command. A campaign may also end
 # with numbers lost for want of memory, or of a thread, which needs memory to be started; each other number has the record that it has with ample memory.
 # Prints for each how many growths were refused and how often that was want of memory, and any other answer, with which it ends with status 1. The gate does
 # not run it; it needs a C compiler.
 source "$(dirname "$0")/program.sh"
-benchmarks="$(built pst_bench)"
+calls="$(built pst_hostile_rows)"
 
 # `malloc`, `calloc` and `realloc` that fail the time that REFUSE gives, and then make the file that MARK names.
 cat > "$room/refuse.c" <<'C'
@@ -45,7 +45,7 @@ echo '(model one (state int) (init 0) (command (list call (call inc)))
   (op inc () int (pre true) (next (+ s 1)) (post (= r (+ s 1)))))' > "$room/one"
 
 # Makes one call of the libraries.
-call() { "$benchmarks" memory "$1"; }
+call() { "$calls" "$1"; }
 
 # Whether an answer, with its status, is want of memory, where `wanted` is the one with ample memory.
 call_wants_memory() { [ "$status" = 3 ] && [ -z "$answer" ]; }

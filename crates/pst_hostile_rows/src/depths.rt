@@ -18,13 +18,20 @@ fn model_of(alloc: Global, text: &[u8]) -> Option<Model> {
     read_model(alloc, trees.as_slice()).ok()
 }
 
+/// The bytes that are printed of a model.
+fn printed(alloc: Global, model: &Model) -> Option<Vec<u8>> {
+    let tree = print_model(alloc, model).ok()?;
+    let mut sink = Out::new(Vec::new(alloc));
+    match write(&tree, &mut sink) {
+        Ok(()) => Some(sink.into_inner()),
+        Err(_) => None,
+    }
+}
+
 /// Whether the model that a text begins with is printed so that it is read as the same model, where there is a model.
 fn is_printed(alloc: Global, text: &[u8]) -> Option<bool> {
     let model = model_of(alloc, text)?;
-    let tree = print_model(alloc, &model).ok()?;
-    let mut sink = Out::new(Vec::new(alloc));
-    write(&tree, &mut sink).ok()?;
-    let again = model_of(alloc, sink.into_inner().as_slice())?;
+    let again = model_of(alloc, printed(alloc, &model)?.as_slice())?;
     Some(*again.source() == *model.source())
 }
 

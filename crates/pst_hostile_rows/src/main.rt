@@ -1,5 +1,9 @@
 //! Prints what the commands of the program answer for inputs that nobody writes on purpose, to writers that fail, on
-//! systems that answer what they should not, and at the limits of the language: a test that the gate runs as a program.
+//! systems that answer what they should not, and at the limits of the language; and what calls of the libraries answer.
+//! It is a test that the gate runs as a program.
+//!
+//! With a word it makes the call of that name alone. The status is then 3 where the word cannot be had, the call is
+//! refused memory, or its answer cannot be printed.
 #![tactic(auto)]
 
 mod beginnings;
@@ -9,6 +13,7 @@ mod deep;
 mod depths;
 mod driven;
 mod inputs;
+mod memory;
 mod models;
 mod odd;
 mod reports;
@@ -16,14 +21,38 @@ mod short;
 mod systems;
 mod values;
 
-use std::io;
+use std::env::Env;
+use std::process::ExitCode;
+use std::sync::Wait;
+use std::thread::Threads;
+use std::{env, io};
 
-fn main(rt: HostRuntime) -> io::Result<()> {
-    cuts::print_cuts(&rt)?;
-    inputs::print_inputs(&rt)?;
-    beginnings::print_beginnings(&rt)?;
-    reports::print_report(&rt)?;
-    driven::print_driven(&rt)?;
-    values::print_values(&rt)?;
-    depths::print_depths(&rt)
+/// The words that the program was started with.
+fn started_with<R: Env + AllocGlobal>(rt: &R) -> io::Result<Vec<String>> {
+    Ok(env::args(rt)?.collect(rt.alloc())?)
+}
+
+/// Prints all that is asked without a word.
+fn print_all<R: Threads + Wait + Sync + Print + AllocGlobal>(rt: &R) -> io::Result<()> {
+    cuts::print_cuts(rt)?;
+    inputs::print_inputs(rt)?;
+    beginnings::print_beginnings(rt)?;
+    reports::print_report(rt)?;
+    driven::print_driven(rt)?;
+    values::print_values(rt)?;
+    depths::print_depths(rt)?;
+    memory::print_calls(rt, rt.alloc())
+}
+
+fn main(rt: HostRuntime) -> io::Result<ExitCode> {
+    let Ok(words) = started_with(&rt) else {
+        return Ok(ExitCode::from(3));
+    };
+    if let [_, call] = words.as_slice() {
+        let printed = memory::print_call(&rt, rt.alloc(), call.as_str());
+        let had_memory = matches!(printed, Ok(true));
+        return Ok(ExitCode::from(if had_memory { 0 } else { 3 }));
+    }
+    print_all(&rt)?;
+    Ok(ExitCode::SUCCESS)
 }

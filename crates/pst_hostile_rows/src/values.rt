@@ -3,29 +3,32 @@
 
 use crate::odd::mixed;
 use indexmap::IndexSet;
+use pst_value::Value;
 use rayon::prelude::*;
 use std::alloc::{AllocError, Global};
 use std::thread::Threads;
 use std::{io, thread};
 
+/// Whether two values are equal and written alike, with more bytes than these.
+fn are_alike(alloc: Global, one: &Value, other: &Value, bytes: usize) -> Result<bool, AllocError> {
+    let written = format!(in alloc; "{one:?}")?;
+    let again = format!(in alloc; "{other:?}")?;
+    Ok(one == other && written.as_str() == again.as_str() && written.len() > bytes)
+}
+
+/// Whether a value is found in a set of its copy, where another value is not.
+fn is_found(alloc: Global, value: &Value, other: &Value) -> Result<bool, AllocError> {
+    let mut seen = IndexSet::new(alloc);
+    seen.insert(value.copy(alloc)?)?;
+    Ok(seen.contains(value) && !seen.contains(other))
+}
+
 /// Whether a value of so many levels is copied, compared, hashed, searched, written and dropped, in this thread.
 fn is_kept(alloc: Global, levels: usize) -> Result<bool, AllocError> {
     let value = mixed(alloc, levels)?;
-    let copy = value.copy(alloc)?;
-    let written = format!(in alloc; "{value:?}")?;
-    let again = format!(in alloc; "{copy:?}")?;
-    let is_equal = value == copy && written.as_str() == again.as_str();
-    let plain = value.plain(alloc)?;
-    let mut seen = IndexSet::new(alloc);
-    seen.insert(copy)?;
-    Ok(
-        is_equal
-            && seen.contains(&value)
-            && !seen.contains(&plain)
-            && value.uses(1)
-            && !value.uses(2)
-            && written.len() > levels,
-    )
+    let are_alike = are_alike(alloc, &value, &value.copy(alloc)?, levels)?;
+    let is_found = is_found(alloc, &value, &value.plain(alloc)?)?;
+    Ok(are_alike && is_found && value.uses(1) && !value.uses(2))
 }
 
 /// Whether values of so many levels are kept in threads of their own.

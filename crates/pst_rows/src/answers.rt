@@ -1,5 +1,6 @@
 //! The answers of the libraries for a text, in words.
 
+use crate::cores::core_answer;
 use crate::generated::generate_answer;
 use crate::items::{alone_answer, judge_answer, runs_answer, valid_answer, write_answer};
 use crate::models::{
@@ -45,6 +46,7 @@ fn answer_whole<R: Threads + Sync>(
         Question::Runs => runs_answer(alloc, text),
         Question::Alone => alone_answer(alloc, text),
         Question::Valid => valid_answer(alloc, text),
+        Question::Core => core_answer(alloc, text),
         Question::Judge => judge_answer(rt, alloc, text),
         Question::Write | Question::Generate => Ok(String::new(alloc)),
     }

@@ -1,10 +1,11 @@
 //! The answers about cases and runs.
+ghost use Rattle.std.specs.Prelude.{◌≡◌};
 
 use crate::models::{lines_of, output_answer, text_of, typed_of};
-use pst_case::{Run, shape};
+use pst_case::{Case, Run, shape};
 use pst_cli::judge_text;
 use pst_eval::Plain;
-use pst_judge::{judge_one, valid, verdict};
+use pst_judge::{Valid, judge_one, valid, verdict};
 use pst_load::{items_of, load};
 use pst_rules::Typed;
 use pst_runs::read_runs;
@@ -133,27 +134,41 @@ pub fn write_answer(alloc: Global, model: &str, items: &str) -> Result<String, A
     }
 }
 
-/// Whether the last item of a text is valid, or the reason why it is not. A valid case stays what it was.
-fn validity(alloc: Global, text: &str) -> Option<&'static str> {
-    let file = load(alloc, text.as_bytes()).ok()?.ok()?;
-    let typed = &file.typed;
-    let mut runs = read_runs(alloc, typed, items_of(file.trees.as_slice())).ok()?;
-    let case = runs.pop()?.shaped.into_case();
+/// `valid` where an accepted case is still the wanted one, as its copy is, and else `changed`.
+fn accepted_word(
+    alloc: Global,
+    typed: &Typed,
+    accepted: Valid,
+    wanted: &Case,
+) -> Option<&'static str>
+    requires { accepted.model ≡ typed.now }
+{
+    let copy = accepted.copy(alloc, typed.source()).ok()?;
+    let is_kept = copy.shaped().case() == wanted;
+    let shaped = accepted.into_shaped();
+    Some(if is_kept && shaped.case() == wanted {
+        "valid"
+    } else {
+        "changed"
+    })
+}
+
+/// Whether a case is valid, or the reason why it is not. A valid case stays what it was.
+fn case_validity(alloc: Global, typed: &Typed, case: Case) -> Option<&'static str> {
     let wanted = case.copy(alloc).ok()?;
     let shaped = shape(alloc, typed, case).ok()?;
     match valid(&Plain::new(typed), alloc, shaped) {
-        Ok(accepted) => {
-            let copy = accepted.copy(alloc, typed.source()).ok()?;
-            let is_kept = *copy.shaped().case() == wanted;
-            let shaped = accepted.into_shaped();
-            Some(if is_kept && *shaped.case() == wanted {
-                "valid"
-            } else {
-                "changed"
-            })
-        }
+        Ok(accepted) => accepted_word(alloc, typed, accepted, &wanted),
         Err((_, why)) => Some(why.name()),
     }
+}
+
+/// The same of the last item of a text.
+fn validity(alloc: Global, text: &str) -> Option<&'static str> {
+    let file = load(alloc, text.as_bytes()).ok()?.ok()?;
+    let mut runs = read_runs(alloc, &file.typed, items_of(file.trees.as_slice())).ok()?;
+    let case = runs.pop()?.shaped.into_case();
+    case_validity(alloc, &file.typed, case)
 }
 
 /// Whether the last item of a text is valid, or the reason why it is not.

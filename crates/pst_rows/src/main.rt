@@ -1,12 +1,16 @@
-//! Asks the worked rows: those of the tables in its folder, explanations and graphs, the examples, messages and
-//! warnings, and the reports of campaigns. It is a test that the gate runs as a program, and prints what is wrong with
+//! Asks the worked rows: those of the tables in its folder, random expressions, explanations and graphs, the examples,
+//! messages and warnings, and the reports of campaigns. It is a test that the gate runs as a program, and prints what is wrong with
 //! the rows of the tables, and of all others the text that they have, which the gate compares with the file `stdout`.
 #![tactic(auto)]
 
 mod answers;
 mod campaigns;
+mod cores;
+mod evaluated;
 mod examples;
 mod explained;
+mod expressions;
+mod forms;
 mod generated;
 mod hostile;
 mod items;
@@ -17,6 +21,7 @@ mod messages;
 mod mistakes;
 mod models;
 mod questions;
+mod random;
 mod tables;
 mod texts;
 mod words;
@@ -27,10 +32,12 @@ use explained::print_explained;
 use messages::print_messages;
 use pst_samples::{Counter, Registry};
 use pst_system::BoxedSystem;
+use random::print_random;
 use tables::print_tables;
 
 fn main(rt: HostRuntime) -> anyhow::Result<()> {
     print_tables(&rt)?;
+    print_random(&rt)?;
     print_explained(&rt)?;
     print_examples(&rt)?;
     print_messages(&rt)?;

@@ -26,6 +26,8 @@ pub enum Question {
     Alone,
     /// What `pst judge` answers: its status and its lines, with `, ` between them.
     Judge,
+    /// The numbers of the core of its first run, or the word of its verdict where it has none.
+    Core,
     /// The case that is generated of the model that stands before, and the number of words drawn; or the fault. The text
     /// is `COMMANDS BRANCHES SUFFIX, WORD WORD ..`.
     Generate,
@@ -44,6 +46,7 @@ pub fn question_named(name: &str) -> Option<Question> {
         "write" => Some(Question::Write),
         "valid" => Some(Question::Valid),
         "alone" => Some(Question::Alone),
+        "core" => Some(Question::Core),
         "judge" => Some(Question::Judge),
         "generate" => Some(Question::Generate),
         _ => None,

@@ -14,7 +14,7 @@ use std::thread::Threads;
 use std::{fs, io};
 
 /// The files of tables.
-const TABLES: [&str; 23] = [
+const TABLES: [&str; 24] = [
     "trees.rows",
     "forms.rows",
     "expressions.rows",
@@ -34,6 +34,7 @@ const TABLES: [&str; 23] = [
     "generated.rows",
     "validity.rows",
     "verdicts.rows",
+    "cores.rows",
     "lines.rows",
     "maps.rows",
     "judged_suffixes.rows",

@@ -1,20 +1,25 @@
 //! A `Vec`, a `Box` and a `String` that contracts see as what they hold.
 
 use pst_items::{Boxed, Items, Text};
+use std::alloc::{AllocError, Global};
 use std::test::Fail;
 
-#[test]
-fn items_hold_a_vec(rt: HostRuntime) -> Result<(), Fail> {
-    let alloc = rt.alloc();
+/// What is asked of items on their way from a slice to a `Vec`.
+fn asked_of_items(alloc: Global) -> Result<String, AllocError> {
     let mut items = Items::from_slice(alloc, &[1u8, 2])?;
     items.push(3)?;
     items.set(0, 9);
-    assert_eq!(rt; items.len(), 3);
-    assert!(rt; !items.is_empty());
-    assert_eq!(rt; items.get(0).copied(), Some(9));
-    assert_eq!(rt; items.pop(), Some(3));
+    let seen = (items.len(), items.is_empty(), items.get(0).copied());
+    let last = items.pop();
     items.append(Items::from_slice(alloc, &[4])?)?;
-    assert_eq!(rt; items.into_vec().as_slice(), [9, 2, 4].as_slice());
+    let all = items.into_vec();
+    format!(in alloc; "{seen:?} {last:?} {all:?}")
+}
+
+#[test]
+fn items_hold_a_vec(rt: HostRuntime) -> Result<(), Fail> {
+    let text = asked_of_items(rt.alloc())?;
+    assert_eq!(rt; text.as_str(), "(3, false, Some(9)) Some(3) [9, 2, 4]");
     Ok(())
 }
 
@@ -24,29 +29,37 @@ fn items_compare_by_their_elements(rt: HostRuntime) -> Result<(), Fail> {
     let one = Items::from_slice(alloc, &[1u8, 2])?;
     let same = Items::from_vec(vec![in alloc; 1u8, 2]?);
     let shorter = Items::from_slice(alloc, &[1u8])?;
-    assert!(rt; one == same);
-    assert!(rt; one != shorter);
-    assert!(rt; Items::<u8>::new(alloc) != shorter);
+    let are_equal = (one == same, one == shorter, Items::new(alloc) == shorter);
+    assert!(rt; are_equal == (true, false, false));
     Ok(())
 }
 
 #[test]
-fn boxes_and_texts(rt: HostRuntime) -> Result<(), Fail> {
+fn a_box_holds_its_value(rt: HostRuntime) -> Result<(), Fail> {
     let alloc = rt.alloc();
     let boxed = Boxed::new(alloc, 7u8)?;
-    assert!(rt; boxed == Boxed::from_box(Box::new(alloc, 7u8)?));
-    assert_eq!(rt; *boxed.get(), 7);
-    assert_eq!(rt; boxed.into_inner(), 7);
-    let text = Text::from_string(String::from_str(alloc, "ab")?);
+    let is_same = boxed == Boxed::from_box(Box::new(alloc, 7u8)?);
+    assert!(rt; is_same && *boxed.get() == 7 && boxed.into_inner() == 7);
+    Ok(())
+}
+
+/// What is asked of a text, of a copy of it, and of the same text made byte by byte.
+fn asked_of_text(alloc: Global, text: &Text) -> Result<String, AllocError> {
     let copy = text.copy(alloc)?;
-    assert!(rt; copy == text);
-    assert_eq!(rt; text.len(), 2);
-    assert_eq!(rt; text.as_bytes(), b"ab".as_slice());
-    assert_eq!(rt; copy.into_string().as_str(), "ab");
     let mut pushed = Text::new(alloc);
-    assert!(rt; pushed.is_empty());
+    let was_empty = pushed.is_empty();
     pushed.push(b'a')?;
     pushed.push(b'b')?;
-    assert!(rt; pushed == text);
+    let are_equal = (copy == *text, pushed == *text);
+    let length = text.len();
+    let string = copy.into_string();
+    format!(in alloc; "{was_empty} {are_equal:?} {length} {string}")
+}
+
+#[test]
+fn a_text_holds_its_bytes(rt: HostRuntime) -> Result<(), Fail> {
+    let text = Text::from_string(String::from_str(rt.alloc(), "ab")?);
+    let asked = asked_of_text(rt.alloc(), &text)?;
+    assert_eq!(rt; asked.as_str(), "true (true, true) 2 ab");
     Ok(())
 }

@@ -1,9 +1,12 @@
-//! Tests of the libraries by values that no text spells: copies, collections, interleavings, calls, trees, writers that fail.
+//! Tests of the libraries by values that no text spells: copies, collections, interleavings, calls, trees, writers that fail,
+//! code of the machine, and cases that are shrunk.
 //! What texts can ask stands in the tables of `pst_rows`, and what they should not in `pst_hostile_rows`.
 #![tactic(auto)]
 
 #[cfg(test)]
 mod answers;
+#[cfg(test)]
+mod codes;
 #[cfg(test)]
 mod collections;
 #[cfg(test)]
@@ -16,6 +19,8 @@ mod models;
 mod parts;
 #[cfg(test)]
 mod renumbered;
+#[cfg(test)]
+mod shrunk;
 #[cfg(test)]
 mod trees;
 #[cfg(test)]

@@ -4,6 +4,7 @@ ghost use Rattle.std.specs.Prelude.{Bool, List, ℕ, Option, Some};
 use pst_items::Text;
 use pst_sexpr::{Form, Tree, read, write};
 use pst_sink::{Failed, Out, Sink, put_all, put_each};
+use std::alloc::{AllocError, Global};
 use std::test::Fail;
 
 /// A sink in memory with room for a number of bytes.
@@ -35,6 +36,19 @@ impl Sink for Memory {
     }
 }
 
+/// Whether a tree is written to a sink as far as it has room, and the sink has failed where that is not the whole.
+fn is_written_so_far(alloc: Global, tree: &Tree, written: &[u8], room: usize) -> bool {
+    let mut sink = Memory {
+        bytes: Vec::new(alloc),
+        room,
+        broken: false,
+    };
+    let is_whole = write(tree, &mut sink).is_ok();
+    is_whole == (room >= written.len())
+        && sink.has_failed() == !is_whole
+        && Some(sink.bytes.as_slice()) == written.get(..room)
+}
+
 #[test]
 fn writes_what_it_read(rt: HostRuntime) {
     let text = b" ( a\t\"x\\\"y\\\\\"b() ;note\n c;(\n)";
@@ -42,51 +56,60 @@ fn writes_what_it_read(rt: HostRuntime) {
     let Ok(trees) = read(rt.alloc(), text) else {
         panic!(rt; "no trees");
     };
-    assert_eq!(rt; trees.len(), 1);
+    let [tree] = trees.as_slice() else {
+        panic!(rt; "not one tree");
+    };
     for room in 0..=written.len() {
-        let mut sink = Memory {
-            bytes: Vec::new(rt.alloc()),
-            room,
-            broken: false,
-        };
-        let answer = write(&trees[0], &mut sink);
-        assert_eq!(rt; answer.is_ok(), room == written.len());
-        assert_eq!(rt; sink.has_failed(), room < written.len());
-        assert!(rt; sink.bytes.as_slice() == &written[..room]);
+        assert!(rt; is_written_so_far(rt.alloc(), tree, written, room));
     }
 }
 
+/// What is written of trees, a line end and some bytes behind them, where nothing fails.
+fn written_of(alloc: Global, trees: &[Tree]) -> Option<Vec<u8>> {
+    let mut sink = Out::new(Vec::new(alloc));
+    for tree in trees {
+        if sink.has_failed() {
+            return None;
+        }
+        write(tree, &mut sink).ok()?;
+    }
+    if sink.has_failed() {
+        return None;
+    }
+    put_all(b"\n", &mut sink).ok()?;
+    put_each(&[b"c", b"", b"de"], &mut sink).ok()?;
+    Some(sink.into_inner())
+}
+
 #[test]
-fn writes_to_memory(rt: HostRuntime) -> Result<(), Fail> {
-    let alloc = rt.alloc();
-    let Ok(trees) = read(alloc, b"(a \"b\")") else {
+fn writes_to_memory(rt: HostRuntime) {
+    let Ok(trees) = read(rt.alloc(), b"(a \"b\")") else {
         panic!(rt; "no trees");
     };
-    let mut sink = Out::new(Vec::new(alloc));
-    for tree in &trees {
-        assert!(rt; !sink.has_failed());
-        assert!(rt; write(tree, &mut sink).is_ok());
-    }
-    assert!(rt; !sink.has_failed());
-    assert!(rt; put_all(b"\n", &mut sink).is_ok());
-    assert!(rt; put_each(&[b"c", b"", b"de"], &mut sink).is_ok());
-    assert_eq!(rt; sink.into_inner().as_slice(), b"(a \"b\")\ncde".as_slice());
-    Ok(())
+    let Some(bytes) = written_of(rt.alloc(), trees.as_slice()) else {
+        panic!(rt; "a writer failed");
+    };
+    assert_eq!(rt; bytes.as_slice(), b"(a \"b\")\ncde".as_slice());
+}
+
+/// A node of a word and a text.
+fn word_and_text(alloc: Global) -> Result<Tree, AllocError> {
+    let mut trees = Vec::new(alloc);
+    trees.push(Tree::word(Text::from_string(String::from_str(alloc, "ab")?)))?;
+    trees.push(Tree::text(Text::from_string(String::from_str(alloc, " \"")?)))?;
+    Tree::node(alloc, trees)
 }
 
 #[test]
 fn makes_trees(rt: HostRuntime) -> Result<(), Fail> {
-    let alloc = rt.alloc();
-    let mut trees = Vec::new(alloc);
-    trees.push(Tree::word(Text::from_string(String::from_str(alloc, "ab")?)))?;
-    trees.push(Tree::text(Text::from_string(String::from_str(alloc, " \"")?)))?;
-    let node = Tree::node(alloc, trees)?;
-    let mut sink = Out::new(Vec::new(alloc));
-    assert!(rt; write(&node, &mut sink).is_ok());
-    assert_eq!(rt; sink.into_inner().as_slice(), b"(ab \" \\\"\")".as_slice());
-    match node.into_form() {
-        Form::Node(forms) => assert_eq!(rt; forms.len(), 2),
-        _ => panic!(rt; "no node"),
-    }
+    let node = word_and_text(rt.alloc())?;
+    let mut sink = Out::new(Vec::new(rt.alloc()));
+    let answer = write(&node, &mut sink);
+    let count = match node.into_form() {
+        Form::Node(forms) => forms.len(),
+        _ => 0,
+    };
+    let bytes = sink.into_inner();
+    assert!(rt; answer.is_ok() && count == 2 && bytes.as_slice() == b"(ab \" \\\"\")".as_slice());
     Ok(())
 }

@@ -1,12 +1,16 @@
 //! Writers that fail while cases and runs are written.
-ghost use Rattle.std.specs.Prelude.{Bool, List, ℕ, Option, Some};
+ghost use Rattle.std.specs.Prelude.{Bool, List, ℕ, Option, Some, IfSome};
+ghost use Rattle.pst_runs.specs.Lawful.{AreLawful};
 
 use crate::answers::typed_of;
 use crate::models::COUNTER;
+use pst_case::Run;
+use pst_rules::Typed;
 use pst_runs::read_runs;
 use pst_sexpr::read;
 use pst_sink::{Failed, Sink};
 use pst_write::{WriteFault, write_runs};
+use std::alloc::Global;
 use std::test::Fail;
 
 /// A writer that takes so many bytes, one at a time, and then fails.
@@ -38,33 +42,42 @@ impl Sink for Short {
     }
 }
 
+/// The runs that a text spells.
+fn runs_of(alloc: Global, typed: &Typed, text: &str) -> Option<Vec<Run>>
+    ensures { IfSome result (λ runs. AreLawful typed.now runs.items) }
+{
+    let trees = read(alloc, text.as_bytes()).ok()?;
+    read_runs(alloc, typed, trees.as_slice()).ok()
+}
+
+/// Whether runs are written to a writer as far as it has room, and it has failed where that is not the whole.
+fn is_written_so_far(alloc: Global, typed: &Typed, runs: &[Run], text: &[u8], room: usize) -> bool
+    requires { AreLawful typed.now runs.now }
+{
+    let mut sink = Short {
+        bytes: Vec::new(alloc),
+        room,
+        failed: false,
+    };
+    let is_right = match write_runs(alloc, typed, runs, &mut sink) {
+        Ok(()) => room >= text.len() && !sink.failed,
+        Err(WriteFault::WriteFailed) => room < text.len() && sink.failed,
+        Err(WriteFault::NoMemory) => false,
+    };
+    is_right && Some(sink.bytes.as_slice()) == text.get(..room)
+}
+
 #[test]
 fn writer_fails_after_each_byte(rt: HostRuntime) -> Result<(), Fail> {
     let alloc = rt.alloc();
     let text =
         "(case (prefix (inc)) (left) (right))\n(run (prefix) (left (inc)) (right) (replies () (1) ()))\n";
     let typed = typed_of(alloc, COUNTER).ok_or("no model")?;
-    let Ok(trees) = read(alloc, text.as_bytes()) else {
-        panic!(rt; "no trees");
-    };
-    let Ok(runs) = read_runs(alloc, &typed, trees.as_slice()) else {
+    let Some(runs) = runs_of(alloc, &typed, text) else {
         panic!(rt; "no runs");
     };
     for room in 0..=text.len() {
-        let mut sink = Short {
-            bytes: Vec::new(alloc),
-            room,
-            failed: false,
-        };
-        match write_runs(alloc, &typed, runs.as_slice(), &mut sink) {
-            Ok(()) => assert_eq!(rt; room, text.len()),
-            Err(fault) => {
-                assert!(rt; fault == WriteFault::WriteFailed);
-                assert!(rt; room < text.len());
-            }
-        }
-        assert_eq!(rt; sink.has_failed(), room < text.len());
-        assert!(rt; sink.bytes.as_slice() == &text.as_bytes()[..room]);
+        assert!(rt; is_written_so_far(alloc, &typed, runs.as_slice(), text.as_bytes(), room));
     }
     Ok(())
 }

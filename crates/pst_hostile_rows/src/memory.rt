@@ -1,0 +1,74 @@
+//! Calls of the libraries. The gate compares what they answer with ample memory; `bench/memory.sh` refuses each growth
+//! of memory to each of them in turn.
+
+mod judging;
+mod reading;
+mod refused;
+mod trials;
+
+use refused::Refused;
+use std::alloc::Global;
+use std::io;
+use std::sync::Wait;
+use std::thread::Threads;
+
+/// The calls.
+const CALLS: [&str; 13] = [
+    "read",
+    "read_model",
+    "check",
+    "compile",
+    "read_runs",
+    "some",
+    "every",
+    "generate",
+    "trial",
+    "report",
+    "rejudge",
+    "campaign",
+    "campaign_of_two",
+];
+
+/// What the call of that name answers.
+fn answer<R: Threads + Wait + Sync>(rt: &R, alloc: Global, call: &str) -> Result<String, Refused> {
+    match call {
+        "read" => reading::read_answer(alloc),
+        "read_model" => reading::model_answer(alloc),
+        "check" => reading::check_answer(alloc),
+        "compile" => reading::compile_answer(alloc),
+        "read_runs" => judging::runs_answer(alloc),
+        "some" => judging::verdict_answer(alloc),
+        "every" => judging::valid_answer(alloc),
+        "generate" => judging::generate_answer(alloc),
+        "trial" => trials::trial_answer(rt, alloc),
+        "report" => trials::report_answer(rt, alloc),
+        "rejudge" => judging::rejudge_answer(rt, alloc),
+        "campaign" => trials::campaign_answer(rt, alloc, 1),
+        "campaign_of_two" => trials::campaign_answer(rt, alloc, 2),
+        _ => Err(Refused::Otherwise("no call")),
+    }
+}
+
+/// Prints what the call of that name answers, and answers whether it had memory.
+pub fn print_call<R: Threads + Wait + Sync + Print>(
+    rt: &R,
+    alloc: Global,
+    call: &str,
+) -> io::Result<bool> {
+    match answer(rt, alloc, call) {
+        Ok(text) => println!(rt; "{call}: {text}")?,
+        Err(Refused::NoMemory) => return Ok(false),
+        Err(Refused::Otherwise(why)) => println!(rt; "{call}: {why} in place of an answer")?,
+    }
+    Ok(true)
+}
+
+/// Prints what each call answers, up to the first that had no memory.
+pub fn print_calls<R: Threads + Wait + Sync + Print>(rt: &R, alloc: Global) -> io::Result<()> {
+    for call in CALLS {
+        if !print_call(rt, alloc, call)? {
+            return println!(rt; "{call}: no memory");
+        }
+    }
+    Ok(())
+}

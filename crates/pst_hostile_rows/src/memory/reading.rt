@@ -1,0 +1,91 @@
+//! What the calls from bytes to a compiled model answer.
+
+use crate::memory::refused::Refused;
+use crate::models::COUNTER_AND_ITEMS;
+use pst_compile::{Compiled, compile, listing};
+use pst_print::print_model;
+use pst_rules::Typed;
+use pst_sexpr::{FaultKind, Tree, read, write};
+use pst_sink::Out;
+use pst_syntax::{FaultKind as ModelFaultKind, Model, read_model};
+use pst_typing::{TypeFault, check, model_name};
+use std::alloc::Global;
+
+/// The trees of the counter's text.
+pub fn trees_of(alloc: Global) -> Result<Vec<Tree>, Refused> {
+    match read(alloc, COUNTER_AND_ITEMS.as_bytes()) {
+        Ok(trees) => Ok(trees),
+        Err(fault) if fault.kind == FaultKind::NoMemory => Err(Refused::NoMemory),
+        Err(fault) => Err(Refused::Otherwise(fault.kind.name())),
+    }
+}
+
+/// The counter's model.
+fn model_of(alloc: Global) -> Result<Model, Refused> {
+    let trees = trees_of(alloc)?;
+    match read_model(alloc, trees.as_slice()) {
+        Ok(model) => Ok(model),
+        Err(fault) if fault.kind == ModelFaultKind::NoMemory => Err(Refused::NoMemory),
+        Err(fault) => Err(Refused::Otherwise(fault.kind.name())),
+    }
+}
+
+/// The counter's well-typed model.
+pub fn typed_of(alloc: Global) -> Result<Typed, Refused> {
+    match check(alloc, model_of(alloc)?) {
+        Ok(typed) => Ok(typed),
+        Err((_, TypeFault::NoMemory)) => Err(Refused::NoMemory),
+        Err((_, fault)) => Err(Refused::Otherwise(fault.name())),
+    }
+}
+
+/// The counter's compiled model.
+fn compiled_of(alloc: Global) -> Result<Compiled, Refused> {
+    match compile(alloc, typed_of(alloc)?) {
+        Ok(compiled) => Ok(compiled),
+        Err(_) => Err(Refused::NoMemory),
+    }
+}
+
+/// A text of bytes.
+pub fn text_of(alloc: Global, bytes: &[u8]) -> Result<String, Refused> {
+    match std::str::from_utf8(bytes) {
+        Ok(text) => Ok(String::from_str(alloc, text)?),
+        Err(_) => Err(Refused::Otherwise("no text")),
+    }
+}
+
+/// The spelling of a tree.
+fn spelling_of(alloc: Global, tree: &Tree) -> Result<String, Refused> {
+    let mut out = Out::new(Vec::new(alloc));
+    match write(tree, &mut out) {
+        Ok(()) => text_of(alloc, out.into_inner().as_slice()),
+        Err(_) => Err(Refused::NoMemory),
+    }
+}
+
+/// `read`: the last tree of the text.
+pub fn read_answer(alloc: Global) -> Result<String, Refused> {
+    match trees_of(alloc)?.last() {
+        Some(tree) => spelling_of(alloc, tree),
+        None => Err(Refused::Otherwise("no trees")),
+    }
+}
+
+/// `read_model` and `print_model`: the model as it is printed.
+pub fn model_answer(alloc: Global) -> Result<String, Refused> {
+    let model = model_of(alloc)?;
+    spelling_of(alloc, &print_model(alloc, &model)?)
+}
+
+/// `check`: the name of the well-typed model.
+pub fn check_answer(alloc: Global) -> Result<String, Refused> {
+    let typed = typed_of(alloc)?;
+    Ok(String::from_str(alloc, model_name(&typed).as_str())?)
+}
+
+/// `compile` and `listing`: the code.
+pub fn compile_answer(alloc: Global) -> Result<String, Refused> {
+    let code = listing(alloc, &compiled_of(alloc)?)?;
+    text_of(alloc, code.as_slice())
+}

@@ -1,0 +1,5 @@
+//! The machine, on functions by hand.
+
+mod checked;
+mod functions;
+mod runs;

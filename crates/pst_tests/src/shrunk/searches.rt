@@ -1,0 +1,118 @@
+//! Cases that are shrunk.
+
+use crate::shrunk::cases::{case_of, is_small};
+use pst_case::{Case, Command};
+use pst_items::Items;
+use pst_shrink::{Attempt, Ending, Outcome, ShrinkFault, Shrunk, shrink};
+use std::alloc::Global;
+use std::test::Fail;
+
+/// Holds a case without commands for not valid, and breaks where a command has operation `a`. It fails once
+/// so many cases are driven.
+#[derive(Drop)]
+struct Breaks {
+    alloc: Global,
+    driven: u64,
+    fails_after: u64,
+}
+
+fn has_a(commands: &Items<Command>) -> bool {
+    commands
+        .as_slice()
+        .iter()
+        .any(|command| command.op == b'a' as u32)
+}
+
+fn is_broken(case: &Case) -> bool {
+    has_a(&case.prefix) || case.branches.as_slice().iter().any(|branch| has_a(branch))
+}
+
+fn is_empty(case: &Case) -> bool {
+    case.prefix.is_empty()
+        && case
+            .branches
+            .as_slice()
+            .iter()
+            .all(|branch| branch.is_empty())
+}
+
+impl Attempt for Breaks {
+    ghost use Rattle.std.specs.Prelude.{⊤};
+
+    type History = u64;
+
+    type Fault = u64;
+
+    ghost answers = { λ a c o. ⊤ };
+
+    ghost fails = { λ a f. ⊤ };
+
+    ghost driven = { λ a. a.driven };
+
+    ghost keeps = { λ a b. ⊤ };
+
+    fn attempt(&mut self, case: &Case) -> Result<Outcome<u64>, u64> {
+        if is_empty(case) {
+            return Ok(Outcome::NotValid);
+        }
+        if self.driven == self.fails_after {
+            return Err(self.driven);
+        }
+        self.driven += 1;
+        if is_broken(case) {
+            Ok(Outcome::Broke(Items::new(self.alloc), self.driven))
+        } else {
+            Ok(Outcome::Held(Items::new(self.alloc)))
+        }
+    }
+
+    ghost keeps_refl = { λ a. tt };
+
+    ghost keeps_trans = { λ a b c h k. tt };
+
+    ghost kept = { λ a b h. record { answers = λ c o. (λ _. tt, λ _. tt); fails = λ f. (λ _. tt, λ _. tt) } };
+}
+
+/// Shrinks a case of two commands that run in parallel, the first of which breaks it.
+fn shrink_two(
+    alloc: Global,
+    limit: u32,
+    fails_after: u64,
+) -> Option<Result<Shrunk<u64>, ShrinkFault<u64>>> {
+    let case = case_of(alloc, "| a | b").ok()?;
+    if !is_small(&case) {
+        return None;
+    }
+    let mut attempt = Breaks {
+        alloc,
+        driven: 0,
+        fails_after,
+    };
+    Some(shrink(alloc, case, 0, limit, &mut attempt))
+}
+
+/// The second candidate breaks first, then the move of its command, of which no candidate is valid.
+#[test]
+fn a_limit_stops_the_search(rt: HostRuntime) -> Result<(), Fail> {
+    let rows = [
+        (0, 0, 0, Ending::Stopped),
+        (1, 0, 0, Ending::Stopped),
+        (2, 1, 2, Ending::Stopped),
+        (3, 2, 3, Ending::Stopped),
+        (4, 2, 3, Ending::Minimal),
+    ];
+    for (limit, steps, history, ending) in rows {
+        let shrunk = shrink_two(rt.alloc(), limit, 10).ok_or("no case")??;
+        assert_eq!(rt; shrunk.before.len(), steps, "at {limit}");
+        assert_eq!(rt; shrunk.last.history, history, "at {limit}");
+        assert!(rt; shrunk.ending == ending, "at {limit}");
+    }
+    Ok(())
+}
+
+#[test]
+fn a_fault_of_the_attempt_is_answered(rt: HostRuntime) -> Result<(), Fail> {
+    let fault = shrink_two(rt.alloc(), 10, 2).ok_or("no case")?;
+    assert!(rt; matches!(fault, Err(ShrinkFault::Attempt(2))));
+    Ok(())
+}

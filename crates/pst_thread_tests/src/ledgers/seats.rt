@@ -1,0 +1,102 @@
+//! Seats that claim where nothing is left, and that come back in any order.
+ghost use Rattle.std.specs.Prelude.{◌≡◌};
+
+use crate::ledgers::notes::Note;
+use pst_ledger::{Cause, Closed, Entry, Ledger, Seat};
+use std::alloc::{AllocError, Global};
+use std::test::Fail;
+
+/// Closes a ledger with three seats, which come back in this order.
+fn close_with(
+    alloc: Global,
+    ledger: Ledger<Note>,
+    first: Seat<Note>,
+    second: Seat<Note>,
+    third: Seat<Note>,
+) -> Result<Option<Closed<Note>>, AllocError>
+    requires first { first.table ≡ ledger.table }
+    requires second { second.table ≡ ledger.table }
+    requires third { third.table ≡ ledger.table }
+{
+    let mut seats = Vec::new(alloc);
+    seats.push(first)?;
+    seats.push(second)?;
+    seats.push(third)?;
+    Ok(ledger.close(seats).ok())
+}
+
+/// Closes a ledger with three seats, in the order of that number from 0 to 5.
+fn close_in_order(
+    alloc: Global,
+    order: u8,
+    ledger: Ledger<Note>,
+    first: Seat<Note>,
+    second: Seat<Note>,
+    third: Seat<Note>,
+) -> Result<Option<Closed<Note>>, AllocError>
+    requires first { first.table ≡ ledger.table }
+    requires second { second.table ≡ ledger.table }
+    requires third { third.table ≡ ledger.table }
+{
+    match order {
+        0 => close_with(alloc, ledger, first, second, third),
+        1 => close_with(alloc, ledger, first, third, second),
+        2 => close_with(alloc, ledger, second, first, third),
+        3 => close_with(alloc, ledger, second, third, first),
+        4 => close_with(alloc, ledger, third, first, second),
+        _ => close_with(alloc, ledger, third, second, first),
+    }
+}
+
+/// What comes of three numbers, where the first seat ends its own and claims twice more, the second loses its
+/// own, and the third holds its own at the end. The seats come back in the order of that number. `None` where a
+/// call answers otherwise.
+fn closed_in_order(alloc: Global, order: u8) -> Result<Option<Closed<Note>>, AllocError> {
+    let (ledger, mut seats) = Ledger::<Note>::open(alloc, 3, 3)?;
+    let Some(mut third) = seats.pop() else {
+        return Ok(None);
+    };
+    let Some(mut second) = seats.pop() else {
+        return Ok(None);
+    };
+    let Some(mut first) = seats.pop() else {
+        return Ok(None);
+    };
+    let drawn = (
+        ledger.claim(&mut first),
+        ledger.claim(&mut second),
+        ledger.claim(&mut third),
+    );
+    if drawn != (Some(0), Some(1), Some(2)) {
+        return Ok(None);
+    }
+    if ledger.lose(&mut second, 1, Cause::NoThread).is_err() {
+        return Ok(None);
+    }
+    if ledger.deposit(&mut first, Note(0)).is_err() {
+        return Ok(None);
+    }
+    if ledger.claim(&mut first).is_some() {
+        return Ok(None);
+    }
+    if ledger.claim(&mut first).is_some() {
+        return Ok(None);
+    }
+    close_in_order(alloc, order, ledger, first, second, third)
+}
+
+#[test]
+fn seats_come_back_in_any_order(rt: HostRuntime) -> Result<(), Fail> {
+    let expected = [
+        Entry::Done(Note(0)),
+        Entry::Lost(Cause::NoThread),
+        Entry::Held,
+    ];
+    for order in 0..6u8 {
+        let Some(closed) = closed_in_order(rt.alloc(), order)? else {
+            return Err(Fail::new("a call of a seat has another answer"));
+        };
+        assert!(rt; closed.entries() == expected.as_slice(), "in order {order}");
+    }
+    Ok(())
+}

@@ -1,0 +1,49 @@
+//! Threads that share a ledger.
+ghost use Rattle.std.specs.Prelude.{◌≡◌, true, None};
+
+use crate::ledgers::notes::Note;
+use pst_ledger::{Entry, Ledger, Seat};
+use std::sync::Wait;
+use std::test::Fail;
+use std::thread;
+
+/// Claims until there is nothing left, and deposits a note for each number.
+fn drain<R: Wait>(rt: &R, ledger: &Ledger<Note>, mut seat: Seat<Note>) -> Seat<Note>
+    requires own { seat.table ≡ ledger.now.table }
+    requires idle { seat.held ≡ None }
+    ensures place { result.table ≡ seat.table }
+    ensures last { (result.marked ≡ true) × (result.held ≡ None) }
+{
+    for _ in rt.forever() {
+        match ledger.claim(&mut seat) {
+            Some(number) => {
+                let _ = ledger.deposit(&mut seat, Note(number));
+            }
+            None => return seat,
+        }
+    }
+    unreachable!()
+}
+
+#[test]
+fn sixteen_threads_draw_each_number_once(rt: HostRuntime) -> Result<(), Fail> {
+    let (ledger, seats) = Ledger::<Note>::open(rt.alloc(), 100_000, 16)?;
+    let shared = &ledger;
+    let back = thread::map_vec(
+        &rt,
+        seats,
+        &|seat: Seat<Note>|
+            requires { (seat.table ≡ shared.now.table) × (seat.held ≡ None) }
+            ensures { result.table ≡ shared.entry.now.table }
+        { drain(&rt, shared, seat) },
+    )?;
+    assert!(rt; back.len() == 16);
+    let Ok(closed) = ledger.close(back) else {
+        panic!(rt; "a seat is missing")
+    };
+    for (number, entry) in closed.entries().iter().enumerate() {
+        assert!(rt; matches!(entry, Entry::Done(note) if note.0 == number as u64));
+    }
+    assert!(rt; closed.entries().len() == 100_000);
+    Ok(())
+}

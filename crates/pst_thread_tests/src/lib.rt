@@ -1,0 +1,21 @@
+//! Tests that start threads: cases driven on systems, ledgers that threads share, and trials of plans.
+#![tactic(auto)]
+
+#[cfg(test)]
+mod driving;
+#[cfg(test)]
+mod echo;
+#[cfg(test)]
+mod hostile;
+#[cfg(test)]
+mod ledgers;
+#[cfg(test)]
+mod models;
+#[cfg(test)]
+mod overhearing;
+#[cfg(test)]
+mod samples;
+#[cfg(test)]
+mod systems;
+#[cfg(test)]
+mod trials;

@@ -1,0 +1,121 @@
+//! Calls of the sample systems.
+
+use pst_items::{Items, Text};
+use pst_samples::{Counter, Flags, Meet, Pair, Queue, Racy, Registry, Side, Stuck};
+use pst_system::{BoxedSystem, RealCall, call_box, reset_box};
+use pst_value::Value;
+use std::alloc::{AllocError, Global};
+use std::sync::Arc;
+use std::test::Fail;
+
+/// The call of that name with integers as arguments.
+fn call_of(alloc: Global, name: &str, numbers: &[i64]) -> Result<RealCall, AllocError> {
+    let name = Text::from_string(String::from_str(alloc, name)?);
+    let mut args = Items::new(alloc);
+    for number in numbers {
+        args.push(Value::Int(*number))?;
+    }
+    Ok(RealCall { op: 0, name, args })
+}
+
+/// What a system answers to calls, one behind the other, each behind a blank.
+fn answers(
+    alloc: Global,
+    system: &BoxedSystem,
+    calls: &[(&str, &[i64])],
+) -> Result<String, AllocError> {
+    let mut text = String::new(alloc);
+    for (name, numbers) in calls {
+        let call = call_of(alloc, name, numbers)?;
+        let answer = call_box(system, &call);
+        write!(&mut text, " {answer:?}")?;
+    }
+    Ok(text)
+}
+
+#[test]
+fn a_counter_counts(rt: HostRuntime) -> Result<(), Fail> {
+    let alloc = rt.alloc();
+    let counter: BoxedSystem = Box::new(alloc, Counter::new(rt))?;
+    let text = answers(
+        alloc,
+        &counter,
+        &[("inc", &[]), ("get", &[]), ("get", &[1])],
+    )?;
+    assert_eq!(rt; text.as_str(), " Ok(Int(1)) Ok(Int(1)) Err(Refused)");
+    Ok(())
+}
+
+#[test]
+fn a_racy_counter_is_reset(rt: HostRuntime) -> Result<(), Fail> {
+    let alloc = rt.alloc();
+    let mut racy: BoxedSystem = Box::new(alloc, Racy::new())?;
+    let before = answers(alloc, &racy, &[("inc", &[])])?;
+    let reset = reset_box(&mut racy);
+    let behind = answers(alloc, &racy, &[("get", &[])])?;
+    let all = format!(in alloc; "{before} {reset:?}{behind}")?;
+    assert_eq!(rt; all.as_str(), " Ok(Int(1)) Ok(()) Ok(Int(0))");
+    Ok(())
+}
+
+#[test]
+fn a_stuck_counter_stays_at_0(rt: HostRuntime) -> Result<(), Fail> {
+    let alloc = rt.alloc();
+    let stuck: BoxedSystem = Box::new(alloc, Stuck)?;
+    let text = answers(alloc, &stuck, &[("inc", &[])])?;
+    assert_eq!(rt; text.as_str(), " Ok(Int(0))");
+    Ok(())
+}
+
+#[test]
+fn a_registry_opens_and_closes(rt: HostRuntime) -> Result<(), Fail> {
+    let alloc = rt.alloc();
+    let registry: BoxedSystem = Box::new(alloc, Registry::new(rt, alloc))?;
+    let calls = [
+        ("new", [].as_slice()),
+        ("new", &[]),
+        ("close", &[1]),
+        ("close", &[1]),
+        ("read", &[0]),
+        ("read", &[1]),
+    ];
+    let text = answers(alloc, &registry, &calls)?;
+    let wanted = " Ok(Int(0)) Ok(Int(1)) Ok(Bool(true)) Ok(Bool(false)) Ok(Int(0)) Ok(Int(-1))";
+    assert_eq!(rt; text.as_str(), wanted);
+    Ok(())
+}
+
+#[test]
+fn a_queue_keeps_its_order(rt: HostRuntime) -> Result<(), Fail> {
+    let alloc = rt.alloc();
+    let queue: BoxedSystem = Box::new(alloc, Queue::new(rt, alloc))?;
+    let text = answers(
+        alloc,
+        &queue,
+        &[("put", &[5]), ("put", &[6]), ("take", &[])],
+    )?;
+    let wanted = " Ok(Bool(true)) Ok(Bool(true)) Ok(List(Items { items: [Int(5)] }))";
+    assert_eq!(rt; text.as_str(), wanted);
+    Ok(())
+}
+
+#[test]
+fn a_flag_that_is_none_is_refused(rt: HostRuntime) -> Result<(), Fail> {
+    let alloc = rt.alloc();
+    let meet: BoxedSystem = Box::new(alloc, Meet::new())?;
+    let text = answers(alloc, &meet, &[("meet", &[3])])?;
+    assert_eq!(rt; text.as_str(), " Err(Refused)");
+    Ok(())
+}
+
+#[test]
+fn callers_meet(rt: HostRuntime) -> Result<(), Fail> {
+    let alloc = rt.alloc();
+    let flags = Arc::new(alloc, Flags::new())?;
+    let pair: BoxedSystem = Box::new(alloc, Pair::new(Side::Second, flags.clone()?))?;
+    let alone = flags.meet(Side::First);
+    let text = answers(alloc, &pair, &[("meet", &[1])])?;
+    let all = format!(in alloc; "{alone}{text}")?;
+    assert_eq!(rt; all.as_str(), "false Ok(Bool(true))");
+    Ok(())
+}

@@ -1,0 +1,6 @@
+//! Trials of plans on systems.
+
+mod ended;
+mod plans;
+mod resets;
+mod shrinking;

@@ -1,0 +1,79 @@
+//! Trials that pass, that generate no case, and that a reset ends.
+
+use crate::trials::plans::{COUNTER, ONE, TOP, one_command, plan_of, record_of};
+use crate::trials::resets::Resets;
+use pst_eval::Callback;
+use pst_samples::Counter;
+use pst_system::BoxedSystem;
+use pst_trial::{Record, Settings, TrialFault, TrialOutcome, trial};
+use std::alloc::Global;
+use std::sync::Wait;
+use std::test::Fail;
+use std::thread::Threads;
+
+/// The commands of the suffix and the runs of a trial, where it passes.
+fn passed(record: &Record) -> Option<(usize, usize)> {
+    match record.outcome() {
+        TrialOutcome::Passed { case, runs } => Some((case.suffix.len(), runs.len())),
+        TrialOutcome::GenFaulted(_) | TrialOutcome::Failed { .. } => None,
+    }
+}
+
+#[test]
+fn a_counter_passes(rt: HostRuntime) -> Result<(), Fail> {
+    let alloc = rt.alloc();
+    let mut counter: BoxedSystem = Box::new(alloc, Counter::new(rt))?;
+    let settings = Settings {
+        suffix: 2,
+        ..Settings::default()
+    };
+    let Some(record) = record_of(&rt, alloc, COUNTER, settings, 3, &mut counter) else {
+        return Err(Fail::new("there is no record"));
+    };
+    assert!(rt; passed(&record) == Some((2, 5)));
+    Ok(())
+}
+
+/// The number of the trial and of the command where a callback of the model faults, where no case is generated.
+fn faulted(record: &Record) -> Option<(u64, u32, Callback)> {
+    match record.outcome() {
+        TrialOutcome::GenFaulted(place) => Some((record.number(), place.command, place.callback)),
+        TrialOutcome::Passed { .. } | TrialOutcome::Failed { .. } => None,
+    }
+}
+
+#[test]
+fn a_callback_faults(rt: HostRuntime) -> Result<(), Fail> {
+    let alloc = rt.alloc();
+    let mut system: BoxedSystem = Box::new(alloc, Resets::new(0))?;
+    let settings = Settings::default();
+    let Some(record) = record_of(&rt, alloc, TOP, settings, 7, &mut system) else {
+        return Err(Fail::new("there is no record"));
+    };
+    assert!(rt; faulted(&record) == Some((7, 1, Callback::Next)));
+    Ok(())
+}
+
+/// The fault of trial 0 of a counter without `get`, where there is one.
+fn fault<R: Threads + Wait>(
+    rt: &R,
+    alloc: Global,
+    settings: Settings,
+    system: &mut BoxedSystem,
+) -> Option<TrialFault> {
+    let plan = plan_of(alloc, ONE, settings)?;
+    trial(rt, alloc, &plan, 0, system).err()
+}
+
+#[test]
+fn a_refused_reset_ends_a_trial(rt: HostRuntime) -> Result<(), Fail> {
+    let alloc = rt.alloc();
+    let mut no_reset: BoxedSystem = Box::new(alloc, Resets::new(0))?;
+    let settings = Settings::default();
+    assert!(rt; fault(&rt, alloc, settings, &mut no_reset) == Some(TrialFault::ResetFailed));
+    // the second reset is that of the first shrink candidate
+    let mut second_reset: BoxedSystem = Box::new(alloc, Resets::new(1))?;
+    let settings = one_command();
+    assert!(rt; fault(&rt, alloc, settings, &mut second_reset) == Some(TrialFault::ResetFailed));
+    Ok(())
+}

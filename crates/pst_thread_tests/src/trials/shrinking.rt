@@ -1,0 +1,139 @@
+//! Trials whose case is shrunk.
+
+use crate::trials::plans::{COUNTER, ONE, one_command, plan_of, record_of};
+use pst_case::Case;
+use pst_eval::Plain;
+use pst_gen::if_accepted;
+use pst_rules::Typed;
+use pst_samples::{Racy, Stuck};
+use pst_shrink::Ending;
+use pst_system::BoxedSystem;
+use pst_trial::{Record, Settings, TrialOutcome, trial};
+use std::alloc::{AllocError, Global};
+use std::sync::Wait;
+use std::test::Fail;
+use std::thread::Threads;
+
+/// How many cases were taken while the case of a trial was shrunk, how that ended, and how many commands the
+/// last case has in its suffix.
+fn shrunk(record: &Record) -> Option<(usize, Ending, usize)> {
+    match record.outcome() {
+        TrialOutcome::Failed { shrunk, .. } => Some((
+            shrunk.before.len(),
+            shrunk.ending,
+            shrunk.last.case.suffix.len(),
+        )),
+        TrialOutcome::GenFaulted(_) | TrialOutcome::Passed { .. } => None,
+    }
+}
+
+/// How the case of trial 0 of a counter without `get` is shrunk, on the system that answers 0.
+fn shrunk_on_stuck<R: Threads + Wait>(
+    rt: &R,
+    alloc: Global,
+    settings: Settings,
+    stuck: &mut BoxedSystem,
+) -> Option<(usize, Ending, usize)> {
+    shrunk(&record_of(rt, alloc, ONE, settings, 0, stuck)?)
+}
+
+#[test]
+fn the_limit_stops_shrinking(rt: HostRuntime) -> Result<(), Fail> {
+    let alloc = rt.alloc();
+    let mut stuck: BoxedSystem = Box::new(alloc, Stuck)?;
+    let rows = [
+        (0, 0, Ending::Stopped),
+        (1, 0, Ending::Stopped),
+        (2, 1, Ending::Stopped),
+        (3, 1, Ending::Minimal),
+    ];
+    for branches in [2, 3] {
+        for (limit, steps, ending) in rows {
+            let settings = Settings {
+                branches,
+                limit,
+                ..one_command()
+            };
+            let expected = Some((steps, ending, 0));
+            assert!(rt; shrunk_on_stuck(&rt, alloc, settings, &mut stuck) == expected);
+        }
+    }
+    Ok(())
+}
+
+#[test]
+fn a_suffix_is_shrunk(rt: HostRuntime) -> Result<(), Fail> {
+    let alloc = rt.alloc();
+    let mut stuck: BoxedSystem = Box::new(alloc, Stuck)?;
+    // of two commands in branches and one in the suffix the last stays
+    let settings = Settings {
+        commands: 3,
+        suffix: 1,
+        ..Settings::default()
+    };
+    let expected = Some((2, Ending::Minimal, 1));
+    assert!(rt; shrunk_on_stuck(&rt, alloc, settings, &mut stuck) == expected);
+    Ok(())
+}
+
+/// How many commands the case has.
+fn size(case: &Case) -> usize {
+    let mut size = case.prefix.len().saturating_add(case.suffix.len());
+    for branch in case.branches.as_slice() {
+        size = size.saturating_add(branch.len());
+    }
+    size
+}
+
+/// Whether the case has the shape of the model and is valid by it.
+fn is_accepted(alloc: Global, typed: &Typed, case: &Case) -> Result<bool, AllocError> {
+    let accepted = if_accepted(&Plain::new(typed), alloc, typed, case.copy(alloc)?)?;
+    Ok(accepted.is_some())
+}
+
+/// The sizes of the first case and the last of a trial that fails, and whether the last case is still accepted.
+fn failure(alloc: Global, typed: &Typed, record: &Record) -> Option<(usize, usize, bool)> {
+    let TrialOutcome::Failed { shrunk, .. } = record.outcome() else {
+        return None;
+    };
+    let last = &shrunk.last.case;
+    let first = match shrunk.before.as_slice().first() {
+        Some(taken) => size(&taken.case),
+        None => size(last),
+    };
+    let accepted = is_accepted(alloc, typed, last).ok()?;
+    Some((first, size(last), accepted))
+}
+
+/// The same of the first trial that fails.
+fn first_failure<R: Threads + Wait>(
+    rt: &R,
+    alloc: Global,
+    system: &mut BoxedSystem,
+) -> Option<(usize, usize, bool)> {
+    let settings = Settings {
+        repeats: 20,
+        ..Settings::default()
+    };
+    let plan = plan_of(alloc, COUNTER, settings)?;
+    for number in 0..100 {
+        let record = trial(rt, alloc, &plan, number, system).ok()?;
+        let failure = failure(alloc, plan.typed(), &record);
+        if failure.is_some() {
+            return failure;
+        }
+    }
+    None
+}
+
+#[test]
+fn a_race_is_shrunk(rt: HostRuntime) -> Result<(), Fail> {
+    let alloc = rt.alloc();
+    let mut racy: BoxedSystem = Box::new(alloc, Racy::new())?;
+    let failure = first_failure(&rt, alloc, &mut racy);
+    let Some((first, last, accepted)) = failure else {
+        return Err(Fail::new("no trial found the race"));
+    };
+    assert!(rt; accepted && last <= first / 2, "{last} commands of {first}");
+    Ok(())
+}
