@@ -12,7 +12,7 @@ echo '(model silent (state int) (init 0) (command (list call (call inc) (call ge
 
 # The number of trials of a campaign with these words that no interleaving explains.
 unexplained() {
-  "$program" campaign racy "$@" --seed 7 --trials 300 --repeats 1 --limit 0 --workers 1 --quiet | sed -n 's/^unexplained //p' || true
+  "$program" campaign racy "$@" --seed 7 --trials 300 --repeats 1 --limit 0 --workers 1 --quiet | sed -n 's/^unexplained \([0-9]*\)$/\1/p' || true
 }
 
 for _ in 1 2 3; do
