@@ -11,7 +11,6 @@ mod least;
 mod overheard;
 mod progress;
 mod refused;
-mod sample;
 mod warned;
 mod words;
 
@@ -24,11 +23,11 @@ use pst_cli::{
     Absence, KnownSystem, Status, campaign_text, check_text, list_text, refuse_text, run_text,
 };
 use pst_misfits::{Misfits, Overheard};
+use pst_samples::{Counter, Meet, Queue, Racy, Registry, Stuck};
 use pst_sink::{Out, Sink, put_all};
 use pst_sources::{Input, joined};
 use pst_system::BoxedSystem;
 use pst_trial::Settings;
-use sample::Sample;
 use std::alloc::{AllocError, Global};
 use std::io::IsTerminal;
 use std::process::ExitCode;
@@ -308,6 +307,16 @@ fn explain<R: Runtime>(rt: &R, error: &clap::Error) -> Status {
     }
 }
 
+/// A system in a box, whose misfits are kept if any are.
+macro_rules! boxed {
+    ($alloc:expr, $misfits:expr, $system:expr) => {
+        match Box::new($alloc, Overheard::new($system, overheard::another(&$misfits))) {
+            Ok(system) => Ok(system),
+            Err(_) => Err(AllocError),
+        }
+    };
+}
+
 fn main(rt: HostRuntime) -> ExitCode {
     let alloc = rt.alloc();
     let started = match started_with(&rt) {
@@ -326,11 +335,13 @@ fn main(rt: HostRuntime) -> ExitCode {
     let mut systems: Systems = Ok(Vec::new(alloc));
     if let Some((known, count)) = wanted(&matches) {
         for _ in 0..count {
-            let sample = Sample::new(known, rt, alloc);
-            let overheard = Overheard::new(sample, overheard::another(&misfits));
-            let system: Result<BoxedSystem, AllocError> = match Box::new(alloc, overheard) {
-                Ok(system) => Ok(system),
-                Err(_) => Err(AllocError),
+            let system: Result<BoxedSystem, AllocError> = match known {
+                KnownSystem::Counter => boxed!(alloc, misfits, Counter::new(rt)),
+                KnownSystem::Racy => boxed!(alloc, misfits, Racy::new()),
+                KnownSystem::Stuck => boxed!(alloc, misfits, Stuck),
+                KnownSystem::Registry => boxed!(alloc, misfits, Registry::new(rt, alloc)),
+                KnownSystem::Queue => boxed!(alloc, misfits, Queue::new(rt, alloc)),
+                KnownSystem::Meet => boxed!(alloc, misfits, Meet::new()),
             };
             systems = and_one(systems, system);
         }
