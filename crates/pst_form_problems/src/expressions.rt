@@ -3,84 +3,116 @@
 use crate::roles::{Role, Tasks};
 use pst_items::Text;
 use pst_problems::{
-    Judged, Shown, below, count, expression, foreign, heads, in_place_of, is_head, is_name, meant,
-    noted, text, wrong,
+    Judged, Shown, below, counted, expression, foreign, in_place_of, is_head, is_name,
+    nearest_head, noted, noted_at, wrong, wrong_at,
 };
 use pst_sexpr::{Form, node_of, word_of};
 use pst_syntax::{MAX_NAME, MAX_PARTS};
 use pst_value::LIMIT;
 use pst_words::{integer_of, is_integer};
 use std::alloc::{AllocError, Global};
+use std::fmt;
 
-/// A word as an expression.
-fn word_expression(alloc: Global, has_maps: bool, path: &[usize], word: &Text) -> Judged {
+/// Whether a word stands for a value wherever expressions see it.
+fn is_value(name: &str) -> bool {
+    matches!(name, "true" | "false" | "s" | "r")
+}
+
+/// A word that is no integer as an expression.
+fn name_expression(alloc: Global, has_maps: bool, path: &[usize], word: &Text) -> Judged {
     let name = word.as_str();
-    if is_integer(word) {
-        if integer_of(word).is_some() {
-            return Ok(None);
-        }
+    if let Some(form) = expression(has_maps, name) {
+        let written = form.written;
         return wrong(
             alloc,
             path,
-            format!(in alloc; "`{name}` has more than 64 bits")?,
+            format_args!("`{name}` is a form and no value: `{written}`"),
         );
-    }
-    if name == "true" || name == "false" || name == "s" || name == "r" {
-        return Ok(None);
-    }
-    if let Some(form) = expression(has_maps, name) {
-        let written = form.written;
-        let what = format!(in alloc; "`{name}` is a form and no value: `{written}`")?;
-        return wrong(alloc, path, what);
     }
     if is_name(word) && !is_head(has_maps, name) && word.len() <= MAX_NAME {
         return Ok(None);
     }
-    let what = format!(in alloc; "`{name}` is neither an integer nor a name")?;
-    foreign(alloc, path, name, what)
+    foreign(
+        alloc,
+        path,
+        name,
+        format_args!("`{name}` is neither an integer nor a name"),
+    )
+}
+
+/// A word as an expression.
+fn word_expression(alloc: Global, has_maps: bool, path: &[usize], word: &Text) -> Judged {
+    let name = word.as_str();
+    if is_value(name) {
+        return Ok(None);
+    }
+    if is_integer(word) {
+        if integer_of(word).is_some() {
+            return Ok(None);
+        }
+        return wrong(alloc, path, format_args!("`{name}` has more than 64 bits"));
+    }
+    name_expression(alloc, has_maps, path, word)
+}
+
+/// How a form is written, or what to write in the place of one with that number of parts.
+#[derive(Clone, Copy, Drop)]
+struct Written {
+    form: Shown,
+    parts: usize,
+}
+
+impl fmt::Display for Written {
+    fn fmt<W: fmt::Write>(&self, f: &mut fmt::Formatter<W>) -> fmt::Result {
+        let word = self.form.word;
+        match word {
+            "and" | "or" | "+" | "*" if self.parts > 2 => {
+                write!(f, "hint: write `({word} a ({word} b c))`")
+            }
+            "-" if self.parts == 1 => f.write_str("hint: write `(- 0 a)`"),
+            _ => {
+                let written = self.form.written;
+                write!(f, "it is written `{written}`")
+            }
+        }
+    }
 }
 
 /// A form with another number of parts than it takes.
 pub fn arity(alloc: Global, path: &[usize], form: Shown, parts: usize) -> Judged {
     let word = form.word;
-    let written = form.written;
-    let takes = count(alloc, form.least, "part")?;
+    let takes = counted(form.least, "part");
     let least = if form.least == form.most {
         ""
     } else {
         "at least "
     };
-    let what = format!(in alloc; "`{word}` takes {least}{takes}, here it has {parts}")?;
-    let note = if parts > 2 && (word == "and" || word == "or" || word == "+" || word == "*") {
-        format!(in alloc; "hint: write `({word} a ({word} b c))`")?
-    } else if word == "-" && parts == 1 {
-        text(alloc, "hint: write `(- 0 a)`")?
-    } else {
-        format!(in alloc; "it is written `{written}`")?
-    };
-    noted(alloc, path, what, note)
+    noted(
+        alloc,
+        path,
+        format_args!("`{word}` takes {least}{takes}, here it has {parts}"),
+        Written { form, parts },
+    )
+}
+
+/// A hint for a word that heads no expression, if it is one that stands elsewhere or in another language.
+fn other_hint(name: &str) -> Option<&'static str> {
+    match name {
+        "in" | "when" => Some("clauses stand in `(for (CLAUSE ..) BODY)`"),
+        _ => in_place_of(name),
+    }
 }
 
 /// A node whose first tree heads no form and is no name of a function.
 fn no_head(alloc: Global, has_maps: bool, path: &[usize], word: &Text) -> Judged {
     let name = word.as_str();
-    let at = below(path, alloc, 0)?;
-    let what = format!(in alloc; "`{name}` heads no expression")?;
-    if in_place_of(name).is_some() {
-        return foreign(alloc, at.as_slice(), name, what);
+    let what = format_args!("`{name}` heads no expression");
+    if let Some(hint) = other_hint(name) {
+        return noted_at(alloc, path, 0, what, format_args!("hint: {hint}"));
     }
-    if name == "in" || name == "when" {
-        return noted(
-            alloc,
-            at.as_slice(),
-            what,
-            text(alloc, "hint: clauses stand in `(for (CLAUSE ..) BODY)`")?,
-        );
-    }
-    let known = heads(alloc, has_maps)?;
-    match meant(alloc, &known, name)? {
-        Some(hint) => noted(alloc, at.as_slice(), what, hint),
-        None => wrong(alloc, at.as_slice(), what),
+    match nearest_head(alloc, has_maps, name)? {
+        Some(hint) => noted_at(alloc, path, 0, what, hint),
+        None => wrong_at(alloc, path, 0, what),
     }
 }
 
@@ -92,36 +124,29 @@ fn beside(name: &Form) -> Role<'_> {
     }
 }
 
-/// The parts of a comprehension, to be judged.
-fn add_for<'a>(
-    tasks: &mut Tasks<'a>,
-    path: &[usize],
-    clauses: &'a Form,
-    body: &'a Form,
-    room: usize,
-) -> Result<(), AllocError> {
-    if let Some(clauses) = node_of(clauses) {
-        let at = below(path, tasks.alloc(), 1)?;
-        tasks.add_all(at.as_slice(), 0, clauses, Role::Clause(room))?;
+/// What a part of a form of expressions has to be, by the head of the form and the number of the part, from 0. `None`:
+/// it is no tree to be judged by itself.
+fn part_role<'a>(word: &str, number: usize, parts: &'a [Form], room: usize) -> Option<Role<'a>> {
+    match (word, number) {
+        ("let" | "fold", 0) => Some(Role::Bound),
+        ("fold", 2) => parts.first().map(|name| beside(name)),
+        ("list", 0) => Some(Role::ItemType),
+        ("call", 0) => Some(Role::Operation),
+        ("map", 1) => Some(Role::Type(16)),
+        ("map" | "for", 0) | ("at", 1) => None,
+        _ => Some(Role::Expression(room)),
     }
-    tasks.add(path, 2, body, Role::Expression(room))
 }
 
-/// The parts of a fold, to be judged: the name of an item, the list, the name of what is built, its first value, and the
-/// body.
-fn add_fold<'a>(
+/// The clauses of a comprehension, to be judged.
+fn add_clauses<'a>(
     tasks: &mut Tasks<'a>,
     path: &[usize],
-    parts: [&'a Form; 5],
+    clauses: &'a [Form],
     room: usize,
 ) -> Result<(), AllocError> {
-    let [name, list, built, first, body] = parts;
-    let inner = Role::Expression(room);
-    tasks.add(path, 1, name, Role::Bound)?;
-    tasks.add(path, 2, list, inner)?;
-    tasks.add(path, 3, built, beside(name))?;
-    tasks.add(path, 4, first, inner)?;
-    tasks.add(path, 5, body, inner)
+    let at = below(path, tasks.alloc(), 1)?;
+    tasks.add_all(at.as_slice(), 0, clauses, Role::Clause(room))
 }
 
 /// The parts of a form of expressions, to be judged.
@@ -132,29 +157,16 @@ fn add_parts<'a>(
     parts: &'a [Form],
     room: usize,
 ) -> Result<(), AllocError> {
-    let inner = Role::Expression(room);
-    match (word, parts) {
-        ("let", [name, value, body]) => {
-            tasks.add(path, 1, name, Role::Bound)?;
-            tasks.add(path, 2, value, inner)?;
-            tasks.add(path, 3, body, inner)
-        }
-        ("list", [ty, items @ ..]) => {
-            tasks.add(path, 1, ty, Role::ItemType)?;
-            tasks.add_all(path, 2, items, inner)
-        }
-        ("call", [operation, arguments @ ..]) => {
-            tasks.add(path, 1, operation, Role::Operation)?;
-            tasks.add_all(path, 2, arguments, inner)
-        }
-        ("at", [tuple, _]) => tasks.add(path, 1, tuple, inner),
-        ("map", [_, value]) => tasks.add(path, 2, value, Role::Type(16)),
-        ("for", [clauses, body]) => add_for(tasks, path, clauses, body, room),
-        ("fold", [name, list, built, first, body]) => {
-            add_fold(tasks, path, [name, list, built, first, body], room)
-        }
-        _ => tasks.add_all(path, 1, parts, inner),
+    if word == "for" {
+        let clauses = parts.first().and_then(|clauses| node_of(clauses));
+        add_clauses(tasks, path, clauses.unwrap_or(&[]), room)?;
     }
+    for (number, part) in parts.iter().enumerate() {
+        if let Some(role) = part_role(word, number, parts, room) {
+            tasks.add(path, number.saturating_add(1), part, role)?;
+        }
+    }
+    Ok(())
 }
 
 /// What is wrong with the parts of a form that are no trees of their own: places, keys, names, clauses.
@@ -168,8 +180,11 @@ pub fn small_parts(alloc: Global, path: &[usize], word: &str, parts: &[Form]) ->
             if number <= MAX_PARTS {
                 return Ok(None);
             }
-            let what = format!(in alloc; "the tuple has {number} items, at most {MAX_PARTS}")?;
-            wrong(alloc, path, what)
+            wrong(
+                alloc,
+                path,
+                format_args!("the tuple has {number} items, at most {MAX_PARTS}"),
+            )
         }
         _ => Ok(None),
     }
@@ -177,58 +192,58 @@ pub fn small_parts(alloc: Global, path: &[usize], word: &str, parts: &[Form]) ->
 
 /// The place of an item of a tuple.
 fn place_part(alloc: Global, path: &[usize], place: &Form) -> Judged {
-    let at = below(path, alloc, 2)?;
     let what = "the place of a tuple's item is an integer from 1 on";
     match word_of(place) {
         Some(word) if is_integer(word) => match integer_of(word) {
-            Some(number) if number <= 0 => wrong(alloc, at.as_slice(), text(alloc, what)?),
-            Some(_) => Ok(None),
-            None => wrong(alloc, at.as_slice(), text(alloc, what)?),
+            Some(number) if number > 0 => Ok(None),
+            _ => wrong_at(alloc, path, 2, what),
         },
-        _ => noted(
-            alloc,
-            at.as_slice(),
-            text(alloc, what)?,
-            text(alloc, "hint: of a list it is `(nth LIST PLACE)`, from 0 on")?,
-        ),
+        _ => {
+            let hint = "hint: of a list it is `(nth LIST PLACE)`, from 0 on";
+            noted_at(alloc, path, 2, what, hint)
+        }
     }
 }
 
 /// The type of the keys of a map.
 fn keys_part(alloc: Global, path: &[usize], keys: &Form) -> Judged {
-    if let Some(word) = word_of(keys) {
-        let word = word.as_str();
-        if word == "int" || word == "bool" || word == "text" {
-            return Ok(None);
-        }
+    let word = match word_of(keys) {
+        Some(word) => word.as_str(),
+        None => "",
+    };
+    match word {
+        "int" | "bool" | "text" => Ok(None),
+        _ => wrong_at(
+            alloc,
+            path,
+            1,
+            "the keys of a map are `int`, `bool` or `text`",
+        ),
     }
-    let at = below(path, alloc, 1)?;
-    let what = text(alloc, "the keys of a map are `int`, `bool` or `text`")?;
-    wrong(alloc, at.as_slice(), what)
 }
 
 /// The clauses of a comprehension.
 fn clauses_part(alloc: Global, path: &[usize], clauses: &Form) -> Judged {
-    let at = below(path, alloc, 1)?;
-    let hint = "it is written `(for ((in x LIST) (when TEST)) BODY)`";
-    match node_of(clauses) {
-        None | Some([]) => noted(
+    let forms = node_of(clauses).unwrap_or(&[]);
+    let number = forms.len();
+    if number == 0 {
+        return noted_at(
             alloc,
-            at.as_slice(),
-            text(alloc, "the clauses stand here, in brackets of their own")?,
-            text(alloc, hint)?,
-        ),
-        Some(forms) => {
-            let number = forms.len();
-            if number <= MAX_PARTS {
-                return Ok(None);
-            }
-            let what = format!(in alloc;
-                "the comprehension has {number} clauses, at most {MAX_PARTS}"
-            )?;
-            wrong(alloc, at.as_slice(), what)
-        }
+            path,
+            1,
+            "the clauses stand here, in brackets of their own",
+            "it is written `(for ((in x LIST) (when TEST)) BODY)`",
+        );
     }
+    if number <= MAX_PARTS {
+        return Ok(None);
+    }
+    wrong_at(
+        alloc,
+        path,
+        1,
+        format_args!("the comprehension has {number} clauses, at most {MAX_PARTS}"),
+    )
 }
 
 /// A node as an expression.
@@ -241,11 +256,10 @@ fn node_expression<'a>(
 ) -> Judged {
     let alloc = tasks.alloc();
     let Some((first, parts)) = parts.split_first() else {
-        return wrong(alloc, path, text(alloc, "`()` is no expression")?);
+        return wrong(alloc, path, "`()` is no expression");
     };
     let Some(word) = word_of(first) else {
-        let what = text(alloc, "an expression in brackets begins with a word")?;
-        return wrong(alloc, path, what);
+        return wrong(alloc, path, "an expression in brackets begins with a word");
     };
     if let Some(form) = expression(has_maps, word.as_str()) {
         if parts.len() < form.least || parts.len() > form.most {
@@ -274,8 +288,7 @@ pub fn as_expression<'a>(
 ) -> Judged {
     let alloc = tasks.alloc();
     if room == 0 {
-        let what = text(alloc, "more than 64 expressions in one another")?;
-        return wrong(alloc, path, what);
+        return wrong(alloc, path, "more than 64 expressions in one another");
     }
     match form {
         Form::Word(word) => word_expression(alloc, has_maps, path, word),
@@ -287,7 +300,7 @@ pub fn as_expression<'a>(
             wrong(
                 alloc,
                 path,
-                format!(in alloc; "the text has {length} bytes, at most {LIMIT}")?,
+                format_args!("the text has {length} bytes, at most {LIMIT}"),
             )
         }
         Form::Node(parts) => node_expression(tasks, has_maps, path, parts.as_slice(), room - 1),

@@ -1,152 +1,164 @@
 //! The items of a model: their forms and their names.
 
+use crate::item_forms::{ITEM_FORMS, ItemForm, item_form};
 use crate::roles::{Role, Tasks};
 use crate::walk::first_problem;
 use pst_items::{Items, Text};
 use pst_problems::{
-    Judged, add, below, count, declared, head_of, in_place_of, is_name, listed, meant, noted,
-    short_text, text, too_long, wrong,
+    Judged, Listed, NearestName, add, below, counted, declared, head_of, in_place_of, is_name,
+    noted, noted_at, short_text, too_long, wrong, wrong_at,
 };
 use pst_sexpr::{Form, node_of, word_of};
 use pst_syntax::{MAX_DECLARED, MAX_PARTS};
 use std::alloc::{AllocError, Global};
 
-/// How the items are written.
-const WRITTEN: [(&str, usize, &str); 6] = [
-    ("state", 1, "(state TYPE)"),
-    ("init", 1, "(init E)"),
-    ("command", 1, "(command E)"),
-    ("fun", 4, "(fun NAME ((p T) ..) TYPE BODY)"),
-    ("postfun", 4, "(postfun NAME ((p T) ..) TYPE BODY)"),
-    (
-        "op",
-        3,
-        "(op NAME ((p T) ..) TYPE (pre E) (next E) (post E))",
-    ),
-];
+/// The heads of all items, for a note.
+const ITEMS: &str =
+    "items are (state ..), (init ..), (command ..), (fun ..), (postfun ..) and (op ..)";
 
-/// How an item of that head is written, and how many parts it has at least.
-fn written_of(head: &str) -> Option<(usize, &'static str)> {
-    for row in WRITTEN.as_slice() {
-        if row.0 == head {
-            return Some((row.1, row.2));
-        }
+/// A word that heads no item, where one is headed.
+fn no_item_head(alloc: Global, path: &[usize], head: &str) -> Judged {
+    let what = format_args!("`{head}` heads no item of a model");
+    let mut near = NearestName::to(head);
+    for form in ITEM_FORMS.as_slice() {
+        near = near.or(alloc, form.head, head)?;
     }
-    None
+    match near.hint() {
+        Some(hint) => noted_at(alloc, path, 0, what, hint),
+        None => noted_at(alloc, path, 0, what, ITEMS),
+    }
 }
 
 /// A tree that is no item.
 fn no_item(alloc: Global, path: &[usize], form: &Form) -> Judged {
-    let Some(head) = head_of(form) else {
-        let shown = short_text(alloc, form)?;
-        let note = match in_place_of(shown.as_str()) {
-            Some(hint) => format!(in alloc; "hint: {hint}")?,
-            None => text(
-                alloc,
-                "items are (state ..), (init ..), (command ..), (fun ..), (postfun ..) and (op ..)",
-            )?,
-        };
-        return noted(
-            alloc,
-            path,
-            format!(in alloc; "`{shown}` is no item of a model")?,
-            note,
-        );
-    };
-    let at = below(path, alloc, 0)?;
-    let head = head.as_str();
-    let what = format!(in alloc; "`{head}` heads no item of a model")?;
-    let mut known = Items::new(alloc);
-    for row in WRITTEN.as_slice() {
-        add(alloc, &mut known, row.0)?;
+    if let Some(head) = head_of(form) {
+        return no_item_head(alloc, path, head.as_str());
     }
-    let note = match meant(alloc, &known, head)? {
-        Some(hint) => hint,
-        None => text(
-            alloc,
-            "items are (state ..), (init ..), (command ..), (fun ..), (postfun ..) and (op ..)",
-        )?,
-    };
-    noted(alloc, at.as_slice(), what, note)
+    let shown = short_text(alloc, form)?;
+    let shown = shown.as_str();
+    let what = format_args!("`{shown}` is no item of a model");
+    match in_place_of(shown) {
+        Some(hint) => noted(alloc, path, what, format_args!("hint: {hint}")),
+        None => noted(alloc, path, what, ITEMS),
+    }
+}
+
+/// Whether a tree is headed by one of two words.
+fn is_headed(item: &Form, word: &str, other: &str) -> bool {
+    match head_of(item) {
+        Some(head) => head.as_str() == word || head.as_str() == other,
+        None => false,
+    }
 }
 
 /// How many of the items are headed by one of two words.
 fn headed(items: &[Form], word: &str, other: &str) -> usize {
     items
         .iter()
-        .filter(|item| match head_of(item) {
-            Some(head) => head.as_str() == word || head.as_str() == other,
-            None => false,
-        })
+        .filter(|item| is_headed(item, word, other))
         .count()
+}
+
+/// Whether an item declares the name.
+fn declares(item: &Form, name: &Text) -> bool {
+    match node_of(item) {
+        Some([_, Form::Word(taken), ..]) => taken.as_str() == name.as_str(),
+        _ => false,
+    }
 }
 
 /// Whether an item that is headed by one of two words declares the name.
 fn is_taken(items: &[Form], word: &str, other: &str, name: &Text) -> bool {
-    items.iter().any(|item| {
-        let parts = node_of(item).unwrap_or(&[]);
-        match (head_of(item), parts.get(1)) {
-            (Some(head), Some(Form::Word(taken))) => {
-                (head.as_str() == word || head.as_str() == other) && taken.as_str() == name.as_str()
-            }
-            _ => false,
-        }
-    })
+    items.iter().any(|item| is_headed(item, word, other) && declares(item, name))
 }
 
-/// What is wrong with an item before its parts are judged.
-fn outside(alloc: Global, path: &[usize], head: &str, parts: &[Form], before: &[Form]) -> Judged {
-    let Some((least, written)) = written_of(head) else {
+/// What is wrong with the number of parts of an item.
+fn parts_number(alloc: Global, path: &[usize], form: ItemForm, number: usize) -> Judged {
+    let ItemForm { head, written, .. } = form;
+    if number == form.least || head == "op" && number > form.least {
         return Ok(None);
-    };
-    let number = parts.len();
-    if number < least || head != "op" && number > least {
-        let has = count(alloc, number, "part")?;
-        let what = format!(in alloc; "`{head}` is not written so: it has {has}")?;
-        return noted(
-            alloc,
-            path,
-            what,
-            format!(in alloc; "it is written `{written}`")?,
-        );
     }
-    let (other, is_named) = match head {
-        "fun" => ("postfun", true),
-        "postfun" => ("fun", true),
-        "op" => ("op", true),
-        _ => (head, false),
-    };
-    let earlier = headed(before, head, other);
-    if !is_named && earlier > 0 {
+    let has = counted(number, "part");
+    noted(
+        alloc,
+        path,
+        format_args!("`{head}` is not written so: it has {has}"),
+        format_args!("it is written `{written}`"),
+    )
+}
+
+/// What is wrong with the number of the items of a form, of which so many stand before one more.
+fn items_number(alloc: Global, path: &[usize], form: ItemForm, before: usize) -> Judged {
+    let head = form.head;
+    if form.sharing_names.is_none() && before > 0 {
         return wrong(
             alloc,
             path,
-            format!(in alloc; "the model has two items `{head}`")?,
+            format_args!("the model has two items `{head}`"),
         );
     }
-    if is_named && earlier >= MAX_DECLARED {
-        let what = format!(in alloc; "the model has more than {MAX_DECLARED} items `{head}`")?;
-        return wrong(alloc, path, what);
+    if before < MAX_DECLARED {
+        return Ok(None);
     }
-    Ok(None)
+    wrong(
+        alloc,
+        path,
+        format_args!("the model has more than {MAX_DECLARED} items `{head}`"),
+    )
 }
 
-/// The other head whose items share their names with those of a head.
-fn sharing_names(head: &str) -> &'static str {
-    match head {
-        "op" => "op",
-        "fun" => "postfun",
-        _ => "fun",
+/// What is wrong with an item before its parts are judged.
+fn outside(
+    alloc: Global,
+    path: &[usize],
+    form: ItemForm,
+    parts: &[Form],
+    before: &[Form],
+) -> Judged {
+    if let Some(found) = parts_number(alloc, path, form, parts.len())? {
+        return Ok(Some(found));
     }
+    let other = form.sharing_names.unwrap_or(form.head);
+    items_number(alloc, path, form, headed(before, form.head, other))
 }
 
-/// What is wrong with a word as the name that an item of a head declares. A word of the language may name an operation.
-fn as_declared(alloc: Global, has_maps: bool, path: &[usize], head: &str, word: &Text) -> Judged {
-    if head == "op" && is_name(word) {
+/// What is wrong with a word as the name that an item declares. A word of the language may name an operation.
+fn as_declared(
+    alloc: Global,
+    has_maps: bool,
+    path: &[usize],
+    form: ItemForm,
+    word: &Text,
+) -> Judged {
+    if form.head == "op" && is_name(word) {
         too_long(alloc, path, word)
     } else {
         declared(alloc, has_maps, path, word)
     }
+}
+
+/// What is wrong with a word, at its place, as the name of a function or an operation behind other items.
+fn new_name(
+    alloc: Global,
+    has_maps: bool,
+    path: &[usize],
+    form: ItemForm,
+    word: &Text,
+    before: &[Form],
+) -> Judged {
+    if let Some(found) = as_declared(alloc, has_maps, path, form, word)? {
+        return Ok(Some(found));
+    }
+    let other = form.sharing_names.unwrap_or(form.head);
+    if !is_taken(before, form.head, other, word) {
+        return Ok(None);
+    }
+    let name = word.as_str();
+    wrong(
+        alloc,
+        path,
+        format_args!("an earlier item declares `{name}`"),
+    )
 }
 
 /// What is wrong with the name of a function or an operation.
@@ -154,56 +166,63 @@ fn name_part(
     alloc: Global,
     has_maps: bool,
     path: &[usize],
-    head: &str,
+    form: ItemForm,
     name: &Form,
     before: &[Form],
 ) -> Judged {
-    let at = below(path, alloc, 1)?;
-    let at = at.as_slice();
-    let Some(word) = word_of(name) else {
-        let what = format!(in alloc; "the name of the `{head}` has to stand here")?;
-        return wrong(alloc, at, what);
-    };
-    if let Some(found) = as_declared(alloc, has_maps, at, head, word)? {
-        return Ok(Some(found));
+    let head = form.head;
+    match word_of(name) {
+        Some(word) => {
+            let at = below(path, alloc, 1)?;
+            new_name(alloc, has_maps, at.as_slice(), form, word, before)
+        }
+        None => wrong_at(
+            alloc,
+            path,
+            1,
+            format_args!("the name of the `{head}` has to stand here"),
+        ),
     }
-    if !is_taken(before, head, sharing_names(head), word) {
-        return Ok(None);
+}
+
+/// Parameters, to be judged, below the path of their list.
+fn add_each_parameter<'a>(
+    tasks: &mut Tasks<'a>,
+    path: &[usize],
+    forms: &'a [Form],
+) -> Result<(), AllocError> {
+    let mut place: usize = 0;
+    for form in forms {
+        let before = forms.get(..place).unwrap_or(&[]);
+        tasks.add(path, place, form, Role::Parameter(before))?;
+        place = place.saturating_add(1);
     }
-    let name = word.as_str();
-    wrong(
-        alloc,
-        at,
-        format!(in alloc; "an earlier item declares `{name}`")?,
-    )
+    Ok(())
 }
 
 /// The parameters of a function or an operation, to be judged.
 fn add_parameters<'a>(tasks: &mut Tasks<'a>, path: &[usize], params: &'a Form) -> Judged {
     let alloc = tasks.alloc();
-    let at = below(path, alloc, 2)?;
     let Some(forms) = node_of(params) else {
-        return noted(
+        return noted_at(
             alloc,
-            at.as_slice(),
-            text(alloc, "the parameters have to stand here, in brackets")?,
-            text(
-                alloc,
-                "they are written `((p T) (q U))`, or `()` where there are none",
-            )?,
+            path,
+            2,
+            "the parameters have to stand here, in brackets",
+            "they are written `((p T) (q U))`, or `()` where there are none",
         );
     };
     let number = forms.len();
     if number > MAX_PARTS {
-        let what = format!(in alloc; "there are {number} parameters, at most {MAX_PARTS}")?;
-        return wrong(alloc, at.as_slice(), what);
+        return wrong_at(
+            alloc,
+            path,
+            2,
+            format_args!("there are {number} parameters, at most {MAX_PARTS}"),
+        );
     }
-    let mut place: usize = 0;
-    for form in forms {
-        let before = forms.get(..place).unwrap_or(&[]);
-        tasks.add(at.as_slice(), place, form, Role::Parameter(before))?;
-        place = place.saturating_add(1);
-    }
+    let at = below(path, alloc, 2)?;
+    add_each_parameter(tasks, at.as_slice(), forms)?;
     Ok(None)
 }
 
@@ -227,12 +246,12 @@ fn add_signature<'a>(
     tasks: &mut Tasks<'a>,
     has_maps: bool,
     path: &[usize],
-    head: &str,
+    form: ItemForm,
     signature: [&'a Form; 3],
     before: &[Form],
 ) -> Judged {
     let [name, params, result] = signature;
-    if let Some(found) = name_part(tasks.alloc(), has_maps, path, head, name, before)? {
+    if let Some(found) = name_part(tasks.alloc(), has_maps, path, form, name, before)? {
         return Ok(Some(found));
     }
     if let Some(found) = add_parameters(tasks, path, params)? {
@@ -242,36 +261,63 @@ fn add_signature<'a>(
     Ok(None)
 }
 
+/// The parts of a function or an operation, to be judged.
+fn add_declared<'a>(
+    tasks: &mut Tasks<'a>,
+    has_maps: bool,
+    path: &[usize],
+    form: ItemForm,
+    parts: &'a [Form],
+    before: &[Form],
+) -> Judged {
+    let [name, params, result, rest @ ..] = parts else {
+        return Ok(None);
+    };
+    let signature = [name, params, result];
+    if let Some(found) = add_signature(tasks, has_maps, path, form, signature, before)? {
+        return Ok(Some(found));
+    }
+    if form.head == "op" {
+        add_callbacks(tasks, path, rest)?;
+    } else {
+        tasks.add_all(path, 4, rest, Role::Expression(64))?;
+    }
+    Ok(None)
+}
+
 /// The parts of an item, to be judged.
 fn add_item<'a>(
     tasks: &mut Tasks<'a>,
     has_maps: bool,
     path: &[usize],
-    head: &str,
+    form: ItemForm,
     parts: &'a [Form],
     before: &[Form],
 ) -> Judged {
-    match (head, parts) {
-        ("state", [ty]) => tasks.add(path, 1, ty, Role::Type(16))?,
-        ("init", [value]) => tasks.add(path, 1, value, Role::Expression(64))?,
-        ("command", [calls]) => tasks.add(path, 1, calls, Role::Expression(64))?,
-        ("op", [name, params, result, callbacks @ ..]) => {
-            let signature = [name, params, result];
-            if let Some(found) = add_signature(tasks, has_maps, path, head, signature, before)? {
-                return Ok(Some(found));
-            }
-            add_callbacks(tasks, path, callbacks)?;
-        }
-        (_, [name, params, result, body]) => {
-            let signature = [name, params, result];
-            if let Some(found) = add_signature(tasks, has_maps, path, head, signature, before)? {
-                return Ok(Some(found));
-            }
-            tasks.add(path, 4, body, Role::Expression(64))?;
-        }
-        _ => {}
-    }
+    let role = match form.head {
+        "state" => Role::Type(16),
+        "init" | "command" => Role::Expression(64),
+        _ => return add_declared(tasks, has_maps, path, form, parts, before),
+    };
+    tasks.add_all(path, 1, parts, role)?;
     Ok(None)
+}
+
+/// What is wrong with the parts of an item that stands behind others.
+fn inside(
+    alloc: Global,
+    has_maps: bool,
+    path: &[usize],
+    form: ItemForm,
+    parts: &[Form],
+    before: &[Form],
+) -> Judged {
+    let mut tasks = Tasks::new(alloc);
+    let refused = add_item(&mut tasks, has_maps, path, form, parts, before)?;
+    match first_problem(tasks, has_maps)? {
+        Some(found) => Ok(Some(found)),
+        None => Ok(refused),
+    }
 }
 
 /// The callbacks that an operation lacks.
@@ -285,12 +331,18 @@ fn lacking(alloc: Global, path: &[usize], parts: &[Form]) -> Judged {
     if names.is_empty() {
         return Ok(None);
     }
-    let names = listed(alloc, &names)?;
+    let names = Listed(&names);
     wrong(
         alloc,
         path,
-        format!(in alloc; "the operation has no callback {names}")?,
+        format_args!("the operation has no callback {names}"),
     )
+}
+
+/// The form of an item, and its parts behind its head.
+fn form_and_parts(item: &Form) -> Option<(ItemForm, &[Form])> {
+    let (_, parts) = node_of(item)?.split_first()?;
+    Some((item_form(head_of(item)?.as_str())?, parts))
 }
 
 /// What is wrong with an item that stands behind others.
@@ -298,34 +350,21 @@ pub fn item_problem(
     alloc: Global,
     has_maps: bool,
     path: &[usize],
-    form: &Form,
+    item: &Form,
     before: &[Form],
 ) -> Judged {
-    let (Some(head), Some((_, parts))) = (head_of(form), parts_of(form)) else {
-        return no_item(alloc, path, form);
+    let Some((form, parts)) = form_and_parts(item) else {
+        return no_item(alloc, path, item);
     };
-    if written_of(head.as_str()).is_none() {
-        return no_item(alloc, path, form);
-    }
-    if let Some(found) = outside(alloc, path, head.as_str(), parts, before)? {
+    if let Some(found) = outside(alloc, path, form, parts, before)? {
         return Ok(Some(found));
     }
-    let mut tasks = Tasks::new(alloc);
-    let refused = add_item(&mut tasks, has_maps, path, head.as_str(), parts, before)?;
-    if let Some(found) = first_problem(tasks, has_maps)? {
+    if let Some(found) = inside(alloc, has_maps, path, form, parts, before)? {
         return Ok(Some(found));
     }
-    if let Some(found) = refused {
-        return Ok(Some(found));
-    }
-    if head.as_str() == "op" {
+    if form.head == "op" {
         lacking(alloc, path, parts)
     } else {
         Ok(None)
     }
-}
-
-/// The first tree of a node and the others.
-fn parts_of(form: &Form) -> Option<(&Form, &[Form])> {
-    node_of(form)?.split_first()
 }

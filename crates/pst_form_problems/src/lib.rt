@@ -4,6 +4,7 @@
 #![tactic(auto)]
 
 mod expressions;
+mod item_forms;
 mod items;
 mod roles;
 mod syntax;

@@ -3,7 +3,7 @@
 use crate::items::item_problem;
 use pst_items::Items;
 use pst_problems::{
-    Judged, Problem, add, declared, head_of, is_name, listed, noted, text, too_long, wrong,
+    Judged, Listed, Problem, add, declared, head_of, is_name, noted, too_long, wrong,
 };
 use pst_sexpr::{Form, Tree, node_of, word_of};
 use pst_syntax::{FaultKind, MAX_TREES, SyntaxFault};
@@ -29,33 +29,36 @@ fn lacking(alloc: Global, items: &[Form]) -> Judged {
             add(alloc, &mut names, word)?;
         }
     }
-    let names = listed(alloc, &names)?;
+    let names = Listed(&names);
     noted(
         alloc,
         &[0],
-        format!(in alloc; "the model lacks {names}")?,
-        text(
-            alloc,
-            "a model has a (state TYPE), an (init E) and a (command E)",
-        )?,
+        format_args!("the model lacks {names}"),
+        "a model has a (state TYPE), an (init E) and a (command E)",
     )
 }
+
+/// How a model is written.
+const MODEL: &str = "a model is `(model NAME ITEM ..)`, with maps `(model2 NAME ITEM ..)`";
 
 /// A tree that is no model.
 fn no_model(alloc: Global, form: &Form) -> Judged {
     let what = "the file begins with no model";
-    let note = "a model is `(model NAME ITEM ..)`, with maps `(model2 NAME ITEM ..)`";
-    if let Some(word) = word_of(form) {
-        if word.as_str().starts_with("//") || word.as_str().starts_with("#") {
-            return noted(
-                alloc,
-                &[0],
-                text(alloc, what)?,
-                text(alloc, "hint: a comment begins with `;`")?,
-            );
+    match word_of(form) {
+        Some(word) if word.as_str().starts_with("//") || word.as_str().starts_with("#") => {
+            noted(alloc, &[0], what, "hint: a comment begins with `;`")
         }
+        _ => noted(alloc, &[0], what, MODEL),
     }
-    noted(alloc, &[0], text(alloc, what)?, text(alloc, note)?)
+}
+
+/// What is wrong with the name of a model, if something is.
+fn of_name(alloc: Global, name: Option<&Form>) -> Judged {
+    match name {
+        Some(Form::Word(word)) if is_name(word) => too_long(alloc, &[0, 1], word),
+        Some(Form::Word(word)) => declared(alloc, false, &[0, 1], word),
+        _ => Ok(None),
+    }
 }
 
 /// What is wrong with a model outside of its items.
@@ -65,17 +68,10 @@ fn of_model(alloc: Global, form: &Form, kind: FaultKind) -> Judged {
     match kind {
         FaultKind::Missing => lacking(alloc, items),
         FaultKind::BadName | FaultKind::OverLimit => {
-            if let Some(Form::Word(word)) = parts.get(1) {
-                let refused = if is_name(word) {
-                    too_long(alloc, &[0, 1], word)?
-                } else {
-                    declared(alloc, false, &[0, 1], word)?
-                };
-                if let Some(found) = refused {
-                    return Ok(Some(found));
-                }
+            if let Some(found) = of_name(alloc, parts.get(1))? {
+                return Ok(Some(found));
             }
-            let what = format!(in alloc; "the model has more than {MAX_TREES} trees")?;
+            let what = format_args!("the model has more than {MAX_TREES} trees");
             wrong(alloc, &[0], what)
         }
         _ => no_model(alloc, form),
@@ -89,15 +85,7 @@ pub fn form_problem(
     fault: SyntaxFault,
 ) -> Result<Option<Problem>, AllocError> {
     let Some(tree) = trees.first() else {
-        return noted(
-            alloc,
-            &[],
-            text(alloc, "the file holds no model")?,
-            text(
-                alloc,
-                "a model is `(model NAME ITEM ..)`, with maps `(model2 NAME ITEM ..)`",
-            )?,
-        );
+        return noted(alloc, &[], "the file holds no model", MODEL);
     };
     let model = tree.form();
     if fault.item == 0 {
@@ -116,6 +104,6 @@ pub fn form_problem(
     wrong(
         alloc,
         &[0, place],
-        format!(in alloc; "the item is refused: {kind}")?,
+        format_args!("the item is refused: {kind}"),
     )
 }

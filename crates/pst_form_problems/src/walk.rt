@@ -5,7 +5,8 @@ use crate::expressions::{arity, as_expression, small_parts};
 use crate::roles::{Role, Task, Tasks};
 use pst_items::Text;
 use pst_problems::{
-    Judged, below, bound, foreign, is_name, is_of_maps, noted, short_text, text, type_form, wrong,
+    Judged, below, bound, foreign, is_name, is_of_maps, noted, short_text, type_form, with_note,
+    wrong,
 };
 use pst_sexpr::{Form, node_of, word_of};
 use pst_syntax::MAX_NAME;
@@ -19,12 +20,12 @@ fn headed(form: &Form) -> Option<(&Text, &[Form])> {
 
 /// A form of maps in a language that has none.
 fn no_maps(alloc: Global, path: &[usize]) -> Judged {
-    let what = text(alloc, "this language has no maps")?;
-    let hint = text(
+    noted(
         alloc,
+        path,
+        "this language has no maps",
         "hint: a model with maps begins with `(model2 NAME ..)`",
-    )?;
-    noted(alloc, path, what, hint)
+    )
 }
 
 /// What is wrong with a type apart from the types in it, by its head and the trees behind this.
@@ -58,8 +59,7 @@ fn add_types<'a>(
 ) -> Judged {
     let alloc = tasks.alloc();
     if room == 0 {
-        let what = text(alloc, "more than 16 types in one another")?;
-        return wrong(alloc, path, what);
+        return wrong(alloc, path, "more than 16 types in one another");
     }
     if head != "map" {
         tasks.add_all(path, 1, rest, Role::Type(room - 1))?;
@@ -97,14 +97,9 @@ fn as_item_type<'a>(
     path: &[usize],
     form: &'a Form,
 ) -> Judged {
-    let alloc = tasks.alloc();
-    match as_type(tasks, has_maps, path, form, 16)? {
-        Some(found) => {
-            let hint = "hint: a list begins with the type of its items: `(list int 1 2)`";
-            Ok(Some(found.with(text(alloc, hint)?)?))
-        }
-        None => Ok(None),
-    }
+    let found = as_type(tasks, has_maps, path, form, 16)?;
+    let hint = "hint: a list begins with the type of its items: `(list int 1 2)`";
+    with_note(tasks.alloc(), found, hint)
 }
 
 /// A word or a text as a type.
@@ -113,16 +108,14 @@ fn word_type(alloc: Global, path: &[usize], form: &Form) -> Judged {
         return no_type(alloc, path, form);
     };
     let word = word.as_str();
-    if word == "int" || word == "bool" || word == "text" || word == "call" {
+    if matches!(word, "int" | "bool" | "text" | "call") {
         return Ok(None);
     }
     if let Some(shown) = type_form(word) {
         let written = shown.written;
-        let what = format!(in alloc; "the type is written `{written}`")?;
-        return wrong(alloc, path, what);
+        return wrong(alloc, path, format_args!("the type is written `{written}`"));
     }
-    let what = format!(in alloc; "`{word}` is no type")?;
-    foreign(alloc, path, word, what)
+    foreign(alloc, path, word, format_args!("`{word}` is no type"))
 }
 
 /// A tree that is no type, where a type has to stand.
@@ -131,40 +124,45 @@ fn no_type(alloc: Global, path: &[usize], form: &Form) -> Judged {
     noted(
         alloc,
         path,
-        format!(in alloc; "`{shown}` is no type")?,
-        text(
-            alloc,
-            "types are int, bool, text, (tuple T ..), (list T), (ref T), call, and (map K V) in model2",
-        )?,
+        format_args!("`{shown}` is no type"),
+        "types are int, bool, text, (tuple T ..), (list T), (ref T), call, and (map K V) in model2",
     )
+}
+
+/// A clause that binds a name to the items of a list.
+fn add_in<'a>(
+    tasks: &mut Tasks<'a>,
+    path: &[usize],
+    name: &'a Form,
+    list: &'a Form,
+    room: usize,
+) -> Judged {
+    tasks.add(path, 1, name, Role::Bound)?;
+    tasks.add(path, 2, list, Role::Expression(room))?;
+    Ok(None)
+}
+
+/// A clause that tests.
+fn add_when<'a>(tasks: &mut Tasks<'a>, path: &[usize], test: &'a Form, room: usize) -> Judged {
+    tasks.add(path, 1, test, Role::Expression(room))?;
+    Ok(None)
 }
 
 /// A tree as a clause of a comprehension.
 fn as_clause<'a>(tasks: &mut Tasks<'a>, path: &[usize], form: &'a Form, room: usize) -> Judged {
-    let alloc = tasks.alloc();
-    let parts = node_of(form).unwrap_or(&[]);
-    let head = match parts.first() {
-        Some(first) => word_of(first),
-        None => None,
+    let none: &[Form] = &[];
+    let (head, rest) = match headed(form) {
+        Some((head, rest)) => (head.as_str(), rest),
+        None => ("", none),
     };
-    match (head, parts) {
-        (Some(head), [_, name, list]) if head.as_str() == "in" => {
-            tasks.add(path, 1, name, Role::Bound)?;
-            tasks.add(path, 2, list, Role::Expression(room))?;
-            Ok(None)
-        }
-        (Some(head), [_, test]) if head.as_str() == "when" => {
-            tasks.add(path, 1, test, Role::Expression(room))?;
-            Ok(None)
-        }
+    match (head, rest) {
+        ("in", [name, list]) => add_in(tasks, path, name, list, room),
+        ("when", [test]) => add_when(tasks, path, test, room),
         _ => noted(
-            alloc,
+            tasks.alloc(),
             path,
-            text(alloc, "a clause is `(in NAME LIST)` or `(when TEST)`")?,
-            text(
-                alloc,
-                "it is written `(for ((in x LIST) (when TEST)) BODY)`",
-            )?,
+            "a clause is `(in NAME LIST)` or `(when TEST)`",
+            "it is written `(for ((in x LIST) (when TEST)) BODY)`",
         ),
     }
 }
@@ -173,11 +171,39 @@ fn as_clause<'a>(tasks: &mut Tasks<'a>, path: &[usize], form: &'a Form, room: us
 fn as_operation(alloc: Global, path: &[usize], form: &Form) -> Judged {
     match word_of(form) {
         Some(word) if is_name(word) && word.len() <= MAX_NAME => Ok(None),
-        _ => wrong(
-            alloc,
-            path,
-            text(alloc, "the name of an operation has to stand here")?,
-        ),
+        _ => wrong(alloc, path, "the name of an operation has to stand here"),
+    }
+}
+
+/// Whether one of the parameters has the name.
+fn is_parameter(params: &[Form], name: &Form) -> bool {
+    params.iter().any(|param| match node_of(param) {
+        Some([first, _]) => *first == *name,
+        _ => false,
+    })
+}
+
+/// What is wrong with the name of a parameter behind others, at its place.
+fn parameter_name(
+    alloc: Global,
+    has_maps: bool,
+    path: &[usize],
+    name: &Form,
+    before: &[Form],
+) -> Judged {
+    if let Some(found) = bound(alloc, has_maps, path, name, None)? {
+        return Ok(Some(found));
+    }
+    match word_of(name) {
+        Some(word) if is_parameter(before, name) => {
+            let name = word.as_str();
+            wrong(
+                alloc,
+                path,
+                format_args!("two parameters have the name `{name}`"),
+            )
+        }
+        _ => Ok(None),
     }
 }
 
@@ -191,20 +217,11 @@ fn as_parameter<'a>(
 ) -> Judged {
     let alloc = tasks.alloc();
     let Some([name, ty]) = node_of(form) else {
-        return wrong(alloc, path, text(alloc, "a parameter is `(NAME TYPE)`")?);
+        return wrong(alloc, path, "a parameter is `(NAME TYPE)`");
     };
     let at = below(path, alloc, 0)?;
-    if let Some(found) = bound(alloc, has_maps, at.as_slice(), name, None)? {
+    if let Some(found) = parameter_name(alloc, has_maps, at.as_slice(), name, before)? {
         return Ok(Some(found));
-    }
-    for other in before {
-        if let (Some([first, _]), Some(word)) = (node_of(other), word_of(name)) {
-            if *first == *name {
-                let name = word.as_str();
-                let what = format!(in alloc; "two parameters have the name `{name}`")?;
-                return wrong(alloc, at.as_slice(), what);
-            }
-        }
     }
     tasks.add(path, 1, ty, Role::Type(16))?;
     Ok(None)
@@ -216,10 +233,9 @@ fn callback_head(form: &Form) -> Option<&str> {
         return None;
     };
     let word = word_of(first)?.as_str();
-    if word == "pre" || word == "next" || word == "post" {
-        Some(word)
-    } else {
-        None
+    match word {
+        "pre" | "next" | "post" => Some(word),
+        _ => None,
     }
 }
 
@@ -235,18 +251,19 @@ fn as_callback<'a>(
         return noted(
             alloc,
             path,
-            text(alloc, "a callback is `(pre E)`, `(next E)` or `(post E)`")?,
-            text(
-                alloc,
-                "an operation is `(op NAME ((p T) ..) T (pre E) (next E) (post E))`",
-            )?,
+            "a callback is `(pre E)`, `(next E)` or `(post E)`",
+            "an operation is `(op NAME ((p T) ..) T (pre E) (next E) (post E))`",
         );
     };
-    for other in before {
-        if callback_head(other) == Some(head) {
-            let what = format!(in alloc; "the operation has two callbacks `{head}`")?;
-            return wrong(alloc, path, what);
-        }
+    if before
+        .iter()
+        .any(|other| callback_head(other) == Some(head))
+    {
+        return wrong(
+            alloc,
+            path,
+            format_args!("the operation has two callbacks `{head}`"),
+        );
     }
     tasks.add(path, 1, body, Role::Expression(64))?;
     Ok(None)

@@ -1,7 +1,6 @@
 //! The forms of expressions, for messages: how many parts they take, and how they are written.
 
-use crate::names::add;
-use pst_items::{Items, Text};
+use crate::names::{DidYouMean, NearestName};
 use std::alloc::{AllocError, Global};
 
 /// A form: its head word, the least and the greatest number of parts, and how it is written.
@@ -161,20 +160,31 @@ pub fn in_place_of(word: &str) -> Option<&'static str> {
     beside(&FOREIGN, word)
 }
 
-/// Adds the head words of rows.
-fn add_heads(alloc: Global, words: &mut Items<Text>, rows: &[Shown]) -> Result<(), AllocError> {
+/// The nearest of the head words of rows and of a nearer word.
+fn nearest_of(
+    alloc: Global,
+    rows: &'static [Shown],
+    name: &str,
+    nearer: NearestName<'static>,
+) -> Result<NearestName<'static>, AllocError> {
+    let mut near = nearer;
     for row in rows {
-        add(alloc, words, row.word)?;
+        near = near.or(alloc, row.word, name)?;
     }
-    Ok(())
+    Ok(near)
 }
 
-/// The head words of expressions.
-pub fn heads(alloc: Global, has_maps: bool) -> Result<Items<Text>, AllocError> {
-    let mut words = Items::new(alloc);
-    add_heads(alloc, &mut words, &EXPRESSIONS)?;
-    if has_maps {
-        add_heads(alloc, &mut words, &MAPS)?;
-    }
-    Ok(words)
+/// The head word of expressions that may be meant by a name, as a hint. `AllocError`: memory was refused.
+pub fn nearest_head(
+    alloc: Global,
+    has_maps: bool,
+    name: &str,
+) -> Result<Option<DidYouMean<'static>>, AllocError> {
+    let near = nearest_of(alloc, EXPRESSIONS.as_slice(), name, NearestName::to(name))?;
+    let near = if has_maps {
+        nearest_of(alloc, MAPS.as_slice(), name, near)?
+    } else {
+        near
+    };
+    Ok(near.hint())
 }

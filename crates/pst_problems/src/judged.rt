@@ -1,30 +1,61 @@
 //! What a judgement of a tree gives, and the judgement of names.
 
 use crate::forms::{in_place_of, is_head};
-use crate::problem::{Problem, text};
+use crate::problem::{Problem, below};
 use pst_items::Text;
 use pst_sexpr::{Form, word_of};
 use pst_syntax::MAX_NAME;
 use std::alloc::{AllocError, Global};
+use std::fmt::Display;
 
 /// What a judgement gives: a problem, or none.
 pub type Judged = Result<Option<Problem>, AllocError>;
 
-/// A problem at a place.
-pub fn wrong(alloc: Global, path: &[usize], what: String) -> Judged {
-    Ok(Some(Problem::new(alloc, Vec::from_slice(alloc, path)?, what)))
+/// A problem at the tree of a path.
+pub fn wrong<D: Display + Drop>(alloc: Global, path: &[usize], what: D) -> Judged {
+    let path = Vec::from_slice(alloc, path)?;
+    Ok(Some(Problem::new(alloc, path, what)?))
 }
 
-/// A problem at a place, with a note.
-pub fn noted(alloc: Global, path: &[usize], what: String, note: String) -> Judged {
-    let problem = Problem::new(alloc, Vec::from_slice(alloc, path)?, what);
-    Ok(Some(problem.with(note)?))
+/// A problem at a part, by its number, of the tree of a path.
+pub fn wrong_at<D: Display + Drop>(alloc: Global, path: &[usize], part: usize, what: D) -> Judged {
+    let path = below(path, alloc, part)?;
+    Ok(Some(Problem::new(alloc, path, what)?))
+}
+
+/// The same problem, if there is one, with one more note.
+pub fn with_note<N: Display + Drop>(alloc: Global, found: Option<Problem>, note: N) -> Judged {
+    match found {
+        Some(problem) => Ok(Some(problem.with(alloc, note)?)),
+        None => Ok(None),
+    }
+}
+
+/// A problem at the tree of a path, with a note.
+pub fn noted<D: Display + Drop, N: Display + Drop>(
+    alloc: Global,
+    path: &[usize],
+    what: D,
+    note: N,
+) -> Judged {
+    with_note(alloc, wrong(alloc, path, what)?, note)
+}
+
+/// A problem at a part, by its number, of the tree of a path, with a note.
+pub fn noted_at<D: Display + Drop, N: Display + Drop>(
+    alloc: Global,
+    path: &[usize],
+    part: usize,
+    what: D,
+    note: N,
+) -> Judged {
+    with_note(alloc, wrong_at(alloc, path, part, what)?, note)
 }
 
 /// A problem at a word, with what stands in the place of a word of another language.
-pub fn foreign(alloc: Global, path: &[usize], word: &str, what: String) -> Judged {
+pub fn foreign<D: Display + Drop>(alloc: Global, path: &[usize], word: &str, what: D) -> Judged {
     match in_place_of(word) {
-        Some(hint) => noted(alloc, path, what, format!(in alloc; "hint: {hint}")?),
+        Some(hint) => noted(alloc, path, what, format_args!("hint: {hint}")),
         None => wrong(alloc, path, what),
     }
 }
@@ -41,16 +72,6 @@ pub fn is_name(word: &Text) -> bool {
         }
         None => false,
     }
-}
-
-/// A word that is no name, where a name is declared.
-fn no_name(alloc: Global, path: &[usize], name: &str) -> Judged {
-    let what = format!(in alloc; "`{name}` is no name")?;
-    let note = text(
-        alloc,
-        "a name is a lower-case letter, then letters, digits, `_` and `-`",
-    )?;
-    noted(alloc, path, what, note)
 }
 
 /// What a name stands for already, if it may not be declared.
@@ -71,13 +92,19 @@ fn taken(has_maps: bool, name: &str) -> Option<&'static str> {
 pub fn declared(alloc: Global, has_maps: bool, path: &[usize], word: &Text) -> Judged {
     let name = word.as_str();
     if !is_name(word) {
-        return no_name(alloc, path, name);
+        return noted(
+            alloc,
+            path,
+            format_args!("`{name}` is no name"),
+            "a name is a lower-case letter, then letters, digits, `_` and `-`",
+        );
     }
     match taken(has_maps, name) {
-        Some(what) => {
-            let what = format!(in alloc; "`{name}` is {what}; choose another name")?;
-            wrong(alloc, path, what)
-        }
+        Some(what) => wrong(
+            alloc,
+            path,
+            format_args!("`{name}` is {what}; choose another name"),
+        ),
         None => too_long(alloc, path, word),
     }
 }
@@ -88,8 +115,11 @@ pub fn too_long(alloc: Global, path: &[usize], word: &Text) -> Judged {
     if length <= MAX_NAME {
         return Ok(None);
     }
-    let what = format!(in alloc; "the name has {length} bytes, at most {MAX_NAME}")?;
-    wrong(alloc, path, what)
+    wrong(
+        alloc,
+        path,
+        format_args!("the name has {length} bytes, at most {MAX_NAME}"),
+    )
 }
 
 /// A name that has to be declared, or another tree in its place.
@@ -101,13 +131,16 @@ pub fn bound(
     other: Option<&Text>,
 ) -> Judged {
     let Some(word) = word_of(form) else {
-        return wrong(alloc, path, text(alloc, "a name has to stand here")?);
+        return wrong(alloc, path, "a name has to stand here");
     };
     if let Some(other) = other {
         if other.as_str() == word.as_str() {
             let name = word.as_str();
-            let what = format!(in alloc; "`{name}` is bound twice; choose another name")?;
-            return wrong(alloc, path, what);
+            return wrong(
+                alloc,
+                path,
+                format_args!("`{name}` is bound twice; choose another name"),
+            );
         }
     }
     declared(alloc, has_maps, path, word)

@@ -11,10 +11,13 @@ mod problem;
 mod tree;
 mod writing;
 
-pub use forms::{Shown, expression, heads, in_place_of, is_head, is_of_maps, type_form};
-pub use judged::{Judged, bound, declared, foreign, is_name, noted, too_long, wrong};
-pub use names::{add, meant, nearest};
+pub use forms::{Shown, expression, in_place_of, is_head, is_of_maps, nearest_head, type_form};
+pub use judged::{
+    Judged, bound, declared, foreign, is_name, noted, noted_at, too_long, with_note, wrong,
+    wrong_at,
+};
+pub use names::{DidYouMean, NearestName, add, nearest};
 pub use operations::{operation, unknown_among};
-pub use problem::{Problem, below, text};
+pub use problem::{Problem, below};
 pub use tree::head_of;
-pub use writing::{count, form_text, key_word, listed, short_text, signature, ty_text};
+pub use writing::{Count, FormText, Listed, Signature, TypeText, counted, key_word, short_text};

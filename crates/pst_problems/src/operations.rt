@@ -1,8 +1,8 @@
 //! Names of operations and functions that a model does not have.
 
-use crate::judged::{Judged, noted, wrong};
-use crate::names::{add, meant};
-use crate::writing::listed;
+use crate::judged::{Judged, with_note, wrong};
+use crate::names::{add, nearest};
+use crate::writing::Listed;
 use pst_items::{Items, Text};
 use pst_model::{Item, Op};
 use std::alloc::{AllocError, Global};
@@ -36,24 +36,8 @@ fn names_of(
     Ok(names)
 }
 
-/// The known name that may be meant, else all of them, if there are some.
-fn known_note(
-    alloc: Global,
-    known: &Items<Text>,
-    kind: &str,
-    name: &str,
-) -> Result<Option<String>, AllocError> {
-    if let Some(hint) = meant(alloc, known, name)? {
-        return Ok(Some(hint));
-    }
-    if known.is_empty() {
-        return Ok(None);
-    }
-    let names = listed(alloc, known)?;
-    Ok(Some(format!(in alloc; "{kind}s: {names}")?))
-}
-
-/// The problem of a name with the operations or the functions that there are.
+/// The problem of a name with the operations or the functions that there are. Its note is the known name that may be
+/// meant, else all of them, if there are some.
 pub fn unknown_among(
     alloc: Global,
     items: &[Item],
@@ -67,9 +51,13 @@ pub fn unknown_among(
     } else {
         "function"
     };
-    let what = format!(in alloc; "no {kind} has the name `{name}`")?;
-    match known_note(alloc, &known, kind, name)? {
-        Some(note) => noted(alloc, path, what, note),
-        None => wrong(alloc, path, what),
+    let found = wrong(alloc, path, format_args!("no {kind} has the name `{name}`"))?;
+    if let Some(hint) = nearest(alloc, &known, name)? {
+        return with_note(alloc, found, hint);
     }
+    if known.is_empty() {
+        return Ok(found);
+    }
+    let names = Listed(&known);
+    with_note(alloc, found, format_args!("{kind}s: {names}"))
 }

@@ -1,6 +1,7 @@
 //! What is wrong, and where.
 
 use std::alloc::{AllocError, Global};
+use std::fmt::Display;
 
 /// What is wrong with a tree.
 #[derive(Drop)]
@@ -14,24 +15,30 @@ pub struct Problem {
 }
 
 impl Problem {
-    /// A problem without notes.
-    pub fn new(alloc: Global, path: Vec<usize>, what: String) -> Problem {
-        Problem {
+    /// A problem without notes. `AllocError`: memory was refused.
+    pub fn new<D: Display + Drop>(
+        alloc: Global,
+        path: Vec<usize>,
+        what: D,
+    ) -> Result<Problem, AllocError> {
+        Ok(Problem {
             path,
-            what,
+            what: format!(in alloc; "{what}")?,
             notes: Vec::new(alloc),
-        }
+        })
     }
 
-    /// The same problem with one more note.
-    pub fn with(self, note: String) -> Result<Problem, AllocError> {
-        let Problem {
-            path,
-            what,
-            mut notes,
-        } = self;
-        notes.push(note)?;
-        Ok(Problem { path, what, notes })
+    /// The same problem with one more note. `AllocError`: memory was refused.
+    pub fn with<D: Display + Drop>(self, alloc: Global, note: D) -> Result<Problem, AllocError> {
+        let mut problem = self;
+        problem.add(format!(in alloc; "{note}")?)?;
+        Ok(problem)
+    }
+
+    /// Adds a note.
+    fn add(&mut self, note: String) -> Result<(), AllocError> {
+        self.notes.push(note)?;
+        Ok(())
     }
 }
 
@@ -40,9 +47,4 @@ pub fn below(path: &[usize], alloc: Global, number: usize) -> Result<Vec<usize>,
     let mut longer = Vec::from_slice(alloc, path)?;
     longer.push(number)?;
     Ok(longer)
-}
-
-/// A text of its own.
-pub fn text(alloc: Global, words: &str) -> Result<String, AllocError> {
-    String::from_str(alloc, words)
 }

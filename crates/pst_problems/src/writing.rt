@@ -1,10 +1,11 @@
-//! Types and trees as they are shown.
+//! Types, trees and names as they are shown.
 
 use pst_items::{Items, Text};
 use pst_model::Param;
 use pst_sexpr::Form;
 use pst_value::{KeyTy, Ty};
 use std::alloc::{AllocError, Global};
+use std::fmt;
 
 /// The word of a type of keys.
 pub fn key_word(keys: KeyTy) -> &'static str {
@@ -15,112 +16,166 @@ pub fn key_word(keys: KeyTy) -> &'static str {
     }
 }
 
-/// A type as it is written.
-#[cycle(ty_text)]
-pub fn ty_text(alloc: Global, ty: &Ty) -> Result<String, AllocError> {
+/// A type, shown as it is written.
+#[derive(Clone, Copy, Drop)]
+pub struct TypeText<'a>(pub &'a Ty);
+
+impl fmt::Display for TypeText<'_> {
+    fn fmt<W: fmt::Write>(&self, f: &mut fmt::Formatter<W>) -> fmt::Result {
+        write_type(f, self.0)
+    }
+}
+
+#[cycle(write_type)]
+fn write_type<W: fmt::Write>(f: &mut fmt::Formatter<W>, ty: &Ty) -> fmt::Result {
     match ty {
-        Ty::Int => String::from_str(alloc, "int"),
-        Ty::Bool => String::from_str(alloc, "bool"),
-        Ty::Text => String::from_str(alloc, "text"),
-        Ty::Call => String::from_str(alloc, "call"),
-        Ty::Tuple(items) => tuple_text(alloc, items.as_slice()),
+        Ty::Int => f.write_str("int"),
+        Ty::Bool => f.write_str("bool"),
+        Ty::Text => f.write_str("text"),
+        Ty::Call => f.write_str("call"),
+        Ty::Tuple(items) => {
+            f.write_str("(tuple")?;
+            write_types(f, items.as_slice())
+        }
         Ty::List(item) => {
-            let item = ty_text(alloc, item.get())?;
-            format!(in alloc; "(list {item})")
+            f.write_str("(list ")?;
+            write_last(f, item.get())
         }
         Ty::Ref(named) => {
-            let named = ty_text(alloc, named.get())?;
-            format!(in alloc; "(ref {named})")
+            f.write_str("(ref ")?;
+            write_last(f, named.get())
         }
         Ty::Map(keys, value) => {
             let keys = key_word(*keys);
-            let value = ty_text(alloc, value.get())?;
-            format!(in alloc; "(map {keys} {value})")
+            write!(f, "(map {keys} ")?;
+            write_last(f, value.get())
         }
     }
 }
 
-#[cycle(ty_text)]
-fn tuple_text(alloc: Global, types: &[Ty]) -> Result<String, AllocError> {
-    let mut text = String::from_str(alloc, "(tuple")?;
-    for ty in types {
-        text.push_str(" ")?;
-        text.push_str(ty_text(alloc, ty)?.as_str())?;
-    }
-    text.push_str(")")?;
-    Ok(text)
+/// A type and the bracket behind it.
+#[cycle(write_type)]
+fn write_last<W: fmt::Write>(f: &mut fmt::Formatter<W>, ty: &Ty) -> fmt::Result {
+    write_type(f, ty)?;
+    f.write_str(")")
 }
 
-/// A tree as it is written.
-#[cycle(form_text)]
-pub fn form_text(alloc: Global, form: &Form) -> Result<String, AllocError> {
+/// Types with a blank before each, and a bracket behind them.
+#[cycle(write_type)]
+fn write_types<W: fmt::Write>(f: &mut fmt::Formatter<W>, types: &[Ty]) -> fmt::Result {
+    for ty in types {
+        f.write_str(" ")?;
+        write_type(f, ty)?;
+    }
+    f.write_str(")")
+}
+
+/// A tree, shown as it is written.
+#[derive(Clone, Copy, Drop)]
+pub struct FormText<'a>(pub &'a Form);
+
+impl fmt::Display for FormText<'_> {
+    fn fmt<W: fmt::Write>(&self, f: &mut fmt::Formatter<W>) -> fmt::Result {
+        write_form(f, self.0)
+    }
+}
+
+#[cycle(write_form)]
+fn write_form<W: fmt::Write>(f: &mut fmt::Formatter<W>, form: &Form) -> fmt::Result {
     match form {
-        Form::Word(word) => String::from_str(alloc, word.as_str()),
+        Form::Word(word) => f.write_str(word.as_str()),
         Form::Text(text) => {
             let text = text.as_str();
-            format!(in alloc; "\"{text}\"")
+            write!(f, "\"{text}\"")
         }
-        Form::Node(parts) => node_text(alloc, parts.as_slice()),
+        Form::Node(parts) => {
+            f.write_str("(")?;
+            write_parts(f, parts.as_slice())
+        }
     }
 }
 
-#[cycle(form_text)]
-fn node_text(alloc: Global, parts: &[Form]) -> Result<String, AllocError> {
-    let mut text = String::from_str(alloc, "(")?;
-    for part in parts {
-        if text.len() > 1 {
-            text.push_str(" ")?;
+/// Trees with a blank between them, and a bracket behind them.
+#[cycle(write_form)]
+fn write_parts<W: fmt::Write>(f: &mut fmt::Formatter<W>, parts: &[Form]) -> fmt::Result {
+    for (number, part) in parts.iter().enumerate() {
+        if number > 0 {
+            f.write_str(" ")?;
         }
-        text.push_str(form_text(alloc, part)?.as_str())?;
+        write_form(f, part)?;
     }
-    text.push_str(")")?;
-    Ok(text)
+    f.write_str(")")
 }
 
-/// A tree as it is written, of which at most 40 bytes are shown.
+/// A tree as it is written, of which at most 40 bytes are shown. `AllocError`: memory was refused.
 pub fn short_text(alloc: Global, form: &Form) -> Result<String, AllocError> {
-    let whole = form_text(alloc, form)?;
+    let form = FormText(form);
+    let whole = format!(in alloc; "{form}")?;
     match whole.as_str().get(..40) {
         Some(start) => format!(in alloc; "{start}..."),
         None => Ok(whole),
     }
 }
 
-/// The head of a signature, as `(NAME (a int) (b text)) gives bool`.
-pub fn signature(
-    alloc: Global,
-    name: &str,
-    params: &[Param],
-    gives: &Ty,
-) -> Result<String, AllocError> {
-    let mut text = format!(in alloc; "({name}")?;
-    for param in params {
-        let name = param.name.as_str();
-        let ty = ty_text(alloc, &param.ty)?;
-        text.push_str(format!(in alloc; " {name}:{ty}")?.as_str())?;
-    }
-    let gives = ty_text(alloc, gives)?;
-    text.push_str(format!(in alloc; ") of type {gives}")?.as_str())?;
-    Ok(text)
+/// The head of a signature, shown as `(NAME a:int b:text) of type bool`.
+#[derive(Clone, Copy, Drop)]
+pub struct Signature<'a> {
+    /// The name of the function or the operation.
+    pub name: &'a str,
+    /// Its parameters.
+    pub params: &'a [Param],
+    /// The type of its result.
+    pub gives: &'a Ty,
 }
 
-/// `1 part`, `2 parts`: a number and a word.
-pub fn count(alloc: Global, number: usize, word: &str) -> Result<String, AllocError> {
-    if number == 1 {
-        format!(in alloc; "1 {word}")
-    } else {
-        format!(in alloc; "{number} {word}s")
-    }
-}
-
-/// Names with commas between them.
-pub fn listed(alloc: Global, names: &Items<Text>) -> Result<String, AllocError> {
-    let mut text = String::new(alloc);
-    for name in names.as_slice() {
-        if text.len() > 0 {
-            text.push_str(", ")?;
+impl fmt::Display for Signature<'_> {
+    fn fmt<W: fmt::Write>(&self, f: &mut fmt::Formatter<W>) -> fmt::Result {
+        f.write_str("(")?;
+        f.write_str(self.name)?;
+        for param in self.params {
+            let name = param.name.as_str();
+            let ty = TypeText(&param.ty);
+            write!(f, " {name}:{ty}")?;
         }
-        text.push_str(name.as_str())?;
+        let gives = TypeText(self.gives);
+        write!(f, ") of type {gives}")
     }
-    Ok(text)
+}
+
+/// A number of things, shown as `1 part` or `2 parts`.
+#[derive(Clone, Copy, Drop)]
+pub struct Count<'a> {
+    /// How many there are.
+    pub number: usize,
+    /// The word for one of them.
+    pub word: &'a str,
+}
+
+impl fmt::Display for Count<'_> {
+    fn fmt<W: fmt::Write>(&self, f: &mut fmt::Formatter<W>) -> fmt::Result {
+        let Count { number, word } = *self;
+        let ending = if number == 1 { "" } else { "s" };
+        write!(f, "{number} {word}{ending}")
+    }
+}
+
+/// A number of things, by the word for one of them.
+pub fn counted(number: usize, word: &str) -> Count<'_> {
+    Count { number, word }
+}
+
+/// Names, shown with commas between them.
+#[derive(Clone, Copy, Drop)]
+pub struct Listed<'a>(pub &'a Items<Text>);
+
+impl fmt::Display for Listed<'_> {
+    fn fmt<W: fmt::Write>(&self, f: &mut fmt::Formatter<W>) -> fmt::Result {
+        for (number, name) in self.0.as_slice().iter().enumerate() {
+            if number > 0 {
+                f.write_str(", ")?;
+            }
+            f.write_str(name.as_str())?;
+        }
+        Ok(())
+    }
 }

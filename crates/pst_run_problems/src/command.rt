@@ -1,22 +1,71 @@
 //! The commands of a case, with where they stand.
 
 use pst_model::Source;
-use pst_problems::{below, head_of, operation};
+use pst_problems::{head_of, operation};
 use pst_sexpr::{Form, node_of};
 use pst_value::Ty;
 use std::alloc::{AllocError, Global};
 
-/// A part of a case: the path to it within its item, the number of the tree of its first command in it, and its
-/// commands.
-#[derive(Drop)]
+/// A part of a case: where it stands in its item, and its commands.
+#[derive(Clone, Copy, Drop)]
 pub struct Part<'a> {
+    /// What messages call it.
     pub called: &'static str,
     pub is_prefix: bool,
     pub is_branch: bool,
-    pub path: Vec<usize>,
-    pub first: usize,
+    /// The number of its tree in the item.
+    pub place: usize,
+    /// Its number in that tree, where the tree has all branches.
+    pub branch: Option<usize>,
     pub commands: &'a [Form],
 }
+
+/// A command of a case: its part, its number in it, from 0, and its tree.
+#[derive(Clone, Copy, Drop)]
+pub struct Command<'a> {
+    pub part: Part<'a>,
+    pub offset: usize,
+    pub form: &'a Form,
+}
+
+/// The head of a part with one list of commands.
+#[derive(Clone, Copy, Drop)]
+pub struct Head {
+    pub word: &'static str,
+    is_prefix: bool,
+    is_branch: bool,
+}
+
+/// The commands before the branches.
+pub const PREFIX: Head = Head {
+    word: "prefix",
+    is_prefix: true,
+    is_branch: false,
+};
+
+/// The first branch of two.
+pub const LEFT: Head = Head {
+    word: "left",
+    is_prefix: false,
+    is_branch: true,
+};
+
+/// The second branch of two.
+pub const RIGHT: Head = Head {
+    word: "right",
+    is_prefix: false,
+    is_branch: true,
+};
+
+/// The commands behind the branches.
+pub const SUFFIX: Head = Head {
+    word: "suffix",
+    is_prefix: false,
+    is_branch: false,
+};
+
+/// The heads of parts with one list of commands.
+const HEADS: [Head; 4] = [PREFIX, LEFT, RIGHT, SUFFIX];
 
 /// The names of branches that stand in one part.
 const BRANCHES: [&str; 4] = [
@@ -26,93 +75,142 @@ const BRANCHES: [&str; 4] = [
     "the fourth branch",
 ];
 
-/// The commands behind the head of a part.
-fn behind_head(form: &Form) -> &[Form] {
-    match node_of(form).unwrap_or(&[]).split_first() {
-        Some((_, commands)) => commands,
+/// The word that heads a tree, or an empty one.
+pub fn head_word(form: &Form) -> &str {
+    match head_of(form) {
+        Some(head) => head.as_str(),
+        None => "",
+    }
+}
+
+/// Whether a word heads a tree.
+pub fn is_headed(form: &Form, word: &str) -> bool {
+    head_word(form) == word
+}
+
+/// The trees in a tree.
+pub fn trees_in(form: &Form) -> &[Form] {
+    node_of(form).unwrap_or(&[])
+}
+
+/// The trees behind the head of a tree.
+pub fn behind_head(form: &Form) -> &[Form] {
+    match trees_in(form).split_first() {
+        Some((_, trees)) => trees,
         None => &[],
     }
 }
 
-/// The part of the name that heads a tree.
-fn part_of<'a>(
-    alloc: Global,
-    form: &'a Form,
-    place: usize,
-    called: &'static str,
-) -> Result<Part<'a>, AllocError> {
-    Ok(Part {
-        called,
-        is_prefix: called == "prefix",
-        is_branch: called == "left" || called == "right",
-        path: below(&[], alloc, place)?,
-        first: 1,
+/// The part of a head.
+pub fn headed_part(head: Head, form: &Form, place: usize) -> Part<'_> {
+    Part {
+        called: head.word,
+        is_prefix: head.is_prefix,
+        is_branch: head.is_branch,
+        place,
+        branch: None,
         commands: behind_head(form),
-    })
+    }
+}
+
+/// The branch of a number, from 1, of those that stand in one part.
+pub fn branch_part(form: &Form, place: usize, number: usize) -> Part<'_> {
+    let called = match BRANCHES.get(number.saturating_sub(1)) {
+        Some(called) => *called,
+        None => "a branch",
+    };
+    Part {
+        called,
+        is_prefix: false,
+        is_branch: true,
+        place,
+        branch: Some(number),
+        commands: trees_in(form),
+    }
+}
+
+/// The head of a part that a word is.
+fn part_head(word: &str) -> Option<Head> {
+    for head in &HEADS {
+        if head.word == word {
+            return Some(*head);
+        }
+    }
+    None
+}
+
+/// Adds the branches that stand in one part.
+fn add_branches<'a>(
+    parts: &mut Vec<Part<'a>>,
+    forms: &'a [Form],
+    place: usize,
+) -> Result<(), AllocError> {
+    for (index, form) in forms.iter().enumerate() {
+        parts.extend_from_slice(&[branch_part(form, place, index.saturating_add(1))])?;
+    }
+    Ok(())
+}
+
+/// Adds what a tree of a case has of its parts.
+fn add_parts<'a>(
+    parts: &mut Vec<Part<'a>>,
+    tree: &'a Form,
+    place: usize,
+) -> Result<(), AllocError> {
+    if is_headed(tree, "branches") {
+        return add_branches(parts, behind_head(tree), place);
+    }
+    match part_head(head_word(tree)) {
+        Some(head) => parts.extend_from_slice(&[headed_part(head, tree, place)]),
+        None => Ok(()),
+    }
 }
 
 /// The parts of a case, in the order of the numbers of their commands.
 pub fn commands_of<'a>(alloc: Global, form: &'a Form) -> Result<Vec<Part<'a>>, AllocError> {
     let mut parts = Vec::new(alloc);
-    let mut place: usize = 0;
-    for tree in node_of(form).unwrap_or(&[]) {
-        let head = match head_of(tree) {
-            Some(head) => head.as_str(),
-            None => "",
-        };
-        match head {
-            "prefix" => parts.push(part_of(alloc, tree, place, "prefix")?)?,
-            "left" => parts.push(part_of(alloc, tree, place, "left")?)?,
-            "right" => parts.push(part_of(alloc, tree, place, "right")?)?,
-            "suffix" => parts.push(part_of(alloc, tree, place, "suffix")?)?,
-            "branches" => add_branches(alloc, &mut parts, behind_head(tree), place)?,
-            _ => {}
-        }
-        place = place.saturating_add(1);
+    for (place, tree) in trees_in(form).iter().enumerate() {
+        add_parts(&mut parts, tree, place)?;
     }
     Ok(parts)
-}
-
-/// The branches that stand in one part.
-fn add_branches<'a>(
-    alloc: Global,
-    parts: &mut Vec<Part<'a>>,
-    forms: &'a [Form],
-    place: usize,
-) -> Result<(), AllocError> {
-    let outer = below(&[], alloc, place)?;
-    let mut number: usize = 0;
-    for form in forms {
-        let called = match BRANCHES.get(number) {
-            Some(called) => *called,
-            None => "a branch",
-        };
-        number = number.saturating_add(1);
-        parts.push(Part {
-            called,
-            is_prefix: false,
-            is_branch: true,
-            path: below(outer.as_slice(), alloc, number)?,
-            first: 0,
-            commands: node_of(form).unwrap_or(&[]),
-        })?;
-    }
-    Ok(())
 }
 
 /// The number of the part of the command of a number, from 1, and that of the command in it, from 0.
 pub fn place_of(parts: &[Part<'_>], command: usize) -> Option<(usize, usize)> {
     let mut left = command.saturating_sub(1);
-    let mut number: usize = 0;
-    for part in parts {
+    for (number, part) in parts.iter().enumerate() {
         let length = part.commands.len();
         if left < length {
             return Some((number, left));
         }
         left = left.saturating_sub(length);
-        number = number.saturating_add(1);
     }
     None
+}
+
+/// The command of a number, from 1.
+pub fn command_at<'a>(parts: &[Part<'a>], command: usize) -> Option<Command<'a>> {
+    let mut offset = command.saturating_sub(1);
+    for part in parts {
+        if let Some(form) = part.commands.get(offset) {
+            return Some(Command {
+                part: *part,
+                offset,
+                form,
+            });
+        }
+        offset = offset.saturating_sub(part.commands.len());
+    }
+    None
+}
+
+/// The path to a command within its item.
+fn path_to(alloc: Global, command: &Command<'_>) -> Result<Vec<usize>, AllocError> {
+    let place = command.part.place;
+    match command.part.branch {
+        Some(branch) => Vec::from_slice(alloc, &[place, branch, command.offset]),
+        None => Vec::from_slice(alloc, &[place, command.offset.saturating_add(1)]),
+    }
 }
 
 /// The command of a number, from 1, with the path to it within its item.
@@ -121,35 +219,27 @@ pub fn located<'a>(
     parts: &[Part<'a>],
     command: usize,
 ) -> Result<Option<(Vec<usize>, &'a Form)>, AllocError> {
-    let Some((number, place)) = place_of(parts, command) else {
-        return Ok(None);
-    };
-    let Some(part) = parts.get(number) else {
-        return Ok(None);
-    };
-    match part.commands.get(place) {
-        Some(form) => {
-            let path = below(
-                part.path.as_slice(),
-                alloc,
-                part.first.saturating_add(place),
-            )?;
-            Ok(Some((path, form)))
-        }
+    match command_at(parts, command) {
+        Some(command) => Ok(Some((path_to(alloc, &command)?, command.form))),
         None => Ok(None),
     }
 }
 
 /// The number of the command that a variable names.
 pub fn variable(word: &str) -> Option<usize> {
-    let digits = word.strip_prefix("$")?;
-    digits.parse::<usize>().ok()
+    match word.strip_prefix("$") {
+        Some(digits) => digits.parse::<usize>().ok(),
+        None => None,
+    }
 }
 
 /// The type of the result of a command.
 pub fn result_of<'a>(source: &'a Source, parts: &[Part<'_>], command: usize) -> Option<&'a Ty> {
-    let (number, place) = place_of(parts, command)?;
-    let call = parts.get(number)?.commands.get(place)?;
-    let name = head_of(call)?;
-    Some(&operation(source.items.as_slice(), name.as_str())?.result)
+    let Some(command) = command_at(parts, command) else {
+        return None;
+    };
+    match operation(source.items.as_slice(), head_word(command.form)) {
+        Some(op) => Some(&op.result),
+        None => None,
+    }
 }

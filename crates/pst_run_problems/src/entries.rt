@@ -1,106 +1,103 @@
 //! The entries of a map in an argument or a reply.
 
-use crate::values::{IllPart, Spelled};
-use pst_problems::{below, key_word, short_text};
+use crate::ill::Ill;
 use pst_sexpr::{Form, node_of};
-use pst_value::{KeyTy, Ty, text_less};
+use pst_value::{KeyTy, text_less};
 use pst_words::integer_of;
-use std::alloc::{AllocError, Global};
+use std::alloc::AllocError;
+
+/// Whether a word is a truth value.
+pub fn is_truth(word: &str) -> bool {
+    matches!(word, "true" | "false")
+}
 
 /// The type of the key that a tree spells, if it spells one.
 fn kind_of(form: &Form) -> Option<KeyTy> {
     match form {
-        Form::Word(word) => {
-            let name = word.as_str();
-            if name == "true" || name == "false" {
-                Some(KeyTy::Bool)
-            } else if integer_of(word).is_some() {
-                Some(KeyTy::Int)
-            } else {
-                None
-            }
-        }
+        Form::Word(word) if is_truth(word.as_str()) => Some(KeyTy::Bool),
+        Form::Word(word) if integer_of(word).is_some() => Some(KeyTy::Int),
         Form::Text(_) => Some(KeyTy::Text),
-        Form::Node(_) => None,
+        Form::Word(_) | Form::Node(_) => None,
     }
 }
 
 /// Whether the key that one tree spells comes before that of another, which is of its type.
 fn comes_before(form: &Form, other: &Form) -> bool {
     match (form, other) {
-        (Form::Text(text), Form::Text(other)) => text_less(text.as_bytes(), other.as_bytes()),
         (Form::Word(word), Form::Word(other)) => match (integer_of(word), integer_of(other)) {
             (Some(number), Some(other)) => number < other,
-            _ => word.as_str() == "false" && other.as_str() == "true",
+            _ => text_less(word.as_bytes(), other.as_bytes()),
         },
+        (Form::Text(text), Form::Text(other)) => text_less(text.as_bytes(), other.as_bytes()),
         _ => false,
     }
 }
 
-/// What is wrong with the key of an entry, by the type that keys have to have and the key before it.
-fn key_problem(
-    alloc: Global,
-    key: &Form,
-    wanted: Option<KeyTy>,
-    before: Option<&Form>,
-) -> Result<Option<String>, AllocError> {
-    let found = short_text(alloc, key)?;
+/// What is ill in a key, by the type that keys have to have and the key before it.
+fn ill_key<'a>(key: &'a Form, wanted: Option<KeyTy>, before: Option<&'a Form>) -> Option<Ill<'a>> {
     let Some(kind) = kind_of(key) else {
-        return Ok(Some(format!(in alloc; "`{found}` is no key of a map")?));
+        return Some(Ill::Tree {
+            before: "",
+            form: key,
+            after: " is no key of a map",
+        });
     };
-    if let Some(wanted) = wanted {
-        if kind != wanted {
-            let wanted = key_word(wanted);
-            let what = format!(in alloc; "wanted a key of type {wanted}, found `{found}`")?;
-            return Ok(Some(what));
-        }
-    }
-    match before {
-        Some(before) if !comes_before(before, key) => {
-            let before = short_text(alloc, before)?;
-            let what = format!(in alloc;
-                "the keys of a map rise, and `{found}` stands behind `{before}`"
-            )?;
-            Ok(Some(what))
-        }
-        _ => Ok(None),
-    }
-}
-
-/// The type of the keys of a map: that which is wanted, or that of the key before.
-fn wanted_key(wanted: Option<&Ty>, before: Option<&Form>) -> Option<KeyTy> {
     match (wanted, before) {
-        (Some(Ty::Map(keys, _)), _) => Some(*keys),
-        (_, Some(before)) => kind_of(before),
+        (Some(wanted), _) if kind != wanted => Some(Ill::OtherKey(key, wanted)),
+        (_, Some(before)) if !comes_before(before, key) => Some(Ill::Falls(key, before)),
         _ => None,
     }
 }
 
-/// What is wrong with the entries of a map, apart from their values.
-pub fn entries_problem(
-    alloc: Global,
-    spelled: &Spelled<'_>,
-) -> Result<Option<IllPart>, AllocError> {
+/// The key of an entry.
+fn key_of(entry: &Form) -> Option<&Form> {
+    match node_of(entry) {
+        Some([key, _]) => Some(key),
+        _ => None,
+    }
+}
+
+/// What is ill in a tree in a map that is no entry.
+fn no_entry(form: &Form) -> Ill<'_> {
+    Ill::Tree {
+        before: "an entry of a map is `(KEY VALUE)`, found ",
+        form,
+        after: "",
+    }
+}
+
+/// What is ill behind a path by more numbers. The path becomes the path to it.
+fn found_at<'a>(
+    path: &mut Vec<usize>,
+    numbers: &[usize],
+    ill: Ill<'a>,
+) -> Result<Option<Ill<'a>>, AllocError> {
+    path.extend_from_slice(numbers)?;
+    Ok(Some(ill))
+}
+
+/// The first ill entry or key of a map, by its trees. It does not look at the values. The path to the map
+/// becomes the path to the entry or the key.
+///
+/// `AllocError`: memory was refused.
+pub fn ill_entry<'a>(
+    path: &mut Vec<usize>,
+    trees: &'a [Form],
+    wanted: Option<KeyTy>,
+) -> Result<Option<Ill<'a>>, AllocError> {
+    let mut wanted = wanted;
     let mut before = None;
-    let mut number: usize = 0;
-    for entry in node_of(spelled.form).unwrap_or(&[]) {
+    for (number, entry) in trees.iter().enumerate() {
         if number > 0 {
-            let path = below(spelled.path.as_slice(), alloc, number)?;
-            let Some([key, _]) = node_of(entry) else {
-                let found = short_text(alloc, entry)?;
-                let what = format!(in alloc;
-                    "an entry of a map is `(KEY VALUE)`, found `{found}`"
-                )?;
-                return Ok(Some(IllPart { path, what }));
+            let Some(key) = key_of(entry) else {
+                return found_at(path, &[number], no_entry(entry));
             };
-            let wanted = wanted_key(spelled.wanted, before);
-            if let Some(what) = key_problem(alloc, key, wanted, before)? {
-                let path = below(path.as_slice(), alloc, 0)?;
-                return Ok(Some(IllPart { path, what }));
+            if let Some(ill) = ill_key(key, wanted, before) {
+                return found_at(path, &[number, 0], ill);
             }
+            wanted = kind_of(key);
             before = Some(key);
         }
-        number = number.saturating_add(1);
     }
     Ok(None)
 }

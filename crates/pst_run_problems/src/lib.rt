@@ -6,8 +6,11 @@
 mod arguments;
 mod command;
 mod entries;
+mod ill;
 mod replies;
 mod runs;
+mod shape;
+mod shown;
 mod values;
 
 pub use command::{Part, commands_of, located, place_of};

@@ -1,161 +1,156 @@
 //! The replies of a run.
 
-use crate::command::{Part, commands_of, place_of};
-use crate::values::{IllPart, ill_part};
-use pst_model::Source;
-use pst_problems::{Judged, below, count, head_of, noted, short_text, text, wrong};
+use crate::command::{Part, behind_head, is_headed, place_of, trees_in};
+use crate::ill::{Ill, ill_problem};
+use crate::values::{Search, Wanted, problem_in};
+use pst_problems::{Judged, Problem, counted, noted, with_note, wrong};
 use pst_sexpr::{Form, node_of};
-use std::alloc::{AllocError, Global};
+use std::alloc::Global;
+
+/// A reply: the numbers that lead to it from its item, and its tree.
+#[derive(Clone, Copy, Drop)]
+struct Reply<'a> {
+    place: usize,
+    list: usize,
+    offset: usize,
+    form: &'a Form,
+}
 
 /// The place of the part of the replies among the parts of a run, and its lists.
 fn lists_of(form: &Form) -> Option<(usize, &[Form])> {
-    let mut place: usize = 0;
-    for part in node_of(form)? {
-        if let Some(head) = head_of(part) {
-            if head.as_str() == "replies" {
-                let (_, lists) = node_of(part)?.split_first()?;
-                return Some((place, lists));
-            }
+    for (place, part) in trees_in(form).iter().enumerate() {
+        if is_headed(part, "replies") {
+            return Some((place, behind_head(part)));
         }
-        place = place.saturating_add(1);
     }
     None
 }
 
-/// The replies of a part that are too many or too few.
-fn count_of(
-    alloc: Global,
-    path: &[usize],
-    place: usize,
-    number: usize,
-    part: &Part<'_>,
-    list: &Form,
-) -> Judged {
-    let commands = part.commands.len();
-    let replies = node_of(list).unwrap_or(&[]).len();
-    if commands == replies {
-        return Ok(None);
+/// The replies of the list of a number, from 0.
+fn replies_in(lists: &[Form], number: usize) -> &[Form] {
+    match lists.get(number) {
+        Some(list) => trees_in(list),
+        None => &[],
     }
-    let at = below(path, alloc, place)?;
-    let at = below(at.as_slice(), alloc, number.saturating_add(1))?;
+}
+
+/// The problem of a part that has another number of replies than of commands.
+fn other_count(alloc: Global, path: &[usize], part: &Part<'_>, replies: usize) -> Judged {
     let called = part.called;
-    let has = count(alloc, commands, "command")?;
-    let given = if replies == 1 {
-        text(alloc, "1 reply")?
-    } else {
-        format!(in alloc; "{replies} replies")?
-    };
+    let has = counted(part.commands.len(), "command");
+    if replies == 1 {
+        return wrong(alloc, path, format_args!("{called}: 1 reply for {has}"));
+    }
     wrong(
         alloc,
-        at.as_slice(),
-        format!(in alloc; "{called}: {given} for {has}")?,
+        path,
+        format_args!("{called}: {replies} replies for {has}"),
     )
 }
 
-/// A run of which a part has another number of replies than of commands.
-pub fn no_fit(alloc: Global, path: &[usize], form: &Form) -> Judged {
-    let parts = commands_of(alloc, form)?;
-    let Some((place, lists)) = lists_of(form) else {
-        return Ok(None);
-    };
-    if lists.len() != parts.len() {
-        let at = below(path, alloc, place)?;
-        let found = count(alloc, lists.len(), "list")?;
-        let wanted = count(alloc, parts.len(), "part")?;
-        return noted(
-            alloc,
-            at.as_slice(),
-            format!(in alloc; "{found} of replies for {wanted}")?,
-            text(
-                alloc,
-                "the replies of the prefix come first, then those of each branch, then those of the suffix",
-            )?,
-        );
-    }
-    let mut number: usize = 0;
-    for (part, list) in parts.iter().zip(lists.iter()) {
-        if let Some(found) = count_of(alloc, path, place, number, part, list)? {
-            return Ok(Some(found));
+/// The problem of a run that has another number of lists of replies than of parts.
+fn other_lists(alloc: Global, path: &[usize], lists: usize, parts: usize) -> Judged {
+    let found = counted(lists, "list");
+    let wanted = counted(parts, "part");
+    noted(
+        alloc,
+        path,
+        format_args!("{found} of replies for {wanted}"),
+        "the replies of the prefix come first, then those of each branch, then those of the suffix",
+    )
+}
+
+/// What is wrong with lists of replies that are as many as the parts of the run, by the place of the lists.
+fn list_problem(
+    alloc: Global,
+    item: usize,
+    place: usize,
+    lists: &[Form],
+    parts: &[Part<'_>],
+) -> Judged {
+    for (number, part) in parts.iter().enumerate() {
+        let replies = replies_in(lists, number).len();
+        if part.commands.len() != replies {
+            let path = [item, place, number.saturating_add(1)];
+            return other_count(alloc, &path, part, replies);
         }
-        number = number.saturating_add(1);
     }
     Ok(None)
 }
 
-/// The reply to the command of a number, from 1, with the path to it within its item.
-fn reply_of<'a>(
-    alloc: Global,
-    parts: &[Part<'_>],
-    form: &'a Form,
-    command: usize,
-) -> Result<Option<(Vec<usize>, &'a Form)>, AllocError> {
-    let (Some((place, lists)), Some((number, offset))) = (lists_of(form), place_of(parts, command))
-    else {
-        return Ok(None);
-    };
-    let replies = match lists.get(number) {
-        Some(list) => node_of(list).unwrap_or(&[]),
-        None => &[],
-    };
-    let Some(reply) = replies.get(offset) else {
-        return Ok(None);
-    };
-    let at = below(&[], alloc, place)?;
-    let at = below(at.as_slice(), alloc, number.saturating_add(1))?;
-    Ok(Some((below(at.as_slice(), alloc, offset)?, reply)))
+/// What is wrong with a run of which a part has another number of replies than of commands.
+pub fn no_fit(alloc: Global, item: usize, form: &Form, parts: &[Part<'_>]) -> Judged {
+    match lists_of(form) {
+        Some((place, lists)) if lists.len() == parts.len() => {
+            list_problem(alloc, item, place, lists, parts)
+        }
+        Some((place, lists)) => other_lists(alloc, &[item, place], lists.len(), parts.len()),
+        None => Ok(None),
+    }
 }
 
-/// How replies are written.
-fn written(alloc: Global, has_maps: bool) -> Result<String, AllocError> {
+/// The reply to the command of a number, from 1.
+fn reply_of<'a>(form: &'a Form, parts: &[Part<'_>], command: usize) -> Option<Reply<'a>> {
+    let Some((number, offset)) = place_of(parts, command) else {
+        return None;
+    };
+    let Some((place, lists)) = lists_of(form) else {
+        return None;
+    };
+    match replies_in(lists, number).get(offset) {
+        Some(form) => Some(Reply {
+            place,
+            list: number.saturating_add(1),
+            offset,
+            form,
+        }),
+        None => None,
+    }
+}
+
+/// What is wrong with a reply that spells none, by the path to it.
+fn reply_problem(alloc: Global, search: &Search<'_>, path: &[usize], form: &Form) -> Judged {
+    let other = Some(Ill::Tree {
+        before: "",
+        form,
+        after: " spells no reply",
+    });
+    if node_of(form).is_none() {
+        return ill_problem(alloc, path, other);
+    }
+    problem_in(alloc, search, path, form, Wanted::Any, other)
+}
+
+/// The same problem, with how replies are written.
+fn with_written(alloc: Global, found: Option<Problem>, has_maps: bool) -> Judged {
     let maps = if has_maps {
         ", (map (k v) ..) with rising keys"
     } else {
         ""
     };
-    format!(in alloc;
-        "a reply is an integer, true, false, a text, (tuple v ..), (list v ..){maps}, misfit, failed or not-run"
+    with_note(
+        alloc,
+        found,
+        format_args!(
+            "a reply is an integer, true, false, a text, (tuple v ..), (list v ..){maps}, misfit, failed or not-run"
+        ),
     )
 }
 
-/// The first part of a tree that spells no reply.
-fn ill_reply(
-    alloc: Global,
-    source: &Source,
-    parts: &[Part<'_>],
-    path: &[usize],
-    reply: &Form,
-) -> Result<IllPart, AllocError> {
-    if node_of(reply).is_some() {
-        if let Some(ill) = ill_part(alloc, source, parts, path, reply, None)? {
-            return Ok(ill);
-        }
-    }
-    let shown = short_text(alloc, reply)?;
-    let what = format!(in alloc; "`{shown}` spells no reply")?;
-    let path = Vec::from_slice(alloc, path)?;
-    Ok(IllPart { path, what })
-}
-
-/// A tree that spells no reply.
+/// What is wrong with a run where the reply to the command of a number, from 1, spells no reply.
 pub fn bad_reply(
     alloc: Global,
-    source: &Source,
-    path: &[usize],
+    search: &Search<'_>,
+    item: usize,
     form: &Form,
     command: usize,
 ) -> Judged {
-    let parts = commands_of(alloc, form)?;
-    let parts = parts.as_slice();
-    let Some((steps, reply)) = reply_of(alloc, parts, form, command)? else {
-        return Ok(None);
-    };
-    let mut at = Vec::from_slice(alloc, path)?;
-    at.extend_from_slice(steps.as_slice())?;
-    let IllPart { path, what } = ill_reply(alloc, source, parts, at.as_slice(), reply)?;
-    noted(
-        alloc,
-        path.as_slice(),
-        what,
-        written(alloc, source.has_maps)?,
-    )
+    match reply_of(form, search.parts, command) {
+        Some(reply) => {
+            let path = [item, reply.place, reply.list, reply.offset];
+            let found = reply_problem(alloc, search, &path, reply.form)?;
+            with_written(alloc, found, search.source.has_maps)
+        }
+        None => Ok(None),
+    }
 }

@@ -1,173 +1,284 @@
-//! The first part of an argument or a reply that is ill: it spells no value, or one of another type than is wanted.
+//! What is ill first in an argument or a reply.
 
-use crate::command::{Part, result_of, variable};
-use crate::entries::entries_problem;
-use pst_model::Source;
-use pst_problems::{below, head_of, short_text, ty_text};
-use pst_sexpr::{Form, MAX_BYTES, node_of};
-use pst_value::Ty;
+use crate::command::{Part, behind_head, is_headed, place_of, result_of, variable};
+use crate::entries::{ill_entry, is_truth};
+use crate::ill::{Ill, ill_problem};
+use pst_model::{Param, Source};
+use pst_problems::Judged;
+use pst_sexpr::Form;
+use pst_value::{KeyTy, Ty};
 use pst_words::is_integer;
 use std::alloc::{AllocError, Global};
 
-/// A part of a value that is ill: the path to it, and what is wrong.
-#[derive(Drop)]
-pub struct IllPart {
-    pub path: Vec<usize>,
-    pub what: String,
+/// What a search looks for.
+#[derive(Clone, Copy, Drop)]
+pub enum Sought {
+    /// A tree that spells no value, or one of another type than is wanted.
+    Value,
+    /// A variable of a command that is not earlier than the command of this number.
+    Later(usize),
+    /// A variable of a command of another branch than that of the command of this number.
+    OtherBranch(usize),
 }
 
-/// A tree that has to spell a value, of the type where one is wanted.
-#[derive(Drop)]
-pub struct Spelled<'a> {
-    pub path: Vec<usize>,
-    pub form: &'a Form,
-    pub wanted: Option<&'a Ty>,
+/// A search in the trees of a case: its model, its parts, and what is looked for.
+#[derive(Clone, Copy, Drop)]
+pub struct Search<'a> {
+    pub source: &'a Source,
+    pub parts: &'a [Part<'a>],
+    pub sought: Sought,
 }
 
-/// Whether a word spells a value of the type, or any without a variable where no type is wanted.
-fn is_word_of(
-    source: &Source,
-    parts: &[Part<'_>],
-    word: &str,
-    integer: bool,
-    wanted: Option<&Ty>,
-) -> bool {
-    let truth = word == "true" || word == "false";
-    match wanted {
-        None => integer || truth,
-        Some(Ty::Int) => integer,
-        Some(Ty::Bool) => truth,
-        Some(Ty::Ref(named)) => match variable(word) {
-            Some(command) => result_of(source, parts, command) == Some(named.get()),
-            None => false,
-        },
-        Some(_) => false,
-    }
+/// What a tree has to spell.
+#[derive(Clone, Copy, Drop)]
+pub enum Wanted<'a> {
+    /// A value.
+    Any,
+    /// A value of the type.
+    Type(&'a Ty),
+    /// A call of an operation with these parameters.
+    Call(&'a [Param]),
 }
 
-/// Whether a node may spell a value of the type, by its head and, of a tuple, its length.
-fn is_node_of(has_maps: bool, form: &Form, items: usize, wanted: Option<&Ty>) -> bool {
-    let head = match head_of(form) {
-        Some(head) => head.as_str(),
-        None => "",
+/// What the parts of a tree have to spell, behind its head.
+#[derive(Clone, Copy, Drop)]
+enum Types<'a> {
+    /// The same each.
+    Same(Wanted<'a>),
+    /// The items of a tuple.
+    Items(&'a [Ty]),
+    /// The arguments of an operation.
+    Params(&'a [Param]),
+    /// The entries of a map: the type of the keys, if one is wanted, and what each value has to be.
+    Entries(Option<KeyTy>, Wanted<'a>),
+}
+
+/// Whether a word is a variable of a command whose result has the type.
+fn names_result(search: &Search<'_>, word: &str, wanted: &Ty) -> bool {
+    let Some(command) = variable(word) else {
+        return false;
     };
-    match wanted {
-        None => head == "tuple" || head == "list" || has_maps && head == "map",
-        Some(Ty::Tuple(types)) => head == "tuple" && types.len() == items,
-        Some(Ty::List(_)) => head == "list",
-        Some(Ty::Map(_, _)) => head == "map",
-        Some(_) => false,
+    match result_of(search.source, search.parts, command) {
+        Some(ty) => ty == wanted,
+        None => false,
     }
 }
 
-/// Whether a tree may spell what is wanted; the trees in it are not looked at.
-fn may_be(source: &Source, parts: &[Part<'_>], form: &Form, wanted: Option<&Ty>) -> bool {
+/// Whether a tree that is no node spells a value of the type.
+fn is_of(search: &Search<'_>, form: &Form, wanted: &Ty) -> bool {
+    match (form, wanted) {
+        (Form::Word(word), Ty::Int) => is_integer(word),
+        (Form::Word(word), Ty::Bool) => is_truth(word.as_str()),
+        (Form::Word(word), Ty::Ref(named)) => names_result(search, word.as_str(), named.get()),
+        (Form::Text(_), Ty::Text) => true,
+        _ => false,
+    }
+}
+
+/// Whether a tree that is no node spells a value, and is no variable.
+fn is_plain(form: &Form) -> bool {
     match form {
-        Form::Word(word) => is_word_of(source, parts, word.as_str(), is_integer(word), wanted),
-        Form::Text(_) => wanted.is_none() || wanted == Some(&Ty::Text),
-        Form::Node(items) => {
-            let count = items.as_slice().len().saturating_sub(1);
-            is_node_of(source.has_maps, form, count, wanted)
-        }
+        Form::Word(word) => is_integer(word) || is_truth(word.as_str()),
+        Form::Text(_) => true,
+        Form::Node(_) => false,
     }
 }
 
-/// What is wrong with a tree that may not spell what is wanted.
-fn unfit(alloc: Global, form: &Form, wanted: Option<&Ty>) -> Result<String, AllocError> {
-    let found = short_text(alloc, form)?;
+/// A tree that does not spell what is wanted.
+fn unfit<'a>(form: &'a Form, wanted: Wanted<'a>) -> Ill<'a> {
     match wanted {
-        Some(ty) => {
-            let wanted = ty_text(alloc, ty)?;
-            format!(in alloc; "wanted {wanted}, found `{found}`")
+        Wanted::Type(ty) => Ill::OtherType(form, ty),
+        Wanted::Any | Wanted::Call(_) => Ill::Tree {
+            before: "",
+            form,
+            after: " spells no value",
+        },
+    }
+}
+
+/// What is ill in a tree that is no node and has to spell a value.
+fn ill_value<'a>(search: &Search<'_>, form: &'a Form, wanted: Wanted<'a>) -> Option<Ill<'a>> {
+    match wanted {
+        Wanted::Type(ty) if is_of(search, form, ty) => None,
+        Wanted::Any if is_plain(form) => None,
+        _ => Some(unfit(form, wanted)),
+    }
+}
+
+/// Whether a command stands in a branch, and another one not in that branch.
+fn are_apart(parts: &[Part<'_>], number: usize, command: usize) -> bool {
+    let (Some((part, _)), Some((own, _))) = (place_of(parts, number), place_of(parts, command))
+    else {
+        return false;
+    };
+    match parts.get(part) {
+        Some(named) => part != own && named.is_branch,
+        None => false,
+    }
+}
+
+/// The number of the command whose result a tree is, if it is a variable.
+fn named(form: &Form) -> Option<usize> {
+    match form {
+        Form::Word(word) => variable(word.as_str()),
+        Form::Text(_) | Form::Node(_) => None,
+    }
+}
+
+/// What is ill in a tree that is no node.
+fn ill_leaf<'a>(search: &Search<'_>, form: &'a Form, wanted: Wanted<'a>) -> Option<Ill<'a>> {
+    let parts = search.parts;
+    match (search.sought, named(form)) {
+        (Sought::Value, _) => ill_value(search, form, wanted),
+        (Sought::Later(command), Some(number)) if number == 0 || number >= command => {
+            Some(Ill::Later { number, command })
         }
-        None => format!(in alloc; "`{found}` spells no value"),
-    }
-}
-
-/// What is wrong with a tree, where the trees in it spell what they have to.
-fn own_problem(
-    alloc: Global,
-    source: &Source,
-    parts: &[Part<'_>],
-    spelled: &Spelled<'_>,
-) -> Result<Option<IllPart>, AllocError> {
-    if !may_be(source, parts, spelled.form, spelled.wanted) {
-        let what = unfit(alloc, spelled.form, spelled.wanted)?;
-        let path = Vec::from_slice(alloc, spelled.path.as_slice())?;
-        return Ok(Some(IllPart { path, what }));
-    }
-    match head_of(spelled.form) {
-        Some(head) if head.as_str() == "map" => entries_problem(alloc, spelled),
-        _ => Ok(None),
-    }
-}
-
-/// The type that is wanted of the part of a number, from 0, behind the head.
-fn wanted_in(wanted: Option<&Ty>, number: usize) -> Option<&Ty> {
-    match wanted? {
-        Ty::List(item) => Some(item.get()),
-        Ty::Tuple(types) => types.as_slice().get(number),
-        Ty::Map(_, value) => Some(value.get()),
+        (Sought::OtherBranch(command), Some(number)) if are_apart(parts, number, command) => {
+            Some(Ill::OtherBranch(number))
+        }
         _ => None,
     }
 }
 
-/// The value of an entry of a map, and the number of its tree in the entry; else the tree itself.
-fn value_in(form: &Form, is_map: bool) -> (&Form, Option<usize>) {
-    if is_map {
-        if let Some([_, value]) = node_of(form) {
-            return (value, Some(1));
+/// What the parts of a node have to spell, where the node has to spell a value of any type. None where it
+/// spells none.
+fn types_of_any<'a>(search: &Search<'_>, form: &Form) -> Option<Types<'a>> {
+    let any = Some(Types::Same(Wanted::Any));
+    match search.sought {
+        Sought::Later(_) | Sought::OtherBranch(_) => any,
+        Sought::Value if is_headed(form, "tuple") || is_headed(form, "list") => any,
+        Sought::Value if search.source.has_maps && is_headed(form, "map") => {
+            Some(Types::Entries(None, Wanted::Any))
         }
+        Sought::Value => None,
     }
-    (form, None)
 }
 
-/// Adds the parts of a tree, so that the first of them is taken first.
-pub fn add_parts<'a>(
-    alloc: Global,
-    waiting: &mut Vec<Spelled<'a>>,
-    spelled: &Spelled<'a>,
-) -> Result<(), AllocError> {
-    let Some((_, forms)) = node_of(spelled.form).unwrap_or(&[]).split_first() else {
-        return Ok(());
-    };
-    let is_map = match head_of(spelled.form) {
-        Some(head) => head.as_str() == "map",
-        None => false,
-    };
-    for back in 0..forms.len() {
-        let number = forms.len() - 1 - back;
-        let (form, inner) = value_in(&forms[number], is_map);
-        let mut path = below(spelled.path.as_slice(), alloc, number.saturating_add(1))?;
-        if let Some(inner) = inner {
-            path.push(inner)?;
+/// What the parts of a node have to spell, where the node has to spell a value of the type. None where it
+/// spells none.
+fn types_of<'a>(form: &Form, ty: &'a Ty) -> Option<Types<'a>> {
+    match ty {
+        Ty::Tuple(items) if items.len() == behind_head(form).len() && is_headed(form, "tuple") => {
+            Some(Types::Items(items.as_slice()))
         }
-        let wanted = wanted_in(spelled.wanted, number);
-        waiting.push(Spelled { path, form, wanted })?;
+        Ty::List(item) if is_headed(form, "list") => { Some(Types::Same(Wanted::Type(item.get()))) }
+        Ty::Map(keys, value) if is_headed(form, "map") => {
+            Some(Types::Entries(Some(*keys), Wanted::Type(value.get())))
+        }
+        _ => None,
     }
-    Ok(())
 }
 
-/// The first part of a tree that is ill: each tree comes before its parts, and these from left to right.
-pub fn ill_part<'a>(
-    alloc: Global,
-    source: &Source,
-    parts: &[Part<'_>],
-    path: &[usize],
+/// What the parts of a node have to spell. None where the node does not spell what is wanted.
+fn types_in<'a>(search: &Search<'_>, form: &Form, wanted: Wanted<'a>) -> Option<Types<'a>> {
+    match wanted {
+        Wanted::Any => types_of_any(search, form),
+        Wanted::Type(ty) => types_of(form, ty),
+        Wanted::Call(params) => Some(Types::Params(params)),
+    }
+}
+
+/// What the part of a number, from 1, has to spell.
+fn wanted_at(types: Types<'_>, number: usize) -> Wanted<'_> {
+    let index = number.saturating_sub(1);
+    match types {
+        Types::Same(wanted) | Types::Entries(_, wanted) => wanted,
+        Types::Items(items) => match items.get(index) {
+            Some(item) => Wanted::Type(item),
+            None => Wanted::Any,
+        },
+        Types::Params(params) => match params.get(index) {
+            Some(param) => Wanted::Type(&param.ty),
+            None => Wanted::Any,
+        },
+    }
+}
+
+/// What is ill first in a tree: each tree comes before its parts, and these come from left to right. The path
+/// to the tree becomes the path to what is found; where nothing is found, it stays.
+#[cycle(first_ill)]
+fn first_ill<'a>(
+    search: &Search<'_>,
+    path: &mut Vec<usize>,
     form: &'a Form,
-    wanted: Option<&'a Ty>,
-) -> Result<Option<IllPart>, AllocError> {
-    let path = Vec::from_slice(alloc, path)?;
-    let mut waiting = Vec::new(alloc);
-    waiting.push(Spelled { path, form, wanted })?;
-    for _ in 0..MAX_BYTES {
-        let Some(spelled) = waiting.pop() else {
-            return Ok(None);
-        };
-        if let Some(found) = own_problem(alloc, source, parts, &spelled)? {
-            return Ok(Some(found));
+    wanted: Wanted<'a>,
+) -> Result<Option<Ill<'a>>, AllocError> {
+    match form {
+        Form::Node(parts) => match types_in(search, form, wanted) {
+            Some(types) => first_in_node(search, path, parts.as_slice(), types),
+            None => Ok(Some(unfit(form, wanted))),
+        },
+        Form::Word(_) | Form::Text(_) => Ok(ill_leaf(search, form, wanted)),
+    }
+}
+
+/// What is ill first in the parts of a tree behind its head. The entries and keys of a map come before its
+/// values.
+#[cycle(first_ill)]
+fn first_in_node<'a>(
+    search: &Search<'_>,
+    path: &mut Vec<usize>,
+    parts: &'a [Form],
+    types: Types<'a>,
+) -> Result<Option<Ill<'a>>, AllocError> {
+    if let Types::Entries(keys, _) = types {
+        if let Some(ill) = ill_entry(path, parts, keys)? {
+            return Ok(Some(ill));
         }
-        add_parts(alloc, &mut waiting, &spelled)?;
+    }
+    first_in(search, path, parts, types)
+}
+
+/// What is ill first in the parts of a tree behind its head. Of the entries of a map it looks at the values
+/// alone.
+#[cycle(first_ill)]
+fn first_in<'a>(
+    search: &Search<'_>,
+    path: &mut Vec<usize>,
+    parts: &'a [Form],
+    types: Types<'a>,
+) -> Result<Option<Ill<'a>>, AllocError> {
+    for (number, part) in parts.iter().enumerate() {
+        if number > 0 {
+            path.push(number)?;
+            let found = first_in_part(search, path, part, types, number)?;
+            if found.is_some() {
+                return Ok(found);
+            }
+            path.pop();
+        }
     }
     Ok(None)
+}
+
+/// What is ill first in the part of a number. An entry of a map counts as a tree with its key as its head.
+#[cycle(first_ill)]
+fn first_in_part<'a>(
+    search: &Search<'_>,
+    path: &mut Vec<usize>,
+    part: &'a Form,
+    types: Types<'a>,
+    number: usize,
+) -> Result<Option<Ill<'a>>, AllocError> {
+    match (types, part) {
+        (Types::Entries(_, wanted), Form::Node(entry)) => {
+            first_in(search, path, entry.as_slice(), Types::Same(wanted))
+        }
+        _ => first_ill(search, path, part, wanted_at(types, number)),
+    }
+}
+
+/// The problem of what is ill first in a tree, by the path to the tree. Where nothing is found, `other` says
+/// what is ill.
+pub fn problem_in(
+    alloc: Global,
+    search: &Search<'_>,
+    path: &[usize],
+    form: &Form,
+    wanted: Wanted<'_>,
+    other: Option<Ill<'_>>,
+) -> Judged {
+    let mut path = Vec::from_slice(alloc, path)?;
+    let found = first_ill(search, &mut path, form, wanted)?;
+    ill_problem(alloc, path.as_slice(), found.or(other))
 }

@@ -1,15 +1,17 @@
 //! Applications of functions and calls of operations.
 
-use crate::diagnose::Leaf;
+use crate::diagnose::{Leaf, type_of};
 use crate::operands::wanted_type;
+use crate::trees::tree_in;
 use pst_model::{Fun, Item, Param};
 use pst_problems::{
-    Judged, Problem, below, count, heads, in_place_of, is_of_maps, meant, noted, operation,
-    signature, text, unknown_among,
+    Judged, Problem, Signature, below, counted, in_place_of, is_of_maps, nearest_head, noted_at,
+    operation, unknown_among, with_note, wrong,
 };
-use pst_sexpr::{node_of, word_of};
+use pst_sexpr::word_of;
 use pst_value::Ty;
-use std::alloc::{AllocError, Global};
+use std::alloc::Global;
+use std::fmt::Display;
 
 /// The function of a name.
 fn function<'a>(items: &'a [Item], name: &str) -> Option<&'a Fun> {
@@ -23,143 +25,204 @@ fn function<'a>(items: &'a [Item], name: &str) -> Option<&'a Fun> {
     None
 }
 
-/// Arguments that do not fit parameters.
-fn arguments(
-    alloc: Global,
-    leaf: &Leaf<'_>,
-    name: &str,
-    params: &[Param],
-    shown: String,
-    first: usize,
-) -> Judged {
-    let found = leaf.types.len();
-    let wanted = params.len();
-    if found != wanted {
-        let takes = count(alloc, wanted, "argument")?;
-        let what = format!(in alloc; "`{name}` takes {takes}, here it has {found}")?;
-        return noted(
-            alloc,
-            leaf.path,
-            what,
-            format!(in alloc; "declared: {shown}")?,
-        );
-    }
-    let mut part = first;
-    for (param, ty) in params.iter().zip(leaf.types.iter()) {
-        if param.ty != *ty {
-            let called = param.name.as_str();
-            let called = format!(in alloc; "the parameter {called} of `{name}`")?;
-            let refused = wanted_type(alloc, leaf, called.as_str(), part, &param.ty, ty)?;
-            return with_order(alloc, leaf.types, params, refused, shown);
-        }
-        part = part.saturating_add(1);
-    }
-    Ok(None)
-}
-
-/// Whether two arguments would fit in the other order.
-fn are_swapped(types: &[Ty], params: &[Param]) -> bool {
-    let mut ill = types
-        .iter()
-        .zip(params.iter())
-        .filter(|(ty, param)| **ty != param.ty);
-    match (ill.next(), ill.next(), ill.next()) {
-        (Some((ty, param)), Some((other, second)), None) => {
-            *ty == second.ty && *other == param.ty
-        }
+/// Whether an argument has the type of a parameter, by their numbers from 0.
+fn fits(types: &[Ty], params: &[Param], argument: usize, parameter: usize) -> bool {
+    match (types.get(argument), params.get(parameter)) {
+        (Some(ty), Some(param)) => *ty == param.ty,
         _ => false,
     }
 }
 
-/// The same problem with the signature, and with a hint where two arguments would fit in the other order.
-fn with_order(
+/// The number of the first argument, from one on, of another type than its parameter.
+fn first_ill(types: &[Ty], params: &[Param], from: usize) -> Option<usize> {
+    for place in from..params.len() {
+        if !fits(types, params, place, place) {
+            return Some(place);
+        }
+    }
+    None
+}
+
+/// Whether the first argument that does not fit would fit in the other order with a second one, where the rest
+/// fits.
+fn are_swapped(types: &[Ty], params: &[Param], first: usize) -> bool {
+    match first_ill(types, params, first.saturating_add(1)) {
+        Some(second) => {
+            fits(types, params, first, second)
+                && fits(types, params, second, first)
+                && first_ill(types, params, second.saturating_add(1)).is_none()
+        }
+        None => false,
+    }
+}
+
+/// The same problem with what is declared.
+fn with_signature(alloc: Global, refused: Option<Problem>, declared: &Signature<'_>) -> Judged {
+    with_note(alloc, refused, format_args!("declared: {declared}"))
+}
+
+/// An argument, by its number from 0 and its number in its tree, of another type than its parameter.
+fn ill_argument(
     alloc: Global,
-    types: &[Ty],
-    params: &[Param],
-    refused: Option<Problem>,
-    shown: String,
+    leaf: &Leaf<'_>,
+    declared: &Signature<'_>,
+    place: usize,
+    part: usize,
 ) -> Judged {
-    let Some(found) = refused else {
+    let Some(param) = declared.params.get(place) else {
         return Ok(None);
     };
-    let found = found.with(format!(in alloc; "declared: {shown}")?)?;
-    if are_swapped(types, params) {
-        let hint = text(alloc, "hint: in the other order the two arguments fit")?;
-        return Ok(Some(found.with(hint)?));
+    let Some(found) = type_of(leaf, place) else {
+        return Ok(None);
+    };
+    let called = param.name.as_str();
+    let name = declared.name;
+    let what = format_args!("the parameter {called} of `{name}`");
+    let refused = wanted_type(alloc, leaf, what, part, &param.ty, found)?;
+    with_signature(alloc, refused, declared)
+}
+
+/// The same, with a hint where two arguments would fit in the other order.
+fn ill_order(
+    alloc: Global,
+    leaf: &Leaf<'_>,
+    declared: &Signature<'_>,
+    place: usize,
+    part: usize,
+) -> Judged {
+    let refused = ill_argument(alloc, leaf, declared, place, part)?;
+    if are_swapped(leaf.types, declared.params, place) {
+        let hint = "hint: in the other order the two arguments fit";
+        return with_note(alloc, refused, hint);
     }
-    Ok(Some(found))
+    Ok(refused)
+}
+
+/// Another number of arguments than there are parameters.
+fn ill_number(alloc: Global, leaf: &Leaf<'_>, declared: &Signature<'_>) -> Judged {
+    let name = declared.name;
+    let takes = counted(declared.params.len(), "argument");
+    let found = leaf.types.len();
+    let refused = wrong(
+        alloc,
+        leaf.path,
+        format_args!("`{name}` takes {takes}, here it has {found}"),
+    )?;
+    with_signature(alloc, refused, declared)
+}
+
+/// Arguments, of which the first has a number in their tree, that do not fit parameters.
+fn arguments(alloc: Global, leaf: &Leaf<'_>, declared: &Signature<'_>, first: usize) -> Judged {
+    if leaf.types.len() != declared.params.len() {
+        return ill_number(alloc, leaf, declared);
+    }
+    match first_ill(leaf.types, declared.params, 0) {
+        Some(place) => ill_order(alloc, leaf, declared, place, first.saturating_add(place)),
+        None => Ok(None),
+    }
+}
+
+/// The problem of the name at a part of the tree, with the operations or the functions that there are.
+fn unknown_at(
+    alloc: Global,
+    leaf: &Leaf<'_>,
+    part: usize,
+    name: &str,
+    are_operations: bool,
+) -> Judged {
+    let path = below(leaf.path, alloc, part)?;
+    unknown_among(
+        alloc,
+        leaf.context.items,
+        path.as_slice(),
+        name,
+        are_operations,
+    )
 }
 
 /// A call of an operation.
 pub fn called(alloc: Global, leaf: &Leaf<'_>) -> Judged {
-    let Some([_, name, ..]) = node_of(leaf.form) else {
-        return Ok(None);
-    };
-    let Some(name) = word_of(name) else {
+    let Some(name) = word_of(tree_in(leaf.form, 1)) else {
         return Ok(None);
     };
     let name = name.as_str();
-    let Some(op) = operation(leaf.context.items, name) else {
-        let at = below(leaf.path, alloc, 1)?;
-        return unknown_among(alloc, leaf.context.items, at.as_slice(), name, true);
-    };
-    let params = op.params.as_slice();
-    let shown = signature(alloc, name, params, &op.result)?;
-    arguments(alloc, leaf, name, params, shown, 2)
+    match operation(leaf.context.items, name) {
+        Some(op) => {
+            let declared = Signature {
+                name,
+                params: op.params.as_slice(),
+                gives: &op.result,
+            };
+            arguments(alloc, leaf, &declared, 2)
+        }
+        None => unknown_at(alloc, leaf, 1, name, true),
+    }
+}
+
+/// A function that no item declares, with a note.
+fn no_function_noted<N: Display + Drop>(
+    alloc: Global,
+    leaf: &Leaf<'_>,
+    name: &str,
+    note: N,
+) -> Judged {
+    noted_at(
+        alloc,
+        leaf.path,
+        0,
+        format_args!("no function has the name `{name}`"),
+        note,
+    )
+}
+
+/// A function that no item declares, with the known name that may be meant, or with the functions that there
+/// are.
+fn no_function_near(alloc: Global, leaf: &Leaf<'_>, name: &str) -> Judged {
+    match nearest_head(alloc, leaf.has_maps, name)? {
+        Some(hint) => no_function_noted(alloc, leaf, name, hint),
+        None => unknown_at(alloc, leaf, 0, name, false),
+    }
 }
 
 /// A function that no item declares.
 fn no_function(alloc: Global, leaf: &Leaf<'_>, name: &str) -> Judged {
-    let at = below(leaf.path, alloc, 0)?;
-    let path = at.as_slice();
-    let what = format!(in alloc; "no function has the name `{name}`")?;
     if let Some(hint) = in_place_of(name) {
-        return noted(alloc, path, what, format!(in alloc; "hint: {hint}")?);
+        return no_function_noted(alloc, leaf, name, format_args!("hint: {hint}"));
     }
     if is_of_maps(name) {
-        let hint = text(
-            alloc,
-            "hint: a model with maps begins with `(model2 NAME ..)`",
-        )?;
-        return noted(alloc, path, what, hint);
+        let hint = "hint: a model with maps begins with `(model2 NAME ..)`";
+        return no_function_noted(alloc, leaf, name, hint);
     }
     if operation(leaf.context.items, name).is_some() {
-        let hint = format!(in alloc;
-            "hint: it is an operation; a call to be picked is `(call {name} ..)`"
-        )?;
-        return noted(alloc, path, what, hint);
+        return no_function_noted(
+            alloc,
+            leaf,
+            name,
+            format_args!("hint: it is an operation; a call to be picked is `(call {name} ..)`"),
+        );
     }
-    let known = heads(alloc, leaf.has_maps)?;
-    match meant(alloc, &known, name)? {
-        Some(hint) => noted(alloc, path, what, hint),
-        None => unknown_among(alloc, leaf.context.items, path, name, false),
-    }
+    no_function_near(alloc, leaf, name)
 }
 
 /// Why a function that stands in the model may not be applied here, if it may not.
-fn not_here(alloc: Global, leaf: &Leaf<'_>, fun: &Fun) -> Result<Option<Problem>, AllocError> {
+fn not_here(alloc: Global, leaf: &Leaf<'_>, fun: &Fun) -> Judged {
     let name = fun.name.as_str();
-    let at = below(leaf.path, alloc, 0)?;
     if function(leaf.context.earlier, name).is_none() {
-        return noted(
+        return noted_at(
             alloc,
-            at.as_slice(),
-            format!(in alloc; "the function `{name}` is not declared before this item")?,
-            text(
-                alloc,
-                "a function applies functions of earlier items: none applies itself or a later one",
-            )?,
+            leaf.path,
+            0,
+            format_args!("the function `{name}` is not declared before this item"),
+            "a function applies functions of earlier items: none applies itself or a later one",
         );
     }
     if fun.is_post && !leaf.context.is_post {
-        return noted(
+        return noted_at(
             alloc,
-            at.as_slice(),
-            format!(in alloc; "the postfun `{name}` is applied in post and in postfuns alone")?,
-            text(
-                alloc,
-                "hint: where no reference is looked into, declare it as a `fun`",
-            )?,
+            leaf.path,
+            0,
+            format_args!("the postfun `{name}` is applied in post and in postfuns alone"),
+            "hint: where no reference is looked into, declare it as a `fun`",
         );
     }
     Ok(None)
@@ -170,10 +233,13 @@ pub fn applied(alloc: Global, leaf: &Leaf<'_>, name: &str) -> Judged {
     let Some(fun) = function(leaf.context.items, name) else {
         return no_function(alloc, leaf, name);
     };
-    if let Some(found) = not_here(alloc, leaf, fun)? {
-        return Ok(Some(found));
+    let declared = Signature {
+        name,
+        params: fun.params.as_slice(),
+        gives: &fun.result,
+    };
+    match not_here(alloc, leaf, fun)? {
+        Some(found) => Ok(Some(found)),
+        None => arguments(alloc, leaf, &declared, 1),
     }
-    let params = fun.params.as_slice();
-    let shown = signature(alloc, name, params, &fun.result)?;
-    arguments(alloc, leaf, name, params, shown, 1)
 }

@@ -1,19 +1,23 @@
 //! What is wrong with the part of an expression that is to blame, by the types of its parts.
 
 use crate::applied::{applied, called};
-use crate::operands::{wanted_list, wanted_map, wanted_type};
+use crate::operands::{
+    ill_first, wanted_list, wanted_map, wanted_sequence, wanted_tuple, wanted_type,
+};
+use crate::trees::{clauses_of, goes_over_list, head_word, tree_in};
 use pst_items::{Items, Text};
 use pst_problems::{
-    Judged, Problem, below, form_text, head_of, is_of_maps, key_word, listed, meant, noted, text,
-    ty_text, wrong,
+    FormText, Judged, Listed, Problem, TypeText, is_of_maps, key_word, nearest, noted, noted_at,
+    with_note, wrong, wrong_at,
 };
-use pst_sexpr::{Form, node_of, word_of};
+use pst_sexpr::{Form, word_of};
 use pst_typing::{Context, holds_ref};
 use pst_value::{KeyTy, Ty};
 use std::alloc::{AllocError, Global};
+use std::fmt::Display;
 
-/// The part that is to blame: what it may name, its tree, the path to it, the types of its parts, the names that
-/// it sees, and what the whole expression is called.
+/// The part that is to blame: what it may name, its tree, the path to it, the types of its parts, the names
+/// that it sees, and what the whole expression is called.
 #[derive(Drop)]
 pub struct Leaf<'a> {
     pub context: &'a Context<'a>,
@@ -26,130 +30,126 @@ pub struct Leaf<'a> {
     pub has_maps: bool,
 }
 
-/// The names that the part sees.
-fn names_note(alloc: Global, leaf: &Leaf<'_>) -> Result<String, AllocError> {
+/// The same problem with the names that the part sees.
+fn with_names(alloc: Global, leaf: &Leaf<'_>, found: Option<Problem>) -> Judged {
     if leaf.names.is_empty() {
         let called = leaf.called;
-        return format!(in alloc; "{called} sees no names");
+        return with_note(alloc, found, format_args!("{called} sees no names"));
     }
-    let names = listed(alloc, leaf.names)?;
-    format!(in alloc; "names known here: {names}")
+    let names = Listed(leaf.names);
+    with_note(alloc, found, format_args!("names known here: {names}"))
 }
 
-/// A hint for a name that stands for nothing, if there is one.
-fn name_hint(alloc: Global, leaf: &Leaf<'_>, name: &str) -> Result<Option<String>, AllocError> {
-    let hint = match name {
-        "s" => "hint: only callbacks see the state `s`: give it as a parameter",
-        "r" => "hint: only next and post see the result `r`",
-        _ => return meant(alloc, leaf.names, name),
-    };
-    Ok(Some(text(alloc, hint)?))
-}
-
-/// The same problem with a hint, if there is one.
-fn hinted(found: Option<Problem>, hint: Option<String>) -> Judged {
-    match (found, hint) {
-        (Some(found), Some(hint)) => Ok(Some(found.with(hint)?)),
-        (found, _) => Ok(found),
+/// A hint for a name that stands for something in callbacks alone.
+fn callback_hint(name: &str) -> Option<&'static str> {
+    match name {
+        "s" => Some("hint: only callbacks see the state `s`: give it as a parameter"),
+        "r" => Some("hint: only next and post see the result `r`"),
+        _ => None,
     }
 }
 
-/// A name that stands for nothing.
-fn unknown(alloc: Global, leaf: &Leaf<'_>, word: &Text) -> Judged {
-    let name = word.as_str();
+/// A name that stands for nothing, with the names that the part sees.
+fn no_meaning(alloc: Global, leaf: &Leaf<'_>, name: &str) -> Judged {
     let called = leaf.called;
-    let hint = name_hint(alloc, leaf, name)?;
-    let what = format!(in alloc; "{called}: nothing has the name `{name}` here")?;
-    let note = names_note(alloc, leaf)?;
-    hinted(noted(alloc, leaf.path, what, note)?, hint)
+    let what = format_args!("{called}: nothing has the name `{name}` here");
+    let found = wrong(alloc, leaf.path, what)?;
+    with_names(alloc, leaf, found)
+}
+
+/// A name that stands for nothing, with a hint.
+fn unknown_noted<N: Display + Drop>(alloc: Global, leaf: &Leaf<'_>, name: &str, hint: N) -> Judged {
+    with_note(alloc, no_meaning(alloc, leaf, name)?, hint)
+}
+
+/// A name that stands for nothing, with a hint if there is one.
+fn unknown(alloc: Global, leaf: &Leaf<'_>, name: &str) -> Judged {
+    if let Some(hint) = callback_hint(name) {
+        return unknown_noted(alloc, leaf, name, hint);
+    }
+    match nearest(alloc, leaf.names, name)? {
+        Some(hint) => unknown_noted(alloc, leaf, name, hint),
+        None => no_meaning(alloc, leaf, name),
+    }
 }
 
 /// The type that a part was found to have.
-fn type_of<'a>(leaf: &Leaf<'a>, part: usize) -> Option<&'a Ty> {
+pub fn type_of<'a>(leaf: &Leaf<'a>, part: usize) -> Option<&'a Ty> {
     leaf.types.get(part)
 }
 
 /// The first part from one on that has another type than the wanted one.
 fn each_of(alloc: Global, leaf: &Leaf<'_>, head: &str, wanted: &Ty) -> Judged {
-    let mut part: usize = 0;
-    let shown = format!(in alloc; "`{head}`")?;
-    for ty in leaf.types {
+    for (place, ty) in leaf.types.iter().enumerate() {
         if *ty != *wanted {
-            return wanted_type(
-                alloc,
-                leaf,
-                shown.as_str(),
-                part.saturating_add(1),
-                wanted,
-                ty,
-            );
+            let part = place.saturating_add(1);
+            return wanted_type(alloc, leaf, format_args!("`{head}`"), part, wanted, ty);
         }
-        part = part.saturating_add(1);
     }
     Ok(None)
 }
 
 /// A choice of two expressions.
 fn choice(alloc: Global, leaf: &Leaf<'_>) -> Judged {
-    let [test, yes, no] = leaf.types else {
-        return Ok(None);
-    };
-    if *test != Ty::Bool {
-        return wanted_type(alloc, leaf, "the test of `if`", 1, &Ty::Bool, test);
+    match leaf.types {
+        [Ty::Bool, yes, no] => wanted_type(alloc, leaf, "the branches of `if` differ", 3, yes, no),
+        [test, _, _] => wanted_type(alloc, leaf, "the test of `if`", 1, &Ty::Bool, test),
+        _ => Ok(None),
     }
-    wanted_type(alloc, leaf, "the branches of `if` differ", 3, yes, no)
 }
 
 /// A comparison by order.
-fn order(alloc: Global, leaf: &Leaf<'_>, head: &str) -> Judged {
-    let [first, second] = leaf.types else {
-        return Ok(None);
-    };
-    if *first == Ty::Int || *first == Ty::Text {
-        let shown = format!(in alloc; "`{head}`")?;
-        return wanted_type(alloc, leaf, shown.as_str(), 2, first, second);
+fn order(alloc: Global, leaf: &Leaf<'_>, head: &str, first: &Ty, second: &Ty) -> Judged {
+    match first {
+        Ty::Int | Ty::Text => {
+            wanted_type(alloc, leaf, format_args!("`{head}`"), 2, first, second)
+        }
+        _ => ill_first(
+            alloc,
+            leaf,
+            format_args!("`{head}` compares int or text"),
+            first,
+        ),
     }
-    let found = ty_text(alloc, first)?;
-    let at = below(leaf.path, alloc, 1)?;
-    let what = format!(in alloc; "`{head}` compares int or text, found {found}")?;
-    wrong(alloc, at.as_slice(), what)
 }
 
 /// A comparison by `=`.
-fn equality(alloc: Global, leaf: &Leaf<'_>) -> Judged {
-    let [first, second] = leaf.types else {
-        return Ok(None);
-    };
+fn equality(alloc: Global, leaf: &Leaf<'_>, first: &Ty, second: &Ty) -> Judged {
     if *first != *second {
         return wanted_type(alloc, leaf, "`=` compares one type", 2, first, second);
     }
-    let found = ty_text(alloc, first)?;
-    if holds_ref(first) {
-        return noted(
-            alloc,
-            leaf.path,
-            format!(in alloc; "`=` compares no references outside post, found {found}")?,
-            text(
-                alloc,
-                "hint: `(same a b)` says whether two references are of one command",
-            )?,
-        );
+    if !holds_ref(first) {
+        return Ok(None);
     }
-    Ok(None)
+    let found = TypeText(first);
+    noted(
+        alloc,
+        leaf.path,
+        format_args!("`=` compares no references outside post, found {found}"),
+        "hint: `(same a b)` says whether two references are of one command",
+    )
 }
 
 /// Two references.
-fn sameness(alloc: Global, leaf: &Leaf<'_>) -> Judged {
-    let [first, second] = leaf.types else {
-        return Ok(None);
-    };
-    if let Ty::Ref(_) = first {
-        return wanted_type(alloc, leaf, "`same` compares one type", 2, first, second);
+fn sameness(alloc: Global, leaf: &Leaf<'_>, first: &Ty, second: &Ty) -> Judged {
+    match first {
+        Ty::Ref(_) => wanted_type(alloc, leaf, "`same` compares one type", 2, first, second),
+        _ => ill_first(alloc, leaf, "`same` compares references", first),
     }
-    let found = ty_text(alloc, first)?;
-    let at = below(leaf.path, alloc, 1)?;
-    let what = format!(in alloc; "`same` compares references, found {found}")?;
-    wrong(alloc, at.as_slice(), what)
+}
+
+/// The item of a list at a place.
+fn place_in_list(alloc: Global, leaf: &Leaf<'_>, list: &Ty, place: &Ty) -> Judged {
+    match (list, place) {
+        (Ty::List(_), _) => wanted_type(alloc, leaf, "`nth`", 2, &Ty::Int, place),
+        (Ty::Int, Ty::List(_)) => noted(
+            alloc,
+            leaf.path,
+            "`nth` takes a list and a place, found int and a list",
+            "hint: in the other order the two fit: `(nth LIST PLACE)`",
+        ),
+        _ => wanted_list(alloc, leaf.path, "`nth`", 1, list),
+    }
 }
 
 /// The value of a reference.
@@ -158,64 +158,24 @@ fn dereference(alloc: Global, leaf: &Leaf<'_>) -> Judged {
         return noted(
             alloc,
             leaf.path,
-            text(alloc, "`deref` stands in post and in postfuns alone")?,
-            text(
-                alloc,
-                "hint: elsewhere the value of a result is not known yet; keep the reference",
-            )?,
+            "`deref` stands in post and in postfuns alone",
+            "hint: elsewhere the value of a result is not known yet; keep the reference",
         );
     }
-    let Some(found) = type_of(leaf, 0) else {
-        return Ok(None);
-    };
-    let found = ty_text(alloc, found)?;
-    let at = below(leaf.path, alloc, 1)?;
-    let what = format!(in alloc; "`deref` takes a reference, found {found}")?;
-    wrong(alloc, at.as_slice(), what)
+    match type_of(leaf, 0) {
+        Some(found) => ill_first(alloc, leaf, "`deref` takes a reference", found),
+        None => Ok(None),
+    }
 }
 
 /// A length, or two texts or lists in a row.
 fn sequence(alloc: Global, leaf: &Leaf<'_>, head: &str) -> Judged {
-    let Some(first) = type_of(leaf, 0) else {
-        return Ok(None);
-    };
-    if let (Ty::Text | Ty::List(_), Some(second)) = (first, type_of(leaf, 1)) {
-        return wanted_type(alloc, leaf, "`++` takes one type", 2, first, second);
-    }
-    let found = ty_text(alloc, first)?;
-    let at = below(leaf.path, alloc, 1)?;
-    let what = format!(in alloc; "`{head}` takes a text or a list, found {found}")?;
-    match first {
-        Ty::Map(_, _) => noted(
-            alloc,
-            at.as_slice(),
-            what,
-            text(alloc, "hint: `(keys m)` is the list of the keys of a map")?,
-        ),
-        _ => wrong(alloc, at.as_slice(), what),
-    }
-}
-
-/// The item of a list at a place.
-fn place_in_list(alloc: Global, leaf: &Leaf<'_>) -> Judged {
-    let [list, place] = leaf.types else {
-        return Ok(None);
-    };
-    match (list, place) {
-        (Ty::List(_), _) => wanted_type(alloc, leaf, "`nth`", 2, &Ty::Int, place),
-        (Ty::Int, Ty::List(_)) => noted(
-            alloc,
-            leaf.path,
-            text(
-                alloc,
-                "`nth` takes a list and a place, found int and a list",
-            )?,
-            text(
-                alloc,
-                "hint: in the other order the two fit: `(nth LIST PLACE)`",
-            )?,
-        ),
-        _ => wanted_list(alloc, leaf, "`nth`", &[1], list),
+    match leaf.types {
+        [first @ (Ty::Text | Ty::List(_)), second, ..] => {
+            wanted_type(alloc, leaf, "`++` takes one type", 2, first, second)
+        }
+        [first, ..] => wanted_sequence(alloc, leaf, head, first),
+        [] => Ok(None),
     }
 }
 
@@ -224,24 +184,13 @@ fn place_in_tuple(alloc: Global, leaf: &Leaf<'_>) -> Judged {
     let Some(found) = type_of(leaf, 0) else {
         return Ok(None);
     };
-    let shown = ty_text(alloc, found)?;
-    if let Ty::Tuple(items) = found {
-        let number = items.len();
-        let at = below(leaf.path, alloc, 2)?;
-        let what = format!(in alloc; "the tuple has {number} items: {shown}")?;
-        return wrong(alloc, at.as_slice(), what);
-    }
-    let at = below(leaf.path, alloc, 1)?;
-    let what = format!(in alloc; "`at` takes a tuple, found {shown}")?;
-    match found {
-        Ty::List(_) => noted(
-            alloc,
-            at.as_slice(),
-            what,
-            text(alloc, "hint: of a list it is `(nth LIST PLACE)`, from 0 on")?,
-        ),
-        _ => wrong(alloc, at.as_slice(), what),
-    }
+    let Ty::Tuple(items) = found else {
+        return wanted_tuple(alloc, leaf, found);
+    };
+    let number = items.len();
+    let shown = TypeText(found);
+    let what = format_args!("the tuple has {number} items: {shown}");
+    wrong_at(alloc, leaf.path, 2, what)
 }
 
 /// The type of the keys, as of values.
@@ -253,140 +202,173 @@ fn key_type(keys: KeyTy) -> Ty {
     }
 }
 
-/// A form of maps.
-fn of_map(alloc: Global, leaf: &Leaf<'_>, head: &str) -> Judged {
-    let Some(map) = type_of(leaf, 0) else {
-        return Ok(None);
-    };
-    let Ty::Map(keys, value) = map else {
-        return wanted_map(alloc, leaf, head, map);
-    };
+/// Whether a type is that of the keys.
+fn is_of_keys(keys: KeyTy, found: &Ty) -> bool {
+    *found == key_type(keys)
+}
+
+/// A key of another type than those of the map.
+fn ill_key(alloc: Global, leaf: &Leaf<'_>, keys: KeyTy, found: &Ty) -> Judged {
+    let wanted = key_type(keys);
+    let word = key_word(keys);
+    let what = format_args!("the keys of the map are {word}");
+    wanted_type(alloc, leaf, what, 2, &wanted, found)
+}
+
+/// A key or a value of another type than those of the map.
+fn ill_entry(alloc: Global, leaf: &Leaf<'_>, keys: KeyTy, value: &Ty) -> Judged {
     if let Some(key) = type_of(leaf, 1) {
-        let wanted = key_type(*keys);
-        if *key != wanted {
-            let word = key_word(*keys);
-            let what = format!(in alloc; "the keys of the map are {word}")?;
-            return wanted_type(alloc, leaf, what.as_str(), 2, &wanted, key);
+        if !is_of_keys(keys, key) {
+            return ill_key(alloc, leaf, keys, key);
         }
     }
     match type_of(leaf, 2) {
-        Some(found) => { wanted_type(alloc, leaf, "the values of the map", 3, value.get(), found) }
+        Some(found) => wanted_type(alloc, leaf, "the values of the map", 3, value, found),
         None => Ok(None),
     }
 }
 
+/// A form of maps.
+fn of_map(alloc: Global, leaf: &Leaf<'_>, head: &str) -> Judged {
+    match type_of(leaf, 0) {
+        Some(Ty::Map(keys, value)) => ill_entry(alloc, leaf, *keys, value.get()),
+        Some(other) => wanted_map(alloc, leaf, head, other),
+        None => Ok(None),
+    }
+}
+
+/// Whether the tree of a type reads as a type is shown.
+fn reads_as(alloc: Global, form: &Form, ty: &Ty) -> Result<bool, AllocError> {
+    let form = FormText(form);
+    let ty = TypeText(ty);
+    let written = format!(in alloc; "{form}")?;
+    let shown = format!(in alloc; "{ty}")?;
+    Ok(written.as_str() == shown.as_str())
+}
+
+/// An item of a list, by its number in the tree, of another type than the tree of a type reads.
+fn ill_item(alloc: Global, leaf: &Leaf<'_>, part: usize, wanted: &Form, found: &Ty) -> Judged {
+    let wanted = FormText(wanted);
+    let found = TypeText(found);
+    let what = format_args!("an item of the list: wanted {wanted}, found {found}");
+    wrong_at(alloc, leaf.path, part, what)
+}
+
 /// A list with an item of another type.
 fn of_list(alloc: Global, leaf: &Leaf<'_>) -> Judged {
-    let Some([_, ty, ..]) = node_of(leaf.form) else {
-        return Ok(None);
-    };
-    let wanted = form_text(alloc, ty)?;
-    let mut place: usize = 2;
-    for found in leaf.types {
-        let shown = ty_text(alloc, found)?;
-        if shown.as_str() != wanted.as_str() {
-            let at = below(leaf.path, alloc, place)?;
-            let what = format!(in alloc; "an item of the list: wanted {wanted}, found {shown}")?;
-            return wrong(alloc, at.as_slice(), what);
+    let wanted = tree_in(leaf.form, 1);
+    for (place, found) in leaf.types.iter().enumerate() {
+        if !reads_as(alloc, wanted, found)? {
+            return ill_item(alloc, leaf, place.saturating_add(2), wanted, found);
         }
-        place = place.saturating_add(1);
     }
     Ok(None)
 }
 
+/// Whether a type is the one that the expression of a clause has to have.
+fn fits_clause(clause: &Form, found: &Ty) -> bool {
+    match found {
+        Ty::List(_) => goes_over_list(clause),
+        Ty::Bool => !goes_over_list(clause),
+        _ => false,
+    }
+}
+
+/// A clause, by its number, of another type.
+fn ill_clause(alloc: Global, leaf: &Leaf<'_>, clause: &Form, place: usize, found: &Ty) -> Judged {
+    let mut path = Vec::from_slice(alloc, leaf.path)?;
+    path.extend_from_slice(&[1, place])?;
+    if goes_over_list(clause) {
+        return wanted_list(alloc, path.as_slice(), "`in`", 2, found);
+    }
+    let found = TypeText(found);
+    let what = format_args!("`when`: wanted bool, found {found}");
+    wrong_at(alloc, path.as_slice(), 1, what)
+}
+
 /// A comprehension with a clause of another type.
 fn of_for(alloc: Global, leaf: &Leaf<'_>) -> Judged {
-    let clauses = match node_of(leaf.form) {
-        Some([_, clauses, _]) => node_of(clauses).unwrap_or(&[]),
-        _ => &[],
-    };
-    let mut place: usize = 0;
-    for clause in clauses {
-        let is_in = match head_of(clause) {
-            Some(head) => head.as_str() == "in",
-            None => false,
+    for (place, clause) in clauses_of(leaf.form).iter().enumerate() {
+        let Some(found) = type_of(leaf, place) else {
+            return Ok(None);
         };
-        match type_of(leaf, place) {
-            Some(Ty::List(_)) if is_in => {}
-            Some(Ty::Bool) if !is_in => {}
-            Some(found) if is_in => {
-                return wanted_list(alloc, leaf, "`in`", &[1, place, 2], found);
-            }
-            Some(found) => {
-                let found = ty_text(alloc, found)?;
-                let what = format!(in alloc; "`when`: wanted bool, found {found}")?;
-                let at = below(leaf.path, alloc, 1)?;
-                let at = below(at.as_slice(), alloc, place)?;
-                let at = below(at.as_slice(), alloc, 1)?;
-                return wrong(alloc, at.as_slice(), what);
-            }
-            None => return Ok(None),
+        if !fits_clause(clause, found) {
+            return ill_clause(alloc, leaf, clause, place, found);
         }
-        place = place.saturating_add(1);
     }
     Ok(None)
 }
 
 /// A fold over no list, or whose body is of another type than its first value.
 fn of_fold(alloc: Global, leaf: &Leaf<'_>) -> Judged {
-    let Some(list) = type_of(leaf, 0) else {
-        return Ok(None);
-    };
-    match (list, type_of(leaf, 1), type_of(leaf, 2)) {
-        (Ty::List(_), Some(first), Some(body)) => {
-            wanted_type(
-                alloc,
-                leaf,
-                "the body of the fold has the type of its first value",
-                5,
-                first,
-                body,
-            )
-        }
-        _ => wanted_list(alloc, leaf, "`fold`", &[2], list),
+    match leaf.types {
+        [Ty::List(_), first, body, ..] => wanted_type(
+            alloc,
+            leaf,
+            "the body of the fold has the type of its first value",
+            5,
+            first,
+            body,
+        ),
+        [list, ..] => wanted_list(alloc, leaf.path, "`fold`", 2, list),
+        [] => Ok(None),
     }
 }
 
-/// What is wrong with the part that is to blame, by its head.
+/// What is wrong with an operator of two parts, by its head.
+fn of_two(alloc: Global, leaf: &Leaf<'_>, head: &str) -> Judged {
+    let [first, second] = leaf.types else {
+        return Ok(None);
+    };
+    match head {
+        "<" | "<=" => order(alloc, leaf, head, first, second),
+        "=" => equality(alloc, leaf, first, second),
+        "same" => sameness(alloc, leaf, first, second),
+        "nth" => place_in_list(alloc, leaf, first, second),
+        _ => Ok(None),
+    }
+}
+
+/// What is wrong with an operator, by its head.
+fn of_operator(alloc: Global, leaf: &Leaf<'_>, head: &str) -> Judged {
+    match head {
+        "and" | "or" | "not" => each_of(alloc, leaf, head, &Ty::Bool),
+        "+" | "-" | "*" | "div" | "rem" | "range" => each_of(alloc, leaf, head, &Ty::Int),
+        "len" | "++" => sequence(alloc, leaf, head),
+        _ => of_two(alloc, leaf, head),
+    }
+}
+
+/// What is wrong with a form of expressions, by its head.
 fn of_form(alloc: Global, leaf: &Leaf<'_>, head: &str) -> Judged {
     match head {
         "if" => choice(alloc, leaf),
-        "and" | "or" | "not" => each_of(alloc, leaf, head, &Ty::Bool),
-        "+" | "-" | "*" | "div" | "rem" | "range" => each_of(alloc, leaf, head, &Ty::Int),
-        "<" | "<=" => order(alloc, leaf, head),
-        "=" => equality(alloc, leaf),
-        "same" => sameness(alloc, leaf),
         "deref" => dereference(alloc, leaf),
-        "len" | "++" => sequence(alloc, leaf, head),
-        "nth" => place_in_list(alloc, leaf),
         "at" => place_in_tuple(alloc, leaf),
         "list" => of_list(alloc, leaf),
         "for" => of_for(alloc, leaf),
         "fold" => of_fold(alloc, leaf),
         "call" => called(alloc, leaf),
-        _ => Ok(None),
+        _ if leaf.has_maps && is_of_maps(head) => of_map(alloc, leaf, head),
+        _ => of_operator(alloc, leaf, head),
+    }
+}
+
+/// What is wrong with a form of expressions, or else with the application of a function, by the head.
+fn of_head(alloc: Global, leaf: &Leaf<'_>, head: &str) -> Judged {
+    match of_form(alloc, leaf, head)? {
+        Some(found) => Ok(Some(found)),
+        None => applied(alloc, leaf, head),
     }
 }
 
 /// What is wrong with the part that is to blame.
 pub fn diagnose(alloc: Global, leaf: &Leaf<'_>) -> Judged {
     if let Some(word) = word_of(leaf.form) {
-        return unknown(alloc, leaf, word);
+        return unknown(alloc, leaf, word.as_str());
     }
-    let head = match head_of(leaf.form) {
-        Some(head) => head.as_str(),
-        None => "",
-    };
-    if let Some(found) = of_form(alloc, leaf, head)? {
-        return Ok(Some(found));
+    match of_head(alloc, leaf, head_word(leaf.form))? {
+        Some(found) => Ok(Some(found)),
+        None => wrong(alloc, leaf.path, "this has no type"),
     }
-    if is_of_maps(head) && leaf.has_maps {
-        if let Some(found) = of_map(alloc, leaf, head)? {
-            return Ok(Some(found));
-        }
-    }
-    if let Some(found) = applied(alloc, leaf, head)? {
-        return Ok(Some(found));
-    }
-    wrong(alloc, leaf.path, text(alloc, "this has no type")?)
 }

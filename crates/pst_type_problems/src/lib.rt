@@ -7,6 +7,7 @@
 mod applied;
 mod diagnose;
 mod operands;
+mod trees;
 mod typing;
 
 pub use typing::type_problem;

@@ -1,30 +1,58 @@
 //! Parts of another type than their form takes.
 
-use crate::diagnose::Leaf;
-use pst_problems::{Judged, below, noted, text, ty_text, wrong};
+use crate::diagnose::{Leaf, type_of};
+use pst_problems::{Judged, Problem, TypeText, below, noted, with_note, wrong, wrong_at};
 use pst_value::Ty;
-use std::alloc::{AllocError, Global};
+use std::alloc::Global;
+use std::fmt::Display;
 
-/// A hint where a reference stands in the place of its value.
-pub fn reference_hint(
-    alloc: Global,
-    wanted: &Ty,
-    found: &Ty,
-) -> Result<Option<String>, AllocError> {
+/// The same problem, with a hint where a reference stands in the place of its value.
+fn with_reference_hint(alloc: Global, refused: Option<Problem>, wanted: &Ty, found: &Ty) -> Judged {
     match found {
-        Ty::Ref(named) if *named.get() == *wanted => Ok(Some(text(
+        Ty::Ref(named) if *named.get() == *wanted => with_note(
             alloc,
+            refused,
             "hint: the value of a result is known in post alone: keep the reference in the state, and deref it there",
-        )?)),
-        _ => Ok(None),
+        ),
+        _ => Ok(refused),
     }
 }
 
-/// A part, by its number in its tree, of another type than the wanted one.
-pub fn wanted_type(
+/// The same problem, with a hint where a map stands in the place of a list.
+fn with_keys_hint(alloc: Global, refused: Option<Problem>, found: &Ty) -> Judged {
+    match found {
+        Ty::Map(_, _) => with_note(
+            alloc,
+            refused,
+            "hint: `(keys m)` is the list of the keys of a map",
+        ),
+        _ => Ok(refused),
+    }
+}
+
+/// An expression, by the path of its tree, of another type than the wanted one.
+pub fn other_type<D: Display + Drop>(
+    alloc: Global,
+    path: &[usize],
+    what: D,
+    wanted: &Ty,
+    found: &Ty,
+) -> Judged {
+    let wants = TypeText(wanted);
+    let has = TypeText(found);
+    let refused = wrong(
+        alloc,
+        path,
+        format_args!("{what}: wanted {wants}, found {has}"),
+    )?;
+    with_reference_hint(alloc, refused, wanted, found)
+}
+
+/// A part, by its number in its tree, that may have another type than the wanted one.
+pub fn wanted_type<D: Display + Drop>(
     alloc: Global,
     leaf: &Leaf<'_>,
-    what: &str,
+    what: D,
     part: usize,
     wanted: &Ty,
     found: &Ty,
@@ -32,52 +60,64 @@ pub fn wanted_type(
     if *wanted == *found {
         return Ok(None);
     }
-    let at = below(leaf.path, alloc, part)?;
-    let hint = reference_hint(alloc, wanted, found)?;
-    let wanted = ty_text(alloc, wanted)?;
-    let found = ty_text(alloc, found)?;
-    let what = format!(in alloc; "{what}: wanted {wanted}, found {found}")?;
-    match hint {
-        Some(hint) => noted(alloc, at.as_slice(), what, hint),
-        None => wrong(alloc, at.as_slice(), what),
+    let path = below(leaf.path, alloc, part)?;
+    other_type(alloc, path.as_slice(), what, wanted, found)
+}
+
+/// The first part of another kind than its form takes.
+pub fn ill_first<D: Display + Drop>(alloc: Global, leaf: &Leaf<'_>, what: D, found: &Ty) -> Judged {
+    let found = TypeText(found);
+    wrong_at(alloc, leaf.path, 1, format_args!("{what}, found {found}"))
+}
+
+/// The first part of `at` that is no tuple.
+pub fn wanted_tuple(alloc: Global, leaf: &Leaf<'_>, found: &Ty) -> Judged {
+    let refused = ill_first(alloc, leaf, "`at` takes a tuple", found)?;
+    match found {
+        Ty::List(_) => with_note(
+            alloc,
+            refused,
+            "hint: of a list it is `(nth LIST PLACE)`, from 0 on",
+        ),
+        _ => Ok(refused),
     }
 }
 
-/// A part, by the numbers that lead to it, that is no list.
-pub fn wanted_list(
-    alloc: Global,
-    leaf: &Leaf<'_>,
-    what: &str,
-    steps: &[usize],
-    found: &Ty,
-) -> Judged {
-    let mut at = Vec::from_slice(alloc, leaf.path)?;
-    at.extend_from_slice(steps)?;
-    let shown = ty_text(alloc, found)?;
-    let what = format!(in alloc; "{what}: wanted a list, found {shown}")?;
-    match found {
-        Ty::Map(_, _) => noted(
-            alloc,
-            at.as_slice(),
-            what,
-            text(alloc, "hint: `(keys m)` is the list of the keys of a map")?,
-        ),
-        _ => wrong(alloc, at.as_slice(), what),
-    }
+/// The first part, of a form that takes a text or a list, that is neither.
+pub fn wanted_sequence(alloc: Global, leaf: &Leaf<'_>, head: &str, found: &Ty) -> Judged {
+    let refused = ill_first(
+        alloc,
+        leaf,
+        format_args!("`{head}` takes a text or a list"),
+        found,
+    )?;
+    with_keys_hint(alloc, refused, found)
+}
+
+/// A part, by its number in the tree of a path, that is no list.
+pub fn wanted_list(alloc: Global, path: &[usize], what: &str, part: usize, found: &Ty) -> Judged {
+    let has = TypeText(found);
+    let refused = wrong_at(
+        alloc,
+        path,
+        part,
+        format_args!("{what}: wanted a list, found {has}"),
+    )?;
+    with_keys_hint(alloc, refused, found)
 }
 
 /// The first part of a form of maps that is no map.
 pub fn wanted_map(alloc: Global, leaf: &Leaf<'_>, head: &str, found: &Ty) -> Judged {
-    let shown = ty_text(alloc, found)?;
-    if let Some(Ty::Map(_, _)) = leaf.types.get(1) {
-        return noted(
-            alloc,
-            leaf.path,
-            format!(in alloc; "`{head}` takes the map first, found {shown}")?,
-            text(alloc, "hint: in the other order the two may fit")?,
-        );
+    match type_of(leaf, 1) {
+        Some(Ty::Map(_, _)) => {
+            let found = TypeText(found);
+            noted(
+                alloc,
+                leaf.path,
+                format_args!("`{head}` takes the map first, found {found}"),
+                "hint: in the other order the two may fit",
+            )
+        }
+        _ => ill_first(alloc, leaf, format_args!("`{head}`: wanted a map"), found),
     }
-    let at = below(leaf.path, alloc, 1)?;
-    let what = format!(in alloc; "`{head}`: wanted a map, found {shown}")?;
-    wrong(alloc, at.as_slice(), what)
 }

@@ -1,11 +1,12 @@
 //! Models that are not well typed.
 
 use crate::diagnose::{Leaf, diagnose};
-use crate::operands::reference_hint;
+use crate::operands::other_type;
+use crate::trees::{enter_part, head_word, tree_in};
 use pst_blame::{Blame, find};
-use pst_items::Boxed;
+use pst_items::{Boxed, Items};
 use pst_model::{Expr, Fun, Item, Op, Source, state_of};
-use pst_problems::{Judged, Problem, below, head_of, noted, text, ty_text, wrong};
+use pst_problems::{Judged, Problem, noted, wrong};
 use pst_sexpr::{Form, node_of};
 use pst_typing::{Context, Scope, holds_call, holds_ref};
 use pst_value::Ty;
@@ -22,72 +23,37 @@ pub struct Site<'a> {
     pub has_maps: bool,
 }
 
-/// The tree of an item, its number in the model's tree, and whether the language has maps.
+/// Where an item stands: the items of its model, the type of the state, the tree of the item, and its number
+/// in the tree of the model.
 #[derive(Clone, Copy, Drop)]
 pub struct Here<'a> {
+    pub items: &'a [Item],
+    pub state: &'a Ty,
     pub form: &'a Form,
     pub number: usize,
+    /// Whether the language of the model has maps.
     pub has_maps: bool,
 }
 
-/// The numbers that lead from the tree of an expression to that of its part of a number.
-fn steps(alloc: Global, form: &Form, part: usize) -> Result<Vec<usize>, AllocError> {
-    let head = match head_of(form) {
-        Some(head) => head.as_str(),
-        None => "",
-    };
-    match head {
-        "let" | "list" | "call" => below(&[], alloc, part.saturating_add(2)),
-        "fold" => below(
-            &[],
-            alloc,
-            if part == 0 { 2 } else { part.saturating_add(3) },
-        ),
-        "for" => in_for(alloc, form, part),
-        _ => below(&[], alloc, part.saturating_add(1)),
-    }
-}
-
-/// The numbers that lead to the expression of a clause, or to the body.
-fn in_for(alloc: Global, form: &Form, part: usize) -> Result<Vec<usize>, AllocError> {
-    let clauses = match node_of(form) {
-        Some([_, clauses, _]) => node_of(clauses).unwrap_or(&[]),
-        _ => &[],
-    };
-    let Some(clause) = clauses.get(part) else {
-        return below(&[], alloc, 2);
-    };
-    let is_in = match head_of(clause) {
-        Some(head) => head.as_str() == "in",
-        None => false,
-    };
-    let clause_path = below(&[1], alloc, part)?;
-    below(clause_path.as_slice(), alloc, if is_in { 2 } else { 1 })
-}
-
-/// The tree that numbers lead to, below another.
-fn tree_below<'a>(form: &'a Form, path: &[usize]) -> &'a Form {
+/// Goes from the tree of an expression to that of a part in it, by the numbers of the parts that lead there:
+/// lengthens the path, and gives the tree.
+fn enter_parts<'a>(
+    path: &mut Vec<usize>,
+    form: &'a Form,
+    parts: &[usize],
+) -> Result<&'a Form, AllocError> {
     let mut here = form;
-    for number in path {
-        if let Some(parts) = node_of(here) {
-            if let Some(part) = parts.get(*number) {
-                here = part;
-            }
-        }
+    for part in parts {
+        here = enter_part(path, here, *part)?;
     }
-    here
+    Ok(here)
 }
 
 /// The problem of a part that is to blame.
 fn blamed(context: &Context<'_>, site: &Site<'_>, blame: &Blame) -> Judged {
     let alloc = context.alloc;
     let mut path = Vec::from_slice(alloc, site.path)?;
-    let mut form = site.form;
-    for part in blame.path.as_slice() {
-        let steps = steps(alloc, form, *part)?;
-        form = tree_below(form, steps.as_slice());
-        path.extend_from_slice(steps.as_slice())?;
-    }
+    let form = enter_parts(&mut path, site.form, blame.path.as_slice())?;
     let leaf = Leaf {
         context,
         form,
@@ -100,28 +66,23 @@ fn blamed(context: &Context<'_>, site: &Site<'_>, blame: &Blame) -> Judged {
     diagnose(alloc, &leaf)
 }
 
+/// What is wrong with the type that an expression was found to have, if something is.
+fn of_type(alloc: Global, site: &Site<'_>, found: &Ty) -> Judged {
+    if *found == *site.wanted {
+        return Ok(None);
+    }
+    other_type(alloc, site.path, site.called, site.wanted, found)
+}
+
 /// What is wrong with the type of an expression, if something is.
 fn of_expression(expr: &Expr, context: &Context<'_>, scope: &Scope<'_>, site: &Site<'_>) -> Judged {
-    let alloc = context.alloc;
     match find(expr, context, scope)? {
-        Ok(ty) => {
-            if ty == *site.wanted {
-                return Ok(None);
-            }
-            let called = site.called;
-            let wanted = ty_text(alloc, site.wanted)?;
-            let found = ty_text(alloc, &ty)?;
-            let what = format!(in alloc; "{called}: wanted {wanted}, found {found}")?;
-            match reference_hint(alloc, site.wanted, &ty)? {
-                Some(hint) => noted(alloc, site.path, what, hint),
-                None => wrong(alloc, site.path, what),
-            }
-        }
+        Ok(ty) => of_type(context.alloc, site, &ty),
         Err(blame) => blamed(context, site, &blame),
     }
 }
 
-/// The context of a callback.
+/// The context of an expression that sees all items.
 fn context_of(alloc: Global, items: &[Item], is_post: bool) -> Context<'_> {
     Context {
         alloc,
@@ -131,23 +92,29 @@ fn context_of(alloc: Global, items: &[Item], is_post: bool) -> Context<'_> {
     }
 }
 
+/// The body of the callback of a word, where the tree is that callback.
+fn body_of<'a>(form: &'a Form, word: &str) -> Option<&'a Form> {
+    match node_of(form)? {
+        [_, body] if head_word(form) == word => Some(body),
+        _ => None,
+    }
+}
+
 /// The number and the body of the callback of a word among the parts of an operation.
 fn callback<'a>(form: &'a Form, word: &str) -> Option<(usize, &'a Form)> {
-    let mut number: usize = 0;
-    for part in node_of(form)? {
-        if let (Some(head), Some([_, body])) = (head_of(part), node_of(part)) {
-            if head.as_str() == word && number >= 4 {
+    for (number, part) in node_of(form)?.iter().enumerate() {
+        if number >= 4 {
+            if let Some(body) = body_of(part, word) {
                 return Some((number, body));
             }
         }
-        number = number.saturating_add(1);
     }
     None
 }
 
 /// What is wrong with the callback of a word.
 fn of_callback(
-    op: &Op,
+    expr: &Expr,
     word: &str,
     context: &Context<'_>,
     scope: &Scope<'_>,
@@ -156,11 +123,6 @@ fn of_callback(
 ) -> Judged {
     let Some((place, body)) = callback(here.form, word) else {
         return Ok(None);
-    };
-    let expr = match word {
-        "pre" => &op.pre,
-        "next" => &op.next,
-        _ => &op.post,
     };
     let site = Site {
         form: body,
@@ -172,52 +134,64 @@ fn of_callback(
     of_expression(expr, context, scope, &site)
 }
 
+/// What is wrong with the callback `pre`, which sees the state.
+fn of_pre(alloc: Global, op: &Op, here: Here<'_>) -> Judged {
+    let context = context_of(alloc, here.items, false);
+    let params = Scope::Parameters(op.params.as_slice());
+    let scope = Scope::With(b"s".as_slice(), here.state, &params);
+    of_callback(&op.pre, "pre", &context, &scope, &Ty::Bool, here)
+}
+
+/// What is wrong with the callback `next`, which sees the state and a reference to the result.
+fn of_next(alloc: Global, op: &Op, here: Here<'_>) -> Judged {
+    let named = Ty::Ref(boxed_copy(alloc, &op.result)?);
+    let context = context_of(alloc, here.items, false);
+    let params = Scope::Parameters(op.params.as_slice());
+    let seen = Scope::With(b"s".as_slice(), here.state, &params);
+    let scope = Scope::With(b"r".as_slice(), &named, &seen);
+    of_callback(&op.next, "next", &context, &scope, here.state, here)
+}
+
+/// What is wrong with the callback `post`, which sees the state and the result.
+fn of_post(alloc: Global, op: &Op, here: Here<'_>) -> Judged {
+    let context = context_of(alloc, here.items, true);
+    let params = Scope::Parameters(op.params.as_slice());
+    let seen = Scope::With(b"s".as_slice(), here.state, &params);
+    let scope = Scope::With(b"r".as_slice(), &op.result, &seen);
+    of_callback(&op.post, "post", &context, &scope, &Ty::Bool, here)
+}
+
 /// What is wrong with the types that an operation declares.
 fn of_declared(alloc: Global, op: &Op, number: usize) -> Judged {
-    let mut place: usize = 0;
-    for param in op.params.as_slice() {
+    for (place, param) in op.params.as_slice().iter().enumerate() {
         if holds_call(&param.ty) {
-            let what = text(alloc, "the parameter of an operation holds no `call`")?;
+            let what = "the parameter of an operation holds no `call`";
             return wrong(alloc, &[0, number, 2, place, 1], what);
         }
-        place = place.saturating_add(1);
     }
-    if holds_ref(&op.result) {
-        return noted(
-            alloc,
-            &[0, number, 3],
-            text(
-                alloc,
-                "the result of an operation holds neither `ref` nor `call`",
-            )?,
-            text(
-                alloc,
-                "hint: declare the type of the value; `next` sees a reference to it",
-            )?,
-        );
+    if !holds_ref(&op.result) {
+        return Ok(None);
     }
-    Ok(None)
+    noted(
+        alloc,
+        &[0, number, 3],
+        "the result of an operation holds neither `ref` nor `call`",
+        "hint: declare the type of the value; `next` sees a reference to it",
+    )
 }
 
 /// What is wrong with an operation.
-fn of_operation(alloc: Global, items: &[Item], state: &Ty, op: &Op, here: Here<'_>) -> Judged {
+fn of_operation(alloc: Global, op: &Op, here: Here<'_>) -> Judged {
     if let Some(found) = of_declared(alloc, op, here.number)? {
         return Ok(Some(found));
     }
-    let plain = context_of(alloc, items, false);
-    let params = Scope::Parameters(op.params.as_slice());
-    let seen = Scope::With(b"s".as_slice(), state, &params);
-    if let Some(found) = of_callback(op, "pre", &plain, &seen, &Ty::Bool, here)? {
+    if let Some(found) = of_pre(alloc, op, here)? {
         return Ok(Some(found));
     }
-    let named = Ty::Ref(Boxed::new(alloc, copy(alloc, &op.result)?)?);
-    let with_reference = Scope::With(b"r".as_slice(), &named, &seen);
-    if let Some(found) = of_callback(op, "next", &plain, &with_reference, state, here)? {
+    if let Some(found) = of_next(alloc, op, here)? {
         return Ok(Some(found));
     }
-    let post = context_of(alloc, items, true);
-    let with_result = Scope::With(b"r".as_slice(), &op.result, &seen);
-    of_callback(op, "post", &post, &with_result, &Ty::Bool, here)
+    of_post(alloc, op, here)
 }
 
 /// A copy of a type.
@@ -229,17 +203,21 @@ fn copy(alloc: Global, ty: &Ty) -> Result<Ty, AllocError> {
         Ty::Text => Ok(Ty::Text),
         Ty::Call => Ok(Ty::Call),
         Ty::Tuple(items) => Ok(Ty::Tuple(copy_all(alloc, items.as_slice())?)),
-        Ty::List(item) => Ok(Ty::List(Boxed::new(alloc, copy(alloc, item.get())?)?)),
-        Ty::Ref(named) => Ok(Ty::Ref(Boxed::new(alloc, copy(alloc, named.get())?)?)),
-        Ty::Map(keys, value) => {
-            Ok(Ty::Map(*keys, Boxed::new(alloc, copy(alloc, value.get())?)?))
-        }
+        Ty::List(item) => Ok(Ty::List(boxed_copy(alloc, item.get())?)),
+        Ty::Ref(named) => Ok(Ty::Ref(boxed_copy(alloc, named.get())?)),
+        Ty::Map(keys, value) => Ok(Ty::Map(*keys, boxed_copy(alloc, value.get())?)),
     }
 }
 
+/// A copy of a type, in a `Box`.
 #[cycle(copy)]
-fn copy_all(alloc: Global, types: &[Ty]) -> Result<pst_items::Items<Ty>, AllocError> {
-    let mut copies = pst_items::Items::new(alloc);
+fn boxed_copy(alloc: Global, ty: &Ty) -> Result<Boxed<Ty>, AllocError> {
+    Boxed::new(alloc, copy(alloc, ty)?)
+}
+
+#[cycle(copy)]
+fn copy_all(alloc: Global, types: &[Ty]) -> Result<Items<Ty>, AllocError> {
+    let mut copies = Items::new(alloc);
     for ty in types {
         copies.push(copy(alloc, ty)?)?;
     }
@@ -247,17 +225,17 @@ fn copy_all(alloc: Global, types: &[Ty]) -> Result<pst_items::Items<Ty>, AllocEr
 }
 
 /// What is wrong with a function.
-fn of_function(alloc: Global, items: &[Item], fun: &Fun, here: Here<'_>) -> Judged {
+fn of_function(alloc: Global, fun: &Fun, here: Here<'_>) -> Judged {
     let number = here.number;
     let context = Context {
         alloc,
-        items,
-        earlier: items.get(..number.saturating_sub(2)).unwrap_or(&[]),
+        items: here.items,
+        earlier: here.items.get(..number.saturating_sub(2)).unwrap_or(&[]),
         is_post: fun.is_post,
     };
     let scope = Scope::Parameters(fun.params.as_slice());
     let site = Site {
-        form: tree_below(here.form, &[4]),
+        form: tree_in(here.form, 4),
         path: &[0, number, 4],
         called: fun.name.as_str(),
         wanted: &fun.result,
@@ -266,37 +244,44 @@ fn of_function(alloc: Global, items: &[Item], fun: &Fun, here: Here<'_>) -> Judg
     of_expression(&fun.body, &context, &scope, &site)
 }
 
-/// What is wrong with an item that is no function and no operation.
-fn of_value(alloc: Global, items: &[Item], state: &Ty, item: &Item, here: Here<'_>) -> Judged {
-    let has_maps = here.has_maps;
-    let plain = context_of(alloc, items, false);
-    let none = Scope::Parameters(&[]);
-    let seen = Scope::With(b"s".as_slice(), state, &none);
+/// What is wrong with the opening state.
+fn of_init(alloc: Global, expr: &Expr, here: Here<'_>) -> Judged {
+    let context = context_of(alloc, here.items, false);
+    let scope = Scope::Parameters(&[]);
+    let site = Site {
+        form: tree_in(here.form, 1),
+        path: &[0, here.number, 1],
+        called: "init",
+        wanted: here.state,
+        has_maps: here.has_maps,
+    };
+    of_expression(expr, &context, &scope, &site)
+}
+
+/// What is wrong with the calls to pick from, which see the state.
+fn of_command(alloc: Global, expr: &Expr, here: Here<'_>) -> Judged {
     let calls = Ty::List(Boxed::new(alloc, Ty::Call)?);
-    let body = tree_below(here.form, &[1]);
-    let path = [0, here.number, 1];
+    let context = context_of(alloc, here.items, false);
+    let none = Scope::Parameters(&[]);
+    let scope = Scope::With(b"s".as_slice(), here.state, &none);
+    let site = Site {
+        form: tree_in(here.form, 1),
+        path: &[0, here.number, 1],
+        called: "command",
+        wanted: &calls,
+        has_maps: here.has_maps,
+    };
+    of_expression(expr, &context, &scope, &site)
+}
+
+/// What is wrong with an item.
+fn of_item(alloc: Global, item: &Item, here: Here<'_>) -> Judged {
     match item {
-        Item::Init(expr) => {
-            let site = Site {
-                form: body,
-                path: &path,
-                called: "init",
-                wanted: state,
-                has_maps,
-            };
-            of_expression(expr, &plain, &none, &site)
-        }
-        Item::Command(expr) => {
-            let site = Site {
-                form: body,
-                path: &path,
-                called: "command",
-                wanted: &calls,
-                has_maps,
-            };
-            of_expression(expr, &plain, &seen, &site)
-        }
-        _ => wrong(alloc, &path, text(alloc, "the state holds no `call`")?),
+        Item::Fun(fun) => of_function(alloc, fun, here),
+        Item::Op(op) => of_operation(alloc, op, here),
+        Item::Init(expr) => of_init(alloc, expr, here),
+        Item::Command(expr) => of_command(alloc, expr, here),
+        Item::State(_) => wrong(alloc, &[0, here.number, 1], "the state holds no `call`"),
     }
 }
 
@@ -308,26 +293,22 @@ pub fn type_problem(
     number: usize,
 ) -> Result<Option<Problem>, AllocError> {
     let items = source.items.as_slice();
+    let Some(state) = state_of(items) else {
+        return Ok(None);
+    };
+    let Some(item) = items.get(number.saturating_sub(1)) else {
+        return Ok(None);
+    };
     let place = number.saturating_add(1);
     let here = Here {
-        form: tree_below(model, &[place]),
+        items,
+        state,
+        form: tree_in(model, place),
         number: place,
         has_maps: source.has_maps,
     };
-    let (Some(state), Some(item)) = (state_of(items), items.get(number.saturating_sub(1))) else {
-        return Ok(None);
-    };
-    let found = match item {
-        Item::Fun(fun) => of_function(alloc, items, fun, here)?,
-        Item::Op(op) => of_operation(alloc, items, state, op, here)?,
-        _ => of_value(alloc, items, state, item, here)?,
-    };
-    match found {
+    match of_item(alloc, item, here)? {
         Some(found) => Ok(Some(found)),
-        None => wrong(
-            alloc,
-            &[0, place],
-            text(alloc, "the item is not well typed")?,
-        ),
+        None => wrong(alloc, &[0, place], "the item is not well typed"),
     }
 }

@@ -4,14 +4,15 @@ use pst_problems::short_text;
 use pst_run_problems::{Part, commands_of, located, place_of};
 use pst_sexpr::Form;
 use std::alloc::{AllocError, Global};
+use std::fmt;
 
 /// Where a command stands, and how it is spelled.
 #[derive(Drop)]
 pub struct Spot {
     /// The path to its tree.
     pub path: Vec<usize>,
-    /// Its place in its case, as `P1`, `L2` or `X1`.
-    pub place: String,
+    /// Its place in its case.
+    pub place: Place,
     /// The command as it is written.
     pub call: String,
 }
@@ -30,17 +31,39 @@ fn letter_of(parts: &[Part<'_>], number: usize) -> char {
     }
 }
 
-/// The place of a command of a number, from 1, in its case.
-fn place_text(alloc: Global, parts: &[Part<'_>], command: usize) -> Result<String, AllocError> {
-    let Some((part, offset)) = place_of(parts, command) else {
-        return Ok(String::new(alloc));
-    };
-    let letter = letter_of(parts, part);
-    let place = offset.saturating_add(1);
-    format!(in alloc; "{letter}{place}")
+/// The place of a command in its case, shown as `P1`, `L2` or `X1`.
+#[derive(Clone, Copy, Drop)]
+pub struct Place {
+    /// The letter of its part.
+    part: char,
+    /// Its number in the part, from 1.
+    number: usize,
 }
 
-/// Where the command of a number, from 1, of the item of a number stands.
+impl fmt::Display for Place {
+    fn fmt<W: fmt::Write>(&self, f: &mut fmt::Formatter<W>) -> fmt::Result {
+        let Place { part, number } = *self;
+        write!(f, "{part}{number}")
+    }
+}
+
+/// The place of a command of a number, from 1, in its case.
+fn place_in(parts: &[Part<'_>], command: usize) -> Option<Place> {
+    let (part, offset) = place_of(parts, command)?;
+    Some(Place {
+        part: letter_of(parts, part),
+        number: offset.saturating_add(1),
+    })
+}
+
+/// Numbers behind a first one.
+fn path_of(alloc: Global, first: usize, rest: &[usize]) -> Result<Vec<usize>, AllocError> {
+    let mut path = Vec::from_slice(alloc, &[first])?;
+    path.extend_from_slice(rest)?;
+    Ok(path)
+}
+
+/// Where the command of a number, from 1, of the item of a number stands. `AllocError`: memory was refused.
 pub fn spot_of(
     alloc: Global,
     form: &Form,
@@ -48,12 +71,13 @@ pub fn spot_of(
     command: usize,
 ) -> Result<Option<Spot>, AllocError> {
     let parts = commands_of(alloc, form)?;
+    let Some(place) = place_in(parts.as_slice(), command) else {
+        return Ok(None);
+    };
     let Some((steps, call)) = located(alloc, parts.as_slice(), command)? else {
         return Ok(None);
     };
-    let mut path = Vec::from_slice(alloc, &[item])?;
-    path.extend_from_slice(steps.as_slice())?;
-    let place = place_text(alloc, parts.as_slice(), command)?;
+    let path = path_of(alloc, item, steps.as_slice())?;
     let call = short_text(alloc, call)?;
     Ok(Some(Spot { path, place, call }))
 }

@@ -15,6 +15,7 @@ use pst_rules::Typed;
 use pst_runs::read_runs;
 use pst_sexpr::{Tree, read};
 use pst_sources::Input;
+use pst_value::Value;
 use std::alloc::{AllocError, Global};
 use std::slice;
 
@@ -47,25 +48,33 @@ fn on_command(
     let Some(tree) = trees.get(item) else {
         return Ok(String::new(alloc));
     };
-    let Some(Spot { path, place, call }) = spot_of(alloc, tree.form(), item, failing.command)?
-    else {
-        return Ok(String::new(alloc));
-    };
-    let place = place.as_str();
-    let call = call.as_str();
-    let state = shown(alloc, subject.source, &failing.state)?;
-    let what = format!(in alloc;
-        "item {item}: the precondition of {place} {call} is not true in the interleaving that explains it"
-    )?;
-    let note = format!(in alloc;
-        "the state before it is {state}; a verdict on a recorded run asks no precondition"
-    )?;
+    match spot_of(alloc, tree.form(), item, failing.command)? {
+        Some(spot) => at_spot(alloc, subject, item, &spot, &failing.state),
+        None => Ok(String::new(alloc)),
+    }
+}
+
+/// The warning on a command of an item where it stands, with the state before it.
+fn at_spot(
+    alloc: Global,
+    subject: &Subject<'_>,
+    item: usize,
+    spot: &Spot,
+    state: &Value,
+) -> Result<String, AllocError> {
+    let place = spot.place;
+    let call = spot.call.as_str();
+    let state = shown(alloc, subject.source, state)?;
     warning(
         alloc,
         &subject.input,
-        path.as_slice(),
-        what.as_str(),
-        note.as_str(),
+        spot.path.as_slice(),
+        format_args!(
+            "item {item}: the precondition of {place} {call} is not true in the interleaving that explains it"
+        ),
+        format_args!(
+            "the state before it is {state}; a verdict on a recorded run asks no precondition"
+        ),
     )
 }
 
@@ -117,8 +126,7 @@ fn text_of(
     if found.count > MOST {
         let more = found.count - MOST;
         let items = if more == 1 { "item has" } else { "items have" };
-        let line = format!(in alloc; "warning: {more} more {items} such a command\n")?;
-        text.push_str(line.as_str())?;
+        write!(text, "warning: {more} more {items} such a command\n")?;
     }
     if text.is_empty() {
         Ok(None)

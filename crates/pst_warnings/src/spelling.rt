@@ -3,33 +3,29 @@
 use pst_model::{Source, operation_of};
 use pst_value::{Key, Value};
 use std::alloc::{AllocError, Global};
+use std::fmt;
 
 /// The most bytes that are shown of a value.
 const MOST: usize = 60;
 
-/// A text between quotes.
-fn quoted(alloc: Global, text: &str) -> Result<String, AllocError> {
-    let mut out = String::from_str(alloc, "\"")?;
+/// Writes a text between quotes.
+fn write_quoted<W: fmt::Write>(f: &mut fmt::Formatter<W>, text: &str) -> fmt::Result {
+    f.write_str("\"")?;
     for character in text.chars() {
         if character == '"' || character == '\\' {
-            out.push('\\')?;
+            f.write_str("\\")?;
         }
-        out.push(character)?;
+        write!(f, "{character}")?;
     }
-    out.push('"')?;
-    Ok(out)
+    f.write_str("\"")
 }
 
-/// A key of a map.
-fn key_text(alloc: Global, key: &Key) -> Result<String, AllocError> {
+/// Writes a key of a map.
+fn write_key<W: fmt::Write>(f: &mut fmt::Formatter<W>, key: &Key) -> fmt::Result {
     match key {
-        Key::Int(number) => {
-            let number = *number;
-            format!(in alloc; "{number}")
-        }
-        Key::Bool(true) => String::from_str(alloc, "true"),
-        Key::Bool(false) => String::from_str(alloc, "false"),
-        Key::Text(text) => quoted(alloc, text.as_str()),
+        Key::Int(number) => write!(f, "{number}"),
+        Key::Bool(truth) => write!(f, "{truth}"),
+        Key::Text(text) => write_quoted(f, text.as_str()),
     }
 }
 
@@ -41,87 +37,85 @@ fn name_of(model: &Source, number: u32) -> &str {
     }
 }
 
-/// The value of a reference, behind the variable that names it.
-#[cycle(value_text)]
-fn reference_text(
-    alloc: Global,
-    model: &Source,
-    number: u32,
-    value: &Value,
-) -> Result<String, AllocError> {
-    let value = value_text(alloc, model, value)?;
-    format!(in alloc; "${number}={value}")
+/// A value as items spell it, of a model; a reference as `$n=` and the value that it names; a call as its operation and
+/// its arguments.
+#[derive(Clone, Copy, Drop)]
+struct Spelled<'a> {
+    model: &'a Source,
+    value: &'a Value,
 }
 
-/// A value as items spell it; a reference as `$n=` and the value that it names; a call as its operation and its
-/// arguments.
-#[cycle(value_text)]
-fn value_text(alloc: Global, model: &Source, value: &Value) -> Result<String, AllocError> {
+impl fmt::Display for Spelled<'_> {
+    fn fmt<W: fmt::Write>(&self, f: &mut fmt::Formatter<W>) -> fmt::Result {
+        write_value(f, self.model, self.value)
+    }
+}
+
+#[cycle(write_value)]
+fn write_value<W: fmt::Write>(
+    f: &mut fmt::Formatter<W>,
+    model: &Source,
+    value: &Value,
+) -> fmt::Result {
     match value {
-        Value::Int(number) => {
-            let number = *number;
-            format!(in alloc; "{number}")
+        Value::Int(number) => write!(f, "{number}"),
+        Value::Bool(truth) => write!(f, "{truth}"),
+        Value::Text(text) => write_quoted(f, text.as_str()),
+        Value::Tuple(parts) => write_node(f, model, "tuple", parts.as_slice()),
+        Value::List(parts) => write_node(f, model, "list", parts.as_slice()),
+        Value::Map(keys, values) => {
+            write_map(f, model, keys.get().as_slice(), values.get().as_slice())
         }
-        Value::Bool(true) => String::from_str(alloc, "true"),
-        Value::Bool(false) => String::from_str(alloc, "false"),
-        Value::Text(text) => quoted(alloc, text.as_str()),
-        Value::Tuple(parts) => node_text(alloc, model, "tuple", parts.as_slice()),
-        Value::List(parts) => node_text(alloc, model, "list", parts.as_slice()),
-        Value::Map(keys, values) => map_text(
-            alloc,
-            model,
-            keys.get().as_slice(),
-            values.get().as_slice(),
-        ),
-        Value::Var(number) => {
-            let number = *number;
-            format!(in alloc; "${number}")
+        Value::Var(number) => write!(f, "${number}"),
+        Value::Ref(number, value) => {
+            write!(f, "${number}=")?;
+            write_value(f, model, value.get())
         }
-        Value::Ref(number, value) => reference_text(alloc, model, *number, value.get()),
         Value::Call(operation, args) => {
-            node_text(alloc, model, name_of(model, *operation), args.as_slice())
+            write_node(f, model, name_of(model, *operation), args.as_slice())
         }
     }
 }
 
-/// A word and values behind it, in brackets.
-#[cycle(value_text)]
-fn node_text(
-    alloc: Global,
+/// Writes a word and values behind it, in brackets.
+#[cycle(write_value)]
+fn write_node<W: fmt::Write>(
+    f: &mut fmt::Formatter<W>,
     model: &Source,
     head: &str,
     values: &[Value],
-) -> Result<String, AllocError> {
-    let mut text = format!(in alloc; "({head}")?;
+) -> fmt::Result {
+    write!(f, "({head}")?;
     for value in values {
-        text.push_str(" ")?;
-        text.push_str(value_text(alloc, model, value)?.as_str())?;
+        f.write_str(" ")?;
+        write_value(f, model, value)?;
     }
-    text.push_str(")")?;
-    Ok(text)
+    f.write_str(")")
 }
 
-/// A map with its entries.
-#[cycle(value_text)]
-fn map_text(
-    alloc: Global,
+/// Writes a map with its entries.
+#[cycle(write_value)]
+fn write_map<W: fmt::Write>(
+    f: &mut fmt::Formatter<W>,
     model: &Source,
     keys: &[Key],
     values: &[Value],
-) -> Result<String, AllocError> {
-    let mut text = String::from_str(alloc, "(map")?;
+) -> fmt::Result {
+    f.write_str("(map")?;
     for (key, value) in keys.iter().zip(values.iter()) {
-        let key = key_text(alloc, key)?;
-        let value = value_text(alloc, model, value)?;
-        text.push_str(format!(in alloc; " ({key} {value})")?.as_str())?;
+        f.write_str(" (")?;
+        write_key(f, key)?;
+        f.write_str(" ")?;
+        write_value(f, model, value)?;
+        f.write_str(")")?;
     }
-    text.push_str(")")?;
-    Ok(text)
+    f.write_str(")")
 }
 
 /// A value as items spell it, of which at most 60 bytes are shown.
 pub fn shown(alloc: Global, model: &Source, value: &Value) -> Result<String, AllocError> {
-    let whole = value_text(alloc, model, value)?;
+    let value = Spelled { model, value };
+    let whole = format!(in alloc; "{value}")?;
     match whole.as_str().get(..MOST) {
         Some(start) if whole.len() > MOST => format!(in alloc; "{start}..."),
         _ => Ok(whole),

@@ -8,18 +8,19 @@ use pst_rules::Typed;
 use pst_sexpr::{Form, Tree, node_of, word_of};
 use pst_sources::{Input, SourceFile};
 use std::alloc::{AllocError, Global};
+use std::fmt::Display;
 
-/// The warning on the tree that a path leads to, with a note.
-pub fn warning(
+/// The warning on the tree that a path leads to, with a note. `AllocError`: memory was refused.
+pub fn warning<D: Display + Drop, N: Display + Drop>(
     alloc: Global,
     input: &Input<'_>,
     path: &[usize],
-    what: &str,
-    note: &str,
+    what: D,
+    note: N,
 ) -> Result<String, AllocError> {
     let span = span_of(input.bytes, path);
     let what = format!(in alloc; "warning: {what}")?;
-    let note = String::from_str(alloc, note)?;
+    let note = format!(in alloc; "{note}")?;
     input.message(alloc, span, what.as_str(), &[note])
 }
 
@@ -52,14 +53,11 @@ fn never_called(
     item: usize,
     name: &str,
 ) -> Result<String, AllocError> {
-    let what = format!(in alloc;
-        "none of {SCRIPTS} generated scripts of {COMMANDS} commands calls `{name}`"
-    )?;
     warning(
         alloc,
         input,
         &[0, tree_of(item), 1],
-        what.as_str(),
+        format_args!("none of {SCRIPTS} generated scripts of {COMMANDS} commands calls `{name}`"),
         "`command` does not list it in their states, or its precondition is false there",
     )
 }

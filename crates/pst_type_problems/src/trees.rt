@@ -1,0 +1,70 @@
+//! The trees of expressions and of their parts.
+
+use pst_problems::head_of;
+use pst_sexpr::{Form, node_of};
+use std::alloc::AllocError;
+
+/// The head word of a node, or an empty word where none heads it.
+pub fn head_word(form: &Form) -> &str {
+    match head_of(form) {
+        Some(head) => head.as_str(),
+        None => "",
+    }
+}
+
+/// The tree of a number in another, or this one where it holds no such tree.
+pub fn tree_in(form: &Form, number: usize) -> &Form {
+    match node_of(form) {
+        Some(trees) => trees.get(number).unwrap_or(form),
+        None => form,
+    }
+}
+
+/// The clauses of a comprehension.
+pub fn clauses_of(form: &Form) -> &[Form] {
+    match node_of(form) {
+        Some([_, clauses, _]) => node_of(clauses).unwrap_or(&[]),
+        _ => &[],
+    }
+}
+
+/// Whether a clause goes over a list. Any other one is a test.
+pub fn goes_over_list(clause: &Form) -> bool {
+    head_word(clause) == "in"
+}
+
+/// Goes from a tree to the one of a number in it: lengthens the path, and gives the tree.
+fn enter<'a>(path: &mut Vec<usize>, form: &'a Form, number: usize) -> Result<&'a Form, AllocError> {
+    path.push(number)?;
+    Ok(tree_in(form, number))
+}
+
+/// Goes from the tree of a comprehension to that of a clause's expression, or to that of the body.
+fn enter_for<'a>(
+    path: &mut Vec<usize>,
+    form: &'a Form,
+    part: usize,
+) -> Result<&'a Form, AllocError> {
+    let Some(clause) = clauses_of(form).get(part) else {
+        return enter(path, form, 2);
+    };
+    path.push(1)?;
+    path.push(part)?;
+    enter(path, clause, if goes_over_list(clause) { 2 } else { 1 })
+}
+
+/// Goes from the tree of an expression to that of a part, by its number: lengthens the path, and gives the
+/// tree.
+pub fn enter_part<'a>(
+    path: &mut Vec<usize>,
+    form: &'a Form,
+    part: usize,
+) -> Result<&'a Form, AllocError> {
+    match head_word(form) {
+        "let" | "list" | "call" => enter(path, form, part.saturating_add(2)),
+        "fold" if part > 0 => enter(path, form, part.saturating_add(3)),
+        "fold" => enter(path, form, 2),
+        "for" => enter_for(path, form, part),
+        _ => enter(path, form, part.saturating_add(1)),
+    }
+}
