@@ -79,21 +79,31 @@ fn generated(
     }
 }
 
-/// The case that is generated of a model and the number of words drawn. The text is `COMMANDS BRANCHES SUFFIX, WORD WORD ..`.
-pub fn generate_answer(alloc: Global, model: &str, text: &str) -> Result<String, AllocError> {
-    let Some(typed) = typed_of(alloc, model) else {
-        return String::from_str(alloc, "no model");
-    };
-    let (head, rest) = text.split_once(",").unwrap_or((text, ""));
-    let Some(sizes) = sizes_of(head) else {
-        return String::from_str(alloc, "no sizes");
-    };
-    let numbers = numbers_of(alloc, rest)?;
+/// The case that is generated from the words of a text and how many of them were drawn, or the fault.
+fn generated_by(
+    alloc: Global,
+    typed: &Typed,
+    sizes: Sizes,
+    text: &str,
+) -> Result<String, AllocError> {
+    let numbers = numbers_of(alloc, text)?;
     let mut words = Words {
         words: numbers.as_slice(),
         drawn: 0,
     };
-    let answer = generated(alloc, &typed, sizes, &mut words)?;
+    let answer = generated(alloc, typed, sizes, &mut words)?;
     let drawn = words.drawn;
     format!(in alloc; "{answer} {drawn} drawn")
+}
+
+/// The case that is generated of a model and the number of words drawn. The text is `COMMANDS BRANCHES SUFFIX, WORD WORD ..`.
+pub fn generate_answer(alloc: Global, model: &str, text: &str) -> Result<String, AllocError> {
+    let (head, rest) = text.split_once(",").unwrap_or((text, ""));
+    let Some(sizes) = sizes_of(head) else {
+        return String::from_str(alloc, "no sizes");
+    };
+    match typed_of(alloc, model) {
+        Some(typed) => generated_by(alloc, &typed, sizes, rest),
+        None => String::from_str(alloc, "no model"),
+    }
 }

@@ -123,18 +123,28 @@ fn opening_by<C: Callbacks>(alloc: Global, callbacks: &C) -> Result<String, Allo
     }
 }
 
+/// The opening state of a model by compiled code.
+fn compiled_opening(alloc: Global, typed: Typed) -> Result<String, AllocError> {
+    match compile(alloc, typed) {
+        Ok(compiled) => opening_by(alloc, &compiled),
+        Err(_) => String::from_str(alloc, "not compiled"),
+    }
+}
+
+/// One of two answers where they are the same, and else both.
+fn same_answer(alloc: Global, plain: String, compiled: String) -> Result<String, AllocError> {
+    if plain.as_str() == compiled.as_str() {
+        return Ok(plain);
+    }
+    format!(in alloc; "{plain}, and {compiled} by compiled code")
+}
+
 /// The opening state of a text's model by the plain evaluator and by compiled code, which are to answer alike.
 pub fn opening_answer(alloc: Global, text: &str) -> Result<String, AllocError> {
     let Some(typed) = typed_of(alloc, text) else {
         return String::from_str(alloc, "no model");
     };
     let plain = opening_by(alloc, &Plain::new(&typed))?;
-    let Ok(compiled) = compile(alloc, typed) else {
-        return String::from_str(alloc, "not compiled");
-    };
-    let answer = opening_by(alloc, &compiled)?;
-    if answer.as_str() == plain.as_str() {
-        return Ok(answer);
-    }
-    format!(in alloc; "{plain}, and {answer} by compiled code")
+    let compiled = compiled_opening(alloc, typed)?;
+    same_answer(alloc, plain, compiled)
 }

@@ -60,8 +60,7 @@ fn record_of<R: Threads + Wait>(
 
 /// `trial`: the record of the first trial.
 pub fn trial_answer<R: Threads + Wait>(rt: &R, alloc: Global) -> Result<String, Refused> {
-    let plan = plan_of(alloc)?;
-    let record = record_of(rt, alloc, &plan)?;
+    let record = record_of(rt, alloc, &plan_of(alloc)?)?;
     Ok(record_text(alloc, &record)?)
 }
 

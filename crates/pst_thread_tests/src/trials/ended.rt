@@ -19,18 +19,24 @@ fn passed(record: &Record) -> Option<(usize, usize)> {
     }
 }
 
-#[test]
-fn a_counter_passes(rt: HostRuntime) -> Result<(), Fail> {
-    let alloc = rt.alloc();
-    let mut counter: BoxedSystem = Box::new(alloc, Counter::new(rt))?;
+/// The same of trial 3 of a counter with a suffix of two commands.
+fn passed_counter<R: Threads + Wait>(
+    rt: &R,
+    alloc: Global,
+    counter: &mut BoxedSystem,
+) -> Option<(usize, usize)> {
     let settings = Settings {
         suffix: 2,
         ..Settings::default()
     };
-    let Some(record) = record_of(&rt, alloc, COUNTER, settings, 3, &mut counter) else {
-        return Err(Fail::new("there is no record"));
-    };
-    assert!(rt; passed(&record) == Some((2, 5)));
+    passed(&record_of(rt, alloc, COUNTER, settings, 3, counter)?)
+}
+
+#[test]
+fn a_counter_passes(rt: HostRuntime) -> Result<(), Fail> {
+    let alloc = rt.alloc();
+    let mut counter: BoxedSystem = Box::new(alloc, Counter::new(rt))?;
+    assert!(rt; passed_counter(&rt, alloc, &mut counter) == Some((2, 5)));
     Ok(())
 }
 
@@ -42,15 +48,20 @@ fn faulted(record: &Record) -> Option<(u64, u32, Callback)> {
     }
 }
 
+/// The same of trial 7 of a number that cannot grow.
+fn faulted_top<R: Threads + Wait>(
+    rt: &R,
+    alloc: Global,
+    system: &mut BoxedSystem,
+) -> Option<(u64, u32, Callback)> {
+    faulted(&record_of(rt, alloc, TOP, Settings::default(), 7, system)?)
+}
+
 #[test]
 fn a_callback_faults(rt: HostRuntime) -> Result<(), Fail> {
     let alloc = rt.alloc();
     let mut system: BoxedSystem = Box::new(alloc, Resets::new(0))?;
-    let settings = Settings::default();
-    let Some(record) = record_of(&rt, alloc, TOP, settings, 7, &mut system) else {
-        return Err(Fail::new("there is no record"));
-    };
-    assert!(rt; faulted(&record) == Some((7, 1, Callback::Next)));
+    assert!(rt; faulted_top(&rt, alloc, &mut system) == Some((7, 1, Callback::Next)));
     Ok(())
 }
 
@@ -71,7 +82,13 @@ fn a_refused_reset_ends_a_trial(rt: HostRuntime) -> Result<(), Fail> {
     let mut no_reset: BoxedSystem = Box::new(alloc, Resets::new(0))?;
     let settings = Settings::default();
     assert!(rt; fault(&rt, alloc, settings, &mut no_reset) == Some(TrialFault::ResetFailed));
-    // the second reset is that of the first shrink candidate
+    Ok(())
+}
+
+// The second reset is that of the first shrink candidate.
+#[test]
+fn a_refused_second_reset_ends_a_trial(rt: HostRuntime) -> Result<(), Fail> {
+    let alloc = rt.alloc();
     let mut second_reset: BoxedSystem = Box::new(alloc, Resets::new(1))?;
     let settings = one_command();
     assert!(rt; fault(&rt, alloc, settings, &mut second_reset) == Some(TrialFault::ResetFailed));

@@ -8,9 +8,9 @@ use pst_rules::Typed;
 use pst_samples::{Racy, Stuck};
 use pst_shrink::Ending;
 use pst_system::BoxedSystem;
-use pst_trial::{Record, Settings, TrialOutcome, trial};
+use pst_trial::{Plan, Record, Settings, TrialOutcome, trial};
 use std::alloc::{AllocError, Global};
-use std::sync::Wait;
+use std::sync::{Arc, Wait};
 use std::test::Fail;
 use std::thread::Threads;
 
@@ -105,6 +105,18 @@ fn failure(alloc: Global, typed: &Typed, record: &Record) -> Option<(usize, usiz
     Some((first, size(last), accepted))
 }
 
+/// The same of the trial of a number of a plan, where it fails.
+fn failure_of<R: Threads + Wait>(
+    rt: &R,
+    alloc: Global,
+    plan: &Arc<Plan>,
+    number: u64,
+    system: &mut BoxedSystem,
+) -> Option<(usize, usize, bool)> {
+    let record = trial(rt, alloc, plan, number, system).ok()?;
+    failure(alloc, plan.typed(), &record)
+}
+
 /// The same of the first trial that fails.
 fn first_failure<R: Threads + Wait>(
     rt: &R,
@@ -117,8 +129,7 @@ fn first_failure<R: Threads + Wait>(
     };
     let plan = plan_of(alloc, COUNTER, settings)?;
     for number in 0..100 {
-        let record = trial(rt, alloc, &plan, number, system).ok()?;
-        let failure = failure(alloc, plan.typed(), &record);
+        let failure = failure_of(rt, alloc, &plan, number, system);
         if failure.is_some() {
             return failure;
         }
