@@ -4,8 +4,10 @@ use Rattle.pst_case.specs.declared.history.Run.{Run}
 use Rattle.pst_cli.specs.Output.{HoldsRuns}
 use Rattle.pst_each.proofs.Joined.{joined}
 use Rattle.pst_each.specs.Parts.{EndsLine, SpellsRuns}
-use Rattle.pst_load.specs.Loading.{Holds}
+use Rattle.pst_load.specs.Loading.{Holds, items_of}
 use Rattle.pst_model.specs.declared.model.Source.{Source}
+use Rattle.pst_runs.proofs.Lawful.{runs_lawful}
+use Rattle.pst_runs.specs.Lawful.{AreLawful}
 use Rattle.pst_sexpr.specs.Reading.{max_bytes}
 use Rattle.pst_sexpr.specs.declared.form.Form.{Form}
 
@@ -18,3 +20,7 @@ holds_both m head rest (tree ∷ []) runs small e one h k = record {
   read = k.read;
 }
 holds_both m head rest (tree ∷ next ∷ trees) runs small e one h k = absurd (omega arith)
+
+-- the runs that an input holds are lawful
+pub items_are_lawful : (input : List ℕ) (m : Source) (runs : List Run) → HoldsRuns input m runs → AreLawful m runs
+items_are_lawful input m runs h = runs_lawful m (items_of h.trees) runs h.read

@@ -1,15 +1,18 @@
 //! The items behind the model that an input begins with, and the judgements on them.
-ghost use Rattle.std.specs.Prelude.{◌≡◌, IfOk, MatchResult};
+ghost use Rattle.std.specs.Prelude.{◌≡◌, IfOk, IfSome, MatchResult};
 ghost use Rattle.pst_cli.specs.Output.{AreJudged, HoldsRuns, IsFirstRefusal};
 ghost use Rattle.pst_runs.specs.Lawful.{AreLawful};
 
-use crate::items::{ModelAndRuns, read_items};
+use crate::compiled::{CompiledFile, load_compiled};
+use crate::items::{ModelAndRuns, read_in_order};
 use crate::output::Output;
 use crate::sharing::may_share_compiled;
 use pst_case::Run;
 use pst_compile::Compiled;
+use pst_each::{JudgedRuns, head_and_rest, judge_in_parts};
 use pst_judge::Judged;
 use pst_rejudge::rejudge;
+use pst_sexpr::MAX_BYTES;
 use std::alloc::{AllocError, Global};
 use std::thread::Threads;
 
@@ -24,8 +27,71 @@ pub struct JudgedFile {
     pub judged: Vec<Judged>,
 }
 
+/// The items of an input, of which several threads read and judge parts at once, or `None`, which says nothing of the
+/// input. Of a part only its runs and their judgements are kept. The answer is `None` where the model does not stand
+/// alone before the first line behind it that begins with a bracket, or some part of the rest is not read by itself.
+fn judged_at_once<R: Threads + Sync>(
+    rt: &R,
+    alloc: Global,
+    input: &[u8],
+) -> Result<Option<JudgedFile>, AllocError>
+    ensures items { IfOk result
+        (λ read. IfSome read (λ file. HoldsRuns input.now file.compiled file.runs.items)) }
+    ensures judged { IfOk result
+        (λ read. IfSome read (λ file. AreJudged file.compiled file.runs.items file.judged.items)) }
+{
+    if input.len() > MAX_BYTES {
+        return Ok(None);
+    }
+    let Some((head, rest)) = head_and_rest(input) else {
+        return Ok(None);
+    };
+    let Ok(CompiledFile { compiled, trees }) = load_compiled(alloc, head)? else {
+        return Ok(None);
+    };
+    if trees.len() != 1 {
+        return Ok(None);
+    }
+    may_share_compiled();
+    match judge_in_parts(rt, &compiled, alloc, compiled.typed(), rest)? {
+        Some(JudgedRuns { runs, judged }) => Ok(Some(JudgedFile {
+            compiled,
+            runs,
+            judged,
+        })),
+        None => Ok(None),
+    }
+}
+
+/// The items of an input, which is read from its first byte to its last and then judged, several items at once, or what
+/// is said of its first refusal.
+fn judged_in_order<R: Threads + Sync>(
+    rt: &R,
+    alloc: Global,
+    input: &[u8],
+) -> Result<Result<JudgedFile, Output>, AllocError>
+    ensures items { IfOk result (λ read. MatchResult read
+        (λ file. HoldsRuns input.now file.compiled file.runs.items)
+        (λ output. IsFirstRefusal input.now output.text.items output.status)) }
+    ensures judged { IfOk result
+        (λ read. IfOk read (λ file. AreJudged file.compiled file.runs.items file.judged.items)) }
+{
+    let ModelAndRuns { compiled, runs } = match read_in_order(alloc, input)? {
+        Ok(read) => read,
+        Err(output) => return Ok(Err(output)),
+    };
+    may_share_compiled();
+    let judged = rejudge(rt, &compiled, alloc, runs.as_slice())?;
+    Ok(Ok(JudgedFile {
+        compiled,
+        runs,
+        judged,
+    }))
+}
+
 /// The items of an input, several judged at once, or what is said of its first refusal. `AllocError` where memory is
 /// refused.
+#[tactic(auto, using(crate::proofs::Reading::items_are_lawful))]
 pub fn judged_file<R: Threads + Sync>(
     rt: &R,
     alloc: Global,
@@ -38,15 +104,8 @@ pub fn judged_file<R: Threads + Sync>(
         (λ read. IfOk read (λ file. AreJudged file.compiled file.runs.items file.judged.items)) }
     ensures lawful { IfOk result (λ read. IfOk read (λ file. AreLawful file.compiled file.runs.items)) }
 {
-    let ModelAndRuns { compiled, runs } = match read_items(rt, alloc, input)? {
-        Ok(read) => read,
-        Err(output) => return Ok(Err(output)),
-    };
-    may_share_compiled();
-    let judged = rejudge(rt, &compiled, alloc, runs.as_slice())?;
-    Ok(Ok(JudgedFile {
-        compiled,
-        runs,
-        judged,
-    }))
+    match judged_at_once(rt, alloc, input)? {
+        Some(file) => Ok(Ok(file)),
+        None => judged_in_order(rt, alloc, input),
+    }
 }

@@ -44,7 +44,7 @@ lawful_last : (m : Source) (rest : List Run) (run : Run) → AreLawful m (rest +
 lawful_last m [] run l = l.0
 lawful_last m (other ∷ rest) run l = lawful_last m rest run l.1
 
-matches_if_any : (m : Source) (c : Case) (history : Option History) → IfSome history (λ h. matches m c h ≡ true)
+pub matches_if_any : (m : Source) (c : Case) (history : Option History) → IfSome history (λ h. matches m c h ≡ true)
     → MatchesIfAny m c history
 matches_if_any m c None h = tt
 matches_if_any m c (Some history) h = h

@@ -1,3 +1,5 @@
 -- what the public contracts cite
 pub mod Answers
 pub mod Parts
+-- what the contracts within the crate cite
+pub mod Places

@@ -1,6 +1,9 @@
 -- An input that is read in parts.
 use Rattle.std.specs.Prelude.{◌≡◌, ℕ, List, [], ◌∷◌, ◌++◌, Ok}
+use Rattle.std.specs.List.{AllZip}
 use Rattle.pst_case.specs.declared.history.Run.{Run}
+use Rattle.pst_each.specs.declared.judging.JudgedRuns.{JudgedRuns}
+use Rattle.pst_judge.specs.Judgement.{IsJudgement}
 use Rattle.pst_model.specs.declared.model.Source.{Source}
 use Rattle.pst_runs.specs.Items.{runs_of}
 use Rattle.pst_sexpr.specs.Reading.{Spells}
@@ -21,3 +24,8 @@ pub record SpellsRuns (m : Source) (bytes : List ℕ) (runs : List Run) : Type 0
   pub trees : List Form
   pub spelled : Spells bytes trees
   pub read : runs_of m trees ≡ Ok runs
+
+-- the bytes spell these runs, and these are the judgements on them, in the same order
+pub record IsJudged (m : Source) (bytes : List ℕ) (all : JudgedRuns) : Type 0 where
+  pub runs : SpellsRuns m bytes all.runs.items
+  pub judged : AllZip (IsJudgement m) all.runs.items all.judged.items

@@ -6,12 +6,16 @@ ghost use Rattle.std.specs.Prelude.{◌≡◌, IfOk};
 ghost use Rattle.std.specs.List.{AllZip};
 ghost use Rattle.pst_each.specs.Answers.{IsAnswer};
 
+mod judging;
 mod parts;
+mod places;
 mod reading;
 mod sharing;
+mod taking;
 
 use crate::reading::read_one;
 use crate::sharing::may_share_models;
+pub use judging::{JudgedRuns, judge_in_parts};
 pub use parts::head_and_rest;
 use pst_eval::Callbacks;
 use pst_judge::{Judged, judge_one};
@@ -19,7 +23,6 @@ use pst_rules::Typed;
 use pst_runs::{RunFault, RunFaultKind};
 use pst_sexpr::Tree;
 use rayon::prelude::*;
-pub use reading::read_in_parts;
 use std::alloc::{AllocError, Global};
 use std::thread::Threads;
 

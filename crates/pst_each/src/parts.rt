@@ -4,8 +4,11 @@ ghost use Rattle.pst_each.specs.Parts.{EndsLine, AreParts};
 
 use std::alloc::{AllocError, Global};
 
+/// An input has no more parts than these.
+const PARTS: usize = 64;
+
 /// A part has more bytes than these, but for the last.
-const PART: usize = 16_384;
+const LEAST_PART: usize = 256;
 
 /// The first place behind another where a line begins with a bracket, if there is one.
 fn next_line(input: &[u8], from: usize) -> Option<usize>
@@ -37,8 +40,9 @@ pub fn parts_of<'a>(alloc: Global, input: &'a [u8]) -> Result<Vec<&'a [u8]>, All
     ensures { IfOk result (λ parts. AreParts input.now (map (λ part. part.now) parts.items)) }
 {
     let mut parts = Vec::new(alloc);
+    let least = (input.len() / PARTS).max(LEAST_PART);
     let mut rest = input;
-    while let Some(at) = next_line(rest, PART) {
+    while let Some(at) = next_line(rest, least) {
         let (part, behind) = rest.split_at(at);
         parts.push(part)?;
         rest = behind;

@@ -1,16 +1,12 @@
 use Rattle.std.proofs.Common.{List, sym, subst}
 use Rattle.pst_case.specs.declared.history.Run.{Run}
-use Rattle.pst_cli.proofs.Judging.{may_be_judged, are_judged}
+use Rattle.pst_cli.proofs.Judging.{are_judged}
 use Rattle.pst_cli.specs.Output.{AreJudged}
+use Rattle.pst_each.proofs.Permitted.{may_be_judged}
 use Rattle.pst_load.specs.Loading.{items_of}
 use Rattle.pst_runs.proofs.Lawful.{runs_lawful}
 use Rattle.pst_runs.specs.Lawful.{AreLawful}
-use Rattle.pst_cli.proofs.judged.judged_file.Goals as goal
-
-pub returns-clause-lawful : goal.returns-clause-lawful
-returns-clause-lawful g c =
-    let held = rw c.in-Ok.is at c.in_ok-read.ensures in
-    runs_lawful c.in-Ok.read.compiled (items_of held.trees) c.in-Ok.read.runs.items held.read
+use Rattle.pst_cli.proofs.judged.judged_in_order.Goals as goal
 
 pub rejudge-requires-after_bounds : goal.rejudge-requires-after_bounds
 rejudge-requires-after_bounds g c κs within =

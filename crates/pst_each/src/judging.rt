@@ -1,0 +1,71 @@
+//! Reads and judges the items of an input in parts, several at once.
+ghost use Rattle.std.specs.Prelude.{◌≡◌, All, IfOk, IfSome};
+ghost use Rattle.pst_each.specs.Parts.{IsJudged};
+ghost use Rattle.pst_each.specs.Places.{StandsIn};
+
+use crate::parts::parts_of;
+use crate::places::{in_order, in_places};
+use crate::reading::NotRead;
+use crate::sharing::{may_send_parts, may_share_models};
+use crate::taking::{Part, take_parts};
+use pst_case::Run;
+use pst_eval::Callbacks;
+use pst_judge::Judged;
+use pst_rules::Typed;
+use rayon::prelude::*;
+use std::alloc::{AllocError, Global};
+use std::sync::atomic::AtomicUsize;
+use std::thread::Threads;
+
+/// Runs, and the judgement on each.
+#[derive(Drop)]
+pub struct JudgedRuns {
+    /// The runs.
+    pub runs: Vec<Run>,
+    /// Their judgements, in the same order.
+    pub judged: Vec<Judged>,
+}
+
+/// How often the parts are offered. Each offer is taken by a thread, and the first ones leave nothing to the others.
+const OFFERS: usize = 64;
+
+/// The runs of the items that an input spells, all of them trees of runs, and the judgements on them. The input is read
+/// and judged in parts, several at once, and the trees of a part are let go once its runs are read.
+///
+/// `None`: some part is not read or judged by itself, which says nothing of the whole input. `AllocError`: memory was
+/// refused.
+///
+/// `typed` is the model of the callbacks.
+pub fn judge_in_parts<C: Callbacks + Sync, R: Threads + Sync>(
+    rt: &R,
+    callbacks: &C,
+    alloc: Global,
+    typed: &Typed,
+    input: &[u8],
+) -> Result<Option<JudgedRuns>, AllocError>
+    requires { typed.now ≡ C.model callbacks.now }
+    ensures { IfOk result (λ read. IfSome read (IsJudged typed.now input.now)) }
+{
+    may_share_models();
+    may_send_parts();
+    let parts = parts_of(alloc, input)?;
+    let next = AtomicUsize::new(0);
+    let offers = [0u8; OFFERS];
+    let taken = offers
+        .par_iter()
+        .with_min_len(1)
+        .map(
+            |_: &u8| -> Result<Vec<Part>, NotRead>
+                requires { typed.now ≡ C.model callbacks.now }
+                ensures { IfOk result (λ taken. All (StandsIn (C.model callbacks.entry.now) parts.entry.items) taken.items) }
+            { take_parts(callbacks, alloc, typed, parts.as_slice(), &next) },
+        )
+        .collect::<Result<Vec<Vec<Part>>, NotRead>>(rt, alloc)?;
+    match taken {
+        Ok(lists) => {
+            let places = in_places(alloc, parts.as_slice(), lists)?;
+            in_order(alloc, places)
+        }
+        Err(NotRead) => Ok(None),
+    }
+}
