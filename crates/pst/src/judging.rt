@@ -1,5 +1,5 @@
 //! `pst judge`, with warnings on standard error.
-ghost use Rattle.std.specs.Prelude.{◌≡◌, false, IfSome};
+ghost use Rattle.std.specs.Prelude.{◌≡◌, false, All, IfSome};
 ghost use Rattle.pst_runs.specs.Lawful.{AreLawful};
 
 use clap::ArgMatches;
@@ -32,7 +32,7 @@ fn warn_on_runs<R: Eprint>(
     bytes: &[u8],
     judged: Option<JudgedFile>,
 )
-    requires { IfSome judged (λ judged. AreLawful judged.compiled judged.runs.items) }
+    requires { IfSome judged (λ judged. All (λ runs. AreLawful judged.compiled runs.items) judged.runs.items) }
 {
     if let Some(
         JudgedFile {

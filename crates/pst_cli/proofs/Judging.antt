@@ -1,10 +1,12 @@
 -- Runs that are judged.
-use Rattle.std.proofs.Common.{◌≡◌, ◌<◌, ℕ, List, [], ◌∷◌, length, get_or, sym, subst}
+use Rattle.std.proofs.Common.{◌≡◌, ◌<◌, ℕ, List, [], ◌∷◌, ◌++◌, All, Vec, Global, length, get_or, sym, subst}
+use Rattle.std.proofs.lemmas.List.Elements.{All-nil, All-cons}
 use Rattle.std.specs.List.{AllZip}
 use Rattle.pst_case.specs.declared.history.Run.{Run}
 use Rattle.pst_cli.specs.Output.{AreJudged}
 use Rattle.pst_each.proofs.One.{matches_if_any}
 use Rattle.pst_each.proofs.Permitted.{lawful_at}
+use Rattle.pst_each.specs.Parts.{joined}
 use Rattle.pst_judge.specs.Judgement.{HistoryMatches, IsJudgement}
 use Rattle.pst_judge.specs.declared.judgement.Judged.{Judged}
 use Rattle.pst_model.specs.declared.model.Source.{Source}
@@ -24,3 +26,18 @@ module _ (m : Source) where
   are_judged [] (j ∷ js) h = h
   are_judged (run ∷ runs) [] h = h
   are_judged (run ∷ runs) (j ∷ js) h = (h.0, are_judged runs js h.1)
+
+  lawful_both : (runs others : List Run) → AreLawful m (runs ++ others) → AreLawful m runs × AreLawful m others
+  lawful_both [] others l = (tt, l)
+  lawful_both (run ∷ runs) others l = let both = lawful_both runs others l.1 in ((l.0, both.0), both.1)
+
+  -- the runs of each part are lawful
+  abbrev LawfulPart : Vec Run Global → Type 0
+  LawfulPart part = AreLawful m part.items
+
+  -- where all runs are lawful, those of each part are
+  pub lawful_parts : (parts : List (Vec Run Global)) → AreLawful m (joined parts) → All LawfulPart parts
+  lawful_parts [] l = All-nil LawfulPart
+  lawful_parts (part ∷ parts) l =
+      let both = lawful_both part.items (joined parts) l in
+      All-cons LawfulPart part parts both.0 (lawful_parts parts both.1)

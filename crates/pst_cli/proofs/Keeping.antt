@@ -1,9 +1,8 @@
 -- The relations of a system stay through several drives.
-use Rattle.std.proofs.Common.{◌≡◌, ℕ, List}
+use Rattle.std.proofs.Common.{ℕ, List}
 use Rattle.pst_case.specs.declared.case.Case.{Case}
 use Rattle.pst_cli.specs.RunOutput.{IsReported, driven, invalid, lost}
 use Rattle.pst_cli.specs.declared.status.Status.{Status}
-use Rattle.pst_driver.proofs.Real.{Wider}
 use Rattle.pst_driver.proofs.Widening.{driven_wider, drive_fault_wider}
 use Rattle.pst_model.specs.declared.model.Source.{Source}
 use Rattle.pst_system.specs.Kept.{Answers, Fails, ResetFails, AreKept}

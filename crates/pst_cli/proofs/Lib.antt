@@ -7,3 +7,4 @@ pub mod OneOutput
 pub mod Printing
 pub mod Reading
 pub mod Reporting
+pub mod Rows

@@ -13,3 +13,5 @@ pub mod Sending
 pub mod Status
 -- what these are made of
 pub mod Head
+-- what the contracts within the crate cite
+pub mod Rows

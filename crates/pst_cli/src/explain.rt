@@ -6,7 +6,7 @@ ghost use Rattle.pst_cli.specs.Sending.{Prints};
 ghost use Rattle.pst_runs.specs.Lawful.{AreLawful};
 
 use crate::judge::status_of;
-use crate::judged::{JudgedFile, judged_file};
+use crate::judged::{JudgedFile, joined, judged_file};
 use crate::output::{Output, send};
 use crate::status::Status;
 use pst_case::Run;
@@ -79,6 +79,7 @@ fn explain_output<R: Threads + Sync>(
         Ok(file) => file,
         Err(output) => return Ok(output),
     };
+    let runs = joined(alloc, runs)?;
     let places = first_places(alloc, files, input)?;
     let text = explanations(
         alloc,

@@ -14,7 +14,7 @@ ghost use Rattle.pst_cli.specs.declared.status.Status.TheVariants.{Refused};
 ghost use Rattle.pst_runs.specs.Lawful.{AreLawful};
 
 use crate::judge::{is_good, status_of};
-use crate::judged::{JudgedFile, judged_file};
+use crate::judged::{JudgedFile, joined, judged_file};
 use crate::output::{Output, send};
 use crate::status::Status;
 use pst_case::Run;
@@ -121,16 +121,16 @@ fn graph_output<R: Threads + Sync>(
 ) -> Result<Output, AllocError>
     ensures { IfOk result (λ output. IsGraphOutput input.now item output.text.items output.status) }
 {
-    match judged_file(rt, alloc, input)? {
-        Ok(
-            JudgedFile {
-                compiled,
-                runs,
-                judged,
-            },
-        ) => chosen_graph(alloc, &compiled, item, runs.as_slice(), judged.as_slice()),
-        Err(output) => Ok(output),
-    }
+    let JudgedFile {
+        compiled,
+        runs,
+        judged,
+    } = match judged_file(rt, alloc, input)? {
+        Ok(file) => file,
+        Err(output) => return Ok(output),
+    };
+    let runs = joined(alloc, runs)?;
+    chosen_graph(alloc, &compiled, item, runs.as_slice(), judged.as_slice())
 }
 
 /// Draws the search of an item behind the model that the input begins with: writes it as a graph for

@@ -1,13 +1,14 @@
 //! `pst judge`.
-ghost use Rattle.std.specs.Prelude.{◌≡◌, ◌++◌, false, IfOk, IfSome, OnOk, MatchResult, string_bytes};
+ghost use Rattle.std.specs.Prelude.{◌≡◌, false, All, IfOk, IfSome, MatchResult, string_bytes};
 ghost use Rattle.std.specs.List.{list_all};
-ghost use Rattle.pst_cli.specs.Output.{IsJudgeOutput, is_good, item_line, item_lines, run_line, status_of};
+ghost use Rattle.pst_cli.specs.Output.{IsJudgeOutput, is_good, run_line, status_of};
 ghost use Rattle.pst_cli.specs.Sending.{Prints};
 ghost use Rattle.pst_cli.specs.declared.status.Status.TheVariants.{Refused};
 ghost use Rattle.pst_runs.specs.Items.{runs_of};
 ghost use Rattle.pst_runs.specs.Lawful.{AreLawful};
 
 use crate::judged::{JudgedFile, judged_file};
+use crate::lines::item_lines;
 use crate::output::{Output, send};
 use crate::status::Status;
 use pst_case::{CaseFaultKind, Run};
@@ -68,33 +69,6 @@ pub fn status_of(all: &[Judged]) -> Status
     }
 }
 
-/// Adds the line `NUMBER VERDICT` to a text.
-pub fn add_item_line(text: &mut String, number: usize, judged: &Judged) -> Result<(), AllocError>
-    ensures { OnOk result (string_bytes text.new ≡ string_bytes text.old ++ item_line number judged.now) }
-{
-    write!(text, "{number} {judged}\n")
-}
-
-/// `NUMBER VERDICT`.
-pub fn item_line(alloc: Global, number: usize, judged: &Judged) -> Result<String, AllocError>
-    ensures { IfOk result (λ line. string_bytes line ≡ item_line number judged.now) }
-{
-    let mut line = String::new(alloc);
-    add_item_line(&mut line, number, judged)?;
-    Ok(line)
-}
-
-/// The lines of all items, numbered from 1.
-fn item_lines(alloc: Global, all: &[Judged]) -> Result<String, AllocError>
-    ensures { IfOk result (λ text. string_bytes text ≡ item_lines 1 all.now) }
-{
-    let mut text = String::new(alloc);
-    for (index, judged) in all.iter().enumerate() {
-        add_item_line(&mut text, index + 1, judged)?;
-    }
-    Ok(text)
-}
-
 /// `refused run R command C KIND`.
 pub fn run_line(alloc: Global, fault: &RunFault) -> Result<String, AllocError>
     ensures { IfOk result (λ line. string_bytes line ≡ run_line fault.now) }
@@ -118,13 +92,13 @@ fn judge_output<R: Threads + Sync>(
 ) -> Result<(Output, Option<JudgedFile>), AllocError>
     ensures output { IfOk result (λ r. IsJudgeOutput input.now r.0.text.items r.0.status) }
     ensures lawful { IfOk result
-        (λ r. IfSome r.1 (λ judged. AreLawful judged.compiled judged.runs.items)) }
+        (λ r. IfSome r.1 (λ judged. All (λ runs. AreLawful judged.compiled runs.items) judged.runs.items)) }
 {
     let file = match judged_file(rt, alloc, input)? {
         Ok(file) => file,
         Err(output) => return Ok((output, None)),
     };
-    let text = item_lines(alloc, file.judged.as_slice())?;
+    let text = item_lines(rt, alloc, file.judged.as_slice())?;
     let output = Output::new(text, status_of(file.judged.as_slice()));
     Ok((output, Some(file)))
 }
@@ -139,7 +113,8 @@ pub fn judge_file<W: Sink, R: Threads + Sync>(
     requires { W.broken sink.old ≡ false }
     ensures prints { Prints (IsJudgeOutput input.now)
         (W.taken sink.old) (W.taken sink.new) (W.broken sink.new) result.0 }
-    ensures lawful { IfSome result.1 (λ judged. AreLawful judged.compiled judged.runs.items) }
+    ensures lawful { IfSome result.1
+        (λ judged. All (λ runs. AreLawful judged.compiled runs.items) judged.runs.items) }
 {
     match judge_output(rt, alloc, input) {
         Ok((output, judged)) => (send(output.text.as_slice(), output.status, sink), judged),

@@ -1,6 +1,7 @@
 //! The items behind the model that an input begins with, and the judgements on them.
 ghost use Rattle.std.specs.Prelude.{◌≡◌, IfOk, IfSome, MatchResult};
 ghost use Rattle.pst_cli.specs.Output.{AreJudged, HoldsRuns, IsFirstRefusal};
+ghost use Rattle.pst_each.specs.Parts.{joined};
 ghost use Rattle.pst_runs.specs.Lawful.{AreLawful};
 
 use crate::compiled::{CompiledFile, load_compiled};
@@ -9,7 +10,7 @@ use crate::output::Output;
 use crate::sharing::may_share_compiled;
 use pst_case::Run;
 use pst_compile::Compiled;
-use pst_each::{JudgedRuns, head_and_rest, judge_in_parts};
+use pst_each::{JudgedParts, head_and_rest, judge_in_parts};
 use pst_judge::Judged;
 use pst_rejudge::rejudge;
 use pst_sexpr::MAX_BYTES;
@@ -21,9 +22,9 @@ use std::thread::Threads;
 pub struct JudgedFile {
     /// The model.
     pub compiled: Compiled,
-    /// The items behind the model.
-    pub runs: Vec<Run>,
-    /// Their judgements, in the same order.
+    /// The items behind the model, in the parts in which they were read.
+    pub runs: Vec<Vec<Run>>,
+    /// Their judgements, in the order of the items.
     pub judged: Vec<Judged>,
 }
 
@@ -36,9 +37,9 @@ fn judged_at_once<R: Threads + Sync>(
     input: &[u8],
 ) -> Result<Option<JudgedFile>, AllocError>
     ensures items { IfOk result
-        (λ read. IfSome read (λ file. HoldsRuns input.now file.compiled file.runs.items)) }
+        (λ read. IfSome read (λ file. HoldsRuns input.now file.compiled (joined file.runs.items))) }
     ensures judged { IfOk result
-        (λ read. IfSome read (λ file. AreJudged file.compiled file.runs.items file.judged.items)) }
+        (λ read. IfSome read (λ file. AreJudged file.compiled (joined file.runs.items) file.judged.items)) }
 {
     if input.len() > MAX_BYTES {
         return Ok(None);
@@ -54,13 +55,33 @@ fn judged_at_once<R: Threads + Sync>(
     }
     may_share_compiled();
     match judge_in_parts(rt, &compiled, alloc, compiled.typed(), rest)? {
-        Some(JudgedRuns { runs, judged }) => Ok(Some(JudgedFile {
+        Some(JudgedParts { runs, judged }) => Ok(Some(JudgedFile {
             compiled,
             runs,
             judged,
         })),
         None => Ok(None),
     }
+}
+
+/// Runs as one part.
+fn in_one_part(alloc: Global, runs: Vec<Run>) -> Result<Vec<Vec<Run>>, AllocError>
+    ensures { IfOk result (λ parts. joined parts.items ≡ runs.items) }
+{
+    let mut parts = Vec::new(alloc);
+    parts.push(runs)?;
+    Ok(parts)
+}
+
+/// The runs of all parts, one behind the other.
+pub fn joined(alloc: Global, parts: Vec<Vec<Run>>) -> Result<Vec<Run>, AllocError>
+    ensures { IfOk result (λ runs. runs.items ≡ joined parts.items) }
+{
+    let mut runs = Vec::new(alloc);
+    for mut part in parts {
+        runs.append(&mut part)?;
+    }
+    Ok(runs)
 }
 
 /// The items of an input, which is read from its first byte to its last and then judged, several items at once, or what
@@ -71,10 +92,10 @@ fn judged_in_order<R: Threads + Sync>(
     input: &[u8],
 ) -> Result<Result<JudgedFile, Output>, AllocError>
     ensures items { IfOk result (λ read. MatchResult read
-        (λ file. HoldsRuns input.now file.compiled file.runs.items)
+        (λ file. HoldsRuns input.now file.compiled (joined file.runs.items))
         (λ output. IsFirstRefusal input.now output.text.items output.status)) }
     ensures judged { IfOk result
-        (λ read. IfOk read (λ file. AreJudged file.compiled file.runs.items file.judged.items)) }
+        (λ read. IfOk read (λ file. AreJudged file.compiled (joined file.runs.items) file.judged.items)) }
 {
     let ModelAndRuns { compiled, runs } = match read_in_order(alloc, input)? {
         Ok(read) => read,
@@ -82,6 +103,7 @@ fn judged_in_order<R: Threads + Sync>(
     };
     may_share_compiled();
     let judged = rejudge(rt, &compiled, alloc, runs.as_slice())?;
+    let runs = in_one_part(alloc, runs)?;
     Ok(Ok(JudgedFile {
         compiled,
         runs,
@@ -98,11 +120,11 @@ pub fn judged_file<R: Threads + Sync>(
     input: &[u8],
 ) -> Result<Result<JudgedFile, Output>, AllocError>
     ensures items { IfOk result (λ read. MatchResult read
-        (λ file. HoldsRuns input.now file.compiled file.runs.items)
+        (λ file. HoldsRuns input.now file.compiled (joined file.runs.items))
         (λ output. IsFirstRefusal input.now output.text.items output.status)) }
     ensures judged { IfOk result
-        (λ read. IfOk read (λ file. AreJudged file.compiled file.runs.items file.judged.items)) }
-    ensures lawful { IfOk result (λ read. IfOk read (λ file. AreLawful file.compiled file.runs.items)) }
+        (λ read. IfOk read (λ file. AreJudged file.compiled (joined file.runs.items) file.judged.items)) }
+    ensures lawful { IfOk result (λ read. IfOk read (λ file. AreLawful file.compiled (joined file.runs.items))) }
 {
     match judged_at_once(rt, alloc, input)? {
         Some(file) => Ok(Ok(file)),

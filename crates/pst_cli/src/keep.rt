@@ -5,7 +5,8 @@ ghost use Rattle.pst_cli.specs.Sending.{Prints};
 ghost use Rattle.pst_cli.specs.declared.status.Status.TheVariants.{Accepted};
 
 use crate::compiled::{CompiledFile, load_compiled};
-use crate::judge::{add_item_line, run_line};
+use crate::judge::run_line;
+use crate::lines::add_item_line;
 use crate::output::{Output, send};
 use crate::refusal::refusal_output;
 use crate::run::status_of_one;

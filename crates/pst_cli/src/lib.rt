@@ -13,6 +13,7 @@ mod judged;
 mod keep;
 mod known;
 mod laws;
+mod lines;
 mod list;
 mod output;
 mod refusal;

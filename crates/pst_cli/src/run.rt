@@ -14,7 +14,8 @@ ghost use Rattle.pst_write.specs.Lines.{line_of};
 ghost use Rattle.pst_write.specs.Written.{run_form};
 
 use crate::compiled::load_compiled;
-use crate::judge::{is_good, item_line, refused_run, runs_in};
+use crate::judge::{is_good, refused_run, runs_in};
+use crate::lines::item_line;
 use crate::output::{Output, send};
 use crate::refusal::refusal_output;
 use crate::status::Status;

@@ -1,8 +1,11 @@
-//! What threads may share: compiled models. The functions do nothing, and their contracts say it of the parts.
+//! What threads may share: compiled models and judgements. The functions do nothing, and their contracts say it of the
+//! parts.
 ghost use Rattle.std.specs.Thread.{IsSync};
 ghost use Rattle.pst_compile.specs.contracts.compiled.Compiled.{the_row as compiled_row};
+ghost use Rattle.pst_judge.specs.contracts.judgement.Judged.{the_row as judged_row};
 
 use pst_compile::Compiled;
+use pst_judge::Judged;
 use pst_machine::Code;
 use pst_rules::Typed;
 
@@ -18,4 +21,11 @@ pub(crate) fn may_share_compiled()
     may_share::<Typed>();
     may_share::<Code>();
     may_share::<Compiled>()
+}
+
+/// Judgements may be shared by threads.
+pub(crate) fn may_share_judged()
+    ensures { IsSync judged_row }
+{
+    may_share::<Judged>()
 }

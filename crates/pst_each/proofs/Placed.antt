@@ -7,8 +7,9 @@ use Rattle.std.specs.List.{AllZip, flat_map}
 use Rattle.pst_case.specs.declared.history.Run.{Run}
 use Rattle.pst_each.proofs.Pushed.{bytes_of, of_bytes}
 use Rattle.pst_each.proofs.Together.{spelled_in_parts}
-use Rattle.pst_each.specs.Parts.{AreParts, SpellsRuns, IsJudged}
-use Rattle.pst_each.specs.Places.{StandsIn, AreFilled, runs_in, judged_in}
+use Rattle.pst_each.specs.Parts.{AreParts, SpellsRuns, IsJudged, joined}
+use Rattle.pst_each.specs.Places.{StandsIn, AreFilled, HoldsPart, runs_in, judged_in}
+use Rattle.pst_each.specs.declared.judging.JudgedParts.{JudgedParts}
 use Rattle.pst_each.specs.declared.judging.JudgedRuns.{JudgedRuns}
 use Rattle.pst_each.specs.declared.taking.Part.{Part}
 use Rattle.pst_judge.specs.Judgement.{IsJudgement}
@@ -69,7 +70,7 @@ module _ (m : Source) (parts : List (Bor (List ℕ))) where
   pub put_part : (places : List (Option JudgedRuns)) (taken : Part) → AreFilled m parts places → StandsIn m parts taken
       → AreFilled m parts (slice_set places taken.place (Some taken.content))
   put_part places taken h s =
-      all_zip_set (λ part place. IfSome place (IsJudged m part.now)) parts places taken.place s.part (Some taken.content) h s.place s.content
+      all_zip_set (λ part place. IfSome place (HoldsPart m part.now)) parts places taken.place s.part (Some taken.content) h s.place s.content
 
 module _ (m : Source) where
   -- where all places are filled, each has what its part spells
@@ -100,25 +101,25 @@ module _ (m : Source) where
       (filled_judged parts places h.1)
 
   -- what stands in all places, one behind the other, is what the parts spell, judged
-  in_all : (input : List ℕ) (parts : List (Bor (List ℕ))) (places : List (Option JudgedRuns)) (all : JudgedRuns) → AreParts input (bytes_of parts)
-      → AreFilled m parts places → All IsSome places → all.runs.items ≡ flat_map runs_in places → all.judged.items ≡ flat_map judged_in places
-      → IsJudged m input all
+  in_all : (input : List ℕ) (parts : List (Bor (List ℕ))) (places : List (Option JudgedRuns)) (all : JudgedParts) → AreParts input (bytes_of parts)
+      → AreFilled m parts places → All IsSome places → joined all.runs.items ≡ flat_map runs_in places → all.judged.items ≡ flat_map judged_in places
+      → IsJudged m input (joined all.runs.items) all.judged.items
   in_all input parts places all p h s runs judged =
       let spelled = spelled_in_parts m runs_in places p
       (of_bytes (λ part place. SpellsRuns m part (runs_in place)) parts places (filled parts places h s)) in
       let each = subst (λ l. AllZip (IsJudgement m) l (flat_map judged_in places)) (sym runs) (filled_judged parts places h) in
       record {
         runs = subst (SpellsRuns m input) (sym runs) spelled;
-        judged = subst (AllZip (IsJudgement m) all.runs.items) (sym judged) each;
+        judged = subst (AllZip (IsJudgement m) (joined all.runs.items)) (sym judged) each;
       }
 
   -- the same of what is read of the places, if something is
-  pub if_in_all : {E : Type 0} (input : List ℕ) (parts : List (Bor (List ℕ))) (places : List (Option JudgedRuns)) (read : Result (Option JudgedRuns) E)
+  pub if_in_all : {E : Type 0} (input : List ℕ) (parts : List (Bor (List ℕ))) (places : List (Option JudgedRuns)) (read : Result (Option JudgedParts) E)
       → AreParts input (bytes_of parts) → AreFilled m parts places
       → IfOk read (λ o. IfSome o (λ all. All IsSome places))
-      → IfOk read (λ o. IfSome o (λ all. all.runs.items ≡ flat_map runs_in places))
+      → IfOk read (λ o. IfSome o (λ all. joined all.runs.items ≡ flat_map runs_in places))
       → IfOk read (λ o. IfSome o (λ all. all.judged.items ≡ flat_map judged_in places))
-      → IfOk read (λ o. IfSome o (IsJudged m input))
+      → IfOk read (λ o. IfSome o (λ all. IsJudged m input (joined all.runs.items) all.judged.items))
   if_in_all input parts places (Ok (Some all)) p h s runs judged = in_all input parts places all p h s runs judged
   if_in_all input parts places (Ok None) p h s runs judged = tt
   if_in_all input parts places (Err e) p h s runs judged = tt

@@ -1,9 +1,10 @@
 -- An input that is read in parts.
-use Rattle.std.specs.Prelude.{◌≡◌, ℕ, List, [], ◌∷◌, ◌++◌, Ok}
-use Rattle.std.specs.List.{AllZip}
+use Rattle.std.specs.Prelude.{◌≡◌, ℕ, List, [], ◌∷◌, ◌++◌, Ok, Vec}
+use Rattle.std.specs.List.{AllZip, flat_map}
+use Rattle.std.specs.declared.alloc.Global.{Global}
 use Rattle.pst_case.specs.declared.history.Run.{Run}
-use Rattle.pst_each.specs.declared.judging.JudgedRuns.{JudgedRuns}
 use Rattle.pst_judge.specs.Judgement.{IsJudgement}
+use Rattle.pst_judge.specs.declared.judgement.Judged.{Judged}
 use Rattle.pst_model.specs.declared.model.Source.{Source}
 use Rattle.pst_runs.specs.Items.{runs_of}
 use Rattle.pst_sexpr.specs.Reading.{Spells}
@@ -25,7 +26,11 @@ pub record SpellsRuns (m : Source) (bytes : List ℕ) (runs : List Run) : Type 0
   pub spelled : Spells bytes trees
   pub read : runs_of m trees ≡ Ok runs
 
+-- the runs of all parts, one behind the other
+abbrev pub joined : List (Vec Run Global) → List Run
+joined = flat_map (λ runs. runs.items)
+
 -- the bytes spell these runs, and these are the judgements on them, in the same order
-pub record IsJudged (m : Source) (bytes : List ℕ) (all : JudgedRuns) : Type 0 where
-  pub runs : SpellsRuns m bytes all.runs.items
-  pub judged : AllZip (IsJudgement m) all.runs.items all.judged.items
+pub record IsJudged (m : Source) (bytes : List ℕ) (all : List Run) (judgements : List Judged) : Type 0 where
+  pub runs : SpellsRuns m bytes all
+  pub judged : AllZip (IsJudgement m) all judgements

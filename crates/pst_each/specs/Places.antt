@@ -9,15 +9,19 @@ use Rattle.pst_each.specs.declared.taking.Part.{Part}
 use Rattle.pst_judge.specs.declared.judgement.Judged.{Judged}
 use Rattle.pst_model.specs.declared.model.Source.{Source}
 
+-- the bytes of a part spell its runs, and these are judged
+abbrev pub HoldsPart : Source → List ℕ → JudgedRuns → Type 0
+HoldsPart m bytes content = IsJudged m bytes content.runs.items content.judged.items
+
 -- what was taken is what the part at its place spells
 pub record StandsIn (m : Source) (parts : List (Bor (List ℕ))) (taken : Part) : Type 0 where
   pub part : Bor (List ℕ)
   pub place : slice_get parts taken.place ≡ Some part
-  pub content : IsJudged m part.now taken.content
+  pub content : HoldsPart m part.now taken.content
 
 -- there is a place for each part, and what stands in it is what the part spells
 abbrev pub AreFilled : Source → List (Bor (List ℕ)) → List (Option JudgedRuns) → Type 0
-AreFilled m parts places = AllZip (λ part place. IfSome place (IsJudged m part.now)) parts places
+AreFilled m parts places = AllZip (λ part place. IfSome place (HoldsPart m part.now)) parts places
 
 abbrev pub runs_in : Option JudgedRuns → List Run
 runs_in None = []

@@ -1,6 +1,6 @@
 //! Reads and judges the items of an input in parts, several at once.
 ghost use Rattle.std.specs.Prelude.{◌≡◌, All, IfOk, IfSome};
-ghost use Rattle.pst_each.specs.Parts.{IsJudged};
+ghost use Rattle.pst_each.specs.Parts.{IsJudged, joined};
 ghost use Rattle.pst_each.specs.Places.{StandsIn};
 
 use crate::parts::parts_of;
@@ -17,12 +17,21 @@ use std::alloc::{AllocError, Global};
 use std::sync::atomic::AtomicUsize;
 use std::thread::Threads;
 
-/// Runs, and the judgement on each.
+/// The runs of one part of an input, and the judgement on each.
 #[derive(Drop)]
-pub struct JudgedRuns {
+pub(crate) struct JudgedRuns {
     /// The runs.
     pub runs: Vec<Run>,
     /// Their judgements, in the same order.
+    pub judged: Vec<Judged>,
+}
+
+/// The runs of an input, in the parts in which it was read, and the judgement on each.
+#[derive(Drop)]
+pub struct JudgedParts {
+    /// The runs of each part, in the order of the parts.
+    pub runs: Vec<Vec<Run>>,
+    /// The judgement on each run, in the order of the runs.
     pub judged: Vec<Judged>,
 }
 
@@ -30,7 +39,8 @@ pub struct JudgedRuns {
 const OFFERS: usize = 64;
 
 /// The runs of the items that an input spells, all of them trees of runs, and the judgements on them. The input is read
-/// and judged in parts, several at once, and the trees of a part are let go once its runs are read.
+/// and judged in parts, several at once, and the trees of a part are let go once its runs are read. The runs stay in
+/// these parts, and the judgements are one list.
 ///
 /// `None`: some part is not read or judged by itself, which says nothing of the whole input. `AllocError`: memory was
 /// refused.
@@ -42,9 +52,10 @@ pub fn judge_in_parts<C: Callbacks + Sync, R: Threads + Sync>(
     alloc: Global,
     typed: &Typed,
     input: &[u8],
-) -> Result<Option<JudgedRuns>, AllocError>
+) -> Result<Option<JudgedParts>, AllocError>
     requires { typed.now ≡ C.model callbacks.now }
-    ensures { IfOk result (λ read. IfSome read (IsJudged typed.now input.now)) }
+    ensures { IfOk result (λ read. IfSome read
+        (λ parts. IsJudged typed.now input.now (joined parts.runs.items) parts.judged.items)) }
 {
     may_share_models();
     may_send_parts();

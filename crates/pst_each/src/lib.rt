@@ -15,7 +15,7 @@ mod taking;
 
 use crate::reading::read_one;
 use crate::sharing::may_share_models;
-pub use judging::{JudgedRuns, judge_in_parts};
+pub use judging::{JudgedParts, judge_in_parts};
 pub use parts::head_and_rest;
 use pst_eval::Callbacks;
 use pst_judge::{Judged, judge_one};

@@ -5,7 +5,7 @@ ghost use Rattle.pst_each.specs.Parts.{EndsLine, AreParts};
 use std::alloc::{AllocError, Global};
 
 /// An input has no more parts than these.
-const PARTS: usize = 64;
+const PARTS: usize = 256;
 
 /// A part has more bytes than these, but for the last.
 const LEAST_PART: usize = 256;

@@ -2,11 +2,12 @@
 ghost use Rattle.std.specs.Prelude.{◌≡◌, ℕ, List, All, IfOk, IfSome};
 ghost use Rattle.std.specs.Option.{IsSome};
 ghost use Rattle.std.specs.List.{flat_map};
+ghost use Rattle.pst_each.specs.Parts.{joined};
 ghost use Rattle.pst_each.specs.Places.{AreFilled, StandsIn, runs_in, judged_in};
 ghost use Rattle.pst_model.specs.declared.model.Source.{Source};
 ghost use Rattle.std.specs.Borrow.{Bor};
 
-use crate::judging::JudgedRuns;
+use crate::judging::{JudgedParts, JudgedRuns};
 use crate::taking::Part;
 use std::alloc::{AllocError, Global};
 
@@ -62,26 +63,25 @@ fn count_of(places: &[Option<JudgedRuns>]) -> usize {
     count
 }
 
-/// What stands in the places, one behind the other, or `None` where some place is empty.
+/// The runs that stand in each place, and their judgements one behind the other, or `None` where some place is empty.
 pub(crate) fn in_order(
     alloc: Global,
     places: Vec<Option<JudgedRuns>>,
-) -> Result<Option<JudgedRuns>, AllocError>
+) -> Result<Option<JudgedParts>, AllocError>
     ensures all { IfOk result (λ read. IfSome read (λ all. All IsSome places.items)) }
     ensures runs { IfOk result
-        (λ read. IfSome read (λ all. all.runs.items ≡ flat_map runs_in places.items)) }
+        (λ read. IfSome read (λ all. joined all.runs.items ≡ flat_map runs_in places.items)) }
     ensures judged { IfOk result
         (λ read. IfSome read (λ all. all.judged.items ≡ flat_map judged_in places.items)) }
 {
-    let count = count_of(places.as_slice());
-    let mut runs = Vec::with_capacity(alloc, count)?;
-    let mut judged = Vec::with_capacity(alloc, count)?;
+    let mut runs = Vec::with_capacity(alloc, places.len())?;
+    let mut judged = Vec::with_capacity(alloc, count_of(places.as_slice()))?;
     for place in places {
         let Some(mut content) = place else {
             return Ok(None);
         };
-        runs.append(&mut content.runs)?;
         judged.append(&mut content.judged)?;
+        runs.push(content.runs)?;
     }
-    Ok(Some(JudgedRuns { runs, judged }))
+    Ok(Some(JudgedParts { runs, judged }))
 }

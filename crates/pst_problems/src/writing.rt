@@ -84,15 +84,24 @@ impl fmt::Display for FormText<'_> {
 fn write_form<W: fmt::Write>(f: &mut fmt::Formatter<W>, form: &Form) -> fmt::Result {
     match form {
         Form::Word(word) => f.write_str(word.as_str()),
-        Form::Text(text) => {
-            let text = text.as_str();
-            write!(f, "\"{text}\"")
-        }
+        Form::Text(text) => write_quoted(f, text.as_str()),
         Form::Node(parts) => {
             f.write_str("(")?;
             write_parts(f, parts.as_slice())
         }
     }
+}
+
+/// A text in quotes, with a backslash before each quote and each backslash in it.
+fn write_quoted<W: fmt::Write>(f: &mut fmt::Formatter<W>, text: &str) -> fmt::Result {
+    f.write_str("\"")?;
+    for letter in text.chars() {
+        if letter == '"' || letter == '\\' {
+            f.write_str("\\")?;
+        }
+        f.write_char(letter)?;
+    }
+    f.write_str("\"")
 }
 
 /// Trees with a blank between them, and a bracket behind them.

@@ -101,7 +101,7 @@ pub const DEEP_ITEMS: [(&str, &str); 7] = [
     ),
     (
         "keys.runs",
-        "(case (prefix (put (map (\"b\" (list)) (\"a\" (list))))) (left) (right))",
+        "(case (prefix (put (map (\"b\" (list)) (\"a\\\"\\\\\" (list))))) (left) (right))",
     ),
     (
         "entry.runs",

@@ -1,5 +1,5 @@
 //! Warnings on recorded runs that an interleaving explains in which a precondition is not true.
-ghost use Rattle.std.specs.Prelude.{◌≡◌};
+ghost use Rattle.std.specs.Prelude.{◌≡◌, All};
 ghost use Rattle.pst_runs.specs.Lawful.{AreLawful, IsLawful};
 
 use crate::failing::{Failing, calls_marked, conditional, first_failing};
@@ -164,6 +164,35 @@ fn add_runs<C: Callbacks>(
     Ok(())
 }
 
+/// Adds the items of parts that are warned of, of those that were judged.
+fn add_parts<C: Callbacks>(
+    found: &mut Found,
+    callbacks: &C,
+    alloc: Global,
+    subject: &Subject<'_>,
+    parts: &[Vec<Run>],
+    judged: &[Judged],
+) -> Result<(), AllocError>
+    requires { All (λ runs. AreLawful (C.model callbacks.now) runs.items) parts.now }
+{
+    let mut first: usize = 1;
+    let mut left = judged;
+    for runs in parts {
+        add_runs(
+            found,
+            callbacks,
+            alloc,
+            subject,
+            first,
+            runs.as_slice(),
+            left,
+        )?;
+        first = first.saturating_add(runs.len());
+        left = left.get(runs.len()..).unwrap_or(&[]);
+    }
+    Ok(())
+}
+
 /// Adds the item of a number, from 1, of the trees of the input, where it was judged and is warned of.
 fn add_answer<C: Callbacks>(
     found: &mut Found,
@@ -227,9 +256,9 @@ fn nothing_found(alloc: Global) -> Found {
 }
 
 /// Warnings on items that were judged, for a person to read, each in the form of a message: a recorded run that an
-/// interleaving explains in which a precondition is not true. `typed` is the model of the input, and `runs` are the items
-/// behind it, with their judgements. `None` where there are none. The trees of the input are read once more where there are
-/// some.
+/// interleaving explains in which a precondition is not true. `typed` is the model of the input, `parts` are the items
+/// behind it in one part or more, and `judged` are the judgements on them in their order. `None` where there are none. The
+/// trees of the input are read once more where there are some.
 ///
 /// Of the warnings eight are written, and behind them how many more there are.
 ///
@@ -239,16 +268,16 @@ pub fn warnings_on_runs<C: Callbacks>(
     alloc: Global,
     typed: &Typed,
     input: Input<'_>,
-    runs: &[Run],
+    parts: &[Vec<Run>],
     judged: &[Judged],
 ) -> Result<Option<String>, AllocError>
-    requires { AreLawful (C.model callbacks.now) runs.now }
+    requires { All (λ runs. AreLawful (C.model callbacks.now) runs.items) parts.now }
 {
     let Some(subject) = subject_of(alloc, typed, input)? else {
         return Ok(None);
     };
     let mut found = nothing_found(alloc);
-    add_runs(&mut found, callbacks, alloc, &subject, 1, runs, judged)?;
+    add_parts(&mut found, callbacks, alloc, &subject, parts, judged)?;
     if found.count == 0 {
         return Ok(None);
     }

@@ -2,6 +2,7 @@ use Rattle.std.proofs.Common.{◌≡◌, ◌≤◌, ℕ, List, length, arith, ap
 use Rattle.pst_cli.proofs.Judging.{are_judged}
 use Rattle.pst_cli.proofs.Reading.{holds_both}
 use Rattle.pst_cli.specs.Output.{HoldsRuns}
+use Rattle.pst_each.specs.Parts.{joined}
 use Rattle.pst_sexpr.specs.Reading.{max_bytes}
 use Rattle.pst_cli.proofs.judged.judged_at_once.Goals as goal
 
@@ -10,7 +11,7 @@ returns-in-Some-2-clause-items g c =
     let m = c.in-Ok.field-0.compiled in
     let head = c.in-Some.head.now in
     let rest = c.in-Some.rest.now in
-    let runs = c.in-Some-2.field-0.runs.items in
+    let runs = joined c.in-Some-2.field-0.runs.items in
     let Held : List ℕ → Type 0 = λ input. HoldsRuns input m runs in
     let Small : List ℕ → Type 0 = λ input. length input ≤ max_bytes in
     let small = subst Small c.in-Some.ensures.1 (omega arith) in
@@ -25,4 +26,4 @@ pub returns-in-Some-2-clause-judged : goal.returns-in-Some-2-clause-judged
 returns-in-Some-2-clause-judged g c =
     let m = c.in-Ok.field-0.compiled in
     let read = rw (c.typed.ensures, c.in-Some-2.is) at c.in_ok-runs.ensures in
-    are_judged m c.in-Some-2.field-0.runs.items c.in-Some-2.field-0.judged.items read.judged
+    are_judged m (joined c.in-Some-2.field-0.runs.items) c.in-Some-2.field-0.judged.items read.judged

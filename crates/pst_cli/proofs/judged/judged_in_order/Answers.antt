@@ -1,7 +1,7 @@
-use Rattle.std.proofs.Common.{List, sym, subst}
+use Rattle.std.proofs.Common.{◌∙◌, List, sym, subst}
 use Rattle.pst_case.specs.declared.history.Run.{Run}
 use Rattle.pst_cli.proofs.Judging.{are_judged}
-use Rattle.pst_cli.specs.Output.{AreJudged}
+use Rattle.pst_cli.specs.Output.{AreJudged, HoldsRuns}
 use Rattle.pst_each.proofs.Permitted.{may_be_judged}
 use Rattle.pst_load.specs.Loading.{items_of}
 use Rattle.pst_runs.proofs.Lawful.{runs_lawful}
@@ -20,7 +20,12 @@ returns-clause-judged g c =
     let m = c.in-Ok.read.compiled in
     let all = c.in_ok-judged.judged.items in
     let OfRuns : List Run → Type 0 = λ rs. AreJudged m rs all in
-    subst OfRuns c.as_slice.ensures.value (are_judged m _ all c.in_ok-judged.ensures)
+    subst OfRuns (c.as_slice.ensures.value ∙ sym c.in_ok-runs.ensures) (are_judged m _ all c.in_ok-judged.ensures)
+
+pub returns-clause-items : goal.returns-clause-items
+returns-clause-items g c =
+    let Held : List Run → Type 0 = λ runs. HoldsRuns c.args.input.now c.in-Ok.read.compiled runs in
+    subst Held (sym c.in_ok-runs.ensures) (rw c.in-Ok.is at c.in_ok-read.ensures)
 
 pub returns-in-Err-clause-items : goal.returns-in-Err-clause-items
 returns-in-Err-clause-items g c = rw c.in-Err.is at c.in_ok-read.ensures

@@ -1,0 +1,70 @@
+//! The lines of items that were judged.
+ghost use Rattle.std.specs.Prelude.{◌≡◌, ◌++◌, IfOk, OnOk, string_bytes};
+ghost use Rattle.pst_cli.specs.Output.{item_line, item_lines};
+ghost use Rattle.pst_cli.specs.Rows.{IsRow, first_of};
+
+use crate::sharing::may_share_judged;
+use pst_judge::Judged;
+use rayon::prelude::*;
+use std::alloc::{AllocError, Global};
+use std::thread::Threads;
+
+/// How many items a row has, but for the last.
+const ROW: usize = 512;
+
+/// Adds the line `NUMBER VERDICT` to a text.
+pub fn add_item_line(text: &mut String, number: usize, judged: &Judged) -> Result<(), AllocError>
+    ensures { OnOk result (string_bytes text.new ≡ string_bytes text.old ++ item_line number judged.now) }
+{
+    write!(text, "{number} {judged}\n")
+}
+
+/// `NUMBER VERDICT`.
+pub fn item_line(alloc: Global, number: usize, judged: &Judged) -> Result<String, AllocError>
+    ensures { IfOk result (λ line. string_bytes line ≡ item_line number judged.now) }
+{
+    let mut line = String::new(alloc);
+    add_item_line(&mut line, number, judged)?;
+    Ok(line)
+}
+
+/// How many of so many items stand before a row, which has a number from 0.
+fn first_of(row: usize, count: usize) -> usize
+    ensures { result ≡ first_of row count }
+{
+    row.saturating_mul(ROW).min(count)
+}
+
+/// The lines of the items of a row, numbered from 1 over all rows.
+fn row_lines(alloc: Global, all: &[Judged], row: usize) -> Result<String, AllocError>
+    ensures { IfOk result (IsRow all.now row) }
+{
+    let mut text = String::new(alloc);
+    let count = all.len();
+    for index in first_of(row, count)..first_of(row.saturating_add(1), count) {
+        add_item_line(&mut text, index + 1, &all[index])?;
+    }
+    Ok(text)
+}
+
+/// The lines of all items, numbered from 1. Several threads write rows of them at once.
+pub fn item_lines<R: Threads + Sync>(
+    rt: &R,
+    alloc: Global,
+    all: &[Judged],
+) -> Result<String, AllocError>
+    ensures { IfOk result (λ text. string_bytes text ≡ item_lines 1 all.now) }
+{
+    may_share_judged();
+    let rows = all.len() / ROW + 1;
+    let lines = (0..rows)
+        .into_par_iter()
+        .with_min_len(1)
+        .map(
+            |row: usize| -> Result<String, AllocError>
+                ensures { IfOk result (IsRow all.entry.now row) }
+            { row_lines(alloc, all, row) },
+        )
+        .collect::<Result<Vec<String>, AllocError>>(rt, alloc)??;
+    lines.as_slice().concat(alloc)
+}
