@@ -1,6 +1,7 @@
 #!/usr/bin/env bash
-# Seconds that `pst judge` takes for many runs on 1, 2 and 4 processors, of the built program, each once. No test asserts any of them; run it
-# on an idle machine. `bench/many.sh N` judges N dear runs in place of 2,000, which take minutes on one processor.
+# Seconds that `pst judge` takes for many runs on 1, 2 and 4 processors, of the built program: for dear runs once, for a file of small ones the median
+# of 15 runs. No test asserts any of them; run it on an idle machine. `bench/many.sh N` judges N dear runs in place of 2,000, which take minutes on
+# one processor.
 source "$(dirname "$0")/program.sh"
 count="${1:-2000}"
 
@@ -25,9 +26,12 @@ seconds() {
   begin="$(date +%s%N)"
   taskset -c "$1" "$program" judge "$2" > /dev/null || true
   end="$(date +%s%N)"
-  awk -v nanoseconds="$((end - begin))" 'BEGIN { printf "%.3f", nanoseconds / 1e9 }'
+  awk -v nanoseconds="$((end - begin))" 'BEGIN { printf "%.4f", nanoseconds / 1e9 }'
 }
 
+# The median of 15 of them.
+median() { for _ in $(seq 15); do seconds "$1" "$2"; echo; done | sort -n | sed -n 8p; }
+
 for processors in 0 0,1 0-3; do
-  echo "processors $processors: $count runs of eight puts beside eight $(seconds "$processors" "$room/dear") s, 1 MiB of small runs $(seconds "$processors" "$room/cheap") s"
+  echo "processors $processors: $count runs of eight puts beside eight $(seconds "$processors" "$room/dear") s, 1 MiB of small runs $(median "$processors" "$room/cheap") s"
 done
