@@ -12,7 +12,10 @@ first_of row count = min (row * 512) count
 abbrev pub lines_behind : List Judged → ℕ → List ℕ
 lines_behind all before = item_lines (before + 1) (drop before all)
 
--- the text and the lines behind the row are the lines from the first of the row on
+-- the lines from the first item of a row on
+abbrev pub lines_from : List Judged → ℕ → List ℕ
+lines_from all row = lines_behind all (first_of row (length all))
+
+-- the text, and behind it the lines from the next row on, are the lines from the row on
 abbrev pub IsRow : List Judged → ℕ → String Global → Type 0
-IsRow all row text =
-    lines_behind all (first_of row (length all)) ≡ string_bytes text ++ lines_behind all (first_of (row + 1) (length all))
+IsRow all row text = lines_from all row ≡ string_bytes text ++ lines_from all (row + 1)

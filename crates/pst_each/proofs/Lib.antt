@@ -1,4 +1,3 @@
-pub mod Collected
 pub mod Joined
 pub mod One
 pub mod Permitted

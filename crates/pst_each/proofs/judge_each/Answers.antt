@@ -2,7 +2,7 @@ use Rattle.std.proofs.Common.{ap, ◌∙◌, subst, IfOk}
 use Rattle.std.specs.List.{AllZip}
 use Rattle.rayon.proofs.ToStd.{slice-AllZip}
 use Rattle.pst_each.specs.Answers.{IsAnswer}
-use Rattle.pst_each.proofs.Collected.{collected}
+use Rattle.pst_rejudge.proofs.Collected.{collected}
 use Rattle.pst_each.proofs.judge_each.Goals as goal
 
 pub returns : goal.returns

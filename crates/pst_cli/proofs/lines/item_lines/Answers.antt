@@ -2,7 +2,7 @@ use Rattle.std.proofs.Common.{◌≡◌, ◌≤◌, ◌-◌, ◌+◌, ◌*◌, �
 use Rattle.std.specs.List.{AllZip, flat_map, range_with_len}
 use Rattle.rayon.proofs.ListFacts.{IfOk-then}
 use Rattle.rayon.specs.Numbers.{nat_range}
-use Rattle.pst_each.proofs.Collected.{collected}
+use Rattle.pst_rejudge.proofs.Collected.{collected}
 use Rattle.pst_cli.proofs.Rows.{all_lines}
 use Rattle.pst_cli.specs.Rows.{IsRow}
 use Rattle.pst_cli.proofs.lines.item_lines.Goals as goal

@@ -1,7 +1,7 @@
 use Rattle.std.proofs.Common.{ℕ, List, All, Bor, Vec, Global, IfOk, subst, sym}
 use Rattle.std.specs.List.{AllZip}
 use Rattle.rayon.proofs.ToStd.{slice-AllZip}
-use Rattle.pst_each.proofs.Collected.{collected}
+use Rattle.pst_rejudge.proofs.Collected.{collected}
 use Rattle.pst_each.proofs.Placed.{all_of_zip, if_in_all}
 use Rattle.pst_each.specs.Places.{StandsIn, AreFilled}
 use Rattle.pst_each.specs.declared.taking.Part.{Part}

@@ -1,4 +1,3 @@
-use Rattle.std.proofs.Common.{◌≡◌}
 use Rattle.pst_warnings.proofs.asking.PreconditionsCondition.ask.Goals as goal
 
 pub returns-in-Ok : goal.returns-in-Ok
