@@ -1,9 +1,9 @@
 -- An input whose model is read by itself, and the items behind it.
-use Rattle.std.proofs.Common.{◌≡◌, ◌≤◌, ℕ, List, [], ◌∷◌, ◌++◌, length, arith}
+use Rattle.std.proofs.Common.{◌≡◌, ◌≤◌, ℕ, Bool, true, false, List, [], ◌∷◌, ◌++◌, length, subst, sym, arith}
 use Rattle.pst_case.specs.declared.history.Run.{Run}
 use Rattle.pst_cli.specs.Output.{HoldsRuns}
 use Rattle.pst_each.proofs.Joined.{joined}
-use Rattle.pst_each.specs.Parts.{EndsLine, SpellsRuns}
+use Rattle.pst_each.specs.Parts.{AreKept, EndsLine, SpellsRuns}
 use Rattle.pst_load.specs.Loading.{Holds, items_of}
 use Rattle.pst_model.specs.declared.model.Source.{Source}
 use Rattle.pst_runs.proofs.Lawful.{runs_lawful}
@@ -24,3 +24,13 @@ holds_both m head rest (tree ∷ next ∷ trees) runs small e one h k = absurd (
 -- the runs that an input holds are lawful
 pub items_are_lawful : (input : List ℕ) (m : Source) (runs : List Run) → HoldsRuns input m runs → AreLawful m runs
 items_are_lawful input m runs h = runs_lawful m (items_of h.trees) runs h.read
+
+-- what is kept of lawful runs is lawful
+pub kept_are_lawful : (keeps : Bool) (m : Source) (runs kept : List Run) → AreKept keeps runs kept → AreLawful m runs → AreLawful m kept
+kept_are_lawful true m runs kept is l = subst (AreLawful m) (sym is) l
+kept_are_lawful false m runs kept is l = subst (AreLawful m) (sym is) tt
+
+-- where runs are kept, all are
+pub all_are_kept : (keeps : Bool) (runs kept : List Run) → keeps ≡ true → AreKept keeps runs kept → kept ≡ runs
+all_are_kept true runs kept h is = is
+all_are_kept false runs kept h is = absurd (cc)

@@ -14,4 +14,5 @@ pub mod Status
 -- what these are made of
 pub mod Head
 -- what the contracts within the crate cite
+pub mod Kept
 pub mod Rows

@@ -7,6 +7,7 @@ ghost use Rattle.pst_runs.specs.Lawful.{AreLawful};
 
 use crate::judge::status_of;
 use crate::judged::{JudgedFile, joined, judged_file};
+use crate::kept::Keep;
 use crate::output::{Output, send};
 use crate::status::Status;
 use pst_case::Run;
@@ -75,7 +76,7 @@ fn explain_output<R: Threads + Sync>(
         compiled,
         runs,
         judged,
-    } = match judged_file(rt, alloc, input)? {
+    } = match judged_file(rt, alloc, input, Keep::All)? {
         Ok(file) => file,
         Err(output) => return Ok(output),
     };

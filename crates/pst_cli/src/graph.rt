@@ -15,6 +15,7 @@ ghost use Rattle.pst_runs.specs.Lawful.{AreLawful};
 
 use crate::judge::{is_good, status_of};
 use crate::judged::{JudgedFile, joined, judged_file};
+use crate::kept::Keep;
 use crate::output::{Output, send};
 use crate::status::Status;
 use pst_case::Run;
@@ -125,7 +126,7 @@ fn graph_output<R: Threads + Sync>(
         compiled,
         runs,
         judged,
-    } = match judged_file(rt, alloc, input)? {
+    } = match judged_file(rt, alloc, input, Keep::All)? {
         Ok(file) => file,
         Err(output) => return Ok(output),
     };

@@ -8,6 +8,7 @@ ghost use Rattle.pst_runs.specs.Items.{runs_of};
 ghost use Rattle.pst_runs.specs.Lawful.{AreLawful};
 
 use crate::judged::{JudgedFile, judged_file};
+use crate::kept::Keep;
 use crate::lines::item_lines;
 use crate::output::{Output, send};
 use crate::status::Status;
@@ -84,17 +85,18 @@ pub fn refused_run(alloc: Global, fault: &RunFault) -> Result<Output, AllocError
     Ok(Output::new(run_line(alloc, fault)?, Status::Refused))
 }
 
-/// The lines of the items behind the model, and the items; or the first refusal.
+/// The lines of the items behind the model, and the items, as far as they are kept; or the first refusal.
 fn judge_output<R: Threads + Sync>(
     rt: &R,
     alloc: Global,
     input: &[u8],
+    keep: Keep,
 ) -> Result<(Output, Option<JudgedFile>), AllocError>
     ensures output { IfOk result (λ r. IsJudgeOutput input.now r.0.text.items r.0.status) }
     ensures lawful { IfOk result
         (λ r. IfSome r.1 (λ judged. All (λ runs. AreLawful judged.compiled runs.items) judged.runs.items)) }
 {
-    let file = match judged_file(rt, alloc, input)? {
+    let file = match judged_file(rt, alloc, input, keep)? {
         Ok(file) => file,
         Err(output) => return Ok((output, None)),
     };
@@ -103,7 +105,29 @@ fn judge_output<R: Threads + Sync>(
     Ok((output, Some(file)))
 }
 
-/// Does what [`judge_text`] does, and gives back the items with their judgements where all of them were judged.
+/// Does what [`judge_text`] does, and gives back the judgements where all items were judged, with the items that are kept.
+fn judge_keeping<W: Sink, R: Threads + Sync>(
+    rt: &R,
+    alloc: Global,
+    input: &[u8],
+    keep: Keep,
+    sink: &mut W,
+) -> (Status, Option<JudgedFile>)
+    requires { W.broken sink.old ≡ false }
+    ensures prints { Prints (IsJudgeOutput input.now)
+        (W.taken sink.old) (W.taken sink.new) (W.broken sink.new) result.0 }
+    ensures lawful { IfSome result.1
+        (λ judged. All (λ runs. AreLawful judged.compiled runs.items) judged.runs.items) }
+{
+    match judge_output(rt, alloc, input, keep) {
+        Ok((output, judged)) => (send(output.text.as_slice(), output.status, sink), judged),
+        Err(AllocError) => (send(b"refused memory\n", Status::Lost, sink), None),
+    }
+}
+
+/// Does what [`judge_text`] does, and gives back the judgements where all items were judged, with the items where the
+/// precondition of some operation is another expression than `true`. Over any other model no item is worth a warning, and
+/// each thread lets the items go that it judged.
 pub fn judge_file<W: Sink, R: Threads + Sync>(
     rt: &R,
     alloc: Global,
@@ -116,10 +140,7 @@ pub fn judge_file<W: Sink, R: Threads + Sync>(
     ensures lawful { IfSome result.1
         (λ judged. All (λ runs. AreLawful judged.compiled runs.items) judged.runs.items) }
 {
-    match judge_output(rt, alloc, input) {
-        Ok((output, judged)) => (send(output.text.as_slice(), output.status, sink), judged),
-        Err(AllocError) => (send(b"refused memory\n", Status::Lost, sink), None),
-    }
+    judge_keeping(rt, alloc, input, Keep::ForWarnings, sink)
 }
 
 /// Judges the items behind the model that the input begins with, several at once: writes a line `NUMBER VERDICT`
@@ -135,6 +156,6 @@ pub fn judge_text<W: Sink, R: Threads + Sync>(
     ensures { Prints (IsJudgeOutput input.now)
         (W.taken sink.old) (W.taken sink.new) (W.broken sink.new) result }
 {
-    let (status, _) = judge_file(rt, alloc, input, sink);
+    let (status, _) = judge_keeping(rt, alloc, input, Keep::Nothing, sink);
     status
 }

@@ -1,11 +1,12 @@
 //! The items behind the model that an input begins with, and the judgements on them.
-ghost use Rattle.std.specs.Prelude.{◌≡◌, IfOk, IfSome, MatchResult};
-ghost use Rattle.pst_cli.specs.Output.{AreJudged, HoldsRuns, IsFirstRefusal};
+ghost use Rattle.std.specs.Prelude.{◌≡◌, true, IfOk, IfSome, MatchResult};
+ghost use Rattle.pst_cli.specs.Kept.{HoldsJudged, keeps_all};
+ghost use Rattle.pst_cli.specs.Output.{IsFirstRefusal};
 ghost use Rattle.pst_each.specs.Parts.{joined};
-ghost use Rattle.pst_runs.specs.Lawful.{AreLawful};
 
 use crate::compiled::{CompiledFile, load_compiled};
 use crate::items::{ModelAndRuns, read_in_order};
+use crate::kept::Keep;
 use crate::output::Output;
 use crate::sharing::may_share_compiled;
 use pst_case::Run;
@@ -22,24 +23,23 @@ use std::thread::Threads;
 pub struct JudgedFile {
     /// The model.
     pub compiled: Compiled,
-    /// The items behind the model, in the parts in which they were read.
+    /// The items behind the model, in the parts in which they were read, where they are kept.
     pub runs: Vec<Vec<Run>>,
     /// Their judgements, in the order of the items.
     pub judged: Vec<Judged>,
 }
 
 /// The items of an input, of which several threads read and judge parts at once, or `None`, which says nothing of the
-/// input. Of a part only its runs and their judgements are kept. The answer is `None` where the model does not stand
+/// input. Of a part only the judgements are kept, and its runs as `keep` says. The answer is `None` where the model does not stand
 /// alone before the first line behind it that begins with a bracket, or some part of the rest is not read by itself.
 fn judged_at_once<R: Threads + Sync>(
     rt: &R,
     alloc: Global,
     input: &[u8],
+    keep: Keep,
 ) -> Result<Option<JudgedFile>, AllocError>
-    ensures items { IfOk result
-        (λ read. IfSome read (λ file. HoldsRuns input.now file.compiled (joined file.runs.items))) }
-    ensures judged { IfOk result
-        (λ read. IfSome read (λ file. AreJudged file.compiled (joined file.runs.items) file.judged.items)) }
+    ensures { IfOk result (λ read. IfSome read (λ file.
+        HoldsJudged (keeps_all keep) input.now file.compiled (joined file.runs.items) file.judged.items)) }
 {
     if input.len() > MAX_BYTES {
         return Ok(None);
@@ -54,7 +54,8 @@ fn judged_at_once<R: Threads + Sync>(
         return Ok(None);
     }
     may_share_compiled();
-    match judge_in_parts(rt, &compiled, alloc, compiled.typed(), rest)? {
+    let keeps = keep.keeps(compiled.typed());
+    match judge_in_parts(rt, &compiled, alloc, compiled.typed(), rest, keeps)? {
         Some(JudgedParts { runs, judged }) => Ok(Some(JudgedFile {
             compiled,
             runs,
@@ -91,11 +92,9 @@ fn judged_in_order<R: Threads + Sync>(
     alloc: Global,
     input: &[u8],
 ) -> Result<Result<JudgedFile, Output>, AllocError>
-    ensures items { IfOk result (λ read. MatchResult read
-        (λ file. HoldsRuns input.now file.compiled (joined file.runs.items))
+    ensures { IfOk result (λ read. MatchResult read
+        (λ file. HoldsJudged true input.now file.compiled (joined file.runs.items) file.judged.items)
         (λ output. IsFirstRefusal input.now output.text.items output.status)) }
-    ensures judged { IfOk result
-        (λ read. IfOk read (λ file. AreJudged file.compiled (joined file.runs.items) file.judged.items)) }
 {
     let ModelAndRuns { compiled, runs } = match read_in_order(alloc, input)? {
         Ok(read) => read,
@@ -111,22 +110,19 @@ fn judged_in_order<R: Threads + Sync>(
     }))
 }
 
-/// The items of an input, several judged at once, or what is said of its first refusal. `AllocError` where memory is
-/// refused.
-#[tactic(auto, using(crate::proofs::Reading::items_are_lawful))]
+/// The judgements on the items of an input, several judged at once, or what is said of its first refusal. `keep` says which
+/// items are kept; more may be. `AllocError` where memory is refused.
 pub fn judged_file<R: Threads + Sync>(
     rt: &R,
     alloc: Global,
     input: &[u8],
+    keep: Keep,
 ) -> Result<Result<JudgedFile, Output>, AllocError>
-    ensures items { IfOk result (λ read. MatchResult read
-        (λ file. HoldsRuns input.now file.compiled (joined file.runs.items))
+    ensures { IfOk result (λ read. MatchResult read
+        (λ file. HoldsJudged (keeps_all keep) input.now file.compiled (joined file.runs.items) file.judged.items)
         (λ output. IsFirstRefusal input.now output.text.items output.status)) }
-    ensures judged { IfOk result
-        (λ read. IfOk read (λ file. AreJudged file.compiled (joined file.runs.items) file.judged.items)) }
-    ensures lawful { IfOk result (λ read. IfOk read (λ file. AreLawful file.compiled (joined file.runs.items))) }
 {
-    match judged_at_once(rt, alloc, input)? {
+    match judged_at_once(rt, alloc, input, keep)? {
         Some(file) => Ok(Ok(file)),
         None => judged_in_order(rt, alloc, input),
     }

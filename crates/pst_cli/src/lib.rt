@@ -11,6 +11,7 @@ mod items;
 mod judge;
 mod judged;
 mod keep;
+mod kept;
 mod known;
 mod laws;
 mod lines;

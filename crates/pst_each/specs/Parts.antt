@@ -1,5 +1,5 @@
 -- An input that is read in parts.
-use Rattle.std.specs.Prelude.{◌≡◌, ℕ, List, [], ◌∷◌, ◌++◌, Ok, Vec}
+use Rattle.std.specs.Prelude.{◌≡◌, ℕ, Bool, true, false, List, [], ◌∷◌, ◌++◌, Ok, Vec}
 use Rattle.std.specs.List.{AllZip, flat_map}
 use Rattle.std.specs.declared.alloc.Global.{Global}
 use Rattle.pst_case.specs.declared.history.Run.{Run}
@@ -34,3 +34,15 @@ joined = flat_map (λ runs. runs.items)
 pub record IsJudged (m : Source) (bytes : List ℕ) (all : List Run) (judgements : List Judged) : Type 0 where
   pub runs : SpellsRuns m bytes all
   pub judged : AllZip (IsJudgement m) all judgements
+
+-- all of the runs are kept, or none
+abbrev pub AreKept : Bool → List Run → List Run → Type 0
+AreKept true runs kept = kept ≡ runs
+AreKept false runs kept = kept ≡ []
+
+-- the bytes spell runs, these are the judgements on them, in the same order, and so much of the runs is kept
+pub record IsJudgedPart (m : Source) (keeps : Bool) (bytes : List ℕ) (kept : List Run) (judgements : List Judged)
+    : Type 0 where
+  pub runs : List Run
+  pub judged : IsJudged m bytes runs judgements
+  pub are_kept : AreKept keeps runs kept

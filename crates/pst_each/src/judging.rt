@@ -1,6 +1,6 @@
 //! Reads and judges the items of an input in parts, several at once.
 ghost use Rattle.std.specs.Prelude.{◌≡◌, All, IfOk, IfSome};
-ghost use Rattle.pst_each.specs.Parts.{IsJudged, joined};
+ghost use Rattle.pst_each.specs.Parts.{IsJudgedPart, joined};
 ghost use Rattle.pst_each.specs.Places.{StandsIn};
 
 use crate::parts::parts_of;
@@ -40,7 +40,8 @@ const OFFERS: usize = 64;
 
 /// The runs of the items that an input spells, all of them trees of runs, and the judgements on them. The input is read
 /// and judged in parts, several at once, and the trees of a part are let go once its runs are read. The runs stay in
-/// these parts, and the judgements are one list.
+/// these parts, and the judgements are one list. `keeps` says whether the runs are kept: where they are not, the thread that
+/// judged a part lets its runs go, and all lists of runs are empty.
 ///
 /// `None`: some part is not read or judged by itself, which says nothing of the whole input. `AllocError`: memory was
 /// refused.
@@ -52,10 +53,11 @@ pub fn judge_in_parts<C: Callbacks + Sync, R: Threads + Sync>(
     alloc: Global,
     typed: &Typed,
     input: &[u8],
+    keeps: bool,
 ) -> Result<Option<JudgedParts>, AllocError>
     requires { typed.now ≡ C.model callbacks.now }
     ensures { IfOk result (λ read. IfSome read
-        (λ parts. IsJudged typed.now input.now (joined parts.runs.items) parts.judged.items)) }
+        (λ parts. IsJudgedPart typed.now keeps input.now (joined parts.runs.items) parts.judged.items)) }
 {
     may_share_models();
     may_send_parts();
@@ -68,8 +70,8 @@ pub fn judge_in_parts<C: Callbacks + Sync, R: Threads + Sync>(
         .map(
             |_: &u8| -> Result<Vec<Part>, NotRead>
                 requires { typed.now ≡ C.model callbacks.now }
-                ensures { IfOk result (λ taken. All (StandsIn (C.model callbacks.entry.now) parts.entry.items) taken.items) }
-            { take_parts(callbacks, alloc, typed, parts.as_slice(), &next) },
+                ensures { IfOk result (λ taken. All (StandsIn (C.model callbacks.entry.now) keeps parts.entry.items) taken.items) }
+            { take_parts(callbacks, alloc, typed, parts.as_slice(), keeps, &next) },
         )
         .collect::<Result<Vec<Vec<Part>>, NotRead>>(rt, alloc)?;
     match taken {

@@ -1,5 +1,5 @@
 //! Puts the parts of an input, which several threads have taken, in their order.
-ghost use Rattle.std.specs.Prelude.{◌≡◌, ℕ, List, All, IfOk, IfSome};
+ghost use Rattle.std.specs.Prelude.{◌≡◌, ℕ, Bool, List, All, IfOk, IfSome};
 ghost use Rattle.std.specs.Option.{IsSome};
 ghost use Rattle.std.specs.List.{flat_map};
 ghost use Rattle.pst_each.specs.Parts.{joined};
@@ -13,7 +13,7 @@ use std::alloc::{AllocError, Global};
 
 /// An empty place for each part.
 fn no_parts(alloc: Global, parts: &[&[u8]]) -> Result<Vec<Option<JudgedRuns>>, AllocError>
-    ensures { IfOk result (λ places. (m : Source) → AreFilled m parts.now places.items) }
+    ensures { IfOk result (λ places. (m : Source) (keeps : Bool) → AreFilled m keeps parts.now places.items) }
 {
     let mut places = Vec::with_capacity(alloc, parts.len())?;
     for _part in parts {
@@ -24,8 +24,8 @@ fn no_parts(alloc: Global, parts: &[&[u8]]) -> Result<Vec<Option<JudgedRuns>>, A
 
 /// The places with parts put into them.
 fn put(mut places: Vec<Option<JudgedRuns>>, taken: Vec<Part>) -> Vec<Option<JudgedRuns>>
-    ensures { (m : Source) (parts : List (Bor (List ℕ))) → AreFilled m parts places.items
-        → All (StandsIn m parts) taken.items → AreFilled m parts result.items }
+    ensures { (m : Source) (keeps : Bool) (parts : List (Bor (List ℕ))) → AreFilled m keeps parts places.items
+        → All (StandsIn m keeps parts) taken.items → AreFilled m keeps parts result.items }
 {
     for part in taken {
         let Part { place, content } = part;
@@ -42,8 +42,8 @@ pub(crate) fn in_places(
     parts: &[&[u8]],
     lists: Vec<Vec<Part>>,
 ) -> Result<Vec<Option<JudgedRuns>>, AllocError>
-    ensures { IfOk result (λ places. (m : Source) → All (λ taken. All (StandsIn m parts.now) taken.items) lists.items
-        → AreFilled m parts.now places.items) }
+    ensures { IfOk result (λ places. (m : Source) (keeps : Bool)
+        → All (λ taken. All (StandsIn m keeps parts.now) taken.items) lists.items → AreFilled m keeps parts.now places.items) }
 {
     let mut places = no_parts(alloc, parts)?;
     for taken in lists {

@@ -2,8 +2,7 @@
 //! that takes long holds up one thread alone.
 ghost use Rattle.std.specs.Prelude.{◌≡◌, All, IfOk};
 ghost use Rattle.std.specs.List.{AllZip};
-ghost use Rattle.pst_each.specs.Parts.{SpellsRuns};
-ghost use Rattle.pst_each.specs.Places.{StandsIn};
+ghost use Rattle.pst_each.specs.Places.{HoldsPart, StandsIn};
 ghost use Rattle.pst_judge.specs.Judgement.{IsJudgement};
 ghost use Rattle.pst_rejudge.specs.Judging.{MayBeJudged};
 
@@ -41,21 +40,23 @@ fn judged_runs<C: Callbacks>(
     Ok(judged)
 }
 
-/// The runs that the bytes of a part spell, and the judgements on them.
+/// The runs that the bytes of a part spell, where they are kept, and the judgements on them.
 fn judged_part<C: Callbacks>(
     callbacks: &C,
     alloc: Global,
     typed: &Typed,
     bytes: &[u8],
+    keeps: bool,
 ) -> Result<JudgedRuns, NotRead>
     requires { typed.now ≡ C.model callbacks.now }
-    ensures runs { IfOk result (λ part. SpellsRuns (C.model callbacks.now) bytes.now part.runs.items) }
-    ensures judged { IfOk result
-        (λ part. AllZip (IsJudgement (C.model callbacks.now)) part.runs.items part.judged.items) }
+    ensures { IfOk result (HoldsPart (C.model callbacks.now) keeps bytes.now) }
 {
     let runs = runs_of_part(alloc, typed, bytes)?;
     match judged_runs(callbacks, alloc, runs.as_slice()) {
-        Ok(judged) => Ok(JudgedRuns { runs, judged }),
+        Ok(judged) => Ok(JudgedRuns {
+            runs: if keeps { runs } else { Vec::new(alloc) },
+            judged,
+        }),
         Err(AllocError) => Err(NotRead),
     }
 }
@@ -66,10 +67,11 @@ pub(crate) fn take_parts<C: Callbacks>(
     alloc: Global,
     typed: &Typed,
     parts: &[&[u8]],
+    keeps: bool,
     next: &AtomicUsize,
 ) -> Result<Vec<Part>, NotRead>
     requires { typed.now ≡ C.model callbacks.now }
-    ensures { IfOk result (λ taken. All (StandsIn (C.model callbacks.now) parts.now) taken.items) }
+    ensures { IfOk result (λ taken. All (StandsIn (C.model callbacks.now) keeps parts.now) taken.items) }
 {
     let mut taken = Vec::new(alloc);
     for _ in 0..parts.len() {
@@ -77,7 +79,7 @@ pub(crate) fn take_parts<C: Callbacks>(
         let Some(bytes) = parts.get(place) else {
             return Ok(taken);
         };
-        let content = judged_part(callbacks, alloc, typed, bytes)?;
+        let content = judged_part(callbacks, alloc, typed, bytes, keeps)?;
         if taken.push(Part { place, content }).is_err() {
             return Err(NotRead);
         }

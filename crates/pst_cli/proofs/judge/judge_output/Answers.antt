@@ -1,17 +1,16 @@
 use Rattle.std.proofs.Common.{ap, ◌∙◌}
 use Rattle.pst_cli.proofs.Judging.{lawful_parts}
 use Rattle.pst_cli.specs.Output.{item_lines, judged, refused, status_of}
-use Rattle.pst_each.specs.Parts.{joined}
 use Rattle.pst_cli.proofs.judge.judge_output.Goals as goal
 
 pub returns-in-Err-clause-output : goal.returns-in-Err-clause-output
-returns-in-Err-clause-output g c = refused (rw c.in-Err.is at c.in_ok-file.ensures.items)
+returns-in-Err-clause-output g c = refused (rw c.in-Err.is at c.in_ok-file.ensures)
 
 pub returns-clause-output : goal.returns-clause-output
 returns-clause-output g c =
     let file = c.in-Ok.file in
-    let read = c.in_ok-file.ensures in
-    judged file.compiled (joined file.runs.items) file.judged.items (rw c.in-Ok.is at read.items) (rw c.in-Ok.is at read.judged) (
+    let read = rw c.in-Ok.is at c.in_ok-file.ensures in
+    judged file.compiled read.runs file.judged.items read.holds read.judged (
       c.new-output.ensures.text ∙ c.in_ok-text.ensures ∙ ap (item_lines 1) c.as_slice.ensures.value,
       c.new-output.ensures.status ∙ c.status_of.ensures ∙ ap status_of c.as_slice-2.ensures.value,
     )
@@ -19,4 +18,5 @@ returns-clause-output g c =
 pub returns-clause-lawful : goal.returns-clause-lawful
 returns-clause-lawful g c =
     let file = c.in-Ok.file in
-    lawful_parts file.compiled file.runs.items (rw c.in-Ok.is at c.in_ok-file.ensures.lawful)
+    let read = rw c.in-Ok.is at c.in_ok-file.ensures in
+    lawful_parts file.compiled file.runs.items read.lawful

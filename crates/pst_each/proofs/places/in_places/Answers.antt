@@ -5,7 +5,7 @@ use Rattle.pst_each.specs.declared.taking.Part.{Part}
 use Rattle.pst_each.proofs.places.in_places.Goals as goal
 
 pub loop-taken-preserved : goal.loop-taken-preserved
-loop-taken-preserved c m all =
-    let Stand : Vec Part Global → Type 0 = λ taken. All (StandsIn m c.args.parts.now) taken.items in
+loop-taken-preserved c m keeps all =
+    let Stand : Vec Part Global → Type 0 = λ taken. All (StandsIn m keeps c.args.parts.now) taken.items in
     let both = before_last Stand c.loop-taken.yielded c.in-Some.taken all in
-    c.put-places.ensures m c.args.parts.now (c.loop-taken.invariant m both.0) both.1
+    c.put-places.ensures m keeps c.args.parts.now (c.loop-taken.invariant m keeps both.0) both.1

@@ -4,6 +4,6 @@ use Rattle.pst_each.specs.Places.{AreFilled}
 use Rattle.pst_each.proofs.places.no_parts.Goals as goal
 
 pub loop-part-preserved : goal.loop-part-preserved
-loop-part-preserved c m =
-    subst (AreFilled m (take (c.loop-part._part-index + 1) c.args.parts.now)) (sym c.in_ok-push.ensures.items)
-    (no_part_more m c.args.parts.now c.loop-part.places.items c.loop-part._part-index c.loop-part-test.true (c.loop-part.invariant m))
+loop-part-preserved c m keeps =
+    subst (AreFilled m keeps (take (c.loop-part._part-index + 1) c.args.parts.now)) (sym c.in_ok-push.ensures.items)
+    (no_part_more m keeps c.args.parts.now c.loop-part.places.items c.loop-part._part-index c.loop-part-test.true (c.loop-part.invariant m keeps))

@@ -1,6 +1,6 @@
 use Rattle.pst_cli.proofs.Printing.{prints}
 use Rattle.pst_cli.specs.Output.{IsJudgeOutput}
-use Rattle.pst_cli.proofs.judge.judge_file.Goals as goal
+use Rattle.pst_cli.proofs.judge.judge_keeping.Goals as goal
 
 pub returns-in-Ok-clause-prints : goal.returns-in-Ok-clause-prints
 returns-in-Ok-clause-prints g c =

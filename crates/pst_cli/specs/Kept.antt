@@ -1,0 +1,24 @@
+-- The runs that are kept beside the judgements on them.
+use Rattle.std.specs.Prelude.{◌≡◌, ℕ, Bool, true, false, List}
+use Rattle.pst_case.specs.declared.history.Run.{Run}
+use Rattle.pst_cli.specs.Output.{AreJudged, HoldsRuns}
+use Rattle.pst_cli.specs.declared.kept.Keep.{Keep}
+use Rattle.pst_cli.specs.declared.kept.Keep.TheVariants as keep
+use Rattle.pst_judge.specs.declared.judgement.Judged.{Judged}
+use Rattle.pst_model.specs.declared.model.Source.{Source}
+use Rattle.pst_runs.specs.Lawful.{AreLawful}
+
+-- all runs are to be kept
+abbrev pub keeps_all : Keep → Bool
+keeps_all keep.All = true
+keeps_all keep.ForWarnings = false
+keeps_all keep.Nothing = false
+
+-- the input holds runs that are judged so; what is kept of them may be judged, and it is all where all are to be kept
+pub record HoldsJudged (all : Bool) (input : List ℕ) (m : Source) (kept : List Run) (judgements : List Judged)
+    : Type 0 where
+  pub runs : List Run
+  pub holds : HoldsRuns input m runs
+  pub judged : AreJudged m runs judgements
+  pub lawful : AreLawful m kept
+  pub are_kept : all ≡ true → kept ≡ runs
