@@ -9,34 +9,130 @@ use std::rt::Files;
 /// The name of standard input.
 const STANDARD_INPUT: &str = "-";
 
-/// The bytes of the file of that name, or of standard input, at most as many as the limit.
-fn bytes_of<R: Files + Input + AllocGlobal>(rt: &R, name: &str, limit: u64) -> io::Result<Vec<u8>> {
+/// How the input is read.
+#[derive(Clone, Copy, Drop)]
+pub struct Reading {
+    /// Nothing is written to standard error.
+    pub is_quiet: bool,
+    /// Standard input is a terminal.
+    pub is_terminal: bool,
+}
+
+/// A file that cannot be had: whether it could be opened, and the error.
+#[derive(Drop)]
+struct Unread {
+    was_opened: bool,
+    error: io::Error,
+}
+
+/// The bytes of standard input, at most as many as the limit. If it is a terminal, and unless it is to be quiet, a line on
+/// standard error says that it is read.
+fn from_standard_input<R: Input + Eprint + AllocGlobal>(
+    rt: &R,
+    limit: u64,
+    reading: Reading,
+) -> Result<Vec<u8>, Unread> {
+    if reading.is_terminal && !reading.is_quiet {
+        let _ = eprintln!(rt; "pst: reading from the terminal (Ctrl-D ends the input)");
+    }
     let mut bytes = Vec::new(rt.alloc());
-    if name == STANDARD_INPUT {
-        let mut reader = rt.reader().take(limit);
-        reader.read_to_end(&mut bytes)?;
-    } else {
-        let mut reader = std::fs::open(rt, name)?.take(limit);
-        reader.read_to_end(&mut bytes)?;
-    }
-    Ok(bytes)
-}
-
-/// Why there is no input, where a file cannot be read.
-fn absence(error: &io::Error) -> Absence<'static> {
-    if error.kind() == ErrorKind::OutOfMemory {
-        Absence::NoMemory
-    } else {
-        Absence::NoFile
+    match rt.reader().take(limit).read_to_end(&mut bytes) {
+        Ok(_) => Ok(bytes),
+        Err(error) => Err(Unread {
+            was_opened: true,
+            error,
+        }),
     }
 }
 
-/// The files of these names, of which `-` is standard input; standard input where there is no name. At most one byte
-/// more than an input may have is read of all of them. `NoFile`: one cannot be opened or read. `NoMemory`: there is
-/// none for them.
-pub fn files<'a, R: Files + Input + AllocGlobal>(
+/// The bytes of the file of that name, at most as many as the limit.
+fn from_file<R: Files + AllocGlobal>(rt: &R, name: &str, limit: u64) -> Result<Vec<u8>, Unread> {
+    let file = match std::fs::open(rt, name) {
+        Ok(file) => file,
+        Err(error) => {
+            return Err(Unread {
+                was_opened: false,
+                error,
+            });
+        }
+    };
+    let mut bytes = Vec::new(rt.alloc());
+    match file.take(limit).read_to_end(&mut bytes) {
+        Ok(_) => Ok(bytes),
+        Err(error) => Err(Unread {
+            was_opened: true,
+            error,
+        }),
+    }
+}
+
+/// Says on standard error which file cannot be had and why, unless it is to be quiet.
+fn report<R: Eprint>(rt: &R, name: &str, unread: &Unread, is_quiet: bool) {
+    if is_quiet {
+        return;
+    }
+    let done = if unread.was_opened { "read" } else { "open" };
+    let name = if name == STANDARD_INPUT {
+        "standard input"
+    } else {
+        name
+    };
+    let _ = match unread.error.kind() {
+        ErrorKind::NotFound => eprintln!(rt; "pst: cannot {done} {name}: no such file"),
+        ErrorKind::IsADirectory => eprintln!(rt; "pst: cannot {done} {name}: is a directory"),
+        ErrorKind::PermissionDenied => eprintln!(rt;
+            "pst: cannot {done} {name}: permission denied"
+        ),
+        _ => {
+            let error = &unread.error;
+            eprintln!(rt; "pst: cannot {done} {name}: {error}")
+        }
+    };
+}
+
+/// Why there is no input if a file cannot be had. Standard error says which file it is, unless it is to be quiet.
+fn absence<R: Eprint>(rt: &R, name: &str, unread: &Unread, is_quiet: bool) -> Absence<'static> {
+    if unread.error.kind() == ErrorKind::OutOfMemory {
+        return Absence::NoMemory;
+    }
+    report(rt, name, unread, is_quiet);
+    Absence::NoFile
+}
+
+/// Whether there is a file of that name that can be opened.
+pub fn can_be_opened<R: Files>(rt: &R, name: &str) -> bool {
+    std::fs::open(rt, name).is_ok()
+}
+
+/// Opens each of the files, and reads nothing. `NoFile`: one cannot be opened; standard error says which, unless it is to be
+/// quiet.
+pub fn try_to_open<R: Files + Eprint>(
+    rt: &R,
+    names: &[&str],
+    is_quiet: bool,
+) -> Result<(), Absence<'static>> {
+    for name in names {
+        if *name == STANDARD_INPUT {
+            continue;
+        }
+        if let Err(error) = std::fs::open(rt, name) {
+            let unread = Unread {
+                was_opened: false,
+                error,
+            };
+            return Err(absence(rt, name, &unread, is_quiet));
+        }
+    }
+    Ok(())
+}
+
+/// The files of these names, of which `-` is standard input; standard input if there is no name. At most one byte more than
+/// an input may have is read of all of them. `NoFile`: one cannot be opened or read; standard error says which, unless it is
+/// to be quiet. `NoMemory`: there is none for them.
+pub fn files<'a, R: Files + Input + Eprint + AllocGlobal>(
     rt: &R,
     names: &[&'a str],
+    reading: Reading,
 ) -> Result<Vec<SourceFile<'a>>, Absence<'static>> {
     let names = if names.is_empty() {
         &[STANDARD_INPUT]
@@ -46,9 +142,14 @@ pub fn files<'a, R: Files + Input + AllocGlobal>(
     let mut files = Vec::new(rt.alloc());
     let mut limit = MAX_BYTES as u64 + 1;
     for name in names {
-        let bytes = match bytes_of(rt, name, limit) {
+        let found = if *name == STANDARD_INPUT {
+            from_standard_input(rt, limit, reading)
+        } else {
+            from_file(rt, name, limit)
+        };
+        let bytes = match found {
             Ok(bytes) => bytes,
-            Err(error) => return Err(absence(&error)),
+            Err(unread) => return Err(absence(rt, name, &unread, reading.is_quiet)),
         };
         limit = limit.saturating_sub(bytes.len() as u64);
         if files.push(SourceFile { name, bytes }).is_err() {

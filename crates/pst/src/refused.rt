@@ -1,7 +1,16 @@
 //! The messages beside refusals, on standard error.
 
+use pst_cli::{Absence, Status, refuse_text};
 use pst_messages::{Asked, message_of};
+use pst_sink::Out;
 use pst_sources::SourceFile;
+use std::io;
+use std::rt::Runtime;
+
+/// Writes `refused memory` to standard output, and returns the status that the program ends with.
+pub fn memory<R: Runtime>(rt: &R) -> Status {
+    refuse_text(Absence::NoMemory, &mut Out::new(io::writer(rt)))
+}
 
 /// What is read of an input by the word that the program was given: the model alone, its items up to the first that is
 /// refused, or all of them.

@@ -24,9 +24,9 @@ pub fn files<'a>(alloc: Global) -> Arg<'a> {
 
 /// The name of a system behind a word of the program.
 fn system<'a>(alloc: Global) -> Arg<'a> {
-    Arg::new(alloc, "SYSTEM")
-        .required(true)
-        .help("counter, racy, stuck, registry, queue or meet")
+    Arg::new(alloc, "SYSTEM").required(true).help(
+        "a sample system: counter, racy, stuck, registry, queue or meet; or clients whose pipes are in a folder: clients:FOLDER or shared:FOLDER",
+    )
 }
 
 /// A word of the program whose input is a file.
@@ -154,6 +154,7 @@ fn plan_option<'a>(alloc: Global, number: &PlanNumber) -> Arg<'a> {
         .long(number.name)
         .value_name("N")
         .value_parser(ValueParser::Unsigned(number.least, number.most))
+        .allow_negative_numbers(true)
         .default_value(number.default)
         .help(number.help)
 }

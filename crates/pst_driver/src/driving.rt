@@ -116,7 +116,7 @@ fn run_suffix<S: Subject>(
         return Ok(replies);
     }
     let known = so_far.recorded(alloc)?;
-    run_part(alloc, typed, system, suffix, known)
+    run_part(alloc, typed, system, 0, suffix, known)
 }
 
 /// Drives a case that has the shape of the model.
@@ -143,6 +143,7 @@ fn drive<S: Subject, R: Threads + Wait>(
         alloc,
         typed,
         system,
+        0,
         case.prefix.as_slice(),
         Vec::new(alloc),
     )?;

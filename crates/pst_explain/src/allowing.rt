@@ -7,7 +7,7 @@ ghost use Rattle.pst_judge.specs.Verdict.{first_broken};
 use pst_allowed::{AllowedValues, Candidates, allowed, merge_beyond};
 use pst_case::{History, Reply};
 use pst_eval::Callbacks;
-use pst_evidence::{nests_too_deep, wanted_reply, wants_one_reply};
+use pst_evidence::{wanted_reply, wants_one_reply};
 use pst_meaning::Env;
 use pst_reasons::without;
 use pst_scene::{
@@ -19,9 +19,6 @@ use std::alloc::{AllocError, Global};
 
 /// The most allowed values that are shown.
 const MOST: u32 = 8;
-
-/// What stands in place of allowed values that are not searched.
-const TOO_DEEP: &str = "allowed: not searched, since the functions nest too deep";
 
 /// Proposes, for an interleaving, the reply that the postcondition of a command wants there.
 #[derive(Drop)]
@@ -182,19 +179,10 @@ fn has_one_reply(alloc: Global, scene: &Scene<'_>, call: &Call<'_>) -> Result<bo
     }
 }
 
-/// Whether the searches for allowed values, which evaluate the postcondition of a command by recursion, may
-/// exhaust the stack.
-fn is_too_deep(alloc: Global, scene: &Scene<'_>, call: &Call<'_>) -> Result<bool, AllocError> {
-    match operation(scene, call) {
-        Some(operation) => nests_too_deep(alloc, scene.model, &operation.post),
-        None => Ok(false),
-    }
-}
-
 /// Adds to the row of a command of a core what the model allows in place of its answer, in the interleavings in
 /// which the rest of the core is right, and for a postcondition that gives no single reply the part of it that
-/// is false. A line has room for so many bytes. Where the postcondition nests too deep, nothing is searched, and
-/// that is said.
+/// is false. `line` is how many bytes a line has room for. The postcondition is evaluated by recursion: the deepest valid
+/// model takes some tens of MiB of stack.
 pub fn add_allowed<C: Callbacks>(
     row: &mut Vec<Vec<u8>>,
     callbacks: &C,
@@ -210,11 +198,6 @@ pub fn add_allowed<C: Callbacks>(
     requires matches { matches (C.model callbacks.now) scene.now.run.now.shaped.case history.now ≡ true }
     requires answered { first_broken 1 (recorded history.now) ≡ None }
 {
-    if is_too_deep(alloc, scene, call)? {
-        row.push(falsity_without(callbacks, alloc, scene, history, core, call)?)?;
-        row.push(text_of(alloc, TOO_DEEP)?)?;
-        return Ok(());
-    }
     let wanted = Wanted { scene, call };
     let shaped = &scene.run.shaped;
     let number = call.number;

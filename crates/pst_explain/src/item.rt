@@ -82,14 +82,15 @@ fn add_heading(
     place: &str,
     judged: &Judged,
 ) -> Result<(), AllocError> {
-    let out = &mut page.text;
-    add_number(out, alloc, number)?;
-    add(out, " ")?;
+    let mut heading = Vec::new(alloc);
+    add_number(&mut heading, alloc, number)?;
+    add(&mut heading, " ")?;
     let words = judged.text(alloc)?;
-    add(out, words.as_str())?;
-    add(out, " (")?;
-    add(out, place)?;
-    add(out, ")\n")
+    add(&mut heading, words.as_str())?;
+    add(&mut heading, " (")?;
+    add(&mut heading, place)?;
+    add(&mut heading, ")")?;
+    page.add_heading(alloc, heading.as_slice())
 }
 
 /// The explanation of an item of the model, in lines of at most `width` bytes as far as sentences allow: `judged` is its

@@ -24,7 +24,7 @@ mod values;
 use std::env::Env;
 use std::process::ExitCode;
 use std::sync::Wait;
-use std::thread::Threads;
+use std::thread::{Builder, Threads};
 use std::{env, io};
 
 /// The words that the program was started with.
@@ -44,15 +44,27 @@ fn print_all<R: Threads + Wait + Sync + Print + AllocGlobal>(rt: &R) -> io::Resu
     memory::print_calls(rt, rt.alloc())
 }
 
-fn main(rt: HostRuntime) -> io::Result<ExitCode> {
-    let Ok(words) = started_with(&rt) else {
-        return Ok(ExitCode::from(3));
+/// Makes the call that the words name, or prints all, and returns the status.
+fn status<R: Threads + Wait + Sync + Print + Env + AllocGlobal>(rt: &R) -> u8 {
+    let Ok(words) = started_with(rt) else {
+        return 3;
     };
     if let [_, call] = words.as_slice() {
-        let printed = memory::print_call(&rt, rt.alloc(), call.as_str());
-        let had_memory = matches!(printed, Ok(true));
-        return Ok(ExitCode::from(if had_memory { 0 } else { 3 }));
+        let printed = memory::print_call(rt, rt.alloc(), call.as_str());
+        return if matches!(printed, Ok(true)) { 0 } else { 3 };
     }
-    print_all(&rt)?;
-    Ok(ExitCode::SUCCESS)
+    if print_all(rt).is_ok() { 0 } else { 1 }
+}
+
+/// How many bytes of stack the commands run on: the program's own, since explanations evaluate by recursion.
+const STACK_BYTES: usize = 256 << 20;
+
+fn main(rt: HostRuntime) -> ExitCode {
+    let worker = Builder::new()
+        .stack_size(STACK_BYTES)
+        .spawn(&rt, move || -> u8 { status(&rt) });
+    match worker {
+        Ok(worker) => ExitCode::from(worker.join(&rt)),
+        Err(_) => ExitCode::from(3),
+    }
 }

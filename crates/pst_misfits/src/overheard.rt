@@ -45,4 +45,12 @@ impl<S: System> System for Overheard<S> {
         }
         Ok(answer)
     }
+
+    fn call_from(&self, branch: u32, call: &RealCall) -> Result<Value, CallFault> {
+        let answer = self.system.call_from(branch, call)?;
+        if let Some(misfits) = &self.misfits {
+            misfits.note(call, &answer);
+        }
+        Ok(answer)
+    }
 }

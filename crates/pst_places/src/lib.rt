@@ -3,14 +3,16 @@
 //! What stands here serves messages, which are tested and not proved: no contract says which bytes a path leads to.
 #![tactic(auto)]
 
+mod closed;
 mod find;
 mod open;
 mod scan;
 mod shown;
 mod span;
 
-pub use find::span_of;
+pub use closed::closed_item;
+pub use find::{span_in, span_of};
 pub use open::{Unclosed, open_item};
 pub use scan::tree_at;
-pub use shown::{Place, place_of};
+pub use shown::{LineStart, Place, first_line, line_from, place_of, place_on};
 pub use span::Span;

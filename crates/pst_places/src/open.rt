@@ -31,7 +31,7 @@ fn begins_with(bytes: &[u8], word: &str) -> bool {
 
 /// How many nodes an item stands in, by the bytes behind its bracket: an item of a file in none, an item of a
 /// model in one. `None`: it is no item.
-fn level_of(bytes: &[u8]) -> Option<usize> {
+pub(crate) fn level_of(bytes: &[u8]) -> Option<usize> {
     for word in OF_FILES {
         if begins_with(bytes, word) {
             return Some(0);

@@ -22,33 +22,52 @@ pub struct Place {
     pub marks: String,
 }
 
-/// The number of line ends before a place, and the place behind the last of them.
-fn line_of(input: &[u8], start: usize) -> (usize, usize) {
-    let mut count: usize = 0;
-    let mut begin: usize = 0;
-    for at in 0..input.len() {
-        if at >= start {
+/// The beginning of a line.
+#[derive(Clone, Copy, Debug, PartialEq, Eq, Drop)]
+pub struct LineStart {
+    /// The number of the line, from 1.
+    pub line: usize,
+    /// The place of its first byte.
+    pub place: usize,
+}
+
+/// The beginning of the first line.
+pub fn first_line() -> LineStart {
+    LineStart { line: 1, place: 0 }
+}
+
+/// The beginning of the line that a place is in, counted on from an earlier place and the beginning of the line that this
+/// one is in.
+pub fn line_from(input: &[u8], earlier: LineStart, from: usize, place: usize) -> LineStart {
+    let mut found = earlier;
+    for at in from..input.len() {
+        if at >= place {
             break;
         }
         if input[at] == b'\n' {
-            count = count.saturating_add(1);
-            begin = at.saturating_add(1);
+            found = LineStart {
+                line: found.line.saturating_add(1),
+                place: at.saturating_add(1),
+            };
         }
     }
-    (count, begin)
+    found
 }
 
-/// The place of the next line end, or of the `\r` before it, or the end of the input.
+/// The place of the next line end, or of the `\r` before it, or the end of the input. At most two bytes more than are
+/// shown of a line are looked at: where there is no line end among them, the place behind them.
 fn line_end(input: &[u8], from: usize) -> usize {
-    let mut end = input.len();
-    for at in from..input.len() {
-        if input[at] == b'\n' {
+    let most = input.len().min(from.saturating_add(WIDTH + 2));
+    let mut end = most;
+    for at in from..most {
+        if input.get(at) == Some(&b'\n') {
             end = at;
             break;
         }
     }
+    let is_line_end = end == input.len() || input.get(end) == Some(&b'\n');
     let last = end.saturating_sub(1);
-    if last >= from && input.get(last) == Some(&b'\r') {
+    if is_line_end && last >= from && input.get(last) == Some(&b'\r') {
         last
     } else {
         end
@@ -83,18 +102,23 @@ fn push_many(text: &mut String, mark: char, count: usize) -> Result<(), AllocErr
     Ok(())
 }
 
-/// The place of bytes, with their line. Of a line that is longer than 80 bytes a part is shown, with `...` where
+/// The place of bytes, with their line, which begins there. Of a line that is longer than 80 bytes a part is shown, with `...` where
 /// it is cut. What goes on in further lines is underlined to the end of the first.
-pub fn place_of(alloc: Global, input: &[u8], span: Span) -> Result<Place, AllocError> {
-    let (ends, begin) = line_of(input, span.start);
-    let end = line_end(input, begin);
-    let is_long = end.saturating_sub(begin) > WIDTH;
+pub fn place_on(
+    alloc: Global,
+    input: &[u8],
+    line: LineStart,
+    span: Span,
+) -> Result<Place, AllocError> {
+    let begin = line.place;
+    let is_long = line_end(input, begin).saturating_sub(begin) > WIDTH;
     let offset = span.start.saturating_sub(begin);
     let from = if is_long && offset > BEFORE {
         span.start.saturating_sub(BEFORE)
     } else {
         begin
     };
+    let end = line_end(input, from);
     let to = if is_long {
         end.min(from.saturating_add(WIDTH))
     } else {
@@ -114,9 +138,15 @@ pub fn place_of(alloc: Global, input: &[u8], span: Span) -> Result<Place, AllocE
     let last = span.end.min(to);
     push_many(&mut marks, '^', last.saturating_sub(span.start).max(1))?;
     Ok(Place {
-        line: ends.saturating_add(1),
+        line: line.line,
         column: offset.saturating_add(1),
         text,
         marks,
     })
+}
+
+/// The place of bytes, with their line, as `place_on` gives it.
+pub fn place_of(alloc: Global, input: &[u8], span: Span) -> Result<Place, AllocError> {
+    let line = line_from(input, first_line(), 0, span.start);
+    place_on(alloc, input, line, span)
 }

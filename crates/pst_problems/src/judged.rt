@@ -60,19 +60,31 @@ pub fn foreign<D: Display + Drop>(alloc: Global, path: &[usize], word: &str, wha
     }
 }
 
+/// Whether names may have the byte behind their first one.
+fn is_in_names(byte: u8) -> bool {
+    byte.is_ascii_alphanumeric() || byte == b'_' || byte == b'-'
+}
+
 /// Whether a word is a lower-case letter and then letters, digits, `_` and `-`.
 pub fn is_name(word: &Text) -> bool {
     let bytes = word.as_bytes();
     match bytes.first() {
-        Some(first) => {
-            first.is_ascii_lowercase()
-                && bytes.iter().all(|byte| byte.is_ascii_alphanumeric()
-                    || *byte == b'_'
-                    || *byte == b'-')
-        }
+        Some(first) => first.is_ascii_lowercase() && bytes.iter().all(|byte| is_in_names(*byte)),
         None => false,
     }
 }
+
+/// Whether a word would be a name if its first letter were a lower-case one.
+pub fn is_capitalized(word: &str) -> bool {
+    let bytes = word.as_bytes();
+    match bytes.first() {
+        Some(first) => first.is_ascii_uppercase() && bytes.iter().all(|byte| is_in_names(*byte)),
+        None => false,
+    }
+}
+
+/// The hint at a word that is no name since it begins with a capital letter.
+pub const CAPITAL: &str = "hint: names begin with a lower-case letter";
 
 /// What a name stands for already, if it may not be declared.
 fn taken(has_maps: bool, name: &str) -> Option<&'static str> {
@@ -91,6 +103,9 @@ fn taken(has_maps: bool, name: &str) -> Option<&'static str> {
 /// What is wrong with a name that is declared, if something is.
 pub fn declared(alloc: Global, has_maps: bool, path: &[usize], word: &Text) -> Judged {
     let name = word.as_str();
+    if is_capitalized(name) {
+        return noted(alloc, path, format_args!("`{name}` is no name"), CAPITAL);
+    }
     if !is_name(word) {
         return noted(
             alloc,

@@ -1,6 +1,6 @@
 //! Names of operations and functions that a model does not have.
 
-use crate::judged::{Judged, with_note, wrong};
+use crate::judged::{CAPITAL, Judged, is_capitalized, with_note, wrong};
 use crate::names::{add, nearest};
 use crate::writing::Listed;
 use pst_items::{Items, Text};
@@ -54,6 +54,9 @@ pub fn unknown_among(
     let found = wrong(alloc, path, format_args!("no {kind} has the name `{name}`"))?;
     if let Some(hint) = nearest(alloc, &known, name)? {
         return with_note(alloc, found, hint);
+    }
+    if is_capitalized(name) {
+        return with_note(alloc, found, CAPITAL);
     }
     if known.is_empty() {
         return Ok(found);

@@ -11,11 +11,13 @@ use std::thread::Threads;
 use std::{fs, io};
 
 /// The files: models and files of items.
-const ALONE: [&str; 12] = [
+const ALONE: [&str; 14] = [
     "cache.model",
     "counter.model",
     "counter.runs",
     "division.runs",
+    "double.runs",
+    "lost.runs",
     "queue.model",
     "reads.runs",
     "registry.model",

@@ -60,25 +60,44 @@ impl Page {
         Ok(indent.saturating_add(word.len()).max(1))
     }
 
-    /// Adds a sentence that stands in by so many spaces, with a new line before each word that does not fit.
-    pub fn add_sentence(
+    /// Adds the words of a sentence, with a new line before each that does not fit. The first line is indented by `first`
+    /// spaces and the others by `later`.
+    fn add_words(
         &mut self,
         alloc: Global,
-        indent: usize,
+        first: usize,
+        later: usize,
         sentence: &[u8],
     ) -> Result<(), AllocError> {
         let mut column = 0usize;
         let mut word = Vec::new(alloc);
         for byte in sentence {
             if *byte == b' ' {
+                let indent = if column == 0 { first } else { later };
                 column = self.add_word(indent, column, word.as_slice())?;
                 word.clear();
             } else {
                 word.push(*byte)?;
             }
         }
+        let indent = if column == 0 { first } else { later };
         self.add_word(indent, column, word.as_slice())?;
         self.text.push(b'\n')?;
         Ok(())
+    }
+
+    /// Adds a sentence that is indented by `indent` spaces, with a new line before each word that does not fit.
+    pub fn add_sentence(
+        &mut self,
+        alloc: Global,
+        indent: usize,
+        sentence: &[u8],
+    ) -> Result<(), AllocError> {
+        self.add_words(alloc, indent, indent, sentence)
+    }
+
+    /// Adds a heading, whose lines after the first are indented by two spaces.
+    pub fn add_heading(&mut self, alloc: Global, heading: &[u8]) -> Result<(), AllocError> {
+        self.add_words(alloc, 0, 2, heading)
     }
 }

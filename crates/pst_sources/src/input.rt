@@ -3,7 +3,7 @@
 //! What stands here serves messages, which are tested and not proved.
 
 use crate::files::{FilePlace, SourceFile, locate};
-use pst_places::{Span, place_of};
+use pst_places::{LineStart, Span, first_line, line_from, place_of, place_on};
 use std::alloc::{AllocError, Global};
 
 /// An input: its files, and their text, as `joined` gives it.
@@ -18,6 +18,8 @@ pub struct Input<'a> {
 /// Bytes of a file of an input.
 #[derive(Clone, Copy, Drop)]
 pub struct FilePart<'a> {
+    /// The number of the file, from 0.
+    pub number: usize,
     /// The name of the file.
     pub name: &'a str,
     /// All bytes of the file.
@@ -26,14 +28,48 @@ pub struct FilePart<'a> {
     pub span: Span,
 }
 
+/// The line of the last message on an input.
+#[derive(Clone, Copy, Debug, PartialEq, Eq, Drop)]
+pub struct LastLine {
+    /// The number of its file, from 0.
+    file: usize,
+    /// The place of the message in the file.
+    place: usize,
+    /// Where its line begins in the file.
+    line: LineStart,
+}
+
+impl LastLine {
+    /// The line before the first message.
+    pub fn none() -> LastLine {
+        LastLine {
+            file: 0,
+            place: 0,
+            line: first_line(),
+        }
+    }
+
+    /// The line of a part, counted on from the last one where this comes before it in the same file.
+    fn line_of(&self, part: &FilePart<'_>) -> LineStart {
+        let place = part.span.start;
+        if self.file == part.number && self.place <= place {
+            line_from(part.bytes, self.line, self.place, place)
+        } else {
+            line_from(part.bytes, first_line(), 0, place)
+        }
+    }
+}
+
 impl<'a> Input<'a> {
     /// The file that bytes of the input begin in, and the bytes in it.
     pub fn part_at(&self, span: Span) -> FilePart<'a> {
         if let Some(FilePlace { file, place }) = locate(self.files, span.start) {
-            if let Some(file) = self.files.get(file) {
+            let number = file;
+            if let Some(file) = self.files.get(number) {
                 let length = span.end.saturating_sub(span.start);
                 let end = place.saturating_add(length);
                 return FilePart {
+                    number,
                     name: file.name,
                     bytes: file.bytes.as_slice(),
                     span: Span { start: place, end },
@@ -41,6 +77,7 @@ impl<'a> Input<'a> {
             }
         }
         FilePart {
+            number: 0,
             name: "-",
             bytes: self.bytes,
             span,
@@ -71,8 +108,27 @@ impl<'a> Input<'a> {
         what: &str,
         notes: &[String],
     ) -> Result<String, AllocError> {
+        self.next_message(alloc, &mut LastLine::none(), span, what, notes)
+    }
+
+    /// A message, as `message` writes it, where others are written before it. Lines are counted on from that of the last
+    /// one, so messages in the order of their places take one pass over the input.
+    pub fn next_message(
+        &self,
+        alloc: Global,
+        last: &mut LastLine,
+        span: Span,
+        what: &str,
+        notes: &[String],
+    ) -> Result<String, AllocError> {
         let part = self.part_at(span);
-        let place = place_of(alloc, part.bytes, part.span)?;
+        let line = last.line_of(&part);
+        *last = LastLine {
+            file: part.number,
+            place: part.span.start,
+            line,
+        };
+        let place = place_on(alloc, part.bytes, line, part.span)?;
         let file = part.name;
         let line = place.line;
         let column = place.column;

@@ -6,5 +6,5 @@ mod input;
 mod laws;
 
 pub use files::{FilePlace, SourceFile, joined, locate};
-pub use input::{FilePart, Input};
+pub use input::{FilePart, Input, LastLine};
 pub use laws::starts;

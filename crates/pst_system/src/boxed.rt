@@ -9,11 +9,11 @@ use pst_value::Value;
 /// A boxed system, made by the program or by a test.
 pub type BoxedSystem = Box<dyn System + Send + Sync>;
 
-/// Makes a call of the system in a box: its answer, or why there is none.
-pub fn call_box(system: &BoxedSystem, call: &RealCall) -> Result<Value, CallFault>
+/// Makes a call of the boxed system from `branch`: its answer, or why there is none.
+pub fn call_box(system: &BoxedSystem, branch: u32, call: &RealCall) -> Result<Value, CallFault>
     ensures { MatchResult result (λ v. answers system.now call.now v) (λ f. fails system.now call.now f) }
 {
-    system.call(call)
+    system.call_from(branch, call)
 }
 
 /// Takes the system in a box back to its opening state. The three relations stay.

@@ -32,4 +32,14 @@ pub trait System: Drop + Send + Sync {
     /// Makes a call: its answer, or why there is none.
     fn call(&self, call: &RealCall) -> Result<Value, CallFault>
         ensures { MatchResult result (λ v. answers self.now call.now v) (λ f. fails self.now call.now f) };
+
+    /// Makes a call from `branch`. Branches count from 0, and the calls of prefix and suffix come from branch 0.
+    ///
+    /// A system that keeps something for each branch, such as a connection, implements this. The answers and the
+    /// faults are those of `call`.
+    fn call_from(&self, _branch: u32, call: &RealCall) -> Result<Value, CallFault>
+        ensures { MatchResult result (λ v. answers self.now call.now v) (λ f. fails self.now call.now f) }
+    {
+        self.call(call)
+    }
 }

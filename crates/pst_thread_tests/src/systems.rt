@@ -27,7 +27,7 @@ fn answers(
     let mut text = String::new(alloc);
     for (name, numbers) in calls {
         let call = call_of(alloc, name, numbers)?;
-        let answer = call_box(system, &call);
+        let answer = call_box(system, 0, &call);
         write!(&mut text, " {answer:?}")?;
     }
     Ok(text)

@@ -1,0 +1,84 @@
+//! The arguments of the program: their words, help, and what is wrong with them.
+
+use crate::{refused, words};
+use clap::error::ErrorKind;
+use clap::{ArgMatches, Error};
+use pst_cli::Status;
+use std::alloc::AllocError;
+use std::rt::Runtime;
+use std::{env, io};
+
+/// A tip that is no help here: no file or system of a user has a name like an option's.
+fn is_no_tip(line: &str) -> bool {
+    line.starts_with("  tip: to pass '")
+}
+
+/// What is wrong with the arguments, without tips that are no help.
+fn text_of<R: AllocGlobal>(rt: &R, error: &Error) -> Result<String, AllocError> {
+    let alloc = rt.alloc();
+    let whole = format!(in alloc; "{error}")?;
+    let mut text = String::new(alloc);
+    let mut was_empty = false;
+    for line in whole.as_str().lines() {
+        let is_left_out = is_no_tip(line) || line.is_empty() && was_empty;
+        if !is_left_out {
+            text.push_str(line)?;
+            text.push_str("\n")?;
+            was_empty = line.is_empty();
+        }
+    }
+    Ok(text)
+}
+
+/// Prints help on standard output, or what is wrong with the arguments on standard error, and returns the status that the
+/// program ends with.
+fn report<R: Runtime + AllocGlobal>(rt: &R, error: &Error) -> Status {
+    if error.kind() == ErrorKind::OutOfMemory {
+        return refused::memory(rt);
+    }
+    if !error.use_stderr() {
+        return match error.print(rt) {
+            Ok(()) => Status::Accepted,
+            Err(_) => Status::Lost,
+        };
+    }
+    let Ok(text) = text_of(rt, error) else {
+        return refused::memory(rt);
+    };
+    match eprint!(rt; "{text}") {
+        Ok(()) => Status::Refused,
+        Err(_) => Status::Lost,
+    }
+}
+
+/// The arguments of the program, parsed. If they cannot be had or are wrong, the status that the program ends with.
+pub fn parsed<'a, R: Runtime + AllocGlobal>(
+    rt: &R,
+    started: &'a [String],
+) -> Result<ArgMatches<'a>, Status> {
+    let Ok(command) = words::command(rt.alloc()) else {
+        return Err(refused::memory(rt));
+    };
+    match command.try_get_matches_from(started) {
+        Ok(matches) => Ok(matches),
+        Err(error) => Err(report(rt, &error)),
+    }
+}
+
+/// The words that the program was started with. If they cannot be had, the status that the program ends with.
+pub fn started_with<R: Runtime + AllocGlobal>(rt: &R) -> Result<Vec<String>, Status> {
+    let words = match env::args(rt) {
+        Ok(words) => words,
+        Err(error) if error.kind() == io::ErrorKind::OutOfMemory => return Err(refused::memory(rt)),
+        Err(_) => {
+            return match eprintln!(rt; "error: an argument is not UTF-8") {
+                Ok(()) => Err(Status::Refused),
+                Err(_) => Err(Status::Lost),
+            };
+        }
+    };
+    match words.collect(rt.alloc()) {
+        Ok(words) => Ok(words),
+        Err(_) => Err(refused::memory(rt)),
+    }
+}

@@ -1,0 +1,66 @@
+//! Clients that a campaign or a run calls in place of a known system.
+
+use crate::systems::Unmade;
+use clap::ArgMatches;
+use pst_clients::{Clients, Folder, Notes, open_clients, result_types};
+use pst_items::Items;
+use pst_load::load;
+use pst_value::Ty;
+use std::alloc::{AllocError, Global};
+use std::io::{BufReader, ErrorKind};
+use std::rt::Files;
+use std::sync::{Arc, Wait};
+
+/// The notes of all clients, which their boxes and the program share.
+pub type Shared = Arc<Notes, Global>;
+
+/// A place for notes.
+pub fn notes(alloc: Global) -> Result<Shared, AllocError> {
+    Ok(Arc::new(alloc, Notes::new(alloc)?)?)
+}
+
+/// The result types of the operations of the model that the input begins with: none if it cannot be loaded, which is
+/// refused before anything is called.
+fn types_in(alloc: Global, input: &[u8]) -> Result<Items<Ty>, AllocError> {
+    match load(alloc, input)? {
+        Ok(file) => result_types(alloc, file.typed.source().items.as_slice()),
+        Err(_) => Ok(Items::new(alloc)),
+    }
+}
+
+/// The clients of worker number `worker`, from 0, whose pipes are in a folder. They answer calls of the model that the
+/// input begins with. If the pipes cannot be opened, standard error says why.
+pub fn open<H: Wait + Drop, R: Files + Eprint + AllocGlobal>(
+    handle: H,
+    rt: &R,
+    folder: Folder<'_>,
+    worker: u64,
+    input: &[u8],
+    notes: &Shared,
+) -> Result<Clients<H, BufReader<R::File>, R::File>, Unmade> {
+    let (Ok(types), Ok(notes)) = (types_in(rt.alloc(), input), Arc::try_clone(notes)) else {
+        return Err(Unmade::NoMemory);
+    };
+    match open_clients(handle, rt, folder, worker, types, notes) {
+        Ok(clients) => Ok(clients),
+        Err(error) if error.kind() == ErrorKind::OutOfMemory => Err(Unmade::NoMemory),
+        Err(error) => {
+            let name = folder.name;
+            let _ = eprintln!(rt; "pst: cannot open the pipes of clients in {name}: {error}");
+            Err(Unmade::NoSystem)
+        }
+    }
+}
+
+/// Writes what went wrong with clients to standard error, unless the words forbid it.
+pub fn report<R: Eprint>(rt: &R, matches: &ArgMatches<'_>, notes: &Notes) {
+    let Some((_, words)) = matches.subcommand() else {
+        return;
+    };
+    if words.get_flag("quiet") {
+        return;
+    }
+    if let Ok(text) = notes.text() {
+        let _ = eprint!(rt; "{text}");
+    }
+}

@@ -1,0 +1,108 @@
+//! The systems that the words ask for.
+
+ghost use Rattle.std.specs.Prelude.{◌≡◌, false};
+
+use crate::input;
+use clap::ArgMatches;
+use pst_cli::{Absence, KnownSystem, Status, refuse_text};
+use pst_clients::Folder;
+use pst_problems::NearestName;
+use pst_sink::Sink;
+use std::alloc::AllocError;
+use std::rt::Files;
+
+/// The systems that the program makes.
+pub const SYSTEMS: [&str; 6] = ["counter", "racy", "stuck", "registry", "queue", "meet"];
+
+/// The systems that the words ask for, each for a worker.
+#[derive(Clone, Copy, Debug, PartialEq, Eq, Drop)]
+pub enum Wanted<'a> {
+    /// Sample systems that the program makes.
+    Known(KnownSystem),
+    /// Clients, whose pipes are in a folder.
+    Clients(Folder<'a>),
+}
+
+/// Why a system was not made.
+#[derive(Clone, Copy, Debug, PartialEq, Eq, Drop)]
+pub enum Unmade {
+    /// There is none of the name that the words give.
+    NoSystem,
+    /// There is no memory for it.
+    NoMemory,
+}
+
+/// The systems of a name, if there are some.
+fn named(name: &str) -> Option<Wanted<'_>> {
+    if let Some(folder) = Folder::named(name) {
+        return Some(Wanted::Clients(folder));
+    }
+    Some(Wanted::Known(KnownSystem::named(name)?))
+}
+
+/// The systems that the words ask for, and how many.
+pub fn asked_for<'a>(matches: &ArgMatches<'a>) -> Option<(Wanted<'a>, u64)> {
+    let (word, words) = matches.subcommand()?;
+    let wanted = named(words.get_str("SYSTEM")?)?;
+    match word {
+        "campaign" => Some((wanted, words.get_one("workers")?)),
+        _ => Some((wanted, 1)),
+    }
+}
+
+/// The name of a system that the words give, if there is none of that name.
+pub fn unknown<'a>(matches: &ArgMatches<'a>) -> Option<&'a str> {
+    let (_, words) = matches.subcommand()?;
+    let name = words.get_str("SYSTEM")?;
+    if named(name).is_some() {
+        None
+    } else {
+        Some(name)
+    }
+}
+
+/// What to do about a name that no system has: what a file of that name needs, or the nearest name.
+fn hint<R: Files + AllocGlobal>(rt: &R, name: &str) -> Result<Option<String>, AllocError> {
+    let alloc = rt.alloc();
+    if input::can_be_opened(rt, name) {
+        let hint = format!(in alloc;
+            "hint: `{name}` is a file: name a system before it, as in `counter {name}`"
+        )?;
+        return Ok(Some(hint));
+    }
+    let mut near = NearestName::to(name);
+    for known in SYSTEMS {
+        near = near.or(alloc, known, name)?;
+    }
+    match near.hint() {
+        Some(hint) => Ok(Some(format!(in alloc; "{hint}")?)),
+        None => Ok(None),
+    }
+}
+
+/// Writes `refused system NAME`, or `refused file` if one of the files cannot be opened. Beside it standard error has the
+/// systems that there are, unless it is to be quiet. Nothing is read.
+pub fn refuse<W: Sink, R: Files + Eprint + AllocGlobal>(
+    rt: &R,
+    name: &str,
+    files: &[&str],
+    is_quiet: bool,
+    out: &mut W,
+) -> Status
+    requires { W.broken out.old ≡ false }
+{
+    if let Err(why) = input::try_to_open(rt, files, is_quiet) {
+        return refuse_text(why, out);
+    }
+    let status = refuse_text(Absence::NoSystem(name), out);
+    if is_quiet {
+        return status;
+    }
+    let _ = eprintln!(rt;
+        "pst: there is no system `{name}`: the systems are counter, racy, stuck, registry, queue and meet"
+    );
+    if let Ok(Some(hint)) = hint(rt, name) {
+        let _ = eprintln!(rt; "  {hint}");
+    }
+    status
+}

@@ -1,0 +1,6 @@
+mod Levels
+mod OneLine
+mod Reading
+mod Wanted
+mod Writing
+pub mod Sent

@@ -1,0 +1,223 @@
+//! The system of clients.
+ghost use Rattle.std.specs.Prelude.{◌≡◌, ⊤, IfOk};
+ghost use Rattle.pst_clients.specs.Answering.{Answered};
+
+use crate::answers::{Answer, answer_of};
+use crate::calls::call_line;
+use crate::connection::{Connection, LostAnswer, State};
+use crate::notes::{Client, Kind, Notes};
+use pst_items::Items;
+use pst_system::{CallFault, RealCall, System};
+use pst_value::{Ty, Value};
+use std::alloc::{AllocError, Global};
+use std::io::{Read, Write};
+use std::sync::{Arc, Mutex, Wait};
+
+/// The line that asks a client to take the system to its initial state.
+const RESET: &str = "[\"reset\"]\n";
+
+/// The clients of one worker, one for each branch.
+///
+/// Each call of a branch is a line to the branch's client, and its answer is the value that the next line of that client
+/// spells. Nothing is known of a client but its lines.
+#[derive(Drop)]
+pub struct Clients<R: Wait, I: Read, O: Write> {
+    rt: R,
+    alloc: Global,
+    /// The number of the worker, from 0.
+    worker: u64,
+    /// Whether one process has all the clients, so that they end together.
+    is_shared: bool,
+    /// The result types of the operations.
+    results: Items<Ty>,
+    connections: Vec<Mutex<Connection<I, O>>>,
+    notes: Arc<Notes, Global>,
+}
+
+/// Whether some client is in a state.
+fn has_any<I: Read, O: Write>(
+    connections: &mut Vec<Mutex<Connection<I, O>>>,
+    state: State,
+) -> bool {
+    for connection in connections {
+        if connection.get_mut().state() == state {
+            return true;
+        }
+    }
+    false
+}
+
+/// Has the clients started again that are known to have ended. If one process has them all, that waits until all are known
+/// to have ended, and cannot be once a pipe is closed.
+fn revive<I: Read, O: Write>(connections: &mut Vec<Mutex<Connection<I, O>>>, is_shared: bool) {
+    if !has_any(connections, State::Ended) || is_shared && has_any(connections, State::Closed) {
+        return;
+    }
+    for connection in &mut *connections {
+        let connection = connection.get_mut();
+        if is_shared {
+            connection.await_end();
+        }
+        connection.ask_revival();
+    }
+    for connection in connections {
+        connection.get_mut().await_revival();
+    }
+}
+
+impl<R: Wait, I: Read + Drop, O: Write + Drop> Clients<R, I, O> {
+    /// No clients. A value is answered only as some line spells it at its type in `results`.
+    pub fn new(
+        rt: R,
+        alloc: Global,
+        worker: u64,
+        is_shared: bool,
+        results: Items<Ty>,
+        notes: Arc<Notes, Global>,
+    ) -> Clients<R, I, O>
+        ensures { result.results ≡ results }
+    {
+        Clients {
+            rt,
+            alloc,
+            worker,
+            is_shared,
+            results,
+            connections: Vec::new(alloc),
+            notes,
+        }
+    }
+
+    /// Adds the client of the next branch.
+    pub fn add(&mut self, connection: Connection<I, O>) -> Result<(), AllocError>
+        ensures { self.new.results ≡ self.old.results }
+    {
+        self.connections.push(Mutex::new(connection))?;
+        Ok(())
+    }
+
+    /// Notes what went wrong with a line that a branch's client was asked.
+    fn note(&self, kind: Kind, branch: u32, line: &[u8], answer: &str) {
+        let client = Client {
+            worker: self.worker,
+            branch,
+        };
+        self.notes.note(kind, client, line, answer)
+    }
+
+    /// Notes why a line was not answered.
+    fn note_lost(&self, branch: u32, line: &[u8], lost: &LostAnswer) {
+        let (kind, why) = match lost {
+            LostAnswer::NoClient => (Kind::NotAsked, "this branch has no client (--branches)"),
+            LostAnswer::Ended(how) => (Kind::NotAnswered, how.as_str()),
+            LostAnswer::Closed => (Kind::NotAnswered, "the client has gone"),
+            LostAnswer::TooLong => (Kind::NotAnswered, "the line is longer than 1 MiB"),
+            LostAnswer::NoText => (Kind::NoValue, "no UTF-8"),
+            LostAnswer::NoMemory => return,
+        };
+        self.note(kind, branch, line, why)
+    }
+
+    /// The line with which a branch's client answers a line.
+    fn ask_client(&self, branch: u32, line: &[u8]) -> Result<String, LostAnswer> {
+        match self.connections.get(branch as usize) {
+            Some(connection) => connection.lock(&self.rt).ask(line),
+            None => Err(LostAnswer::NoClient),
+        }
+    }
+
+    /// The line with which a branch's client answers a line. If there is none, it notes why.
+    fn ask(&self, branch: u32, line: &[u8]) -> Result<String, CallFault> {
+        match self.ask_client(branch, line) {
+            Ok(answer) => Ok(answer),
+            Err(LostAnswer::NoMemory) => Err(CallFault::NoMemory),
+            Err(lost) => {
+                self.note_lost(branch, line, &lost);
+                Err(CallFault::Refused)
+            }
+        }
+    }
+
+    /// Asks a branch's client for a reset, once more if it had to be started again.
+    fn reset_client(&mut self, branch: u32) -> Result<(), CallFault>
+        ensures { self.new.results ≡ self.old.results }
+    {
+        let line = RESET.as_bytes();
+        let answer = match self.ask_client(branch, line) {
+            Ok(answer) => answer,
+            Err(_) => {
+                revive(&mut self.connections, self.is_shared);
+                self.ask(branch, line)?
+            }
+        };
+        if answer.as_bytes().starts_with(b"failed") {
+            self.note(Kind::Failed, branch, line, answer.as_str());
+            return Err(CallFault::Refused);
+        }
+        Ok(())
+    }
+
+    /// Notes an answer that has not the result type of its operation.
+    fn note_misfit(&self, branch: u32, line: &[u8], text: &str, value: &Value, ty: Option<&Ty>) {
+        if let Some(ty) = ty {
+            if !value.has_type(ty, &[], &[]) {
+                self.note(Kind::Misfit, branch, line, text)
+            }
+        }
+    }
+
+    /// What a branch's client answers to a call.
+    fn answer(&self, branch: u32, call: &RealCall) -> Result<Value, CallFault>
+        ensures { IfOk result (λ v. Answered self.now.results call.now v) }
+    {
+        let Ok(line) = call_line(self.alloc, call) else {
+            return Err(CallFault::NoMemory);
+        };
+        let text = self.ask(branch, line.as_slice())?;
+        let (line, text) = (line.as_slice(), text.as_str());
+        let ty = self.results.get(call.op as usize);
+        match answer_of(self.alloc, ty, text) {
+            Ok(Answer::Value(value)) => {
+                self.note_misfit(branch, line, text, &value, ty);
+                Ok(value)
+            }
+            Ok(Answer::Failed) => {
+                self.note(Kind::Failed, branch, line, text);
+                Err(CallFault::Refused)
+            }
+            Ok(Answer::NoValue) => {
+                self.note(Kind::NoValue, branch, line, text);
+                Err(CallFault::Refused)
+            }
+            Err(AllocError) => Err(CallFault::NoMemory),
+        }
+    }
+}
+
+impl<R: Wait + Drop + Send + Sync, I: Read + Drop + Send, O: Write + Drop + Send> System
+    for Clients<R, I, O> {
+    ghost answers = { λ s c v. Answered s.results c v };
+
+    ghost fails = { λ _ _ _. ⊤ };
+
+    ghost reset_fails = { λ _ _. ⊤ };
+
+    /// Has clients that ended started again, and then asks each client in turn.
+    fn reset(&mut self) -> Result<(), CallFault> {
+        revive(&mut self.connections, self.is_shared);
+        let mut branch = 0u32;
+        for _ in 0..self.connections.len() {
+            self.reset_client(branch)?;
+            branch = branch.saturating_add(1);
+        }
+        Ok(())
+    }
+
+    fn call(&self, call: &RealCall) -> Result<Value, CallFault> {
+        self.answer(0, call)
+    }
+
+    fn call_from(&self, branch: u32, call: &RealCall) -> Result<Value, CallFault> {
+        self.answer(branch, call)
+    }
+}

@@ -1,0 +1,20 @@
+//! A system of clients: programs in any language, each of which reads a call a line and prints an answer a line.
+//!
+//! Nothing here starts a client. Each is at the other end of two pipes, which a launcher has made.
+#![tactic(auto)]
+
+mod answers;
+mod calls;
+mod clients;
+mod connection;
+mod notes;
+mod opening;
+mod types;
+
+pub use answers::{Answer, answer_of};
+pub use calls::call_line;
+pub use clients::Clients;
+pub use connection::{Connection, LostAnswer, MAX_LINE, State};
+pub use notes::{MOST_NOTES, Notes};
+pub use opening::{Folder, open_clients};
+pub use types::result_types;

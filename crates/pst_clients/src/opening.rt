@@ -1,0 +1,73 @@
+//! Clients behind named pipes.
+
+use crate::clients::Clients;
+use crate::connection::Connection;
+use crate::notes::Notes;
+use pst_items::Items;
+use pst_value::Ty;
+use std::alloc::Global;
+use std::fs::OpenOptions;
+use std::io::{self, BufReader};
+use std::rt::Files;
+use std::sync::{Arc, Wait};
+
+/// A folder with the pipes of clients.
+#[derive(Clone, Copy, Debug, PartialEq, Eq, Drop)]
+pub struct Folder<'a> {
+    pub name: &'a str,
+    /// Whether one process has all the clients of a worker.
+    pub is_shared: bool,
+}
+
+impl<'a> Folder<'a> {
+    /// The folder that a word such as `clients:FOLDER` or `shared:FOLDER` names.
+    pub fn named(word: &'a str) -> Option<Folder<'a>> {
+        if let Some(name) = word.strip_prefix("clients:") {
+            return Some(Folder {
+                name,
+                is_shared: false,
+            });
+        }
+        let name = word.strip_prefix("shared:")?;
+        Some(Folder {
+            name,
+            is_shared: true,
+        })
+    }
+}
+
+/// The client whose pipes are the files `WORKER-BRANCH.calls` and `WORKER-BRANCH.answers` in a folder, counted from 1.
+fn open_client<R: Files + AllocGlobal>(
+    rt: &R,
+    folder: &str,
+    worker: u64,
+    branch: u32,
+) -> io::Result<Connection<BufReader<R::File>, R::File>> {
+    let alloc = rt.alloc();
+    let calls = format!(in alloc; "{folder}/{worker}-{branch}.calls")?;
+    let answers = format!(in alloc; "{folder}/{worker}-{branch}.answers")?;
+    let calls = OpenOptions::new().write(true).open(rt, calls.as_str())?;
+    let answers = std::fs::open(rt, answers.as_str())?;
+    Ok(Connection::new(alloc, BufReader::new(alloc, answers)?, calls))
+}
+
+/// The clients of worker number `worker`, one for each branch from the first on for which a folder has pipes. `results`
+/// has the result types of the operations.
+pub fn open_clients<H: Wait + Drop, R: Files + AllocGlobal>(
+    handle: H,
+    rt: &R,
+    folder: Folder<'_>,
+    worker: u64,
+    results: Items<Ty>,
+    notes: Arc<Notes, Global>,
+) -> io::Result<Clients<H, BufReader<R::File>, R::File>> {
+    let mut clients = Clients::new(handle, rt.alloc(), worker, folder.is_shared, results, notes);
+    for branch in 1..=u32::MAX {
+        match open_client(rt, folder.name, worker.saturating_add(1), branch) {
+            Ok(client) => clients.add(client)?,
+            Err(error) if branch > 1 && error.kind() == io::ErrorKind::NotFound => break,
+            Err(error) => return Err(error),
+        }
+    }
+    Ok(clients)
+}

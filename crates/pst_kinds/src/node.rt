@@ -1,0 +1,15 @@
+use pst_items::Items;
+use pst_value::KeyTy;
+
+/// One form of a type, whose parts are numbers of nodes.
+#[derive(Debug, PartialEq, Eq, Hash, Drop)]
+pub enum Node {
+    Int,
+    Bool,
+    Text,
+    Tuple(Items<usize>),
+    List(usize),
+    Map(KeyTy, usize),
+    Ref(usize),
+    Call,
+}

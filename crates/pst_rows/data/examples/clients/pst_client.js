@@ -1,0 +1,63 @@
+// Tests an object whose async functions run at once: other calls go on wherever one waits.
+//
+// `check` is for node:test. `serve` makes a client for `pst campaign --shared --client`.
+const { execFile, execFileSync } = require("child_process");
+const fs = require("fs");
+const net = require("net");
+const os = require("os");
+const path = require("path");
+const readline = require("readline");
+
+// The line that answers a call.
+async function answerTo(line, system) {
+  const [name, ...args] = JSON.parse(line);
+  try {
+    return JSON.stringify((await system[name](...args)) ?? null);
+  } catch (error) {
+    return `failed: ${String(error).replace(/\n/g, " ")}`;
+  }
+}
+
+// Answers the lines of all branches. Branch 1 makes a new system at each reset.
+function answerBranches(pipes, branches, makeSystem) {
+  let system;
+  const sockets = [];
+  for (let branch = 1; branch <= branches; branch++) {
+    const open = (end) => {
+      const fd = fs.openSync(`${pipes}-${branch}.${end}`, fs.constants.O_RDWR | fs.constants.O_NONBLOCK);
+      sockets.push(new net.Socket({ fd, readable: end === "calls", writable: end === "answers" }));
+      return sockets.at(-1);
+    };
+    const answers = open("answers");
+    readline.createInterface({ input: open("calls") }).on("line", async (line) => {
+      if (line !== '["reset"]') return answers.write(`${await answerTo(line, system)}\n`);
+      if (branch === 1) system = makeSystem();
+      answers.write("true\n");
+    });
+  }
+  return sockets;
+}
+
+// Answers the calls of all branches on systems of this process.
+function serve(makeSystem) {
+  answerBranches(process.env.PST_PIPES, Number(process.env.PST_BRANCHES), makeSystem);
+}
+
+// Runs a campaign of two branches on systems of this process, and rejects with the smallest run that the model cannot explain, if there is any.
+// `makeSystem` makes an object whose functions have the names of the operations. `options` are words of `pst campaign`, as in ["--seed", "7"].
+// The variable PST names the program, if it is not `pst` on the path.
+function check(model, makeSystem, options = []) {
+  const folder = fs.mkdtempSync(path.join(os.tmpdir(), "pst-"));
+  execFileSync("mkfifo", ["1-1.calls", "1-1.answers", "1-2.calls", "1-2.answers"], { cwd: folder });
+  const sockets = answerBranches(path.join(folder, "1"), 2, makeSystem);
+  const words = ["campaign", `shared:${folder}`, model, "--workers", "1", ...options];
+  return new Promise((resolve, reject) => {
+    execFile(process.env.PST ?? "pst", words, (error, report, explanation) => {
+      sockets.forEach((socket) => socket.destroy());
+      fs.rmSync(folder, { recursive: true });
+      error ? reject(new Error(report ? `${explanation}\n${report}` : `${error.message}${explanation}`)) : resolve(report);
+    });
+  });
+}
+
+module.exports = { check, serve };

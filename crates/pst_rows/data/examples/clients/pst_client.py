@@ -1,0 +1,95 @@
+"""Tests a Python object whose methods several threads call at once.
+
+`check` is for the tests of pytest and unittest. `serve` makes a client for `pst campaign --shared --client`.
+"""
+import json, os, pathlib, random, shutil, subprocess, sys, tempfile, threading, time, traceback
+
+
+def yields(frame, event, arg):
+    """Lets another thread run between two lines of the system, every other time. Without it Python's lock hides most races."""
+    if random.random() < 0.5:
+        time.sleep(0)
+    return yields
+
+
+def answer_to(line, call):
+    """Returns the line that answers a call, which `call(name, arguments)` makes."""
+    name, *arguments = json.loads(line)
+    try:
+        sys.settrace(yields)
+        answer = call(name, arguments)
+        sys.settrace(None)
+        return json.dumps(answer)
+    except Exception as error:
+        sys.settrace(None)
+        return f"failed: {error!r}".replace("\n", " ")
+
+
+class Systems:
+    """The systems of one worker, one after another: each reset of branch 1 makes a new one."""
+
+    def __init__(self, make_system):
+        self.make_system = make_system
+        self.system = None
+
+    def answer_branch(self, pipes, number):
+        """Answers the lines of a branch until they end."""
+        def call(name, arguments):
+            if name != "reset":
+                return getattr(self.system, name.replace("-", "_"))(*arguments)
+            if number == 1:
+                self.system = self.make_system()
+            return True
+
+        with open(f"{pipes}-{number}.calls") as asked, open(f"{pipes}-{number}.answers", "w") as answers:
+            for line in asked:
+                print(answer_to(line, call), file=answers, flush=True)
+
+    def start(self, pipes, branches):
+        """Starts a thread for each branch, and returns the threads."""
+        threads = [threading.Thread(target=self.answer_branch, args=(pipes, number), daemon=True) for number in range(1, branches + 1)]
+        for thread in threads:
+            thread.start()
+        return threads
+
+
+def serve(make_system):
+    """Answers the calls of all branches on systems of this process, as `make_system` makes them for `check`."""
+    for thread in Systems(make_system).start(os.environ["PST_PIPES"], int(os.environ["PST_BRANCHES"])):
+        thread.join()
+
+
+def check(model, make_system, trials=200, branches=2, limit=200, timeout=None, **options):
+    """Runs a campaign on systems of this process, and raises an AssertionError that explains its smallest failure, if it has any.
+
+    `model` is the file of the model. `make_system` takes no arguments and returns a system in the initial state of the model: an object that
+    has a method for each operation. Other arguments are options of `pst campaign`, as in `seed=7, repeats=20`. The test fails too if the
+    campaign takes more than `timeout` seconds, as when a call hangs.
+    """
+    program = os.environ.get("PST") or shutil.which("pst") or str(pathlib.Path(__file__).resolve().parents[5] / "pst")
+    words = [program, "campaign", None, str(model), "--workers", "1", "--branches", str(branches)]
+    options.update(trials=trials, limit=limit)
+    words += [word for name, value in options.items() for word in (f"--{name}", str(value))]
+    with tempfile.TemporaryDirectory() as folder:
+        words[2] = f"shared:{folder}"
+        pipes = [f"{folder}/1-{number}.{end}" for number in range(1, branches + 1) for end in ("calls", "answers")]
+        for pipe in pipes:
+            os.mkfifo(pipe)
+        threads = Systems(make_system).start(f"{folder}/1", branches)
+        try:
+            ran = subprocess.run(words, stdin=subprocess.DEVNULL, capture_output=True, text=True, timeout=timeout)
+        except subprocess.TimeoutExpired:
+            raise AssertionError(f"the campaign did not end in {timeout} seconds\n{places_of(threads)}") from None
+        finally:
+            for pipe in pipes:  # a thread that still waits for the other end goes on
+                os.close(os.open(pipe, os.O_RDWR | os.O_NONBLOCK))
+    if ran.returncode == 1:
+        raise AssertionError(f"the model cannot explain a run\n{ran.stderr}\n{ran.stdout}")
+    if ran.returncode != 0:
+        raise RuntimeError(f"{' '.join(words)}\n{ran.stderr}{ran.stdout}")
+
+
+def places_of(threads):
+    """Returns where the threads of the branches are."""
+    frames = sys._current_frames()
+    return "".join(f"branch {number} is at\n{''.join(traceback.format_stack(frames[thread.ident]))}" for number, thread in enumerate(threads, 1) if thread.ident in frames)

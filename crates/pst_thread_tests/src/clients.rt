@@ -1,0 +1,172 @@
+//! Clients that are texts, the lines of calls, and the values of answers.
+
+use pst_clients::{Answer, Clients, Connection, Notes, answer_of, call_line};
+use pst_items::{Boxed, Items, Text};
+use pst_system::{RealCall, System};
+use pst_value::{Key, KeyTy, Ty, Value};
+use std::alloc::{AllocError, Global};
+use std::sync::{Arc, Wait};
+use std::test::Fail;
+
+/// Clients whose lines are known.
+type KnownClients<'a, H> = Clients<H, &'a [u8], Vec<u8>>;
+
+/// One client, that prints these lines whatever it is asked. The model has one operation, which answers an integer.
+fn one_client<'a, H: Wait + Send + Sync + Drop>(
+    rt: H,
+    alloc: Global,
+    notes: &Arc<Notes, Global>,
+    lines: &'a str,
+) -> Result<KnownClients<'a, H>, AllocError> {
+    let mut results = Items::new(alloc);
+    results.push(Ty::Int)?;
+    let mut clients = Clients::new(rt, alloc, 0, false, results, Arc::try_clone(notes)?);
+    clients.add(Connection::new(alloc, lines.as_bytes(), Vec::new(alloc)))?;
+    Ok(clients)
+}
+
+/// The call `(put ARG)`.
+fn put(alloc: Global, arg: Value) -> Result<RealCall, AllocError> {
+    let name = Text::from_string(String::from_str(alloc, "put")?);
+    let mut args = Items::new(alloc);
+    args.push(arg)?;
+    Ok(RealCall { op: 0, name, args })
+}
+
+/// What one reset and then calls are answered, each behind a blank.
+fn answers<H: Wait + Send + Sync + Drop>(
+    alloc: Global,
+    clients: &mut KnownClients<'_, H>,
+    calls: u32,
+) -> Result<String, AllocError> {
+    let call = put(alloc, Value::Int(1))?;
+    let mut text = String::new(alloc);
+    let reset = clients.reset();
+    write!(&mut text, " {reset:?}")?;
+    for _ in 0..calls {
+        let answer = clients.call(&call);
+        write!(&mut text, " {answer:?}")?;
+    }
+    Ok(text)
+}
+
+#[test]
+fn lines_answer_in_turn(rt: HostRuntime) -> Result<(), Fail> {
+    let alloc = rt.alloc();
+    let notes = Arc::new(alloc, Notes::new(alloc)?)?;
+    let lines = "true\n7\nfailed: no\nhello\n[1,\"a\"]\n";
+    let text = answers(alloc, &mut one_client(rt, alloc, &notes, lines)?, 5)?;
+    let wanted =
+        " Ok(()) Ok(Int(7)) Err(Refused) Err(Refused) Ok(List(Items { items: [Int(1), Text(Text { text: \"a\" })] })) Err(Refused)";
+    assert_eq!(rt; text.as_str(), wanted);
+    Ok(())
+}
+
+#[test]
+fn notes_say_what_went_wrong(rt: HostRuntime) -> Result<(), Fail> {
+    let alloc = rt.alloc();
+    let notes = Arc::new(alloc, Notes::new(alloc)?)?;
+    let lines = "true\nfailed: no\nhello\n[1,\"a\"]\n";
+    let _ = answers(alloc, &mut one_client(rt, alloc, &notes, lines)?, 4)?;
+    let wanted = "client 1-1: [\"put\",1] was not answered: the client has gone
+client 1-1: [\"put\",1] was answered with failed: no
+client 1-1: [\"put\",1] was answered with what is no value: hello
+client 1-1: [\"put\",1] was answered with another type: [1,\"a\"]
+";
+    assert_eq!(rt; notes.text()?.as_str(), wanted);
+    Ok(())
+}
+
+#[test]
+fn a_branch_without_a_client_is_refused(rt: HostRuntime) -> Result<(), Fail> {
+    let alloc = rt.alloc();
+    let notes = Arc::new(alloc, Notes::new(alloc)?)?;
+    let call = put(alloc, Value::Int(1))?;
+    let answer = one_client(rt, alloc, &notes, "1\n")?.call_from(1, &call);
+    let note = notes.text()?;
+    let text = format!(in alloc; "{answer:?} {note}")?;
+    assert_eq!(rt;
+        text.as_str(),
+        "Err(Refused) client 1-2: [\"put\",1] was not asked: this branch has no client (--branches)\n"
+    );
+    Ok(())
+}
+
+#[test]
+fn a_client_is_started_again_by_a_reset(rt: HostRuntime) -> Result<(), Fail> {
+    let alloc = rt.alloc();
+    let notes = Arc::new(alloc, Notes::new(alloc)?)?;
+    let lines = "\x18ended 1\n\x18started\ntrue\n7\n12\x18ended 2\n\x18started\ntrue\n8\n";
+    let mut clients = one_client(rt, alloc, &notes, lines)?;
+    let before = answers(alloc, &mut clients, 3)?;
+    let behind = answers(alloc, &mut clients, 1)?;
+    let text = format!(in alloc; "{before}{behind}")?;
+    let wanted = " Ok(()) Ok(Int(7)) Err(Refused) Err(Refused) Ok(()) Ok(Int(8))";
+    assert_eq!(rt; text.as_str(), wanted);
+    Ok(())
+}
+
+/// The map from -2 to one value and from 3 to another.
+fn map_of(alloc: Global, first: Value, second: Value) -> Result<Value, AllocError> {
+    let mut keys = Items::new(alloc);
+    keys.push(Key::Int(-2))?;
+    keys.push(Key::Int(3))?;
+    let mut values = Items::new(alloc);
+    values.push(first)?;
+    values.push(second)?;
+    Ok(Value::Map(Boxed::new(alloc, keys)?, Boxed::new(alloc, values)?))
+}
+
+#[test]
+fn a_call_is_a_line_of_json(rt: HostRuntime) -> Result<(), Fail> {
+    let alloc = rt.alloc();
+    let quoted = Text::from_string(String::from_str(alloc, "a \"b\" \\")?);
+    let map = map_of(alloc, Value::Text(quoted), Value::List(Items::new(alloc)))?;
+    let line = call_line(alloc, &put(alloc, map)?)?;
+    let text = std::str::from_utf8(line.as_slice()).unwrap_or("");
+    assert_eq!(rt; text, "[\"put\",{\"-2\":\"a \\\"b\\\" \\\\\",\"3\":[]}]\n");
+    Ok(())
+}
+
+#[test]
+fn a_map_is_read_with_its_keys_in_any_order(rt: HostRuntime) -> Result<(), Fail> {
+    let alloc = rt.alloc();
+    let ty = Ty::Map(KeyTy::Int, Boxed::new(alloc, Ty::Int)?);
+    let wanted = Answer::Value(map_of(alloc, Value::Int(1), Value::Int(0))?);
+    let read = answer_of(alloc, Some(&ty), " {\"3\":0, \"-2\":1}\r")?;
+    assert!(rt; read == wanted);
+    Ok(())
+}
+
+/// The letters of what lines are at the type `int`: `v` for a value, `f` for failed, `n` for no value.
+fn letters(alloc: Global, lines: &[&str]) -> Result<String, AllocError> {
+    let mut letters = String::new(alloc);
+    for line in lines {
+        letters.push(match answer_of(alloc, Some(&Ty::Int), line)? {
+            Answer::Value(_) => 'v',
+            Answer::Failed => 'f',
+            Answer::NoValue => 'n',
+        })?;
+    }
+    Ok(letters)
+}
+
+#[test]
+fn what_is_no_value_is_told_from_values(rt: HostRuntime) -> Result<(), Fail> {
+    let lines = [
+        "null",
+        "1.5",
+        "1e3",
+        "[1,null]",
+        "9223372036854775808",
+        "{\"a\":1,\"a\":1}",
+        "",
+        "7 7",
+        "-9223372036854775808",
+        "\"a\"",
+        "failed",
+        "failed: why",
+    ];
+    assert_eq!(rt; letters(rt.alloc(), &lines)?.as_str(), "nnnnnnnnvvff");
+    Ok(())
+}

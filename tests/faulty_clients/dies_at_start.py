@@ -1,0 +1,2 @@
+#!/usr/bin/env python3
+import no_such_module
