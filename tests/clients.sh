@@ -1,0 +1,58 @@
+# Functions for tests of clients, for a script that has set `pst` to the launcher, `top` to the repository and `room` to an empty folder.
+
+passed=0
+failed=0
+
+# Counts a check: its name, and the command that has to succeed.
+check() {
+  if "${@:2}"; then
+    passed=$((passed + 1))
+  else
+    echo "client: $1 (status $status)"
+    sed 's/^/  /' "$room/report" "$room/errors" | head -n 40
+    failed=$((failed + 1))
+  fi
+}
+
+# Runs the program with standard output and standard error in files, and keeps the status.
+pst() {
+  status=0
+  timeout 120 "$pst" "$@" > "$room/report" 2> "$room/errors" || status=$?
+}
+
+has() { grep -q -e "$1" "$room/report"; }
+says() { grep -q -F -e "$1" "$room/errors"; }
+
+# The number of calls of the run that the least failure was shrunk to.
+calls() { grep '^to ' "$room/report" | sed 's/(replies.*//' | grep -o '([a-z]*\( [^()]*\)\?)' | grep -v -c '^(\(prefix\|left\|right\|suffix\))$'; }
+
+passes() { [ "$status" = 0 ] && has "^passed $1\$"; }
+is_found() { [ "$status" = 1 ] && has '^unexplained [1-9]' && [ "$(calls)" -le 3 ]; }
+
+# Tests a client that has no race: its model, its command, the number of trials, and further options.
+right() {
+  local model="$top/examples/$1" command="$2" trials="$3"
+  shift 3
+  pst campaign --client "$command" "$model" --seed 1 --trials "$trials" --limit 200 "$@"
+  check "$command passes" passes "$trials"
+}
+
+# Tests a client that has a race: its model, its command, and further options. One of eight campaigns has to find and shrink it, since a race is a matter of time.
+racy() {
+  local model="$top/examples/$1" command="$2" seed
+  shift 2
+  for seed in {1..8}; do
+    pst campaign --client "$command" "$model" --seed "$seed" --trials 20 --limit 200 "$@"
+    ! is_found || break
+  done
+  check "$command is found" is_found
+}
+
+# Tests both forms of a client: its model, its command, the number of trials of the right form, and further options.
+both() {
+  local model="$1" command="$2" trials="$3"
+  shift 3
+  right "$model" "$command" "$trials" "$@"
+  racy "$model" "$command --racy" "$@"
+}
+
