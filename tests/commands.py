@@ -37,10 +37,10 @@ def trimmed(lines):
 
 
 def fits(wanted, got):
-    """Returns whether the lines are the wanted ones, where `...` stands for any lines."""
+    """Returns whether the lines are the wanted ones, where `..` or `...` stands for any lines."""
     if not wanted:
         return not got
-    if wanted[0] == "...":
+    if wanted[0] in ("..", "..."):
         return any(fits(wanted[1:], got[at:]) for at in range(len(got) + 1))
     return bool(got) and wanted[0] == got[0] and fits(wanted[1:], got[1:])
 

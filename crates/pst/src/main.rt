@@ -7,6 +7,7 @@ mod arguments;
 mod campaigning;
 mod clients;
 mod explaining;
+mod hangs;
 mod input;
 mod judging;
 mod least;
@@ -296,6 +297,7 @@ fn main(rt: HostRuntime) -> ExitCode {
                     systems = and_one(systems, system);
                 }
             }
+            let watch = hangs::watch_clients(rt, alloc, &matches, &notes);
             let status = run(
                 &rt,
                 &matches,
@@ -304,6 +306,9 @@ fn main(rt: HostRuntime) -> ExitCode {
                 terminals.errors,
                 input,
             );
+            if let Some(watch) = watch {
+                watch.end(&rt);
+            }
             clients::report(&rt, &matches, &notes);
             status.code()
         });

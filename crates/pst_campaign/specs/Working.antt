@@ -1,5 +1,5 @@
 -- What workers add to their seats, and what a campaign shows.
-use Rattle.std.specs.Prelude.{◌≡◌, ℕ, ◌<◌, ◌++◌, ⊤, List, Option, Some, All, slice_get}
+use Rattle.std.specs.Prelude.{◌≡◌, ℕ, ◌<◌, ◌≤◌, ◌++◌, List, Option, Some, All, slice_get}
 use Rattle.pst_campaign.specs.declared.fault.CampaignFault.{CampaignFault}
 use Rattle.pst_campaign.specs.declared.fault.CampaignFault.TheVariants.{NoSystem, TooMany, NoMemory}
 use Rattle.pst_ledger.specs.declared.entry.Entry.{Entry}
@@ -15,8 +15,12 @@ AllGiven {R} {S} may_give systems entries =
     (k : ℕ) (e : Entry R) → slice_get entries k ≡ Some e
     → (i : ℕ) × (s : S) × (slice_get systems i ≡ Some s) × may_give s k e
 
+-- whether a campaign may have this number of systems
+abbrev pub HasWorkers : ℕ → Type 0
+HasWorkers n = (0 < n) × (n ≤ 16)
+
 -- when a campaign may be refused, by the number of its systems
 abbrev pub IsCampaignFault : ℕ → CampaignFault → Type 0
 IsCampaignFault n NoSystem = n ≡ 0
 IsCampaignFault n TooMany = 16 < n
-IsCampaignFault n NoMemory = ⊤
+IsCampaignFault n NoMemory = HasWorkers n

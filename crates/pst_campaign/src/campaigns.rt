@@ -2,7 +2,7 @@
 ghost use Rattle.std.specs.Prelude.{◌≡◌, ◌≤◌, length, IfOk, IfErr};
 ghost use Rattle.std.specs.Arc.{arc_value};
 ghost use Rattle.pst_campaign.specs.Entries.{MayGive};
-ghost use Rattle.pst_campaign.specs.Working.{AllGiven, IsCampaignFault};
+ghost use Rattle.pst_campaign.specs.Working.{AllGiven, HasWorkers, IsCampaignFault};
 
 use crate::fault::CampaignFault;
 use crate::plans::Watched;
@@ -27,6 +27,7 @@ pub(crate) fn campaign_with<
     H: Threads + Wait + Sync,
 >(rt: &H, alloc: Global, plan: &P, trials: u64, systems: Vec<S>) -> Result<Closed<R>, CampaignFault>
     requires { (trials ≤ 100000) × (trials ≡ P.trials plan.now) }
+    ensures number { IfOk result (λ closed. HasWorkers (length systems.items)) }
     ensures count { IfOk result (λ closed. length closed ≡ trials) }
     ensures given { IfOk result (λ closed. AllGiven (P.may_give plan.now) systems.items closed) }
     ensures fault { IfErr result (IsCampaignFault (length systems.items)) }
@@ -51,8 +52,8 @@ pub(crate) fn campaign_with<
 /// The systems are dropped at the end. The call waits for as long as the calls of the systems do. `watch` is called
 /// for each trial that has ended, and when all have.
 ///
-/// `NoSystem` where no system is handed in, and `TooMany` where more than 16 are; `NoMemory` where memory is refused
-/// before the first trial. A trial that has a fault leaves its number `Lost`.
+/// `NoSystem` if no system is handed in, and `TooMany` if more than 16 are: no report is given then. `NoMemory` if an allocation
+/// fails before the first trial. A trial that has a fault leaves its number `Lost`.
 pub fn campaign<K: Watch + Sync, H: Threads + Wait + Sync>(
     rt: &H,
     alloc: Global,
@@ -60,6 +61,7 @@ pub fn campaign<K: Watch + Sync, H: Threads + Wait + Sync>(
     systems: Vec<BoxedSystem>,
     watch: &K,
 ) -> Result<Closed<Record>, CampaignFault>
+    ensures number { IfOk result (λ closed. HasWorkers (length systems.items)) }
     ensures count { IfOk result (λ closed. length closed ≡ (arc_value plan).settings.trials) }
     ensures given { IfOk result (AllGiven
         (λ s. MayGive ((System-box s).answers s.value) ((System-box s).fails s.value)

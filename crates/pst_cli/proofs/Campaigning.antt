@@ -2,7 +2,7 @@
 use Rattle.std.proofs.Common.{◌≡◌, ℕ, suc, ◌+◌, List, [], ◌∷◌, length, Result, Ok, Err, Some, refl, ap, ◌∙◌, subst, add-zero, arith}
 use Rattle.std.specs.Prelude.{slice_get, IfOk, OnOk}
 use Rattle.pst_campaign.specs.Entries.{MayGive}
-use Rattle.pst_campaign.specs.Working.{AllGiven, IsCampaignFault}
+use Rattle.pst_campaign.specs.Working.{AllGiven, HasWorkers, IsCampaignFault}
 use Rattle.pst_campaign.specs.declared.fault.CampaignFault.{CampaignFault}
 use Rattle.pst_campaign.specs.declared.fault.CampaignFault.TheVariants.{NoMemory}
 use Rattle.pst_cli.specs.CampaignOutput.{Gives, plan_of, campaign_line, status_after}
@@ -56,16 +56,16 @@ all_of A F R p systems es h = are_of p 0 es (λ k e at.
 
 module _ {S : Type 0} (may_give : Gives S) (settings : Settings) (systems : List S) where
   pub reported_output : {E : Type 0} (m : Source) (p q : PlanView) (entries : List (Entry RecordView))
-      → p ≡ plan_of m settings → q ≡ p → length entries ≡ q.settings.trials
+      → HasWorkers (length systems) → p ≡ plan_of m settings → q ≡ p → length entries ≡ q.settings.trials
       → AllGiven (λ s. may_give s q) systems entries
       → (r : Result Output E) → IfOk r (λ o. o.text.items ≡ report_text p entries)
       → IfOk r (λ o. o.status ≡ status_after (campaign_status entries))
       → IfOk r (λ o. IsOutputFor may_give settings systems m o.text.items o.status)
-  reported_output m p q entries e f count given (Ok o) text status =
+  reported_output m p q entries workers e f count given (Ok o) text status =
       let Given : PlanView → Type 0 = λ x. AllGiven (λ s. may_give s x) systems entries in
-      reported entries (count ∙ ap (λ x. x.settings.trials) (f ∙ e)) (subst Given (f ∙ e) given)
+      reported workers entries (count ∙ ap (λ x. x.settings.trials) (f ∙ e)) (subst Given (f ∙ e) given)
       (text ∙ ap (λ x. report_text x entries) e) status
-  reported_output m p q entries e f count given (Err x) text status = tt
+  reported_output m p q entries workers e f count given (Err x) text status = tt
 
   pub not_started_output : {E : Type 0} (m : Source) (fault : CampaignFault) → IsCampaignFault (length systems) fault
       → (r : Result Output E) → OnOk r (fault ≡ NoMemory → ⊥)

@@ -2,7 +2,7 @@
 -- systems.
 use Rattle.std.specs.Prelude.{◌≡◌, ℕ, List, ◌++◌, length, codes}
 use Rattle.pst_campaign.specs.FaultName.{fault_name}
-use Rattle.pst_campaign.specs.Working.{AllGiven, IsCampaignFault}
+use Rattle.pst_campaign.specs.Working.{AllGiven, HasWorkers, IsCampaignFault}
 use Rattle.pst_campaign.specs.declared.fault.CampaignFault.{CampaignFault}
 use Rattle.pst_campaign.specs.declared.fault.CampaignFault.TheVariants.{NoMemory}
 use Rattle.pst_cli.specs.Head.{refusal_line, line_end}
@@ -40,11 +40,11 @@ abbrev pub Gives : Type 0 → Type 1
 Gives S = S → PlanView → ℕ → Entry RecordView → Type 0
 
 module _ {S : Type 0} (may_give : Gives S) (settings : Settings) (systems : List S) where
-  -- The output for a well-typed model: the report of a list in which each number of the plan has an entry
-  -- that one of the systems may give for it; or the fault of a campaign with so many systems, which is not
-  -- that memory was refused.
+  -- The output for a well-typed model: if there are 1 to 16 systems the report of a list in which each number of the
+  -- plan has an entry that one of the systems may give for it; or the fault of a campaign with this number of systems,
+  -- which is not that an allocation failed.
   pub data IsOutputFor (m : Source) (text : List ℕ) (status : Status) : Type 0 where
-    reported : (entries : List (Entry RecordView)) → length entries ≡ settings.trials
+    reported : HasWorkers (length systems) → (entries : List (Entry RecordView)) → length entries ≡ settings.trials
         → AllGiven (λ s. may_give s (plan_of m settings)) systems entries
         → text ≡ report_text (plan_of m settings) entries
         → status ≡ status_after (campaign_status entries)

@@ -96,13 +96,17 @@ impl<R: Wait, I: Read + Drop, O: Write + Drop> Clients<R, I, O> {
         Ok(())
     }
 
-    /// Notes what went wrong with a line that a branch's client was asked.
-    fn note(&self, kind: Kind, branch: u32, line: &[u8], answer: &str) {
-        let client = Client {
+    /// A branch's client.
+    fn client(&self, branch: u32) -> Client {
+        Client {
             worker: self.worker,
             branch,
-        };
-        self.notes.note(kind, client, line, answer)
+        }
+    }
+
+    /// Notes what went wrong with a line that a branch's client was asked.
+    fn note(&self, kind: Kind, branch: u32, line: &[u8], answer: &str) {
+        self.notes.note(kind, self.client(branch), line, answer)
     }
 
     /// Notes why a line was not answered.
@@ -120,10 +124,14 @@ impl<R: Wait, I: Read + Drop, O: Write + Drop> Clients<R, I, O> {
 
     /// The line with which a branch's client answers a line.
     fn ask_client(&self, branch: u32, line: &[u8]) -> Result<String, LostAnswer> {
-        match self.connections.get(branch as usize) {
-            Some(connection) => connection.lock(&self.rt).ask(line),
-            None => Err(LostAnswer::NoClient),
-        }
+        let Some(connection) = self.connections.get(branch as usize) else {
+            return Err(LostAnswer::NoClient);
+        };
+        let client = self.client(branch);
+        self.notes.waits().count(client);
+        let answer = connection.lock(&self.rt).ask(line);
+        self.notes.waits().count(client);
+        answer
     }
 
     /// The line with which a branch's client answers a line. If there is none, it notes why.

@@ -10,6 +10,7 @@ mod connection;
 mod notes;
 mod opening;
 mod types;
+mod waits;
 
 pub use answers::{Answer, answer_of};
 pub use calls::call_line;
@@ -18,3 +19,4 @@ pub use connection::{Connection, LostAnswer, MAX_LINE, State};
 pub use notes::{MOST_NOTES, Notes};
 pub use opening::{Folder, open_clients};
 pub use types::result_types;
+pub use waits::Waits;

@@ -1,5 +1,6 @@
 //! Notes of what went wrong with clients, for people to read.
 
+use crate::waits::Waits;
 use std::alloc::{AllocError, Global};
 use std::sync::OnceLock;
 use std::sync::atomic::{AtomicU64, Ordering};
@@ -61,6 +62,7 @@ pub struct Notes {
     failed: Kept,
     no_value: Kept,
     misfit: Kept,
+    waits: Waits,
 }
 
 /// A client by the numbers of its worker and of its branch, both from 0.
@@ -132,7 +134,13 @@ impl Notes {
             failed: Kept::new(alloc)?,
             no_value: Kept::new(alloc)?,
             misfit: Kept::new(alloc)?,
+            waits: Waits::new(alloc)?,
         })
+    }
+
+    /// Which clients have a line that they have not answered yet.
+    pub fn waits(&self) -> &Waits {
+        &self.waits
     }
 
     fn of_kind(&self, kind: Kind) -> &Kept {

@@ -5,7 +5,7 @@ ghost use Rattle.pst_each.specs.Places.{StandsIn};
 
 use crate::parts::parts_of;
 use crate::places::{in_order, in_places};
-use crate::reading::NotRead;
+use crate::reading::PartFault;
 use crate::sharing::{may_send_parts, may_share_models};
 use crate::taking::{Part, take_parts};
 use pst_case::Run;
@@ -43,8 +43,8 @@ const OFFERS: usize = 64;
 /// these parts, and the judgements are one list. `keeps` says whether the runs are kept: where they are not, the thread that
 /// judged a part lets its runs go, and all lists of runs are empty.
 ///
-/// `None`: some part is not read or judged by itself, which says nothing of the whole input. `AllocError`: memory was
-/// refused.
+/// `None`: some part is not read by itself, which says nothing of the whole input. `AllocError`: an allocation failed, while
+/// parts were read or judged as well.
 ///
 /// `typed` is the model of the callbacks.
 pub fn judge_in_parts<C: Callbacks + Sync, R: Threads + Sync>(
@@ -68,17 +68,18 @@ pub fn judge_in_parts<C: Callbacks + Sync, R: Threads + Sync>(
         .par_iter()
         .with_min_len(1)
         .map(
-            |_: &u8| -> Result<Vec<Part>, NotRead>
+            |_: &u8| -> Result<Vec<Part>, PartFault>
                 requires { typed.now ≡ C.model callbacks.now }
                 ensures { IfOk result (λ taken. All (StandsIn (C.model callbacks.entry.now) keeps parts.entry.items) taken.items) }
             { take_parts(callbacks, alloc, typed, parts.as_slice(), keeps, &next) },
         )
-        .collect::<Result<Vec<Vec<Part>>, NotRead>>(rt, alloc)?;
+        .collect::<Result<Vec<Vec<Part>>, PartFault>>(rt, alloc)?;
     match taken {
         Ok(lists) => {
             let places = in_places(alloc, parts.as_slice(), lists)?;
             in_order(alloc, places)
         }
-        Err(NotRead) => Ok(None),
+        Err(PartFault::NotRead) => Ok(None),
+        Err(PartFault::NoMemory) => Err(AllocError),
     }
 }

@@ -8,7 +8,7 @@ ghost use Rattle.pst_runs.specs.Lawful.{AreLawful};
 use pst_case::{CaseFaultKind, Run};
 use pst_rules::Typed;
 use pst_runs::{RunFault, RunFaultKind, read_runs};
-use pst_sexpr::{Tree, read};
+use pst_sexpr::{FaultKind, SexprFault, Tree, read};
 use std::alloc::{AllocError, Global};
 use std::slice;
 
@@ -39,21 +39,44 @@ pub fn read_one(
     }
 }
 
-/// A part of an input was not read or not judged: its bytes are no file of trees, one of its items is refused, or memory
-/// was refused.
-#[derive(Debug, Drop)]
-pub(crate) struct NotRead;
+/// Why a part of an input was not read and judged by itself.
+#[derive(Clone, Copy, Debug, PartialEq, Eq, Drop)]
+pub(crate) enum PartFault {
+    /// Its bytes are no file of trees, or one of its items is refused.
+    NotRead,
+    /// An allocation failed.
+    NoMemory,
+}
+
+impl From<AllocError> for PartFault {
+    fn from(_refused: AllocError) -> PartFault {
+        PartFault::NoMemory
+    }
+}
+
+/// Why a part is not read: the fault of its trees.
+fn unread(fault: SexprFault) -> PartFault {
+    if fault.kind == FaultKind::NoMemory {
+        PartFault::NoMemory
+    } else {
+        PartFault::NotRead
+    }
+}
 
 /// The runs that the bytes of a part spell.
-pub(crate) fn runs_of_part(alloc: Global, typed: &Typed, bytes: &[u8]) -> Result<Vec<Run>, NotRead>
+pub(crate) fn runs_of_part(alloc: Global, typed: &Typed, bytes: &[u8]) -> Result<Vec<Run>, PartFault>
     ensures spelled { IfOk result (λ runs. SpellsRuns typed.now bytes.now runs.items) }
     ensures lawful { IfOk result (λ runs. AreLawful typed.now runs.items) }
 {
-    let Ok(trees) = read(alloc, bytes) else {
-        return Err(NotRead);
+    let trees = match read(alloc, bytes) {
+        Ok(trees) => trees,
+        Err(fault) => return Err(unread(fault)),
     };
     match read_runs(alloc, typed, trees.as_slice()) {
         Ok(runs) => Ok(runs),
-        Err(_) => Err(NotRead),
+        Err(fault) if fault.kind == RunFaultKind::Case(CaseFaultKind::NoMemory) => {
+            Err(PartFault::NoMemory)
+        }
+        Err(_) => Err(PartFault::NotRead),
     }
 }

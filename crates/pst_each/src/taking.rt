@@ -7,7 +7,7 @@ ghost use Rattle.pst_judge.specs.Judgement.{IsJudgement};
 ghost use Rattle.pst_rejudge.specs.Judging.{MayBeJudged};
 
 use crate::judging::JudgedRuns;
-use crate::reading::{NotRead, runs_of_part};
+use crate::reading::{PartFault, runs_of_part};
 use pst_case::Run;
 use pst_eval::Callbacks;
 use pst_judge::{Judged, judge_one};
@@ -47,18 +47,16 @@ fn judged_part<C: Callbacks>(
     typed: &Typed,
     bytes: &[u8],
     keeps: bool,
-) -> Result<JudgedRuns, NotRead>
+) -> Result<JudgedRuns, PartFault>
     requires { typed.now ≡ C.model callbacks.now }
     ensures { IfOk result (HoldsPart (C.model callbacks.now) keeps bytes.now) }
 {
     let runs = runs_of_part(alloc, typed, bytes)?;
-    match judged_runs(callbacks, alloc, runs.as_slice()) {
-        Ok(judged) => Ok(JudgedRuns {
-            runs: if keeps { runs } else { Vec::new(alloc) },
-            judged,
-        }),
-        Err(AllocError) => Err(NotRead),
-    }
+    let judged = judged_runs(callbacks, alloc, runs.as_slice())?;
+    Ok(JudgedRuns {
+        runs: if keeps { runs } else { Vec::new(alloc) },
+        judged,
+    })
 }
 
 /// Reads and judges one part after another, each of which no other thread takes, until none is left.
@@ -69,7 +67,7 @@ pub(crate) fn take_parts<C: Callbacks>(
     parts: &[&[u8]],
     keeps: bool,
     next: &AtomicUsize,
-) -> Result<Vec<Part>, NotRead>
+) -> Result<Vec<Part>, PartFault>
     requires { typed.now ≡ C.model callbacks.now }
     ensures { IfOk result (λ taken. All (StandsIn (C.model callbacks.now) keeps parts.now) taken.items) }
 {
@@ -81,7 +79,7 @@ pub(crate) fn take_parts<C: Callbacks>(
         };
         let content = judged_part(callbacks, alloc, typed, bytes, keeps)?;
         if taken.push(Part { place, content }).is_err() {
-            return Err(NotRead);
+            return Err(PartFault::NoMemory);
         }
     }
     Ok(taken)

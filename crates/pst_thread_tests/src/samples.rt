@@ -105,6 +105,13 @@ fn registries_are_driven(rt: HostRuntime) -> Result<(), Fail> {
             Status::Failed,
             "1 prefalse 3 merge LR\n",
         ),
+        // A reset closes what the first case opened.
+        (
+            REGISTRY,
+            "(case (prefix (new)) (left) (right))",
+            Status::Accepted,
+            "(run (prefix (new)) (left) (right) (replies (0) () ()))\n1 explained -\n",
+        ),
     ];
     assert!(rt; missed(&rt, alloc, &mut registry, &rows)? == 0);
     Ok(())
@@ -114,12 +121,21 @@ fn registries_are_driven(rt: HostRuntime) -> Result<(), Fail> {
 fn queues_are_driven(rt: HostRuntime) -> Result<(), Fail> {
     let alloc = rt.alloc();
     let mut queue: BoxedSystem = Box::new(alloc, Queue::new(rt, alloc))?;
-    let rows = [(
-        QUEUE,
-        "(case (prefix (put 5) (put 6)) (left (take)) (right))",
-        Status::Accepted,
-        "(run (prefix (put 5) (put 6)) (left (take)) (right) (replies (true true) ((list 5)) ()))\n1 explained L\n",
-    )];
+    let rows = [
+        (
+            QUEUE,
+            "(case (prefix (put 5) (put 6)) (left (take)) (right))",
+            Status::Accepted,
+            "(run (prefix (put 5) (put 6)) (left (take)) (right) (replies (true true) ((list 5)) ()))\n1 explained L\n",
+        ),
+        // A reset takes what the first case left, and an empty queue answers the empty list.
+        (
+            QUEUE,
+            "(case (prefix (take)) (left) (right))",
+            Status::Accepted,
+            "(run (prefix (take)) (left) (right) (replies ((list)) () ()))\n1 explained -\n",
+        ),
+    ];
     assert!(rt; missed(&rt, alloc, &mut queue, &rows)? == 0);
     Ok(())
 }
@@ -128,12 +144,21 @@ fn queues_are_driven(rt: HostRuntime) -> Result<(), Fail> {
 fn callers_are_driven_at_once(rt: HostRuntime) -> Result<(), Fail> {
     let alloc = rt.alloc();
     let mut meet: BoxedSystem = Box::new(alloc, Meet::new())?;
-    let rows = [(
-        MEETING,
-        "(case (prefix) (left (meet 1)) (right (meet 2)))",
-        Status::Accepted,
-        "(run (prefix) (left (meet 1)) (right (meet 2)) (replies () (true) (true)))\n1 explained LR\n",
-    )];
+    let rows = [
+        (
+            MEETING,
+            "(case (prefix) (left (meet 1)) (right (meet 2)))",
+            Status::Accepted,
+            "(run (prefix) (left (meet 1)) (right (meet 2)) (replies () (true) (true)))\n1 explained LR\n",
+        ),
+        // A reset lowers the flags that the first case raised.
+        (
+            MEETING,
+            "(case (prefix) (left (meet 1)) (right))",
+            Status::Failed,
+            "(run (prefix) (left (meet 1)) (right) (replies () (false) ()))\n1 unexplained far 0\n",
+        ),
+    ];
     assert!(rt; missed(&rt, alloc, &mut meet, &rows)? == 0);
     Ok(())
 }

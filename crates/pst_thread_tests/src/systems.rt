@@ -99,6 +99,27 @@ fn a_queue_keeps_its_order(rt: HostRuntime) -> Result<(), Fail> {
     Ok(())
 }
 
+/// How many of `count` calls of `put` a system refuses.
+fn refused_puts(alloc: Global, system: &BoxedSystem, count: u32) -> Result<u32, AllocError> {
+    let call = call_of(alloc, "put", &[1])?;
+    let mut refused: u32 = 0;
+    for _ in 0..count {
+        if call_box(system, 0, &call).is_err() {
+            refused = refused.saturating_add(1);
+        }
+    }
+    Ok(refused)
+}
+
+#[test]
+fn a_queue_has_room_for_1024_items(rt: HostRuntime) -> Result<(), Fail> {
+    let alloc = rt.alloc();
+    let queue: BoxedSystem = Box::new(alloc, Queue::new(rt, alloc))?;
+    assert_eq!(rt; refused_puts(alloc, &queue, 1024)?, 0);
+    assert_eq!(rt; refused_puts(alloc, &queue, 2)?, 2);
+    Ok(())
+}
+
 #[test]
 fn a_flag_that_is_none_is_refused(rt: HostRuntime) -> Result<(), Fail> {
     let alloc = rt.alloc();

@@ -17,7 +17,7 @@ returns-in-Ok g c =
     let same : arc_value c.in_ok-clone.field-0 ≡ c.deref.result.now =
     c.in_ok-clone.ensures.cases ∙ sym c.deref.ensures in
     reported_output _ c.args.settings c.args.systems.items c.args.typed c.deref.result.now
-    (arc_value c.in_ok-clone.field-0) c.in-Ok.closed (c.deref.ensures ∙ c.in_ok-plan.ensures) same
+    (arc_value c.in_ok-clone.field-0) c.in-Ok.closed c.in-Ok.ensures.number (c.deref.ensures ∙ c.in_ok-plan.ensures) same
     c.in-Ok.ensures.count c.in-Ok.ensures.given c.report_output.result c.report_output.ensures.text
     c.report_output.ensures.status
 
