@@ -12,6 +12,7 @@ use crate::nodes::Nodes;
 use pst_items::Items;
 use pst_value::KeyTy;
 use std::alloc::{AllocError, Global};
+use std::rc::Rc;
 
 /// The form of a type, with its parts as kinds.
 #[derive(Drop)]
@@ -27,30 +28,30 @@ pub enum Form {
 }
 
 /// The form of the type of a node.
-pub fn form_of(alloc: Global, nodes: &Nodes, number: usize) -> Result<Form, AllocError>
-    requires { number < length nodes.now }
-    ensures { IfOk result (λ form. spec.formed form ≡ type_at nodes.now number) }
+pub fn form_of(alloc: Global, nodes: &Rc<Nodes>, number: usize) -> Result<Form, AllocError>
+    requires { number < length nodes.now.value }
+    ensures { IfOk result (λ form. spec.formed form ≡ type_at nodes.now.value number) }
 {
-    match nodes.get(number) {
+    match nodes.as_ref().get(number) {
         Node::Int => Ok(Form::Int),
         Node::Bool => Ok(Form::Bool),
         Node::Text => Ok(Form::Text),
         Node::Tuple(parts) => Ok(Form::Tuple(parts_of(alloc, nodes, parts.as_slice())?)),
-        Node::List(part) => Ok(Form::List(Kind::of_node(alloc, nodes, *part)?)),
-        Node::Map(keys, part) => Ok(Form::Map(*keys, Kind::of_node(alloc, nodes, *part)?)),
-        Node::Ref(part) => Ok(Form::Ref(Kind::of_node(alloc, nodes, *part)?)),
+        Node::List(part) => Ok(Form::List(Kind::of_node(nodes, *part)?)),
+        Node::Map(keys, part) => Ok(Form::Map(*keys, Kind::of_node(nodes, *part)?)),
+        Node::Ref(part) => Ok(Form::Ref(Kind::of_node(nodes, *part)?)),
         Node::Call => Ok(Form::Call),
     }
 }
 
 /// The kinds of nodes.
-fn parts_of(alloc: Global, nodes: &Nodes, parts: &[usize]) -> Result<Items<Kind>, AllocError>
-    requires { AreBelow (length nodes.now) parts.now }
-    ensures { IfOk result (λ kinds. kinds ≡ map (type_at nodes.now) parts.now) }
+fn parts_of(alloc: Global, nodes: &Rc<Nodes>, parts: &[usize]) -> Result<Items<Kind>, AllocError>
+    requires { AreBelow (length nodes.now.value) parts.now }
+    ensures { IfOk result (λ kinds. kinds ≡ map (type_at nodes.now.value) parts.now) }
 {
     let mut kinds = Items::new(alloc);
     for part in parts {
-        let kind = Kind::of_node(alloc, nodes, *part)?;
+        let kind = Kind::of_node(nodes, *part)?;
         kinds.push(kind)?;
     }
     Ok(kinds)

@@ -16,11 +16,12 @@ use pst_items::Items;
 use pst_value::{KeyTy, Ty};
 use std::alloc::{AllocError, Global};
 use std::marker::Model;
+use std::rc::Rc;
 
-/// A type that holds each of its different parts once. Contracts see it as the type.
+/// A type that holds each of its different parts once. A copy shares them. Contracts see it as the type.
 #[derive(Drop)]
 pub struct Kind {
-    nodes: Nodes,
+    nodes: Rc<Nodes>,
     root: usize,
 }
 
@@ -34,9 +35,9 @@ impl Model for Kind {
 
     ghost coded = { coding.the_row.coded };
 
-    ghost view = { λ k. type_at k.nodes k.root };
+    ghost view = { λ k. type_at k.nodes.value k.root };
 
-    ghost invariant = { λ k. k.root < length k.nodes };
+    ghost invariant = { λ k. k.root < length k.nodes.value };
 }
 
 impl Kind {
@@ -46,60 +47,76 @@ impl Kind {
     {
         let mut nodes = Nodes::new(alloc);
         let root = add_type(alloc, &mut nodes, ty)?;
-        Ok(Kind { nodes, root })
+        Kind::new(alloc, nodes, root)
+    }
+
+    /// The kind of a node.
+    fn new(alloc: Global, nodes: Nodes, root: usize) -> Result<Kind, AllocError>
+        requires { root < length nodes }
+        ensures { IfOk result (λ kind. kind ≡ type_at nodes root) }
+    {
+        Ok(Kind {
+            nodes: Rc::new(alloc, nodes)?,
+            root,
+        })
     }
 
     /// An equal kind.
-    pub fn copy(&self, alloc: Global) -> Result<Kind, AllocError>
+    pub fn copy(&self) -> Result<Kind, AllocError>
         ensures { IfOk result (λ kind. kind ≡ self.now) }
     {
-        let mut nodes = Nodes::new(alloc);
-        let root = self.add_to(alloc, &mut nodes)?;
-        Ok(Kind { nodes, root })
+        Ok(Kind {
+            nodes: self.nodes.clone()?,
+            root: self.root,
+        })
     }
 
     /// The number that the type has among nodes. What it needs is added.
     fn add_to(&self, alloc: Global, nodes: &mut Nodes) -> Result<usize, AllocError>
         ensures { IfOk result (λ number. IsAdded nodes.old nodes.new number self.now) }
     {
-        nodes.take_over(alloc, &self.nodes, self.root)
+        nodes.take_over(alloc, self.nodes.as_ref(), self.root)
     }
 
-    /// The kind of a node.
-    pub fn of_node(alloc: Global, nodes: &Nodes, number: usize) -> Result<Kind, AllocError>
-        requires { number < length nodes.now }
-        ensures { IfOk result (λ kind. kind ≡ type_at nodes.now number) }
+    /// The kind of a node that is shared.
+    pub fn of_node(nodes: &Rc<Nodes>, number: usize) -> Result<Kind, AllocError>
+        requires { number < length nodes.now.value }
+        ensures { IfOk result (λ kind. kind ≡ type_at nodes.now.value number) }
     {
-        let mut taken = Nodes::new(alloc);
-        let root = taken.take_over(alloc, nodes, number)?;
-        Ok(Kind { nodes: taken, root })
+        Ok(Kind {
+            nodes: nodes.clone()?,
+            root: number,
+        })
     }
 
     /// The kind of lists of this kind.
-    pub fn list(self) -> Result<Kind, AllocError>
-        ensures { IfOk result (λ kind. kind ≡ ty.List self) }
+    pub fn list(&self, alloc: Global) -> Result<Kind, AllocError>
+        ensures { IfOk result (λ kind. kind ≡ ty.List self.now) }
     {
-        let Kind { mut nodes, root } = self;
-        let root = nodes.add(Node::List(root))?;
-        Ok(Kind { nodes, root })
+        let mut nodes = Nodes::new(alloc);
+        let part = self.add_to(alloc, &mut nodes)?;
+        let root = nodes.add(Node::List(part))?;
+        Kind::new(alloc, nodes, root)
     }
 
     /// The kind of maps from keys of a type to values of this kind.
-    pub fn map(self, keys: KeyTy) -> Result<Kind, AllocError>
-        ensures { IfOk result (λ kind. kind ≡ ty.Map keys self) }
+    pub fn map(&self, alloc: Global, keys: KeyTy) -> Result<Kind, AllocError>
+        ensures { IfOk result (λ kind. kind ≡ ty.Map keys self.now) }
     {
-        let Kind { mut nodes, root } = self;
-        let root = nodes.add(Node::Map(keys, root))?;
-        Ok(Kind { nodes, root })
+        let mut nodes = Nodes::new(alloc);
+        let part = self.add_to(alloc, &mut nodes)?;
+        let root = nodes.add(Node::Map(keys, part))?;
+        Kind::new(alloc, nodes, root)
     }
 
     /// The kind of references to results of this kind.
-    pub fn reference(self) -> Result<Kind, AllocError>
-        ensures { IfOk result (λ kind. kind ≡ ty.Ref self) }
+    pub fn reference(&self, alloc: Global) -> Result<Kind, AllocError>
+        ensures { IfOk result (λ kind. kind ≡ ty.Ref self.now) }
     {
-        let Kind { mut nodes, root } = self;
-        let root = nodes.add(Node::Ref(root))?;
-        Ok(Kind { nodes, root })
+        let mut nodes = Nodes::new(alloc);
+        let part = self.add_to(alloc, &mut nodes)?;
+        let root = nodes.add(Node::Ref(part))?;
+        Kind::new(alloc, nodes, root)
     }
 
     /// The kind of tuples of these kinds.
@@ -109,7 +126,7 @@ impl Kind {
         let mut nodes = Nodes::new(alloc);
         let parts = add_kinds(alloc, &mut nodes, kinds)?;
         let root = nodes.add(Node::Tuple(parts))?;
-        Ok(Kind { nodes, root })
+        Kind::new(alloc, nodes, root)
     }
 
     /// Whether this is the same type.
@@ -133,7 +150,7 @@ impl Kind {
     pub fn holds_ref(&self, alloc: Global) -> Result<bool, AllocError>
         ensures { IfOk result (λ held. held ≡ kinds.holds_ref self.now) }
     {
-        node_holds_ref(alloc, &self.nodes, self.root)
+        node_holds_ref(alloc, self.nodes.as_ref(), self.root)
     }
 
     /// The type as a tree, or `None` where the tree has more than `most` forms.
@@ -141,7 +158,7 @@ impl Kind {
         ensures { IfOk result (λ found. IfSome found (λ tree. tree ≡ self.now)) }
     {
         let mut left = most;
-        tree_of(alloc, &self.nodes, self.root, &mut left)
+        tree_of(alloc, self.nodes.as_ref(), self.root, &mut left)
     }
 
     /// Whether this is the kind of a type.

@@ -92,8 +92,9 @@ impl Nodes {
         requires { root < length others.now }
         ensures { IfOk result (λ number. IsAdded self.old self.new number (type_at others.now root)) }
     {
+        let _count = others.len();
         let mut places = Items::new(alloc);
-        for at in 0..others.len() {
+        for at in 0..root + 1 {
             let node = renumbered(alloc, others.get(at), places.as_slice())?;
             let place = self.add(node)?;
             places.push(place)?;

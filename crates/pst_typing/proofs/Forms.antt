@@ -1,5 +1,5 @@
 -- The decision at forms that hold lists.
-use Rattle.std.proofs.Common.{◌≡◌, ◌≤◌, List, length, map, Some, sym, ap, ◌∙◌, ◌&&◌, nat_le, Bool, true}
+use Rattle.std.proofs.Common.{◌≡◌, ◌≤◌, List, ◌∷◌, length, map, Some, sym, ap, ◌∙◌, ◌&&◌, nat_le, Bool, true}
 use Rattle.std.proofs.lemmas.Bool.{le-leb}
 use Rattle.std.proofs.lemmas.List.{length-map}
 use Rattle.pst_model.specs.Parts.{Name}
@@ -9,7 +9,7 @@ use Rattle.pst_model.specs.declared.expr.Expr.{Expr, Expr-F, Fold, For, List as 
 use Rattle.pst_model.specs.declared.expr.Expr.TheVariants.{rolls-Fold, rolls-For, rolls-List}
 use Rattle.pst_model.specs.declared.model.Item.{Item}
 use Rattle.pst_rules.specs.Rules.{Context}
-use Rattle.pst_typing.specs.Decision.{◌>>=◌, where_true, Finds, Part, all_have, built_type, fold_type, type_at, part_at, type_of, part_of}
+use Rattle.pst_typing.specs.Decision.{◌>>=◌, where_true, Finds, Part, item_type, all_have, built_type, fold_type, type_at, part_at, type_of, part_of}
 use Rattle.pst_typing.specs.Answers.{FindsNone}
 use Rattle.pst_typing.specs.declared.refusal.Refusal.{Refusal}
 use Rattle.pst_typing.proofs.Steps.{none_then, none_at}
@@ -23,6 +23,16 @@ module _ (items earlier : List Item) (post : Bool) where
 
   pub part_when : (e : Expr) → part_of items earlier post (When e) ≡ Clause-F.When (type_of items earlier post e)
   part_when e = ap (part_of items earlier post) (sym (rolls-When e)) ∙ fold-roll-Clause Part Finds part_at (type_at items earlier post) (Clause-F.When e)
+
+  -- a clause that takes the items of a list
+  pub built_in : (cs : List Clause) (first : Clause) (rest : List Clause) (x : Name) (e b : Expr) (G : Context) (L S : Ty) → cs ≡ first ∷ rest → first ≡ In x e
+      → type_of items earlier post e G ≡ Some L → item_type L ≡ Some S
+      → built_type (map (part_of items earlier post) cs) (type_of items earlier post b) G ≡ built_type (map (part_of items earlier post) rest) (type_of items earlier post b) ((x, S) ∷ G)
+  built_in cs first rest x e b G L S parts is found item =
+      ap (λ xs. built_type (map (part_of items earlier post) xs) (type_of items earlier post b) G) (parts ∙ ap (λ c. c ∷ rest) is)
+      ∙ ap (λ p. built_type (p ∷ map (part_of items earlier post) rest) (type_of items earlier post b) G) (part_in x e)
+      ∙ ap (λ o. o >>= item_type >>= (λ T. built_type (map (part_of items earlier post) rest) (type_of items earlier post b) ((x, T) ∷ G))) found
+      ∙ ap (λ o. o >>= (λ T. built_type (map (part_of items earlier post) rest) (type_of items earlier post b) ((x, T) ∷ G))) item
 
   pub type_fold : (x : Name) (e : Expr) (acc : Name) (i b : Expr) (G : Context)
       → type_of items earlier post (Fold x e acc i b) G ≡ fold_type x (type_of items earlier post e) acc (type_of items earlier post i) (type_of items earlier post b) G

@@ -1,11 +1,13 @@
 pub mod Complete
 pub mod Exactly
+pub mod Formed
 pub mod Forms
 pub mod Found
 pub mod Holding
 pub mod Ill
 pub mod Judging
 pub mod Operating
+pub mod Seeing
 pub mod Steps
 pub mod WellItems
 pub mod Whole

@@ -3,24 +3,29 @@ ghost use Rattle.std.specs.Prelude.{◌≡◌, [], ◌∷◌, Some, map, reverse
 ghost use Rattle.pst_model.specs.Parts.{types_of};
 ghost use Rattle.pst_typing.specs.Answers.{Answers, Passes};
 ghost use Rattle.pst_typing.specs.Decision as spec;
-ghost use Rattle.pst_typing.specs.Scope.{names_of, type_in, parts_in};
-ghost use Rattle.pst_rules.specs.Rules.{type_named};
+ghost use Rattle.pst_typing.specs.Scope.{names_of, names_in, type_in, parts_in};
 ghost use Rattle.pst_value.specs.Fits.{is_ty};
-ghost use Rattle.pst_value.specs.declared.ty.Ty.TheVariants.{List as list, Map as map_type};
+ghost use Rattle.pst_value.specs.declared.ty.Ty.TheVariants.{List as list, Map as map_type, Tuple as tuple};
 
 use crate::context::Context;
 use crate::operators::{
-    binary_type, int_type, item_type, keys_type, part_type, text_type, unary_type, values_type,
+    binary_type, int_type, item_type, keys_type, kind_of, part_type, text_type, unary_type,
+    values_type,
 };
 use crate::refusal::Refusal;
-use crate::scope::{Scope, function_called, operation_called, type_of_name};
-use crate::types::copy_type;
+use crate::scope::{Names, Scope, find_name, function_called, names_seen, operation_called};
 use pst_items::{Boxed, Items, Text};
+use pst_kinds::Kind;
 use pst_model::{Binary, Clause, Expr, Param};
 use pst_value::{KeyTy, LIMIT, Ty};
 use std::alloc::{AllocError, Global};
 
+/// The most forms of a type that `type_of` returns.
+const MOST_FORMS: usize = 65_536;
+
 /// The type of an expression among the names of a scope, `None` where it is not well typed.
+///
+/// `AllocError`: an allocation fails, or the type has more than 65,536 forms.
 pub fn type_of(
     expr: &Expr,
     context: &Context<'_>,
@@ -28,64 +33,88 @@ pub fn type_of(
 ) -> Result<Option<Ty>, AllocError>
     ensures { IfOk result (λ ty. ty ≡ type_in context.now expr.now (names_of scope.now)) }
 {
-    match find_type(expr, context, scope) {
-        Ok(ty) => Ok(Some(ty)),
+    let Some(kind) = find_kind(expr, context, scope)? else {
+        return Ok(None);
+    };
+    match kind.tree(context.alloc, MOST_FORMS)? {
+        Some(ty) => Ok(Some(ty)),
+        None => Err(AllocError),
+    }
+}
+
+/// The same as `type_of`, with equal parts of the type shared.
+pub fn find_kind(
+    expr: &Expr,
+    context: &Context<'_>,
+    scope: &Scope<'_>,
+) -> Result<Option<Kind>, AllocError>
+    ensures { IfOk result (λ kind. kind ≡ type_in context.now expr.now (names_of scope.now)) }
+{
+    let seen = names_seen(context.alloc, scope)?;
+    match find_type(expr, context, &Names::Outer(seen.as_slice())) {
+        Ok(kind) => Ok(Some(kind)),
         Err(Refusal::Ill) => Ok(None),
         Err(Refusal::NoMemory) => Err(AllocError),
     }
 }
 
 #[cycle(find)]
-fn find_type(expr: &Expr, context: &Context<'_>, scope: &Scope<'_>) -> Result<Ty, Refusal>
-    ensures { Answers (type_in context.now expr.now (names_of scope.now)) result }
+fn find_type(expr: &Expr, context: &Context<'_>, names: &Names<'_>) -> Result<Kind, Refusal>
+    ensures { Answers (type_in context.now expr.now (names_in names.now)) result }
 {
     match expr {
-        Expr::Int(number) => Ok(int_type(*number)),
-        Expr::Bool(_) => Ok(Ty::Bool),
-        Expr::Text(text) => text_type(text.as_bytes()).ok_or(Refusal::Ill),
-        Expr::Name(name) => find_name(context.alloc, scope, name.as_bytes()),
+        Expr::Int(number) => int_type(context.alloc, *number),
+        Expr::Bool(_) => kind_of(context.alloc, &Ty::Bool),
+        Expr::Text(text) => text_type(context.alloc, text.as_bytes()),
+        Expr::Name(name) => find_name(names, name.as_bytes()),
         Expr::Let(name, bound, body) => {
-            find_let(name.as_bytes(), bound.get(), body.get(), context, scope)
+            find_let(name.as_bytes(), bound.get(), body.get(), context, names)
         }
         Expr::If(test, then, other) => {
-            find_if(test.get(), then.get(), other.get(), context, scope)
+            find_if(test.get(), then.get(), other.get(), context, names)
         }
-        Expr::And(first, second) => find_both(first.get(), second.get(), context, scope),
-        Expr::Or(first, second) => find_both(first.get(), second.get(), context, scope),
+        Expr::And(first, second) => find_both(first.get(), second.get(), context, names),
+        Expr::Or(first, second) => find_both(first.get(), second.get(), context, names),
         Expr::Unary(operator, operand) => {
-            let ty = find_type(operand.get(), context, scope)?;
-            let given = unary_type(context.alloc, context.is_post, *operator, ty)?;
-            given.ok_or(Refusal::Ill)
+            let kind = find_type(operand.get(), context, names)?;
+            unary_type(context.alloc, context.is_post, *operator, kind)
         }
         Expr::Binary(operator, first, second) => {
-            find_operation(*operator, first.get(), second.get(), context, scope)
+            find_operation(*operator, first.get(), second.get(), context, names)
         }
-        Expr::Tuple(exprs) => Ok(Ty::Tuple(find_all(exprs.as_slice(), context, scope)?)),
+        Expr::Tuple(exprs) => {
+            let kinds = find_all(exprs.as_slice(), context, names)?;
+            tuple_of(context.alloc, kinds.as_slice())
+        }
         Expr::At(tuple, place) => {
-            let ty = find_type(tuple.get(), context, scope)?;
-            part_type(context.alloc, &ty, *place)
+            let kind = find_type(tuple.get(), context, names)?;
+            part_type(context.alloc, &kind, *place)
         }
         Expr::List(ty, exprs) => {
             if exprs.len() > LIMIT {
                 return Err(Refusal::Ill);
             }
-            expect_all(exprs.as_slice(), ty, context, scope)?;
-            list_of(context.alloc, copy_type(context.alloc, ty)?)
+            let item = Kind::of(context.alloc, ty)?;
+            expect_all(exprs.as_slice(), &item, context, names)?;
+            list_of(context.alloc, &item)
         }
         Expr::For(clauses, body) => {
-            let ty = find_built(clauses.as_slice(), body.get(), context, scope)?;
-            list_of(context.alloc, ty)
+            let item = find_built(clauses.as_slice(), body.get(), context, names)?;
+            list_of(context.alloc, &item)
         }
         Expr::Fold(name, list, acc, first, body) => {
-            find_fold(name, list, acc, first, body, context, scope)
+            find_fold(name, list, acc, first, body, context, names)
         }
-        Expr::Map(keys, ty) => map_of(context.alloc, *keys, copy_type(context.alloc, ty)?),
+        Expr::Map(keys, ty) => {
+            let value = Kind::of(context.alloc, ty)?;
+            map_of(context.alloc, *keys, &value)
+        },
         Expr::Put(map, key, value) => {
-            find_put(map.get(), key.get(), value.get(), context, scope)
+            find_put(map.get(), key.get(), value.get(), context, names)
         }
-        Expr::Call(name, exprs) => find_call(name.as_bytes(), exprs.as_slice(), context, scope),
+        Expr::Call(name, exprs) => find_call(name.as_bytes(), exprs.as_slice(), context, names),
         Expr::Apply(name, exprs) => {
-            find_applied(name.as_bytes(), exprs.as_slice(), context, scope)
+            find_applied(name.as_bytes(), exprs.as_slice(), context, names)
         }
     }
 }
@@ -97,15 +126,15 @@ fn find_let(
     bound: &Expr,
     body: &Expr,
     context: &Context<'_>,
-    scope: &Scope<'_>,
-) -> Result<Ty, Refusal>
+    names: &Names<'_>,
+) -> Result<Kind, Refusal>
     ensures { Answers
         (spec.let_type name.now (type_in context.now bound.now) (type_in context.now body.now)
-        (names_of scope.now))
+        (names_in names.now))
         result }
 {
-    let ty = find_type(bound, context, scope)?;
-    let inner = Scope::With(&*name, &ty, &*scope);
+    let kind = find_type(bound, context, names)?;
+    let inner = Names::With(&*name, &kind, &*names);
     find_type(body, context, &inner)
 }
 
@@ -116,17 +145,18 @@ fn find_if(
     then: &Expr,
     other: &Expr,
     context: &Context<'_>,
-    scope: &Scope<'_>,
-) -> Result<Ty, Refusal>
+    names: &Names<'_>,
+) -> Result<Kind, Refusal>
     ensures { Answers
         (spec.if_type (type_in context.now test.now) (type_in context.now then.now)
-        (type_in context.now other.now) (names_of scope.now))
+        (type_in context.now other.now) (names_in names.now))
         result }
 {
-    expect_type(test, &Ty::Bool, context, scope)?;
-    let ty = find_type(then, context, scope)?;
-    expect_type(other, &ty, context, scope)?;
-    Ok(ty)
+    let truth = Kind::of(context.alloc, &Ty::Bool)?;
+    expect_type(test, &truth, context, names)?;
+    let kind = find_type(then, context, names)?;
+    expect_type(other, &kind, context, names)?;
+    Ok(kind)
 }
 
 /// `bool`, where both expressions have it.
@@ -135,16 +165,17 @@ fn find_both(
     first: &Expr,
     second: &Expr,
     context: &Context<'_>,
-    scope: &Scope<'_>,
-) -> Result<Ty, Refusal>
+    names: &Names<'_>,
+) -> Result<Kind, Refusal>
     ensures { Answers
         (spec.both_type (type_in context.now first.now) (type_in context.now second.now)
-        (names_of scope.now))
+        (names_in names.now))
         result }
 {
-    expect_type(first, &Ty::Bool, context, scope)?;
-    expect_type(second, &Ty::Bool, context, scope)?;
-    Ok(Ty::Bool)
+    let truth = Kind::of(context.alloc, &Ty::Bool)?;
+    expect_type(first, &truth, context, names)?;
+    expect_type(second, &truth, context, names)?;
+    Ok(truth)
 }
 
 /// The type that an operator of two operands gives.
@@ -154,17 +185,16 @@ fn find_operation(
     first: &Expr,
     second: &Expr,
     context: &Context<'_>,
-    scope: &Scope<'_>,
-) -> Result<Ty, Refusal>
+    names: &Names<'_>,
+) -> Result<Kind, Refusal>
     ensures { Answers
         (spec.operation_type context.now.is_post operator (type_in context.now first.now)
-        (type_in context.now second.now) (names_of scope.now))
+        (type_in context.now second.now) (names_in names.now))
         result }
 {
-    let left = find_type(first, context, scope)?;
-    let right = find_type(second, context, scope)?;
-    let ty = binary_type(context.alloc, context.is_post, operator, left, &right)?;
-    ty.ok_or(Refusal::Ill)
+    let left = find_type(first, context, names)?;
+    let right = find_type(second, context, names)?;
+    binary_type(context.alloc, context.is_post, operator, left, &right)
 }
 
 /// The type of what is built of a list's items.
@@ -176,18 +206,18 @@ fn find_fold(
     first: &Boxed<Expr>,
     body: &Boxed<Expr>,
     context: &Context<'_>,
-    scope: &Scope<'_>,
-) -> Result<Ty, Refusal>
+    names: &Names<'_>,
+) -> Result<Kind, Refusal>
     ensures { Answers
         (spec.fold_type name.now (type_in context.now list.now) acc.now
-        (type_in context.now first.now) (type_in context.now body.now) (names_of scope.now))
+        (type_in context.now first.now) (type_in context.now body.now) (names_in names.now))
         result }
 {
-    let list = find_type(list.get(), context, scope)?;
-    let item = item_type(list).ok_or(Refusal::Ill)?;
-    let built = find_type(first.get(), context, scope)?;
-    let outer = Scope::With(name.as_bytes(), &item, &*scope);
-    let inner = Scope::With(acc.as_bytes(), &built, &outer);
+    let list = find_type(list.get(), context, names)?;
+    let item = item_type(context.alloc, &list)?;
+    let built = find_type(first.get(), context, names)?;
+    let outer = Names::With(name.as_bytes(), &item, &*names);
+    let inner = Names::With(acc.as_bytes(), &built, &outer);
     expect_type(body.get(), &built, context, &inner)?;
     Ok(built)
 }
@@ -199,21 +229,19 @@ fn find_put(
     key: &Expr,
     value: &Expr,
     context: &Context<'_>,
-    scope: &Scope<'_>,
-) -> Result<Ty, Refusal>
+    names: &Names<'_>,
+) -> Result<Kind, Refusal>
     ensures { Answers
         (spec.put_type (type_in context.now map.now) (type_in context.now key.now)
-        (type_in context.now value.now) (names_of scope.now))
+        (type_in context.now value.now) (names_in names.now))
         result }
 {
-    let ty = find_type(map, context, scope)?;
-    let keys = keys_type(&ty).ok_or(Refusal::Ill)?;
-    expect_type(key, &keys, context, scope)?;
-    let Some(values) = values_type(&ty) else {
-        return Err(Refusal::Ill);
-    };
-    expect_type(value, values, context, scope)?;
-    Ok(ty)
+    let kind = find_type(map, context, names)?;
+    let keys = keys_type(context.alloc, &kind)?;
+    expect_type(key, &keys, context, names)?;
+    let values = values_type(context.alloc, &kind)?;
+    expect_type(value, &values, context, names)?;
+    Ok(kind)
 }
 
 /// `call`, where the operation of the name takes such arguments.
@@ -222,18 +250,18 @@ fn find_call(
     name: &[u8],
     exprs: &[Expr],
     context: &Context<'_>,
-    scope: &Scope<'_>,
-) -> Result<Ty, Refusal>
+    names: &Names<'_>,
+) -> Result<Kind, Refusal>
     ensures { Answers
         (spec.call_type context.now.items.now name.now (map (type_in context.now) exprs.now)
-        (names_of scope.now))
+        (names_in names.now))
         result }
 {
     let Some(operation) = operation_called(context.items, name) else {
         return Err(Refusal::Ill);
     };
-    expect_each(exprs, operation.params.as_slice(), context, scope)?;
-    Ok(Ty::Call)
+    expect_each(exprs, operation.params.as_slice(), context, names)?;
+    kind_of(context.alloc, &Ty::Call)
 }
 
 /// The type of the result of the function of the name, where it takes such arguments.
@@ -242,11 +270,11 @@ fn find_applied(
     name: &[u8],
     exprs: &[Expr],
     context: &Context<'_>,
-    scope: &Scope<'_>,
-) -> Result<Ty, Refusal>
+    names: &Names<'_>,
+) -> Result<Kind, Refusal>
     ensures { Answers
         (spec.apply_type (reverse context.now.earlier.now) context.now.is_post name.now
-        (map (type_in context.now) exprs.now) (names_of scope.now))
+        (map (type_in context.now) exprs.now) (names_in names.now))
         result }
 {
     let Some(function) = function_called(context.earlier, name) else {
@@ -255,22 +283,22 @@ fn find_applied(
     if function.is_post && !context.is_post {
         return Err(Refusal::Ill);
     }
-    expect_each(exprs, function.params.as_slice(), context, scope)?;
-    Ok(copy_type(context.alloc, &function.result)?)
+    expect_each(exprs, function.params.as_slice(), context, names)?;
+    kind_of(context.alloc, &function.result)
 }
 
 /// Passes where the expression has the type.
 #[cycle(find)]
 fn expect_type(
     expr: &Expr,
-    ty: &Ty,
+    kind: &Kind,
     context: &Context<'_>,
-    scope: &Scope<'_>,
+    names: &Names<'_>,
 ) -> Result<(), Refusal>
-    ensures { Passes (is_ty (type_in context.now expr.now (names_of scope.now)) ty.now) result }
+    ensures { Passes (is_ty (type_in context.now expr.now (names_in names.now)) kind.now) result }
 {
-    let found = find_type(expr, context, scope)?;
-    if found == *ty {
+    let found = find_type(expr, context, names)?;
+    if found.same(context.alloc, kind)? {
         Ok(())
     } else {
         Err(Refusal::Ill)
@@ -279,12 +307,16 @@ fn expect_type(
 
 /// The types of expressions in turn.
 #[cycle(find)]
-fn find_all(exprs: &[Expr], context: &Context<'_>, scope: &Scope<'_>) -> Result<Items<Ty>, Refusal>
-    ensures { Answers (spec.all_types (map (type_in context.now) exprs.now) (names_of scope.now)) result }
+fn find_all(
+    exprs: &[Expr],
+    context: &Context<'_>,
+    names: &Names<'_>,
+) -> Result<Items<Kind>, Refusal>
+    ensures { Answers (spec.all_types (map (type_in context.now) exprs.now) (names_in names.now)) result }
 {
     let mut all = Items::new(context.alloc);
     for expr in exprs {
-        all.push(find_type(expr, context, scope)?)?;
+        all.push(find_type(expr, context, names)?)?;
     }
     Ok(all)
 }
@@ -293,15 +325,15 @@ fn find_all(exprs: &[Expr], context: &Context<'_>, scope: &Scope<'_>) -> Result<
 #[cycle(find)]
 fn expect_all(
     exprs: &[Expr],
-    ty: &Ty,
+    kind: &Kind,
     context: &Context<'_>,
-    scope: &Scope<'_>,
+    names: &Names<'_>,
 ) -> Result<(), Refusal>
     ensures { Passes
-        (spec.all_have (map (type_in context.now) exprs.now) (names_of scope.now) ty.now) result }
+        (spec.all_have (map (type_in context.now) exprs.now) (names_in names.now) kind.now) result }
 {
     for expr in exprs {
-        expect_type(expr, ty, context, scope)?;
+        expect_type(expr, kind, context, names)?;
     }
     Ok(())
 }
@@ -312,17 +344,18 @@ fn expect_each(
     exprs: &[Expr],
     params: &[Param],
     context: &Context<'_>,
-    scope: &Scope<'_>,
+    names: &Names<'_>,
 ) -> Result<(), Refusal>
     ensures { Passes
-        (spec.each_has (map (type_in context.now) exprs.now) (names_of scope.now) (types_of params.now))
+        (spec.each_has (map (type_in context.now) exprs.now) (names_in names.now) (types_of params.now))
         result }
 {
     if exprs.len() != params.len() {
         return Err(Refusal::Ill);
     }
     for i in 0..exprs.len() {
-        expect_type(&exprs[i], &params[i].ty, context, scope)?;
+        let kind = Kind::of(context.alloc, &params[i].ty)?;
+        expect_type(&exprs[i], &kind, context, names)?;
     }
     Ok(())
 }
@@ -333,52 +366,50 @@ fn find_built(
     clauses: &[Clause],
     body: &Expr,
     context: &Context<'_>,
-    scope: &Scope<'_>,
-) -> Result<Ty, Refusal>
+    names: &Names<'_>,
+) -> Result<Kind, Refusal>
     ensures { Answers
         (spec.built_type (parts_in context.now clauses.now) (type_in context.now body.now)
-        (names_of scope.now))
+        (names_in names.now))
         result }
 {
     match split_first(clauses) {
-        None => find_type(body, context, scope),
+        None => find_type(body, context, names),
         Some((first, rest)) => match first {
             Clause::In(name, list) => {
-                let list = find_type(list, context, scope)?;
-                let item = item_type(list).ok_or(Refusal::Ill)?;
-                let inner = Scope::With(name.as_bytes(), &item, &*scope);
+                let list = find_type(list, context, names)?;
+                let item = item_type(context.alloc, &list)?;
+                let inner = Names::With(name.as_bytes(), &item, &*names);
                 find_built(rest, body, context, &inner)
             }
             Clause::When(test) => {
-                expect_type(test, &Ty::Bool, context, scope)?;
-                find_built(rest, body, context, scope)
+                let truth = Kind::of(context.alloc, &Ty::Bool)?;
+                expect_type(test, &truth, context, names)?;
+                find_built(rest, body, context, names)
             }
         },
     }
 }
 
-/// A copy of the type of a variable.
-fn find_name(alloc: Global, scope: &Scope<'_>, name: &[u8]) -> Result<Ty, Refusal>
-    ensures { Answers (type_named (names_of scope.now) name.now) result }
+/// The kind of tuples of kinds.
+fn tuple_of(alloc: Global, items: &[Kind]) -> Result<Kind, Refusal>
+    ensures { Answers (Some (tuple items.now)) result }
 {
-    match type_of_name(scope, name) {
-        Some(ty) => Ok(copy_type(alloc, ty)?),
-        None => Err(Refusal::Ill),
-    }
+    Ok(Kind::tuple(alloc, items)?)
 }
 
-/// The type of lists of a type.
-fn list_of(alloc: Global, item: Ty) -> Result<Ty, Refusal>
-    ensures { Answers (Some (list item)) result }
+/// The kind of lists of a kind.
+fn list_of(alloc: Global, item: &Kind) -> Result<Kind, Refusal>
+    ensures { Answers (Some (list item.now)) result }
 {
-    Ok(Ty::List(Boxed::new(alloc, item)?))
+    Ok(item.list(alloc)?)
 }
 
-/// The type of maps of a type of keys and a type of values.
-fn map_of(alloc: Global, keys: KeyTy, value: Ty) -> Result<Ty, Refusal>
-    ensures { Answers (Some (map_type keys value)) result }
+/// The kind of maps of a type of keys and a kind of values.
+fn map_of(alloc: Global, keys: KeyTy, value: &Kind) -> Result<Kind, Refusal>
+    ensures { Answers (Some (map_type keys value.now)) result }
 {
-    Ok(Ty::Map(keys, Boxed::new(alloc, value)?))
+    Ok(value.map(alloc, keys)?)
 }
 
 fn split_first(clauses: &[Clause]) -> Option<(&Clause, &[Clause])>

@@ -7,7 +7,7 @@ ghost use Rattle.pst_value.specs.Fits.{is_ty};
 ghost use Rattle.pst_value.specs.declared.ty.Ty.TheVariants.{Bool as truth, List as list, Call as call};
 
 use crate::context::Context;
-use crate::expressions::type_of;
+use crate::expressions::find_kind;
 use crate::scope::Scope;
 use crate::types::{copy_type, holds_call, holds_ref, parameters_hold_call};
 use pst_items::Boxed;
@@ -24,8 +24,8 @@ fn has_type(
 ) -> Result<bool, AllocError>
     ensures { IfOk result (λ has. has ≡ is_ty (type_in context.now expr.now (names_of scope.now)) ty.now) }
 {
-    match type_of(expr, context, scope)? {
-        Some(found) => Ok(found == *ty),
+    match find_kind(expr, context, scope)? {
+        Some(found) => found.is(context.alloc, ty),
         None => Ok(false),
     }
 }

@@ -1,83 +1,154 @@
-//! The types of what operators give, and of the parts of types.
-ghost use Rattle.std.specs.Prelude.{◌≡◌, Some, IfOk};
-ghost use Rattle.std.specs.Option.{option_copied};
+//! The kinds of what operators give, and of the parts of kinds.
+ghost use Rattle.std.specs.Prelude.{◌≡◌, ◌&&◌, true, Some, IfOk};
 ghost use Rattle.std.specs.List.{list_all};
+ghost use Rattle.std.specs.Option.{option_copied};
+ghost use Rattle.pst_model.specs.declared.expr.Unary.TheVariants.{Keys};
 ghost use Rattle.pst_rules.specs.Rules as rules;
 ghost use Rattle.pst_typing.specs.Answers.{Answers};
 ghost use Rattle.pst_typing.specs.Decision as spec;
+ghost use Rattle.pst_value.specs.Equality.{same_ty};
 ghost use Rattle.pst_value.specs.Fits.{is_ty};
 ghost use Rattle.pst_value.specs.Text as lawful;
-ghost use Rattle.pst_value.specs.declared.ty.Ty.TheVariants.{Int as int, Text as text};
+ghost use Rattle.pst_value.specs.declared.ty.Ty.TheVariants.{Int as int, List as list, Text as text};
 
 use crate::refusal::Refusal;
-use crate::types::{copy_type, holds_ref};
-use pst_items::Boxed;
+use pst_kinds::{Form, Kind};
 use pst_model::{Binary, Unary};
 use pst_value::{KeyTy, LIMIT, Ty};
 use std::alloc::{AllocError, Global};
 
-/// A type, where a test is passed.
-fn where_true(test: bool, ty: Ty) -> Option<Ty>
-    ensures { result ≡ spec.where_true test (Some ty) }
+/// The kind of a type.
+pub fn kind_of(alloc: Global, ty: &Ty) -> Result<Kind, Refusal>
+    ensures { Answers (Some ty.now) result }
 {
-    if test { Some(ty) } else { None }
+    Ok(Kind::of(alloc, ty)?)
 }
 
-fn is_sequence(ty: &Ty) -> bool
-    ensures { result ≡ spec.is_sequence ty.now }
+/// A copy of a kind, where there is one.
+pub fn copied(kind: Option<&Kind>) -> Result<Kind, Refusal>
+    ensures { Answers (option_copied kind.entry) result }
 {
-    match ty {
-        Ty::Text | Ty::List(_) => true,
-        _ => false,
+    match kind {
+        Some(kind) => Ok(kind.copy()?),
+        None => Err(Refusal::Ill),
     }
 }
 
-fn is_ref(ty: &Ty) -> bool
-    ensures { result ≡ spec.is_ref ty.now }
+/// The kind of a type, where a test is passed.
+fn where_true(alloc: Global, test: bool, ty: &Ty) -> Result<Kind, Refusal>
+    ensures { Answers (spec.where_true test (Some ty.now)) result }
 {
-    match ty {
-        Ty::Ref(_) => true,
-        _ => false,
+    if test {
+        kind_of(alloc, ty)
+    } else {
+        Err(Refusal::Ill)
     }
 }
 
-fn both_int(first: &Ty, second: &Ty) -> bool
-    ensures { result ≡ spec.both_int first.now second.now }
+/// A kind, where a test is passed.
+fn kept(test: bool, kind: Kind) -> Result<Kind, Refusal>
+    ensures { Answers (spec.where_true test (Some kind)) result }
 {
-    *first == Ty::Int && *second == Ty::Int
+    if test { Ok(kind) } else { Err(Refusal::Ill) }
+}
+
+fn is_sequence(alloc: Global, kind: &Kind) -> Result<bool, AllocError>
+    ensures { IfOk result (λ is. is ≡ spec.is_sequence kind.now) }
+{
+    match kind.form(alloc)? {
+        Form::Text => Ok(true),
+        Form::List(_) => Ok(true),
+        _ => Ok(false),
+    }
+}
+
+fn is_ref(alloc: Global, kind: &Kind) -> Result<bool, AllocError>
+    ensures { IfOk result (λ is. is ≡ spec.is_ref kind.now) }
+{
+    match kind.form(alloc)? {
+        Form::Ref(_) => Ok(true),
+        _ => Ok(false),
+    }
+}
+
+fn both_int(alloc: Global, first: &Kind, second: &Kind) -> Result<bool, AllocError>
+    ensures { IfOk result (λ are. are ≡ spec.both_int first.now second.now) }
+{
+    if !first.is(alloc, &Ty::Int)? {
+        return Ok(false);
+    }
+    second.is(alloc, &Ty::Int)
 }
 
 /// Whether both are `int`, or both `text`.
-fn are_ordered(first: &Ty, second: &Ty) -> bool
-    ensures { result ≡ spec.are_ordered first.now second.now }
+fn are_ordered(alloc: Global, first: &Kind, second: &Kind) -> Result<bool, AllocError>
+    ensures { IfOk result (λ are. are ≡ spec.are_ordered first.now second.now) }
 {
-    *first == *second && (*first == Ty::Int || *first == Ty::Text)
+    if !first.same(alloc, second)? {
+        return Ok(false);
+    }
+    if first.is(alloc, &Ty::Int)? {
+        return Ok(true);
+    }
+    first.is(alloc, &Ty::Text)
 }
 
 /// Whether `=` compares them: in mode post any type, else one without references.
-fn are_compared(is_post: bool, first: &Ty, second: &Ty) -> bool
-    ensures { result ≡ spec.are_compared is_post first.now second.now }
+fn are_compared(
+    alloc: Global,
+    is_post: bool,
+    first: &Kind,
+    second: &Kind,
+) -> Result<bool, AllocError>
+    ensures { IfOk result (λ are. are ≡ spec.are_compared is_post first.now second.now) }
 {
-    *first == *second && (is_post || !holds_ref(first))
+    if !first.same(alloc, second)? {
+        return Ok(false);
+    }
+    if is_post {
+        return Ok(true);
+    }
+    let holds_ref = first.holds_ref(alloc)?;
+    Ok(!holds_ref)
 }
 
-/// The type of a list's items, or `None` where the type is no list type.
-pub fn item_type(list: Ty) -> Option<Ty>
-    ensures { result ≡ spec.item_type list }
+/// Whether `same` compares them: references of one type.
+fn are_references(alloc: Global, first: &Kind, second: &Kind) -> Result<bool, AllocError>
+    ensures { IfOk result (λ are. are ≡ same_ty first.now second.now && spec.is_ref first.now) }
 {
-    match list {
-        Ty::List(item) => Some(item.into_inner()),
-        _ => None,
+    if !first.same(alloc, second)? {
+        return Ok(false);
+    }
+    is_ref(alloc, first)
+}
+
+/// Whether `append` joins them: texts, or lists of one type.
+fn are_joined(alloc: Global, first: &Kind, second: &Kind) -> Result<bool, AllocError>
+    ensures { IfOk result (λ are. are ≡ same_ty first.now second.now && spec.is_sequence first.now) }
+{
+    if !first.same(alloc, second)? {
+        return Ok(false);
+    }
+    is_sequence(alloc, first)
+}
+
+/// The kind of a list's items.
+pub fn item_type(alloc: Global, list: &Kind) -> Result<Kind, Refusal>
+    ensures { Answers (spec.item_type list.now) result }
+{
+    match list.form(alloc)? {
+        Form::List(item) => Ok(item),
+        _ => Err(Refusal::Ill),
     }
 }
 
-/// The type of the result that a reference names, or `None` where the type is no reference type.
-fn referred_type(reference: Ty) -> Option<Ty>
-    ensures { result ≡ spec.referred_type reference }
+/// The kind of the result that a reference names.
+fn referred_type(alloc: Global, reference: &Kind) -> Result<Kind, Refusal>
+    ensures { Answers (spec.referred_type reference.now) result }
 {
-    match reference {
-        Ty::Ref(named) => Some(named.into_inner()),
-        _ => None,
+    match reference.form(alloc)? {
+        Form::Ref(named) => Ok(named),
+        _ => Err(Refusal::Ill),
     }
 }
 
@@ -92,146 +163,154 @@ fn key_type(keys: KeyTy) -> Ty
     }
 }
 
-/// The type of a map's keys, as values, or `None` where the type is no map type.
-pub fn keys_type(map: &Ty) -> Option<Ty>
-    ensures { result ≡ spec.keys_type map.now }
+/// The kind of a map's keys, as values.
+pub fn keys_type(alloc: Global, map: &Kind) -> Result<Kind, Refusal>
+    ensures { Answers (spec.keys_type map.now) result }
 {
-    match map {
-        Ty::Map(keys, _) => Some(key_type(*keys)),
-        _ => None,
+    match map.form(alloc)? {
+        Form::Map(keys, _) => kind_of(alloc, &key_type(keys)),
+        _ => Err(Refusal::Ill),
     }
 }
 
-/// The type of a map's values, or `None` where the type is no map type.
-pub fn values_type(map: &Ty) -> Option<&Ty>
-    ensures { option_copied result ≡ spec.values_type map.now }
+/// The kind of a map's values.
+pub fn values_type(alloc: Global, map: &Kind) -> Result<Kind, Refusal>
+    ensures { Answers (spec.values_type map.now) result }
 {
-    match map {
-        Ty::Map(_, value) => Some(value.get()),
-        _ => None,
+    match map.form(alloc)? {
+        Form::Map(_, value) => Ok(value),
+        _ => Err(Refusal::Ill),
     }
 }
 
 /// Whether the first is a map type, and the second the type of its keys.
-fn has_keys(map: &Ty, key: &Ty) -> bool
-    ensures { result ≡ is_ty (spec.keys_type map.now) key.now }
+fn has_keys(alloc: Global, map: &Kind, key: &Kind) -> Result<bool, AllocError>
+    ensures { IfOk result (λ has. has ≡ is_ty (spec.keys_type map.now) key.now) }
 {
-    match keys_type(map) {
-        Some(ty) => ty == *key,
-        None => false,
+    match keys_type(alloc, map) {
+        Ok(kind) => kind.same(alloc, key),
+        Err(Refusal::Ill) => Ok(false),
+        Err(Refusal::NoMemory) => Err(AllocError),
     }
 }
 
-/// The same as `values_type`, out of a type that is not used again.
-fn into_values(map: Ty) -> Option<Ty>
-    ensures { result ≡ spec.values_type map }
-{
-    match map {
-        Ty::Map(_, value) => Some(value.into_inner()),
-        _ => None,
-    }
-}
-
-/// The type of a tuple's item, by its place from 1.
-pub fn part_type(alloc: Global, tuple: &Ty, place: u64) -> Result<Ty, Refusal>
+/// The kind of a tuple's item, by its place from 1.
+pub fn part_type(alloc: Global, tuple: &Kind, place: u64) -> Result<Kind, Refusal>
     ensures { Answers (spec.part_type tuple.now place) result }
 {
-    let Ty::Tuple(types) = tuple else {
+    let Form::Tuple(kinds) = tuple.form(alloc)? else {
         return Err(Refusal::Ill);
     };
     if place == 0 {
         return Err(Refusal::Ill);
     }
-    match types.get(place as usize - 1) {
-        Some(ty) => Ok(copy_type(alloc, ty)?),
-        None => Err(Refusal::Ill),
+    copied(kinds.get(place as usize - 1))
+}
+
+/// The kind of what `nth` takes out of the first at the second.
+fn nth_type(alloc: Global, list: &Kind, place: &Kind) -> Result<Kind, Refusal>
+    ensures { Answers (spec.where_true (same_ty place.now int) (spec.item_type list.now)) result }
+{
+    if place.is(alloc, &Ty::Int)? {
+        item_type(alloc, list)
+    } else {
+        Err(Refusal::Ill)
     }
 }
 
-/// The type of an operator's value, by that of its operand, or `None` where the operator takes no such
-/// operand.
-///
-/// `AllocError`: memory was refused.
+/// The kind of what `get` takes out of the first at the second.
+fn get_type(alloc: Global, map: &Kind, key: &Kind) -> Result<Kind, Refusal>
+    ensures { Answers (spec.where_true (is_ty (spec.keys_type map.now) key.now) (spec.values_type map.now)) result }
+{
+    if has_keys(alloc, map, key)? {
+        values_type(alloc, map)
+    } else {
+        Err(Refusal::Ill)
+    }
+}
+
+/// The kind of the list of a map's keys.
+fn keys_list_type(alloc: Global, map: &Kind) -> Result<Kind, Refusal>
+    ensures { Answers (spec.unary_type true Keys map.now) result }
+{
+    let keys = keys_type(alloc, map)?;
+    Ok(keys.list(alloc)?)
+}
+
+/// The kind of a list of integers, where both are `int`.
+fn range_type(alloc: Global, first: &Kind, second: &Kind) -> Result<Kind, Refusal>
+    ensures { Answers (spec.where_true (spec.both_int first.now second.now) (Some (list int))) result }
+{
+    let both = both_int(alloc, first, second)?;
+    let ints = Kind::of(alloc, &Ty::Int)?.list(alloc)?;
+    kept(both, ints)
+}
+
+/// The kind of an operator's value, by that of its operand.
 pub fn unary_type(
     alloc: Global,
     is_post: bool,
     operator: Unary,
-    operand: Ty,
-) -> Result<Option<Ty>, AllocError>
-    ensures { IfOk result (λ ty. ty ≡ spec.unary_type is_post operator operand) }
+    operand: Kind,
+) -> Result<Kind, Refusal>
+    ensures { Answers (spec.unary_type is_post operator operand) result }
 {
     match operator {
-        Unary::Not => Ok(where_true(operand == Ty::Bool, Ty::Bool)),
-        Unary::Len => Ok(where_true(is_sequence(&operand), Ty::Int)),
+        Unary::Not => where_true(alloc, operand.is(alloc, &Ty::Bool)?, &Ty::Bool),
+        Unary::Len => where_true(alloc, is_sequence(alloc, &operand)?, &Ty::Int),
         Unary::Deref => {
             if !is_post {
-                return Ok(None);
+                return Err(Refusal::Ill);
             }
-            Ok(referred_type(operand))
+            referred_type(alloc, &operand)
         }
-        Unary::Keys => match keys_type(&operand) {
-            Some(key) => Ok(Some(Ty::List(Boxed::new(alloc, key)?))),
-            None => Ok(None),
-        },
+        Unary::Keys => keys_list_type(alloc, &operand),
     }
 }
 
-/// The type of an operator's value, by those of its operands, or `None` where the operator takes no such
-/// operands.
-///
-/// `AllocError`: memory was refused.
+/// The kind of an operator's value, by those of its operands.
 pub fn binary_type(
     alloc: Global,
     is_post: bool,
     operator: Binary,
-    first: Ty,
-    second: &Ty,
-) -> Result<Option<Ty>, AllocError>
-    ensures { IfOk result (λ ty. ty ≡ spec.binary_type is_post operator first second.now) }
+    first: Kind,
+    second: &Kind,
+) -> Result<Kind, Refusal>
+    ensures { Answers (spec.binary_type is_post operator first second.now) result }
 {
-    Ok(match operator {
+    match operator {
         Binary::Add | Binary::Sub | Binary::Mul | Binary::Div | Binary::Rem => {
-            where_true(both_int(&first, second), Ty::Int)
+            where_true(alloc, both_int(alloc, &first, second)?, &Ty::Int)
         }
-        Binary::Less | Binary::LessEqual => where_true(are_ordered(&first, second), Ty::Bool),
-        Binary::Equal => where_true(are_compared(is_post, &first, second), Ty::Bool),
-        Binary::Same => where_true(first == *second && is_ref(&first), Ty::Bool),
-        Binary::Append => where_true(first == *second && is_sequence(&first), first),
-        Binary::Nth => {
-            if *second == Ty::Int {
-                item_type(first)
-            } else {
-                None
-            }
+        Binary::Less | Binary::LessEqual => {
+            where_true(alloc, are_ordered(alloc, &first, second)?, &Ty::Bool)
         }
-        Binary::Get => {
-            if has_keys(&first, second) {
-                into_values(first)
-            } else {
-                None
-            }
+        Binary::Equal => {
+            let are = are_compared(alloc, is_post, &first, second)?;
+            where_true(alloc, are, &Ty::Bool)
         }
-        Binary::Has => where_true(has_keys(&first, second), Ty::Bool),
-        Binary::Del => where_true(has_keys(&first, second), first),
-        Binary::Range => {
-            let list = Ty::List(Boxed::new(alloc, Ty::Int)?);
-            where_true(both_int(&first, second), list)
-        }
-    })
+        Binary::Same => where_true(alloc, are_references(alloc, &first, second)?, &Ty::Bool),
+        Binary::Append => kept(are_joined(alloc, &first, second)?, first),
+        Binary::Nth => nth_type(alloc, &first, second),
+        Binary::Get => get_type(alloc, &first, second),
+        Binary::Has => where_true(alloc, has_keys(alloc, &first, second)?, &Ty::Bool),
+        Binary::Del => kept(has_keys(alloc, &first, second)?, first),
+        Binary::Range => range_type(alloc, &first, second),
+    }
 }
 
-/// The type of an integer: one of 64 bits is always in range.
-pub fn int_type(number: i64) -> Ty
-    ensures { spec.where_true (lawful.is_i64 number) (Some int) ≡ Some result }
+/// `int`: an integer of 64 bits is always in range.
+pub fn int_type(alloc: Global, number: i64) -> Result<Kind, Refusal>
+    ensures { Answers (spec.where_true (lawful.is_i64 number) (Some int)) result }
 {
-    Ty::Int
+    kind_of(alloc, &Ty::Int)
 }
 
-/// The type of a text, or `None` where the text is too long or has a byte that is not printable.
-pub fn text_type(bytes: &[u8]) -> Option<Ty>
-    ensures { result ≡ spec.where_true (lawful.is_text bytes.now) (Some text) }
+/// `text`, unless the text is too long or has a byte that is not printable.
+pub fn text_type(alloc: Global, bytes: &[u8]) -> Result<Kind, Refusal>
+    ensures { Answers (spec.where_true (lawful.is_text bytes.now) (Some text)) result }
 {
-    where_true(is_text(bytes), Ty::Text)
+    where_true(alloc, is_text(bytes), &Ty::Text)
 }
 
 /// Whether it has at most `LIMIT` bytes, each 32 to 126.

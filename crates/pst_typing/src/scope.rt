@@ -1,12 +1,18 @@
 //! What names stand for: variables, operations and functions.
-ghost use Rattle.std.specs.Prelude.{◌≡◌, reverse};
+ghost use Rattle.std.specs.Prelude.{◌≡◌, map, reverse, IfOk};
 ghost use Rattle.std.specs.Option.{option_copied};
 ghost use Rattle.pst_rules.specs.Rules as rules;
 ghost use Rattle.pst_typing.specs.Decision as decision;
-ghost use Rattle.pst_typing.specs.Scope.{names_of};
+ghost use Rattle.pst_typing.specs.Answers.{Answers};
+ghost use Rattle.pst_typing.specs.Scope.{names_of, names_in, name_seen};
 
+use crate::operators::copied;
+use crate::refusal::Refusal;
+use pst_items::Items;
+use pst_kinds::Kind;
 use pst_model::{Fun, Item, Op, Param, number_of, operation_of};
 use pst_value::Ty;
+use std::alloc::{AllocError, Global};
 
 /// The names that an expression sees with their types, the inner ones first.
 #[derive(Drop)]
@@ -17,30 +23,77 @@ pub enum Scope<'a> {
     With(&'a [u8], &'a Ty, &'a Scope<'a>),
 }
 
-fn type_of_parameter<'a>(params: &'a [Param], name: &[u8]) -> Option<&'a Ty>
-    ensures { option_copied result ≡ rules.type_named (rules.context_of params.now) name.now }
+/// A name and its kind.
+#[derive(Drop)]
+pub struct Seen {
+    pub name: Items<u8>,
+    pub kind: Kind,
+}
+
+/// The names that a part of an expression sees with their kinds, the inner ones first.
+#[derive(Drop)]
+pub enum Names<'a> {
+    /// The names that the whole expression sees.
+    Outer(&'a [Seen]),
+    /// One more name, and the outer ones.
+    With(&'a [u8], &'a Kind, &'a Names<'a>),
+}
+
+/// The names of parameters, with the kinds of their types.
+fn seen_parameters(alloc: Global, params: &[Param]) -> Result<Items<Seen>, AllocError>
+    ensures { IfOk result (λ seen. map name_seen seen ≡ rules.context_of params.now) }
 {
-    match params {
+    let mut seen = Items::new(alloc);
+    for param in params {
+        let name = Items::from_slice(alloc, param.name.as_bytes())?;
+        let kind = Kind::of(alloc, &param.ty)?;
+        seen.push(Seen { name, kind })?;
+    }
+    Ok(seen)
+}
+
+/// The names of a scope, with the kinds of their types.
+pub fn names_seen(alloc: Global, scope: &Scope<'_>) -> Result<Items<Seen>, AllocError>
+    ensures { IfOk result (λ seen. map name_seen seen ≡ names_of scope.now) }
+{
+    match scope {
+        Scope::Parameters(params) => seen_parameters(alloc, params),
+        Scope::With(name, ty, outer) => {
+            let name = Items::from_slice(alloc, name)?;
+            let kind = Kind::of(alloc, ty)?;
+            let mut seen = Items::new(alloc);
+            seen.push(Seen { name, kind })?;
+            seen.append(names_seen(alloc, outer)?)?;
+            Ok(seen)
+        }
+    }
+}
+
+/// The kind of a name among those that the whole expression sees.
+fn kind_seen<'a>(seen: &'a [Seen], name: &[u8]) -> Option<&'a Kind>
+    ensures { option_copied result ≡ rules.type_named (map name_seen seen.now) name.now }
+{
+    match seen {
         [] => None,
-        [param, params @ ..] => if param.name.as_bytes() == name {
-            Some(&param.ty)
+        [first, others @ ..] => if first.name.as_slice() == name {
+            Some(&first.kind)
         } else {
-            type_of_parameter(params, name)
+            kind_seen(others, name)
         },
     }
 }
 
-/// The type of a variable.
-pub fn type_of_name<'a>(scope: &'a Scope<'a>, name: &[u8]) -> Option<&'a Ty>
-    ensures { option_copied result ≡ rules.type_named (names_of scope.now) name.now }
+/// The kind of a variable.
+pub fn find_name(names: &Names<'_>, name: &[u8]) -> Result<Kind, Refusal>
+    ensures { Answers (rules.type_named (names_in names.now) name.now) result }
 {
-    match scope {
-        Scope::Parameters(params) => type_of_parameter(params, name),
-        Scope::With(bound, ty, outer) => {
+    match names {
+        Names::Outer(seen) => copied(kind_seen(seen, name)),
+        Names::With(bound, kind, outer) => {
             if *bound == name {
-                return Some(*ty);
+                return Ok(kind.copy()?);
             }
-            type_of_name(outer, name)
+            find_name(outer, name)
         }
     }
 }

@@ -3,4 +3,4 @@ use Rattle.pst_kinds.specs.Nodes.{type_at}
 use Rattle.pst_kinds.proofs.form.parts_of.Given as goal
 
 abbrev pub invariant-loop-part : goal.invariant-loop-part
-invariant-loop-part l = l.kinds ≡ map (type_at l.nodes) (take l.part-index l.parts)
+invariant-loop-part l = l.kinds ≡ map (type_at l.nodes.value) (take l.part-index l.parts)

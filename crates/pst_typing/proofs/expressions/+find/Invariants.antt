@@ -1,7 +1,7 @@
 use Rattle.std.proofs.Common.{◌≡◌, ◌+◌, ◌*◌, map, drop}
 use Rattle.pst_model.specs.Parts.{types_of}
 use Rattle.pst_typing.specs.Decision.{all_types, all_have, each_has}
-use Rattle.pst_typing.specs.Scope.{names_of, type_in}
+use Rattle.pst_typing.specs.Scope.{names_in, type_in}
 use Rattle.pst_typing.proofs.Steps.{after}
 use Rattle.pst_meaning.specs.Weight.{weight, clause_weight, total}
 use Rattle.pst_typing.proofs.expressions.+find.Given as goal
@@ -50,12 +50,12 @@ decreases-find_applied l = 4 * total (map weight l.exprs.now) + 3
 
 abbrev pub invariant-find_all-loop-expr : goal.invariant-find_all-loop-expr
 invariant-find_all-loop-expr l =
-    after l.all (all_types (map (type_in l.context) (drop l.expr-index l.exprs)) (names_of l.scope)) ≡ all_types (map (type_in l.context) l.exprs) (names_of l.scope)
+    after l.all (all_types (map (type_in l.context) (drop l.expr-index l.exprs)) (names_in l.names)) ≡ all_types (map (type_in l.context) l.exprs) (names_in l.names)
 
 abbrev pub invariant-expect_all-loop-expr : goal.invariant-expect_all-loop-expr
 invariant-expect_all-loop-expr l =
-    all_have (map (type_in l.context) (drop l.expr-index l.exprs)) (names_of l.scope) l.ty ≡ all_have (map (type_in l.context) l.exprs) (names_of l.scope) l.ty
+    all_have (map (type_in l.context) (drop l.expr-index l.exprs)) (names_in l.names) l.kind ≡ all_have (map (type_in l.context) l.exprs) (names_in l.names) l.kind
 
 abbrev pub invariant-expect_each-loop-i : goal.invariant-expect_each-loop-i
 invariant-expect_each-loop-i l =
-    each_has (map (type_in l.context) (drop l.i l.exprs)) (names_of l.scope) (types_of (drop l.i l.params)) ≡ each_has (map (type_in l.context) l.exprs) (names_of l.scope) (types_of l.params)
+    each_has (map (type_in l.context) (drop l.i l.exprs)) (names_in l.names) (types_of (drop l.i l.params)) ≡ each_has (map (type_in l.context) l.exprs) (names_in l.names) (types_of l.params)
