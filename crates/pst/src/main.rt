@@ -150,7 +150,7 @@ fn say<R: Eprint + AllocGlobal>(
     }
     let Input { files, bytes } = input;
     match status {
-        Status::Refused => refused::report(rt, word, words.get_flag("keep-going"), files, bytes),
+        Status::Refused => refused::report(rt, word, words, files, bytes),
         Status::Accepted if word == "check" => warned::report(rt, files, bytes),
         _ => {}
     }

@@ -1,5 +1,6 @@
 //! The messages beside refusals, on standard error.
 
+use clap::ArgMatches;
 use pst_cli::{Absence, Status, refuse_text};
 use pst_messages::{Asked, message_of};
 use pst_sink::Out;
@@ -12,11 +13,16 @@ pub fn memory<R: Runtime>(rt: &R) -> Status {
     refuse_text(Absence::NoMemory, &mut Out::new(io::writer(rt)))
 }
 
-/// What is read of an input by the word that the program was given: the model alone, its items up to the first that is
-/// refused, or all of them.
-fn asked(word: &str, is_keeping_on: bool) -> Asked {
+/// What messages are written for, by the word that the program was given and the words behind it.
+fn asked(word: &str, words: &ArgMatches<'_>) -> Asked {
     match word {
-        "judge" if is_keeping_on => Asked::EachItem,
+        "judge" if words.get_flag("keep-going") => {
+            if words.get_flag("all-messages") {
+                Asked::AllItems
+            } else {
+                Asked::EachItem
+            }
+        }
         "judge" | "run" | "explain" => Asked::FirstItem,
         _ => Asked::Model,
     }
@@ -28,11 +34,11 @@ fn asked(word: &str, is_keeping_on: bool) -> Asked {
 pub fn report<R: Eprint + AllocGlobal>(
     rt: &R,
     word: &str,
-    is_keeping_on: bool,
+    words: &ArgMatches<'_>,
     files: &[SourceFile<'_>],
     input: &[u8],
 ) {
-    let asked = asked(word, is_keeping_on);
+    let asked = asked(word, words);
     if let Ok(Some(message)) = message_of(rt.alloc(), files, input, asked) {
         let _ = eprint!(rt; "{message}");
     }

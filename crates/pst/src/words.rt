@@ -59,12 +59,23 @@ fn keep_going<'a>(alloc: Global) -> Arg<'a> {
         .help("judges the items behind one that is refused too")
 }
 
+/// The option that shows each message.
+fn all_messages<'a>(alloc: Global) -> Arg<'a> {
+    Arg::new(alloc, "all-messages")
+        .long("all-messages")
+        .action(ArgAction::SetTrue)
+        .help(
+            "with --keep-going: writes a message for each refused item, not for the first 20 alone",
+        )
+}
+
 /// `judge`, with the files of a model and its items.
 fn judge_command<'a>(alloc: Global) -> Result<Command<'a>, AllocError> {
     Command::new(alloc, "judge")
         .about("judges the cases and recorded runs behind a model: a line for each")
         .arg(files(alloc))?
         .arg(keep_going(alloc))?
+        .arg(all_messages(alloc))?
         .arg(quiet(alloc))
 }
 

@@ -1,6 +1,5 @@
--- A part of an expression that has no type, while all its own parts have one.
-use Rattle.std.specs.Prelude.{◌≡◌, ◌+◌, ℤ, ℕ, Bool, true, List, [], ◌∷◌, map, Option, Some, None, is_some, slice_get, MatchOption}
-use Rattle.std.specs.List.{list_all}
+-- A part of an expression that has no type, while all its own parts have one: these types.
+use Rattle.std.specs.Prelude.{◌≡◌, ◌+◌, ℤ, ℕ, Bool, List, [], ◌∷◌, map, Option, Some, None, slice_get, MatchOption}
 use Rattle.pst_model.specs.Parts.{Name}
 use Rattle.pst_model.specs.declared.expr.Binary.{Binary}
 use Rattle.pst_model.specs.declared.expr.Clause.{Clause}
@@ -91,23 +90,33 @@ pub data Parts (f : Typing) (G : Context) : Expr → List Seen → Type 0 where
   parts_call : (x : Name) (es : List Expr) → Parts f G (expr.Call x es) (each_part G es)
   parts_apply : (g : Name) (es : List Expr) → Parts f G (expr.Apply g es) (each_part G es)
 
--- whether an expression has a type among the names that it sees
-abbrev pub is_typed : Typing → Seen → Bool
-is_typed f p = is_some (f p.1 p.0)
+-- the type that an expression has among the names that it sees, if it has one
+abbrev pub type_seen : Typing → Seen → Option Ty
+type_seen f p = f p.1 p.0
+
+-- each of the parts has a type, and these are the types, in their order
+abbrev pub AreTypes : Typing → List Seen → List Ty → Type 0
+AreTypes f P types = map (type_seen f) P ≡ map Some types
 
 -- a path of the numbers of parts, from 0, leads from among these to a part that has no type, while all its
--- own parts have one; each part on the way has none
-abbrev pub Leads : Typing → List Seen → List ℕ → Type 0
-Leads f P [] = list_all (is_typed f) P ≡ true
-Leads f P (k ∷ path) =
+-- own parts have the given types; each part on the way has none
+abbrev pub Leads : Typing → List Seen → List Ty → List ℕ → Type 0
+Leads f P types [] = AreTypes f P types
+Leads f P types (k ∷ path) =
     MatchOption (slice_get P k) ⊥
-    (λ p. (f p.1 p.0 ≡ None) × ((Q : List Seen) × Parts f p.0 p.1 Q × Leads f Q path))
+    (λ p. (f p.1 p.0 ≡ None) × ((Q : List Seen) × Parts f p.0 p.1 Q × Leads f Q types path))
 
--- the same path where one more part stands before the others
+-- the same path where there is one more part before the others
 abbrev pub behind_one : List ℕ → List ℕ
 behind_one [] = []
 behind_one (k ∷ path) = (k + 1) ∷ path
 
--- an expression has no type, and the path leads from it to the part that is to blame
-abbrev pub IsBlamed : Typing → Context → Expr → List ℕ → Type 0
-IsBlamed f G e path = (f e G ≡ None) × ((P : List Seen) × Parts f G e P × Leads f P path)
+-- the types where there is one more part of type `T` before the others: it is a part of the one that is to blame
+-- only if the path ends here
+abbrev pub types_behind : Ty → List ℕ → List Ty → List Ty
+types_behind T [] types = T ∷ types
+types_behind T (k ∷ path) types = types
+
+-- an expression has no type, and the path leads from it to the part that is to blame, whose parts have the given types
+abbrev pub IsBlamed : Typing → Context → Expr → List Ty → List ℕ → Type 0
+IsBlamed f G e types path = (f e G ≡ None) × ((P : List Seen) × Parts f G e P × Leads f P types path)

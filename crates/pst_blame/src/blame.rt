@@ -20,7 +20,8 @@ pub struct Blame {
 impl Blame {
     /// The expression itself is to blame, whose parts have these types.
     pub fn here(alloc: Global, types: Items<Ty>) -> Blame
-        ensures { result.path ≡ [] }
+        ensures path { result.path ≡ [] }
+        ensures types { result.types ≡ types }
     {
         Blame {
             path: Items::new(alloc),
@@ -31,7 +32,7 @@ impl Blame {
 
     /// The same part, seen from an expression that has the blamed one as the part of a number.
     pub fn inside(self, alloc: Global, part: usize) -> Result<Blame, AllocError>
-        ensures { IfOk result (λ blame. blame.path ≡ part ∷ self.path) }
+        ensures { IfOk result (λ blame. (blame.path ≡ part ∷ self.path) × (blame.types ≡ self.types)) }
     {
         let Blame {
             path: inner,

@@ -24,7 +24,7 @@ pub fn find(
 ) -> Result<Result<Ty, Blame>, AllocError>
     ensures { IfOk result (λ found. MatchResult found
         (λ ty. type_in context.now expr.now (names_of scope.now) ≡ Some ty)
-        (λ blame. IsBlamed (type_in context.now) (names_of scope.now) expr.now blame.path)) }
+        (λ blame. IsBlamed (type_in context.now) (names_of scope.now) expr.now blame.types blame.path)) }
 {
     match type_of(expr, context, scope)? {
         Some(ty) => Ok(Ok(ty)),
@@ -36,7 +36,7 @@ pub fn find(
 #[cycle(blame)]
 fn blamed(expr: &Expr, context: &Context<'_>, scope: &Scope<'_>) -> Result<Blame, AllocError>
     requires none { type_in context.now expr.now (names_of scope.now) ≡ None }
-    ensures { IfOk result (λ blame. IsBlamed (type_in context.now) (names_of scope.now) expr.now blame.path) }
+    ensures { IfOk result (λ blame. IsBlamed (type_in context.now) (names_of scope.now) expr.now blame.types blame.path) }
 {
     match expr {
         Expr::Int(_) => Ok(nothing(context.alloc)),
@@ -65,14 +65,15 @@ fn blamed(expr: &Expr, context: &Context<'_>, scope: &Scope<'_>) -> Result<Blame
 
 /// An expression without parts is to blame.
 fn nothing(alloc: Global) -> Blame
-    ensures { result.path ≡ [] }
+    ensures path { result.path ≡ [] }
+    ensures types { result.types ≡ [] }
 {
     Blame::here(alloc, Items::new(alloc))
 }
 
 /// A name is to blame, beside the names that stand for something.
 fn unknown(alloc: Global, scope: &Scope<'_>) -> Result<Blame, AllocError>
-    ensures { IfOk result (λ blame. blame.path ≡ []) }
+    ensures { IfOk result (λ blame. (blame.path ≡ []) × (blame.types ≡ [])) }
 {
     let mut blame = nothing(alloc);
     blame.names = names_in(alloc, scope)?;
@@ -109,7 +110,7 @@ fn in_let(
     scope: &Scope<'_>,
 ) -> Result<Blame, AllocError>
     ensures { IfOk result (λ blame. Leads (type_in context.now)
-        (spec.let_parts (type_in context.now) (names_of scope.now) name.now bound.now body.now) blame.path) }
+        (spec.let_parts (type_in context.now) (names_of scope.now) name.now bound.now body.now) blame.types blame.path) }
 {
     let ty = match find(bound.get(), context, scope)? {
         Ok(ty) => ty,
@@ -117,7 +118,7 @@ fn in_let(
     };
     let inner = Scope::With(name.as_bytes(), &ty, &*scope);
     match find(body.get(), context, &inner)? {
-        Ok(_) => Ok(nothing(context.alloc)),
+        Ok(body) => here_of_two(context.alloc, ty, body),
         Err(blame) => blame.inside(context.alloc, 1),
     }
 }
@@ -126,7 +127,7 @@ fn in_let(
 #[cycle(blame)]
 fn in_one(expr: &Expr, context: &Context<'_>, scope: &Scope<'_>) -> Result<Blame, AllocError>
     ensures { IfOk result (λ blame. Leads (type_in context.now)
-        (spec.one_part (names_of scope.now) expr.now) blame.path) }
+        (spec.one_part (names_of scope.now) expr.now) blame.types blame.path) }
 {
     match find(expr, context, scope)? {
         Ok(ty) => {
@@ -147,7 +148,7 @@ fn in_two(
     scope: &Scope<'_>,
 ) -> Result<Blame, AllocError>
     ensures { IfOk result (λ blame. Leads (type_in context.now)
-        (spec.two_parts (names_of scope.now) first.now second.now) blame.path) }
+        (spec.two_parts (names_of scope.now) first.now second.now) blame.types blame.path) }
 {
     let mut types = Items::new(context.alloc);
     match find(first.get(), context, scope)? {
@@ -171,7 +172,7 @@ fn in_three(
     scope: &Scope<'_>,
 ) -> Result<Blame, AllocError>
     ensures { IfOk result (λ blame. Leads (type_in context.now)
-        (spec.if_parts (names_of scope.now) first.now second.now third.now) blame.path) }
+        (spec.if_parts (names_of scope.now) first.now second.now third.now) blame.types blame.path) }
 {
     let mut types = Items::new(context.alloc);
     match find(first.get(), context, scope)? {
@@ -193,7 +194,7 @@ fn in_three(
 #[cycle(blame)]
 fn in_each(exprs: &[Expr], context: &Context<'_>, scope: &Scope<'_>) -> Result<Blame, AllocError>
     ensures { IfOk result (λ blame. Leads (type_in context.now)
-        (spec.each_part (names_of scope.now) exprs.now) blame.path) }
+        (spec.each_part (names_of scope.now) exprs.now) blame.types blame.path) }
 {
     let mut types = Items::new(context.alloc);
     for i in 0..exprs.len() {
@@ -218,7 +219,7 @@ fn in_fold(
 ) -> Result<Blame, AllocError>
     ensures { IfOk result (λ blame. Leads (type_in context.now)
         (spec.fold_parts (type_in context.now) (names_of scope.now) name.now list.now acc.now first.now
-        body.now) blame.path) }
+        body.now) blame.types blame.path) }
 {
     let alloc = context.alloc;
     let list = match find(list.get(), context, scope)? {
@@ -242,7 +243,7 @@ fn in_fold(
 
 /// The expression whose parts have two types is to blame itself.
 fn here_of_two(alloc: Global, first: Ty, second: Ty) -> Result<Blame, AllocError>
-    ensures { IfOk result (λ blame. blame.path ≡ []) }
+    ensures { IfOk result (λ blame. (blame.path ≡ []) × (blame.types ≡ first ∷ second ∷ [])) }
 {
     let mut types = Items::new(alloc);
     types.push(first)?;
@@ -252,7 +253,7 @@ fn here_of_two(alloc: Global, first: Ty, second: Ty) -> Result<Blame, AllocError
 
 /// The expression whose parts have three types is to blame itself.
 fn here_of_three(alloc: Global, first: Ty, second: Ty, third: Ty) -> Result<Blame, AllocError>
-    ensures { IfOk result (λ blame. blame.path ≡ []) }
+    ensures { IfOk result (λ blame. (blame.path ≡ []) × (blame.types ≡ first ∷ second ∷ third ∷ [])) }
 {
     let mut blame = here_of_two(alloc, first, second)?;
     blame.types.push(third)?;
@@ -269,7 +270,7 @@ fn in_for(
 ) -> Result<Blame, AllocError>
     ensures { IfOk result (λ blame. (P : List Seen)
         × ForParts (type_in context.now) (names_of scope.now) clauses.now body.now P
-        × Leads (type_in context.now) P blame.path) }
+        × Leads (type_in context.now) P blame.types blame.path) }
 {
     match split_first(clauses) {
         None => in_one(body, context, scope),
@@ -295,7 +296,7 @@ fn in_items(
     ensures { IfOk result (λ blame. (P : List Seen)
         × ForParts (type_in context.now) (names_of scope.now)
         (clause.In name.now list.now ∷ rest.now) body.now P
-        × Leads (type_in context.now) P blame.path) }
+        × Leads (type_in context.now) P blame.types blame.path) }
 {
     let alloc = context.alloc;
     let ty = match find(list, context, scope)? {
@@ -321,7 +322,7 @@ fn in_test(
 ) -> Result<Blame, AllocError>
     ensures { IfOk result (λ blame. (P : List Seen)
         × ForParts (type_in context.now) (names_of scope.now) (clause.When test.now ∷ rest.now) body.now P
-        × Leads (type_in context.now) P blame.path) }
+        × Leads (type_in context.now) P blame.types blame.path) }
 {
     let ty = match find(test, context, scope)? {
         Ok(ty) => ty,
@@ -331,20 +332,29 @@ fn in_test(
     behind(context.alloc, ty, blame)
 }
 
-/// The same part, where one more part stands before the others, and has this type.
+/// The same part, where there is one more part of this type before the others.
 fn behind(alloc: Global, ty: Ty, blame: Blame) -> Result<Blame, AllocError>
-    ensures { IfOk result (λ later. later.path ≡ spec.behind_one blame.path) }
+    ensures { IfOk result (λ later. (later.path ≡ spec.behind_one blame.path)
+        × (later.types ≡ spec.types_behind ty blame.path blame.types)) }
 {
-    let Blame {
-        path,
-        types: others,
-        names,
-    } = blame;
-    let mut types = Items::new(alloc);
-    types.push(ty)?;
-    types.append(others)?;
+    let Blame { path, types, names } = blame;
+    let types = if path.is_empty() {
+        with_first(alloc, ty, types)?
+    } else {
+        types
+    };
     let path = later_path(path)?;
     Ok(Blame { path, types, names })
+}
+
+/// The types with one more before them.
+fn with_first(alloc: Global, first: Ty, others: Items<Ty>) -> Result<Items<Ty>, AllocError>
+    ensures { IfOk result (λ types. types ≡ first ∷ others) }
+{
+    let mut types = Items::new(alloc);
+    types.push(first)?;
+    types.append(others)?;
+    Ok(types)
 }
 
 /// The path with its first number, if it has one, greater by one.

@@ -3,8 +3,8 @@
 use crate::roles::{Role, Tasks};
 use pst_items::Text;
 use pst_problems::{
-    Judged, Shown, below, counted, expression, foreign, in_place_of, is_head, is_name,
-    nearest_head, noted, noted_at, wrong, wrong_at,
+    Judged, Shown, below, counted, expression, foreign, head_of, in_place_of, is_head, is_name,
+    nearest_head, noted, noted_at, type_form, wrong, wrong_at,
 };
 use pst_sexpr::{Form, node_of, word_of};
 use pst_syntax::{MAX_NAME, MAX_PARTS};
@@ -16,6 +16,40 @@ use std::fmt;
 /// Whether a word stands for a value wherever expressions see it.
 fn is_value(name: &str) -> bool {
     matches!(name, "true" | "false" | "s" | "r")
+}
+
+/// Whether a tree that has to be a type spells a value, or has one in it.
+#[cycle(spells_value)]
+pub fn spells_value(has_maps: bool, form: &Form) -> bool {
+    match form {
+        Form::Word(word) => is_value(word.as_str()) || is_integer(word),
+        Form::Text(_) => true,
+        Form::Node(parts) => {
+            heads_expression(has_maps, form) || spell_value(has_maps, parts.as_slice())
+        }
+    }
+}
+
+/// Whether one of the trees spells a value, or has one in it.
+#[cycle(spells_value)]
+fn spell_value(has_maps: bool, forms: &[Form]) -> bool {
+    for form in forms {
+        if spells_value(has_maps, form) {
+            return true;
+        }
+    }
+    false
+}
+
+/// Whether the head of a tree heads expressions and no types.
+fn heads_expression(has_maps: bool, form: &Form) -> bool {
+    match head_of(form) {
+        Some(head) => {
+            let head = head.as_str();
+            type_form(head).is_none() && expression(has_maps, head).is_some()
+        }
+        None => false,
+    }
 }
 
 /// A word that is no integer as an expression.
@@ -114,6 +148,18 @@ fn no_head(alloc: Global, has_maps: bool, path: &[usize], word: &Text) -> Judged
         Some(hint) => noted_at(alloc, path, 0, what, hint),
         None => wrong_at(alloc, path, 0, what),
     }
+}
+
+/// A node that is headed by a word which stands for a value, with so many parts behind it.
+fn value_head(alloc: Global, path: &[usize], word: &Text, parts: usize) -> Judged {
+    let name = word.as_str();
+    let advice = if parts == 0 {
+        ": write it without brackets"
+    } else {
+        ""
+    };
+    let what = format_args!("`{name}` is no function{advice}");
+    wrong_at(alloc, path, 0, what)
 }
 
 /// A name that is bound beside another.
@@ -270,6 +316,9 @@ fn node_expression<'a>(
         }
         add_parts(tasks, path, word.as_str(), parts, room)?;
         return Ok(None);
+    }
+    if is_value(word.as_str()) || is_integer(word) {
+        return value_head(alloc, path, word, parts.len());
     }
     if !is_name(word) || is_head(has_maps, word.as_str()) || word.len() > MAX_NAME {
         return no_head(alloc, has_maps, path, word);

@@ -54,3 +54,39 @@ pub fn item_form(head: &str) -> Option<ItemForm> {
     }
     None
 }
+
+/// Words of other languages, and the head of the items that are meant.
+const FOREIGN: [(&str, &str); 22] = [
+    ("operation", "op"),
+    ("action", "op"),
+    ("method", "op"),
+    ("procedure", "op"),
+    ("transition", "op"),
+    ("function", "fun"),
+    ("func", "fun"),
+    ("fn", "fun"),
+    ("def", "fun"),
+    ("define", "fun"),
+    ("defun", "fun"),
+    ("helper", "fun"),
+    ("calls", "command"),
+    ("gen", "command"),
+    ("generate", "command"),
+    ("generator", "command"),
+    ("initial", "init"),
+    ("start", "init"),
+    ("var", "state"),
+    ("vars", "state"),
+    ("variables", "state"),
+    ("type", "state"),
+];
+
+/// The head of items that is meant by a word of another language.
+pub fn item_meant(word: &str) -> Option<&'static str> {
+    for (foreign, head) in FOREIGN.as_slice() {
+        if *foreign == word {
+            return Some(*head);
+        }
+    }
+    None
+}

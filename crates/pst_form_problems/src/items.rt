@@ -1,12 +1,12 @@
 //! The items of a model: their forms and their names.
 
-use crate::item_forms::{ITEM_FORMS, ItemForm, item_form};
+use crate::item_forms::{ITEM_FORMS, ItemForm, item_form, item_meant};
 use crate::roles::{Role, Tasks};
-use crate::walk::first_problem;
+use crate::walk::judge_all;
 use pst_items::{Items, Text};
 use pst_problems::{
-    Judged, Listed, NearestName, add, below, counted, declared, head_of, in_place_of, is_name,
-    noted, noted_at, short_text, too_long, wrong, wrong_at,
+    DidYouMean, Judged, Listed, NearestName, Problem, add, below, counted, declared, head_of,
+    in_place_of, is_name, noted, noted_at, short_text, too_long, wrong, wrong_at,
 };
 use pst_sexpr::{Form, node_of, word_of};
 use pst_syntax::{MAX_DECLARED, MAX_PARTS};
@@ -19,6 +19,9 @@ const ITEMS: &str =
 /// A word that heads no item, where one is headed.
 fn no_item_head(alloc: Global, path: &[usize], head: &str) -> Judged {
     let what = format_args!("`{head}` heads no item of a model");
+    if let Some(meant) = item_meant(head) {
+        return noted_at(alloc, path, 0, what, DidYouMean(meant));
+    }
     let mut near = NearestName::to(head);
     for form in ITEM_FORMS.as_slice() {
         near = near.or(alloc, form.head, head)?;
@@ -107,21 +110,6 @@ fn items_number(alloc: Global, path: &[usize], form: ItemForm, before: usize) ->
     )
 }
 
-/// What is wrong with an item before its parts are judged.
-fn outside(
-    alloc: Global,
-    path: &[usize],
-    form: ItemForm,
-    parts: &[Form],
-    before: &[Form],
-) -> Judged {
-    if let Some(found) = parts_number(alloc, path, form, parts.len())? {
-        return Ok(Some(found));
-    }
-    let other = form.sharing_names.unwrap_or(form.head);
-    items_number(alloc, path, form, headed(before, form.head, other))
-}
-
 /// What is wrong with a word as the name that an item declares. A word of the language may name an operation.
 fn as_declared(
     alloc: Global,
@@ -200,9 +188,8 @@ fn add_each_parameter<'a>(
     Ok(())
 }
 
-/// The parameters of a function or an operation, to be judged.
-fn add_parameters<'a>(tasks: &mut Tasks<'a>, path: &[usize], params: &'a Form) -> Judged {
-    let alloc = tasks.alloc();
+/// What is wrong with the list of the parameters of a function or an operation.
+fn parameters_part(alloc: Global, path: &[usize], params: &Form) -> Judged {
     let Some(forms) = node_of(params) else {
         return noted_at(
             alloc,
@@ -213,17 +200,29 @@ fn add_parameters<'a>(tasks: &mut Tasks<'a>, path: &[usize], params: &'a Form) -
         );
     };
     let number = forms.len();
-    if number > MAX_PARTS {
-        return wrong_at(
-            alloc,
-            path,
-            2,
-            format_args!("there are {number} parameters, at most {MAX_PARTS}"),
-        );
+    if number <= MAX_PARTS {
+        return Ok(None);
+    }
+    wrong_at(
+        alloc,
+        path,
+        2,
+        format_args!("there are {number} parameters, at most {MAX_PARTS}"),
+    )
+}
+
+/// The parameters of a function or an operation, to be judged.
+fn add_parameters<'a>(
+    tasks: &mut Tasks<'a>,
+    path: &[usize],
+    params: &'a Form,
+) -> Result<(), AllocError> {
+    let alloc = tasks.alloc();
+    if let Some(problem) = parameters_part(alloc, path, params)? {
+        return tasks.tell(Some(problem));
     }
     let at = below(path, alloc, 2)?;
-    add_each_parameter(tasks, at.as_slice(), forms)?;
-    Ok(None)
+    add_each_parameter(tasks, at.as_slice(), node_of(params).unwrap_or(&[]))
 }
 
 /// The callbacks of an operation, to be judged.
@@ -249,16 +248,12 @@ fn add_signature<'a>(
     form: ItemForm,
     signature: [&'a Form; 3],
     before: &[Form],
-) -> Judged {
+) -> Result<(), AllocError> {
     let [name, params, result] = signature;
-    if let Some(found) = name_part(tasks.alloc(), has_maps, path, form, name, before)? {
-        return Ok(Some(found));
-    }
-    if let Some(found) = add_parameters(tasks, path, params)? {
-        return Ok(Some(found));
-    }
-    tasks.add(path, 3, result, Role::Type(16))?;
-    Ok(None)
+    let problem = name_part(tasks.alloc(), has_maps, path, form, name, before)?;
+    tasks.tell(problem)?;
+    add_parameters(tasks, path, params)?;
+    tasks.add(path, 3, result, Role::Type(16))
 }
 
 /// The parts of a function or an operation, to be judged.
@@ -269,20 +264,17 @@ fn add_declared<'a>(
     form: ItemForm,
     parts: &'a [Form],
     before: &[Form],
-) -> Judged {
+) -> Result<(), AllocError> {
     let [name, params, result, rest @ ..] = parts else {
-        return Ok(None);
+        return Ok(());
     };
     let signature = [name, params, result];
-    if let Some(found) = add_signature(tasks, has_maps, path, form, signature, before)? {
-        return Ok(Some(found));
-    }
+    add_signature(tasks, has_maps, path, form, signature, before)?;
     if form.head == "op" {
-        add_callbacks(tasks, path, rest)?;
+        add_callbacks(tasks, path, rest)
     } else {
-        tasks.add_all(path, 4, rest, Role::Expression(64))?;
+        tasks.add_all(path, 4, rest, Role::Expression(64))
     }
-    Ok(None)
 }
 
 /// The parts of an item, to be judged.
@@ -293,30 +285,11 @@ fn add_item<'a>(
     form: ItemForm,
     parts: &'a [Form],
     before: &[Form],
-) -> Judged {
-    let role = match form.head {
-        "state" => Role::Type(16),
-        "init" | "command" => Role::Expression(64),
-        _ => return add_declared(tasks, has_maps, path, form, parts, before),
-    };
-    tasks.add_all(path, 1, parts, role)?;
-    Ok(None)
-}
-
-/// What is wrong with the parts of an item that stands behind others.
-fn inside(
-    alloc: Global,
-    has_maps: bool,
-    path: &[usize],
-    form: ItemForm,
-    parts: &[Form],
-    before: &[Form],
-) -> Judged {
-    let mut tasks = Tasks::new(alloc);
-    let refused = add_item(&mut tasks, has_maps, path, form, parts, before)?;
-    match first_problem(tasks, has_maps)? {
-        Some(found) => Ok(Some(found)),
-        None => Ok(refused),
+) -> Result<(), AllocError> {
+    match form.head {
+        "state" => tasks.add_all(path, 1, parts, Role::Type(16)),
+        "init" | "command" => tasks.add_all(path, 1, parts, Role::Expression(64)),
+        _ => add_declared(tasks, has_maps, path, form, parts, before),
     }
 }
 
@@ -345,26 +318,47 @@ fn form_and_parts(item: &Form) -> Option<(ItemForm, &[Form])> {
     Some((item_form(head_of(item)?.as_str())?, parts))
 }
 
-/// What is wrong with an item that stands behind others.
-pub fn item_problem(
+/// Judges an item of a form, with its parts, behind others.
+fn judge_item<'a>(
+    tasks: &mut Tasks<'a>,
+    has_maps: bool,
+    path: &[usize],
+    form: ItemForm,
+    parts: &'a [Form],
+    before: &[Form],
+) -> Result<(), AllocError> {
+    let alloc = tasks.alloc();
+    if let Some(problem) = parts_number(alloc, path, form, parts.len())? {
+        return tasks.tell(Some(problem));
+    }
+    let other = form.sharing_names.unwrap_or(form.head);
+    let problem = items_number(alloc, path, form, headed(before, form.head, other))?;
+    tasks.tell(problem)?;
+    add_item(tasks, has_maps, path, form, parts, before)?;
+    judge_all(tasks, has_maps)?;
+    if form.head == "op" && tasks.found() == 0 {
+        let problem = lacking(alloc, path, parts)?;
+        return tasks.tell(problem);
+    }
+    Ok(())
+}
+
+/// What is wrong with an item that is behind others: the problems that are independent of one another, the one that
+/// it is refused for first.
+pub fn item_problems(
     alloc: Global,
     has_maps: bool,
     path: &[usize],
     item: &Form,
     before: &[Form],
-) -> Judged {
-    let Some((form, parts)) = form_and_parts(item) else {
-        return no_item(alloc, path, item);
-    };
-    if let Some(found) = outside(alloc, path, form, parts, before)? {
-        return Ok(Some(found));
+) -> Result<Vec<Problem>, AllocError> {
+    let mut tasks = Tasks::new(alloc);
+    match form_and_parts(item) {
+        Some((form, parts)) => judge_item(&mut tasks, has_maps, path, form, parts, before)?,
+        None => {
+            let problem = no_item(alloc, path, item)?;
+            tasks.tell(problem)?;
+        }
     }
-    if let Some(found) = inside(alloc, has_maps, path, form, parts, before)? {
-        return Ok(Some(found));
-    }
-    if form.head == "op" {
-        lacking(alloc, path, parts)
-    } else {
-        Ok(None)
-    }
+    Ok(tasks.into_found())
 }

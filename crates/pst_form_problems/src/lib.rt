@@ -10,4 +10,4 @@ mod roles;
 mod syntax;
 mod walk;
 
-pub use syntax::form_problem;
+pub use syntax::form_problems;

@@ -1,7 +1,7 @@
 //! What a tree of a model has to be.
 
 use pst_items::Text;
-use pst_problems::below;
+use pst_problems::{Problem, below, tell};
 use pst_sexpr::Form;
 use std::alloc::{AllocError, Global};
 
@@ -36,13 +36,14 @@ pub struct Task<'a> {
     pub role: Role<'a>,
 }
 
-/// The trees that are still to be judged, the next one last.
+/// The trees that are still to be judged, the next one last, and the problems that were found.
 #[derive(Drop)]
 pub struct Tasks<'a> {
     alloc: Global,
     tasks: Vec<Task<'a>>,
     /// The tasks that were added behind one another since the last one was taken.
     fresh: Vec<Task<'a>>,
+    found: Vec<Problem>,
 }
 
 impl<'a> Tasks<'a> {
@@ -52,6 +53,7 @@ impl<'a> Tasks<'a> {
             alloc,
             tasks: Vec::new(alloc),
             fresh: Vec::new(alloc),
+            found: Vec::new(alloc),
         }
     }
 
@@ -97,5 +99,20 @@ impl<'a> Tasks<'a> {
             }
         }
         Ok(self.tasks.pop())
+    }
+
+    /// Adds a problem, if there is one.
+    pub fn tell(&mut self, problem: Option<Problem>) -> Result<(), AllocError> {
+        tell(&mut self.found, problem)
+    }
+
+    /// How many problems were found.
+    pub fn found(&self) -> usize {
+        self.found.len()
+    }
+
+    /// The problems that were found, in the order in which they were.
+    pub fn into_found(self) -> Vec<Problem> {
+        self.found
     }
 }

@@ -1,9 +1,10 @@
 //! Models that are refused for their form.
 
-use crate::items::item_problem;
+use crate::items::item_problems;
 use pst_items::Items;
 use pst_problems::{
-    Judged, Listed, Problem, add, declared, head_of, is_name, noted, too_long, wrong,
+    DidYouMean, Judged, Listed, MOST_PROBLEMS, NearestName, Problem, add, declared, head_of,
+    is_name, noted, noted_at, tell, too_long, wrong,
 };
 use pst_sexpr::{Form, Tree, node_of, word_of};
 use pst_syntax::{FaultKind, MAX_TREES, SyntaxFault};
@@ -41,14 +42,57 @@ fn lacking(alloc: Global, items: &[Form]) -> Judged {
 /// How a model is written.
 const MODEL: &str = "a model is `(model NAME ITEM ..)`, with maps `(model2 NAME ITEM ..)`";
 
+/// The word that is meant by the head of a tree that is no model, if it is near to that of a model.
+fn model_meant(alloc: Global, head: &str) -> Result<Option<DidYouMean<'static>>, AllocError> {
+    if head.starts_with("model") || head.ends_with("model") {
+        return Ok(Some(DidYouMean("model")));
+    }
+    let near = NearestName::to(head).or(alloc, "model", head)?;
+    Ok(near.hint())
+}
+
+/// A tree that is no model, by its head.
+fn headed_otherwise(alloc: Global, head: &str) -> Judged {
+    if head == "case" || head == "run" {
+        let what = format_args!("a `{head}` comes before the model");
+        return noted_at(alloc, &[0], 0, what, MODEL);
+    }
+    match model_meant(alloc, head)? {
+        Some(hint) => noted_at(
+            alloc,
+            &[0],
+            0,
+            format_args!("`{head}` heads no model"),
+            hint,
+        ),
+        None => noted(alloc, &[0], "the file begins with no model", MODEL),
+    }
+}
+
+/// A model whose name is no word, by its parts behind its head.
+fn nameless(alloc: Global, parts: &[Form]) -> Judged {
+    let what = "the model has no name";
+    if parts.is_empty() {
+        return noted(alloc, &[0], what, MODEL);
+    }
+    noted(alloc, &[0, 1], what, MODEL)
+}
+
 /// A tree that is no model.
 fn no_model(alloc: Global, form: &Form) -> Judged {
     let what = "the file begins with no model";
     match word_of(form) {
         Some(word) if word.as_str().starts_with("//") || word.as_str().starts_with("#") => {
-            noted(alloc, &[0], what, "hint: a comment begins with `;`")
+            return noted(alloc, &[0], what, "hint: a comment begins with `;`");
         }
-        _ => noted(alloc, &[0], what, MODEL),
+        _ => {}
+    }
+    match head_of(form) {
+        Some(head) if head.as_str() == "model" || head.as_str() == "model2" => {
+            nameless(alloc, node_of(form).unwrap_or(&[]).get(1..).unwrap_or(&[]))
+        }
+        Some(head) => headed_otherwise(alloc, head.as_str()),
+        None => noted(alloc, &[0], what, MODEL),
     }
 }
 
@@ -78,32 +122,45 @@ fn of_model(alloc: Global, form: &Form, kind: FaultKind) -> Judged {
     }
 }
 
-/// What is wrong with a model that is refused for its form.
-pub fn form_problem(
+/// What is wrong with the item of a fault and those behind it.
+fn of_items(alloc: Global, model: &Form, fault: SyntaxFault) -> Result<Vec<Problem>, AllocError> {
+    let mut problems = Vec::new(alloc);
+    let parts = node_of(model).unwrap_or(&[]);
+    let first = fault.item.saturating_add(1);
+    for place in first..parts.len() {
+        let before = parts.get(2..place).unwrap_or(&[]);
+        let mut found = item_problems(alloc, has_maps(model), &[0, place], &parts[place], before)?;
+        if place == first && found.is_empty() {
+            let kind = fault.kind.name();
+            let what = format_args!("the item is refused: {kind}");
+            tell(&mut problems, wrong(alloc, &[0, place], what)?)?;
+        }
+        problems.append(&mut found)?;
+        if problems.len() > MOST_PROBLEMS {
+            break;
+        }
+    }
+    Ok(problems)
+}
+
+/// What is wrong with a model that is refused for its form: the problem that it is refused for first, and then those
+/// that are independent of the others.
+pub fn form_problems(
     alloc: Global,
     trees: &[Tree],
     fault: SyntaxFault,
-) -> Result<Option<Problem>, AllocError> {
+) -> Result<Vec<Problem>, AllocError> {
     let Some(tree) = trees.first() else {
-        return noted(alloc, &[], "the file holds no model", MODEL);
+        let mut problems = Vec::new(alloc);
+        let problem = noted(alloc, &[], "the file holds no model", MODEL)?;
+        tell(&mut problems, problem)?;
+        return Ok(problems);
     };
     let model = tree.form();
     if fault.item == 0 {
-        return of_model(alloc, model, fault.kind);
+        let mut problems = Vec::new(alloc);
+        tell(&mut problems, of_model(alloc, model, fault.kind)?)?;
+        return Ok(problems);
     }
-    let parts = node_of(model).unwrap_or(&[]);
-    let place = fault.item.saturating_add(1);
-    let Some(item) = parts.get(place) else {
-        return Ok(None);
-    };
-    let before = parts.get(2..place).unwrap_or(&[]);
-    if let Some(found) = item_problem(alloc, has_maps(model), &[0, place], item, before)? {
-        return Ok(Some(found));
-    }
-    let kind = fault.kind.name();
-    wrong(
-        alloc,
-        &[0, place],
-        format_args!("the item is refused: {kind}"),
-    )
+    of_items(alloc, model, fault)
 }

@@ -1,16 +1,16 @@
-//! The first tree of a model's item that is refused: each tree is judged before its parts, and these from left
+//! The trees of a model's item that are refused: each tree is judged before its parts, and these from left
 //! to right.
 
-use crate::expressions::{arity, as_expression, small_parts};
+use crate::expressions::{arity, as_expression, small_parts, spells_value};
 use crate::roles::{Role, Task, Tasks};
 use pst_items::Text;
 use pst_problems::{
-    Judged, below, bound, foreign, is_name, is_of_maps, noted, short_text, type_form, with_note,
-    wrong,
+    DidYouMean, Judged, MOST_PROBLEMS, NearestName, below, bound, foreign, in_place_of, is_name,
+    is_of_maps, noted, noted_at, short_text, type_form, with_note, wrong,
 };
 use pst_sexpr::{Form, node_of, word_of};
 use pst_syntax::MAX_NAME;
-use std::alloc::Global;
+use std::alloc::{AllocError, Global};
 
 /// The word that heads a node, and the trees behind it.
 fn headed(form: &Form) -> Option<(&Text, &[Form])> {
@@ -38,7 +38,7 @@ fn type_problem(
     rest: &[Form],
 ) -> Judged {
     let Some(shown) = type_form(head) else {
-        return no_type(alloc, path, form);
+        return no_headed_type(alloc, path, form, head);
     };
     if is_of_maps(head) && !has_maps {
         return no_maps(alloc, path);
@@ -97,8 +97,12 @@ fn as_item_type<'a>(
     path: &[usize],
     form: &'a Form,
 ) -> Judged {
-    let found = as_type(tasks, has_maps, path, form, 16)?;
     let hint = "hint: a list begins with the type of its items: `(list int 1 2)`";
+    if spells_value(has_maps, form) {
+        let what = "`list` takes the type of its items first";
+        return noted(tasks.alloc(), path, what, hint);
+    }
+    let found = as_type(tasks, has_maps, path, form, 16)?;
     with_note(tasks.alloc(), found, hint)
 }
 
@@ -115,7 +119,29 @@ fn word_type(alloc: Global, path: &[usize], form: &Form) -> Judged {
         let written = shown.written;
         return wrong(alloc, path, format_args!("the type is written `{written}`"));
     }
-    foreign(alloc, path, word, format_args!("`{word}` is no type"))
+    let what = format_args!("`{word}` is no type");
+    match near_type(alloc, word)? {
+        Some(hint) if in_place_of(word).is_none() => noted(alloc, path, what, hint),
+        _ => foreign(alloc, path, word, what),
+    }
+}
+
+/// The type that may be meant by a word, as a hint.
+fn near_type(alloc: Global, word: &str) -> Result<Option<DidYouMean<'static>>, AllocError> {
+    let mut near = NearestName::to(word);
+    for name in ["int", "bool", "text"] {
+        near = near.or(alloc, name, word)?;
+    }
+    Ok(near.hint())
+}
+
+/// A node that has to be a type, and whose head heads none.
+fn no_headed_type(alloc: Global, path: &[usize], form: &Form, head: &str) -> Judged {
+    let what = format_args!("`{head}` is no type");
+    match in_place_of(head) {
+        Some(hint) => noted_at(alloc, path, 0, what, format_args!("hint: {hint}")),
+        None => no_type(alloc, path, form),
+    }
 }
 
 /// A tree that is no type, where a type has to stand.
@@ -286,15 +312,17 @@ fn judge<'a>(tasks: &mut Tasks<'a>, has_maps: bool, task: &Task<'a>) -> Judged {
     }
 }
 
-/// The first of the trees that is refused.
-pub fn first_problem(mut tasks: Tasks<'_>, has_maps: bool) -> Judged {
+/// Judges the trees, and adds the problem of each that is refused. The parts of one that is refused are not judged.
+pub fn judge_all(tasks: &mut Tasks<'_>, has_maps: bool) -> Result<(), AllocError> {
     for _ in 0..20_001 {
         let Some(task) = tasks.take()? else {
-            return Ok(None);
+            return Ok(());
         };
-        if let Some(found) = judge(&mut tasks, has_maps, &task)? {
-            return Ok(Some(found));
+        let problem = judge(tasks, has_maps, &task)?;
+        tasks.tell(problem)?;
+        if tasks.found() > MOST_PROBLEMS {
+            return Ok(());
         }
     }
-    Ok(None)
+    Ok(())
 }

@@ -1,6 +1,6 @@
 //! Bytes that are no file of trees.
 
-use pst_places::{Span, open_item};
+use pst_places::{Span, char_at, closed_item, open_item};
 use pst_sexpr::{FaultKind, MAX_BYTES, MAX_LEVELS, SexprFault};
 use pst_sources::Input;
 use std::alloc::{AllocError, Global};
@@ -82,45 +82,97 @@ fn missing(alloc: Global, input: &Input<'_>, place: usize) -> Result<Wrong, Allo
     )
 }
 
+/// What words and texts are.
+const ASCII: &str =
+    "words and texts are printable ASCII; other characters may be in comments alone";
+
+/// What the escapes of texts are.
+const ESCAPES: &str = "in a text `\\` comes before `\"` and `\\` alone";
+
+/// A character that is not ASCII, of so many bytes.
+fn foreign_char(
+    alloc: Global,
+    input: &Input<'_>,
+    place: usize,
+    letter: char,
+    width: usize,
+) -> Result<Wrong, AllocError> {
+    let span = Span {
+        start: place,
+        end: place.saturating_add(width),
+    };
+    if letter == '\u{feff}' && input.part_at(span).span.start == 0 {
+        let what = "the file begins with a byte order mark: save it without one";
+        return Wrong::new(alloc, span, what);
+    }
+    if letter.is_control() {
+        let code = letter as u32;
+        let what = format_args!("the control character {code} may not be here");
+        return Wrong::new(alloc, span, what)?.with(alloc, ASCII);
+    }
+    let what = format_args!("`{letter}` is not ASCII");
+    Wrong::new(alloc, span, what)?.with(alloc, ASCII)
+}
+
+/// A character, or a byte that belongs to none, that may not be where it is.
+fn bad_char(alloc: Global, input: &Input<'_>, place: usize, byte: u8) -> Result<Wrong, AllocError> {
+    match char_at(input.bytes, place) {
+        Some((letter, _)) if b' ' <= byte && byte <= b'~' => {
+            let what = format_args!("`\\{letter}` is no escape");
+            Wrong::new(alloc, one_byte(place), what)?.with(alloc, ESCAPES)
+        }
+        Some((letter, width)) => foreign_char(alloc, input, place, letter, width),
+        None => {
+            let what = format_args!(
+                "the byte {byte} is not ASCII, and no part of a UTF-8 character"
+            );
+            Wrong::new(alloc, one_byte(place), what)?.with(alloc, ASCII)
+        }
+    }
+}
+
 /// A byte that fits nowhere.
-fn bad_byte(alloc: Global, input: &[u8], place: usize) -> Result<Wrong, AllocError> {
+fn bad_byte(alloc: Global, input: &Input<'_>, place: usize) -> Result<Wrong, AllocError> {
     let span = one_byte(place);
-    match input.get(place) {
+    match input.bytes.get(place) {
         Some(b'\n') | Some(b'\r') | Some(b'\t') => {
             Wrong::new(alloc, span, "a text goes on to the end of its line")?.with(
                 alloc,
                 "hint: a `\"` is missing, or the text has a tab or a line end in it",
             )
         }
-        Some(byte) => {
-            let byte = *byte;
-            Wrong::new(
-                alloc,
-                span,
-                format_args!("the byte {byte} may not stand here"),
-            )?
-            .with(
-                alloc,
-                "words and texts are printable ASCII; in a text `\\` stands before `\"` and `\\` only",
-            )
-        }
+        Some(byte) => bad_char(alloc, input, place, *byte),
         None => Wrong::new(alloc, span, "the file ends here"),
     }
+}
+
+/// A `)` that closes nothing, with the place where the item before it was closed.
+fn stray_close(alloc: Global, input: &Input<'_>, place: usize) -> Result<Wrong, AllocError> {
+    let wrong = Wrong::new(alloc, one_byte(place), "this `)` closes nothing")?;
+    let Some(item) = closed_item(input.bytes, place) else {
+        return wrong.with(alloc, "hint: nothing is open here");
+    };
+    let called = item.called;
+    let start = input.place_at(alloc, item.span.start, place)?;
+    let end = input.place_at(alloc, item.span.end.saturating_sub(1), place)?;
+    let start = start.as_str();
+    let end = end.as_str();
+    let note = format_args!("the {called} that begins at {start} is already closed at {end}");
+    wrong
+        .with(alloc, note)?
+        .with(alloc, "hint: there is one too many, here or before")
 }
 
 /// What is wrong with bytes that are no file of trees.
 pub fn unread(alloc: Global, input: &Input<'_>, refused: SexprFault) -> Result<Wrong, AllocError> {
     let span = one_byte(refused.place);
     match refused.kind {
-        FaultKind::BadByte => bad_byte(alloc, input.bytes, refused.place),
+        FaultKind::BadByte => bad_byte(alloc, input, refused.place),
         FaultKind::UnclosedText => {
             Wrong::new(alloc, span, "the text that begins here is not closed")
         }
         FaultKind::UnclosedNode => missing(alloc, input, refused.place),
-        FaultKind::StrayClose => Wrong::new(alloc, span, "this `)` closes nothing")?.with(
-            alloc,
-            "hint: there is one too many, here or before",
-        ),
+        FaultKind::StrayClose => stray_close(alloc, input, refused.place),
         FaultKind::TooDeep => Wrong::new(
             alloc,
             span,

@@ -1,17 +1,17 @@
 //! The messages beside refusals.
 
 use crate::bytes::unread;
-use pst_form_problems::form_problem;
+use pst_form_problems::form_problems;
 use pst_load::{ModelFile, Refusal, items_of, load};
-use pst_places::span_of;
-use pst_problems::Problem;
+use pst_places::{Span, first_item, span_in, span_of, tree_at};
+use pst_problems::{MOST_PROBLEMS, Problem};
 use pst_rules::Typed;
 use pst_run_problems::run_problem;
 use pst_runs::{RunFault, read_runs};
 use pst_sexpr::{Tree, read};
-use pst_sources::{Input, SourceFile};
-use pst_syntax::read_model;
-use pst_type_problems::type_problem;
+use pst_sources::{Input, LastLine, SourceFile};
+use pst_syntax::{SyntaxFault, read_model};
+use pst_type_problems::type_problems;
 use std::alloc::{AllocError, Global};
 use std::slice;
 
@@ -22,36 +22,88 @@ pub enum Asked {
     Model,
     /// The model, and the first item behind it that is refused.
     FirstItem,
-    /// The model, and each item behind it that is refused.
+    /// The model, and each item behind it that is refused: the first twenty, and how many more there are.
     EachItem,
+    /// The model, and each item behind it that is refused, however many they are.
+    AllItems,
 }
 
-/// The message of a problem, or none where there is no problem.
-fn of_problem(
-    alloc: Global,
-    input: &Input<'_>,
-    problem: Option<Problem>,
-) -> Result<String, AllocError> {
-    let Some(problem) = problem else {
-        return Ok(String::new(alloc));
-    };
+/// The message of a problem.
+fn of_problem(alloc: Global, input: &Input<'_>, problem: &Problem) -> Result<String, AllocError> {
     let span = span_of(input.bytes, problem.path.as_slice());
     let what = problem.what.as_str();
     input.message(alloc, span, what, problem.notes.as_slice())
 }
 
+/// The messages of the problems of a model, at most twenty.
+fn of_problems(
+    alloc: Global,
+    input: &Input<'_>,
+    problems: &[Problem],
+) -> Result<String, AllocError> {
+    let mut text = String::new(alloc);
+    for problem in problems.iter().take(MOST_PROBLEMS) {
+        text.push_str(of_problem(alloc, input, problem)?.as_str())?;
+    }
+    if problems.len() > MOST_PROBLEMS {
+        text.push_str("more errors of the model are not shown\n")?;
+    }
+    Ok(text)
+}
+
+/// Whether a text begins with a model.
+fn begins_with_model(bytes: &[u8]) -> bool {
+    matches!(first_item(bytes), Some("model" | "model2"))
+}
+
+/// The name of the first file that begins with a model, if the input does not.
+fn file_of_model<'a>(input: &Input<'a>) -> Option<&'a str> {
+    if begins_with_model(input.bytes) {
+        return None;
+    }
+    for file in input.files {
+        if begins_with_model(file.bytes.as_slice()) {
+            return Some(file.name);
+        }
+    }
+    None
+}
+
+/// What is wrong with a model that is refused for its form, and which file begins with a model if the first does not.
+fn of_form(
+    alloc: Global,
+    input: &Input<'_>,
+    trees: &[Tree],
+    fault: SyntaxFault,
+) -> Result<Vec<Problem>, AllocError> {
+    let problems = form_problems(alloc, trees, fault)?;
+    let Some(name) = file_of_model(input) else {
+        return Ok(problems);
+    };
+    let mut noted = Vec::new(alloc);
+    for problem in problems {
+        let hint = format_args!("hint: `{name}` begins with a model: name this file first");
+        noted.push(problem.with(alloc, hint)?)?;
+    }
+    Ok(noted)
+}
+
 /// What is wrong with a model that was read as trees.
-fn of_model(alloc: Global, input: &[u8], refusal: &Refusal) -> Result<Option<Problem>, AllocError> {
-    let Ok(trees) = read(alloc, input) else {
-        return Ok(None);
+fn of_model(
+    alloc: Global,
+    input: &Input<'_>,
+    refusal: &Refusal,
+) -> Result<Vec<Problem>, AllocError> {
+    let Ok(trees) = read(alloc, input.bytes) else {
+        return Ok(Vec::new(alloc));
     };
     match refusal {
-        Refusal::NoModel(fault) => form_problem(alloc, trees.as_slice(), *fault),
+        Refusal::NoModel(fault) => of_form(alloc, input, trees.as_slice(), *fault),
         Refusal::IllTyped(number) => match (read_model(alloc, trees.as_slice()), trees.first()) {
-            (Ok(model), Some(tree)) => type_problem(alloc, model.source(), tree.form(), *number),
-            _ => Ok(None),
+            (Ok(model), Some(tree)) => type_problems(alloc, model.source(), tree.form(), *number),
+            _ => Ok(Vec::new(alloc)),
         },
-        Refusal::Unread(_) => Ok(None),
+        Refusal::Unread(_) => Ok(Vec::new(alloc)),
     }
 }
 
@@ -70,38 +122,69 @@ fn of_first_item(
     }
 }
 
-/// What is wrong with the item of a number, from 1, if it is refused.
-fn of_item(
+/// The message of a problem of the item of a span, where others are written before it.
+fn in_item(
     alloc: Global,
-    typed: &Typed,
-    tree: &Tree,
-    number: usize,
-) -> Result<Option<Problem>, AllocError> {
-    match read_runs(alloc, typed, slice::from_ref(tree)) {
-        Ok(_) => Ok(None),
-        Err(fault) => {
-            let fault = RunFault {
-                run: number,
-                ..fault
-            };
-            run_problem(alloc, typed.source(), tree.form(), fault)
-        }
-    }
+    input: &Input<'_>,
+    last: &mut LastLine,
+    item: Span,
+    problem: &Problem,
+) -> Result<String, AllocError> {
+    let path = problem.path.get(1..).unwrap_or(&[]);
+    let span = span_in(input.bytes, item, path);
+    input.next_message(
+        alloc,
+        last,
+        span,
+        problem.what.as_str(),
+        problem.notes.as_slice(),
+    )
 }
 
-/// The messages of all items behind a model that are refused.
+/// The line that says how many more items are refused than those of which there are messages, if some are.
+fn add_count(text: &mut String, more: usize) -> Result<(), AllocError> {
+    if more == 0 {
+        return Ok(());
+    }
+    let items = if more == 1 { "item is" } else { "items are" };
+    write!(
+        text,
+        "{more} more {items} refused: --all-messages shows each\n"
+    )
+}
+
+/// The messages of the items behind a model that are refused, of the first ones up to a number in full. It goes over the
+/// input once.
 fn of_each_item(
     alloc: Global,
     input: &Input<'_>,
     typed: &Typed,
     trees: &[Tree],
+    most: usize,
 ) -> Result<String, AllocError> {
     let mut text = String::new(alloc);
+    let mut last = LastLine::none();
+    let mut span = tree_at(input.bytes, 0);
+    let mut refused: usize = 0;
     for (index, tree) in items_of(trees).iter().enumerate() {
-        let problem = of_item(alloc, typed, tree, index.saturating_add(1))?;
-        let message = of_problem(alloc, input, problem)?;
-        text.push_str(message.as_str())?;
+        if refused < most {
+            span = tree_at(input.bytes, span.end);
+        }
+        let Err(fault) = read_runs(alloc, typed, slice::from_ref(tree)) else {
+            continue;
+        };
+        if refused < most {
+            let fault = RunFault {
+                run: index.saturating_add(1),
+                ..fault
+            };
+            if let Some(problem) = run_problem(alloc, typed.source(), tree.form(), fault)? {
+                text.push_str(in_item(alloc, input, &mut last, span, &problem)?.as_str())?;
+            }
+        }
+        refused = refused.saturating_add(1);
     }
+    add_count(&mut text, refused.saturating_sub(most))?;
     Ok(text)
 }
 
@@ -115,11 +198,12 @@ fn of_items(
     let trees = file.trees.as_slice();
     match asked {
         Asked::Model => Ok(String::new(alloc)),
-        Asked::FirstItem => {
-            let problem = of_first_item(alloc, &file.typed, trees)?;
-            of_problem(alloc, input, problem)
-        }
-        Asked::EachItem => of_each_item(alloc, input, &file.typed, trees),
+        Asked::FirstItem => match of_first_item(alloc, &file.typed, trees)? {
+            Some(problem) => of_problem(alloc, input, &problem),
+            None => Ok(String::new(alloc)),
+        },
+        Asked::EachItem => of_each_item(alloc, input, &file.typed, trees, MOST_PROBLEMS),
+        Asked::AllItems => of_each_item(alloc, input, &file.typed, trees, usize::MAX),
     }
 }
 
@@ -146,8 +230,8 @@ pub fn message_of(
             input.message(alloc, fault.span, what, fault.notes.as_slice())?
         }
         Err(refusal) => {
-            let problem = of_model(alloc, input.bytes, &refusal)?;
-            of_problem(alloc, &input, problem)?
+            let problems = of_model(alloc, &input, &refusal)?;
+            of_problems(alloc, &input, problems.as_slice())?
         }
     };
     if message.is_empty() {

@@ -1,20 +1,43 @@
-//! The item that a `)` too many closed too early.
+//! The item that a `)` too many closed too early, and what heads the items of a file.
 
-use crate::open::level_of;
-use crate::scan::tree_at;
+use crate::open::file_word;
+use crate::scan::{skip_blank, tree_at};
 use crate::span::Span;
 
-/// Whether the tree at a place is a model, a case or a run, by the word that heads it.
-fn is_item(input: &[u8], at: usize) -> bool {
-    match input.get(at.saturating_add(1)..) {
-        Some(behind) => level_of(behind) == Some(0),
-        None => false,
+/// An item that was closed already.
+#[derive(Clone, Copy, Debug, PartialEq, Eq, Drop)]
+pub struct ClosedItem {
+    /// Its bytes; the last one is the `)` that closes it.
+    pub span: Span,
+    /// What it is called: `model`, `case`, `run`, or `tree` if it is none of them.
+    pub called: &'static str,
+}
+
+/// The word that heads the tree at a place, if it is a model, a case or a run.
+fn head_at(input: &[u8], at: usize) -> Option<&'static str> {
+    match input.get(at) {
+        Some(b'(') => file_word(input.get(at.saturating_add(1)..)?),
+        _ => None,
+    }
+}
+
+/// The word that heads the first tree of a file, if it is a model, a case or a run.
+pub fn first_item(input: &[u8]) -> Option<&'static str> {
+    head_at(input, skip_blank(input, 0))
+}
+
+/// What an item is called, by the word that heads it.
+fn called(head: Option<&'static str>) -> &'static str {
+    match head {
+        Some("model2") => "model",
+        Some(word) => word,
+        None => "tree",
     }
 }
 
 /// The item that was probably meant to be closed by a `)` that closes nothing: the last model, case or run before it; if
 /// there is none, the last tree before it.
-pub fn closed_item(input: &[u8], stray: usize) -> Option<Span> {
+pub fn closed_item(input: &[u8], stray: usize) -> Option<ClosedItem> {
     let mut last = None;
     let mut item = None;
     let mut span = tree_at(input, 0);
@@ -22,9 +45,13 @@ pub fn closed_item(input: &[u8], stray: usize) -> Option<Span> {
         if span.start >= stray {
             break;
         }
-        last = Some(span);
-        if is_item(input, span.start) {
-            item = Some(span);
+        let head = head_at(input, span.start);
+        last = Some(ClosedItem {
+            span,
+            called: called(head),
+        });
+        if head.is_some() {
+            item = last;
         }
         span = tree_at(input, span.end);
     }

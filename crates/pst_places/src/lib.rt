@@ -3,6 +3,7 @@
 //! What stands here serves messages, which are tested and not proved: no contract says which bytes a path leads to.
 #![tactic(auto)]
 
+mod chars;
 mod closed;
 mod find;
 mod open;
@@ -10,7 +11,8 @@ mod scan;
 mod shown;
 mod span;
 
-pub use closed::closed_item;
+pub use chars::char_at;
+pub use closed::{ClosedItem, closed_item, first_item};
 pub use find::{span_in, span_of};
 pub use open::{Unclosed, open_item};
 pub use scan::tree_at;

@@ -29,13 +29,21 @@ fn begins_with(bytes: &[u8], word: &str) -> bool {
     }
 }
 
-/// How many nodes an item stands in, by the bytes behind its bracket: an item of a file in none, an item of a
-/// model in one. `None`: it is no item.
-pub(crate) fn level_of(bytes: &[u8]) -> Option<usize> {
+/// The word of items of a file that the bytes begin with, if they do.
+pub(crate) fn file_word(bytes: &[u8]) -> Option<&'static str> {
     for word in OF_FILES {
         if begins_with(bytes, word) {
-            return Some(0);
+            return Some(word);
         }
+    }
+    None
+}
+
+/// How many nodes an item stands in, by the bytes behind its bracket: an item of a file in none, an item of a
+/// model in one. `None`: it is no item.
+fn level_of(bytes: &[u8]) -> Option<usize> {
+    if file_word(bytes).is_some() {
+        return Some(0);
     }
     for word in OF_MODELS {
         if begins_with(bytes, word) {

@@ -1,5 +1,6 @@
 //! The line of a place, as it is shown.
 
+use crate::chars::{char_from, shown_chars};
 use crate::span::Span;
 use std::alloc::{AllocError, Global};
 
@@ -18,7 +19,7 @@ pub struct Place {
     pub column: usize,
     /// The line, or what is shown of it.
     pub text: String,
-    /// Blanks, and a `^` below each byte of the place.
+    /// Blanks, and a `^` below each character of the place.
     pub marks: String,
 }
 
@@ -74,26 +75,6 @@ fn line_end(input: &[u8], from: usize) -> usize {
     }
 }
 
-/// A byte as it is shown: a tab as a blank, and one that is not printable as `?`.
-fn shown_byte(byte: u8) -> char {
-    if byte == b'\t' {
-        ' '
-    } else if b' ' <= byte && byte <= b'~' {
-        char::from(byte)
-    } else {
-        '?'
-    }
-}
-
-/// The bytes from one place on and before another, as they are shown.
-fn shown_bytes(alloc: Global, input: &[u8], from: usize, end: usize) -> Result<String, AllocError> {
-    let mut text = String::new(alloc);
-    for at in from..end.min(input.len()) {
-        text.push(shown_byte(input[at]))?;
-    }
-    Ok(text)
-}
-
 /// A character so many times, behind a text.
 fn push_many(text: &mut String, mark: char, count: usize) -> Result<(), AllocError> {
     for _ in 0..count.min(2 * WIDTH) {
@@ -114,13 +95,13 @@ pub fn place_on(
     let is_long = line_end(input, begin).saturating_sub(begin) > WIDTH;
     let offset = span.start.saturating_sub(begin);
     let from = if is_long && offset > BEFORE {
-        span.start.saturating_sub(BEFORE)
+        char_from(input, span.start.saturating_sub(BEFORE))
     } else {
         begin
     };
     let end = line_end(input, from);
     let to = if is_long {
-        end.min(from.saturating_add(WIDTH))
+        end.min(char_from(input, from.saturating_add(WIDTH)))
     } else {
         end
     };
@@ -130,13 +111,14 @@ pub fn place_on(
         text.push_str("...")?;
         marks.push_str("   ")?;
     }
-    text.push_str(shown_bytes(alloc, input, from, to)?.as_str())?;
+    text.push_str(shown_chars(alloc, input, from, to)?.as_str())?;
     if to < end {
         text.push_str("...")?;
     }
-    push_many(&mut marks, ' ', span.start.saturating_sub(from))?;
-    let last = span.end.min(to);
-    push_many(&mut marks, '^', last.saturating_sub(span.start).max(1))?;
+    let before = shown_chars(alloc, input, from, span.start)?;
+    push_many(&mut marks, ' ', before.chars().count())?;
+    let marked = shown_chars(alloc, input, span.start, span.end.min(to))?;
+    push_many(&mut marks, '^', marked.chars().count().max(1))?;
     Ok(Place {
         line: line.line,
         column: offset.saturating_add(1),

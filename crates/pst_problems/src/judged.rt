@@ -11,6 +11,14 @@ use std::fmt::Display;
 /// What a judgement gives: a problem, or none.
 pub type Judged = Result<Option<Problem>, AllocError>;
 
+/// Adds a problem to others, if there is one.
+pub fn tell(problems: &mut Vec<Problem>, problem: Option<Problem>) -> Result<(), AllocError> {
+    match problem {
+        Some(problem) => Ok(problems.push(problem)?),
+        None => Ok(()),
+    }
+}
+
 /// A problem at the tree of a path.
 pub fn wrong<D: Display + Drop>(alloc: Global, path: &[usize], what: D) -> Judged {
     let path = Vec::from_slice(alloc, path)?;

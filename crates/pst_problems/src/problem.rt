@@ -3,6 +3,9 @@
 use std::alloc::{AllocError, Global};
 use std::fmt::Display;
 
+/// The most problems of an input of which messages are written.
+pub const MOST_PROBLEMS: usize = 20;
+
 /// What is wrong with a tree.
 #[derive(Drop)]
 pub struct Problem {

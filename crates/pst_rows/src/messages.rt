@@ -4,8 +4,8 @@
 use crate::hostile::hostile;
 use crate::judged::judged;
 use crate::message_rows::{
-    ACCEPTED, CLOSED_FILES, DEEP_ITEMS, DEEP_MODEL, FILES, ITEMS, MODEL, MODELS, OPEN_FILES,
-    REF_ITEMS, REF_MODEL,
+    ACCEPTED, CLOSED_FILES, COMPREHENSIONS, DEEP_ITEMS, DEEP_MODEL, FILES, ITEMS, MODEL, MODELS,
+    OPEN_FILES, REF_ITEMS, REF_MODEL, SWAPPED_FILES, TEXT_ITEMS, TEXT_MODEL,
 };
 use pst_messages::{Asked, message_of};
 use pst_sources::{SourceFile, joined};
@@ -78,6 +78,34 @@ fn print_models<R: Print + AllocGlobal>(rt: &R) -> io::Result<()> {
     Ok(())
 }
 
+/// Prints the messages of models whose opening states have a mistake within a comprehension.
+fn print_comprehensions<R: Print + AllocGlobal>(rt: &R) -> io::Result<()> {
+    let alloc = rt.alloc();
+    for (name, init) in COMPREHENSIONS {
+        let text = format!(in alloc;
+            "(model m (state (list int)) (command (list call))\n  (init {init}))"
+        )?;
+        let message = message(alloc, name, text.as_str())?;
+        println!(rt; "{message}")?;
+    }
+    Ok(())
+}
+
+/// A model with 22 mistakes.
+fn many(alloc: Global) -> Result<String, AllocError> {
+    let mut text = String::from_str(
+        alloc,
+        "(model m (state int) (init 0) (command (list call))\n",
+    )?;
+    for number in 0..22 {
+        text.push_str(format!(in alloc;
+            "(op a{number} () int (pre 1) (next s) (post true))\n"
+        )?.as_str())?;
+    }
+    text.push(')')?;
+    Ok(text)
+}
+
 /// Prints the messages of items behind a model.
 fn print_items<R: Print + AllocGlobal>(
     rt: &R,
@@ -95,12 +123,13 @@ fn print_items<R: Print + AllocGlobal>(
 
 /// Prints the messages of inputs in several files.
 fn print_files<R: Print + AllocGlobal>(rt: &R) -> io::Result<()> {
-    let rows: [(&[(&'static str, &str)], Asked); 5] = [
+    let rows: [(&[(&'static str, &str)], Asked); 6] = [
         (&FILES, Asked::Model),
         (&FILES, Asked::FirstItem),
         (&FILES, Asked::EachItem),
         (&OPEN_FILES, Asked::FirstItem),
         (&CLOSED_FILES, Asked::FirstItem),
+        (&SWAPPED_FILES, Asked::FirstItem),
     ];
     for (files, asked) in rows {
         let messages = of_files(rt.alloc(), files, asked)?;
@@ -122,9 +151,11 @@ fn print_accepted<R: Print + AllocGlobal>(rt: &R) -> io::Result<()> {
 pub fn print_messages<R: Threads + Sync + Print + AllocGlobal>(rt: &R) -> io::Result<()> {
     let alloc = rt.alloc();
     print_models(rt)?;
+    print_comprehensions(rt)?;
     print_items(rt, MODEL, &ITEMS)?;
     print_items(rt, DEEP_MODEL, &DEEP_ITEMS)?;
     print_items(rt, REF_MODEL, &REF_ITEMS)?;
+    print_items(rt, TEXT_MODEL, &TEXT_ITEMS)?;
     print_files(rt)?;
     print_accepted(rt)?;
     let judged = judged(rt, alloc)?;
@@ -132,6 +163,9 @@ pub fn print_messages<R: Threads + Sync + Print + AllocGlobal>(rt: &R) -> io::Re
     let hostile = hostile(alloc)?;
     print!(rt; "{hostile}")?;
     let text = long(alloc)?;
-    let message = message(alloc, "long.model", text.as_str())?;
-    println!(rt; "{message}")
+    let message_on_long = message(alloc, "long.model", text.as_str())?;
+    println!(rt; "{message_on_long}")?;
+    let text = many(alloc)?;
+    let message_on_many = message(alloc, "many.model", text.as_str())?;
+    println!(rt; "{message_on_many}")
 }

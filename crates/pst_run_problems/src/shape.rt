@@ -5,16 +5,75 @@ use crate::command::{
     is_headed, trees_in,
 };
 use crate::shown::wrong_tree;
-use pst_problems::{Judged, head_of, with_note, wrong};
+use pst_problems::{
+    DidYouMean, Judged, NearestName, head_of, noted_at, with_note, wrong, wrong_at,
+};
 use pst_sexpr::{Form, node_of};
-use std::alloc::Global;
+use std::alloc::{AllocError, Global};
+use std::fmt;
 
-/// How a case is written.
-const WRITTEN_CASE: &str = "it is written `(case (prefix CALL ..) (left CALL ..) (right CALL ..))`";
+/// How an item is written.
+#[derive(Clone, Copy, Drop)]
+struct Written {
+    /// It is a run, and no case.
+    is_run: bool,
+    /// Its branches are in one part.
+    has_branches: bool,
+    /// It has a suffix.
+    has_suffix: bool,
+}
 
-/// How a run is written.
-const WRITTEN_RUN: &str =
-    "it is written `(run (prefix CALL ..) (left CALL ..) (right CALL ..) (replies (R ..) (R ..) (R ..)))`";
+impl Written {
+    /// How an item is written that has the parts of a tree.
+    fn of(form: &Form, is_run: bool) -> Written {
+        Written {
+            is_run,
+            has_branches: has_part(form, "branches"),
+            has_suffix: has_part(form, "suffix"),
+        }
+    }
+
+    /// How the branches are written.
+    fn branches(&self) -> &'static str {
+        if self.has_branches {
+            "(branches (CALL ..) (CALL ..) ..)"
+        } else {
+            "(left CALL ..) (right CALL ..)"
+        }
+    }
+
+    /// How the replies are written, if it has some.
+    fn replies(&self) -> &'static str {
+        match (self.is_run, self.has_branches, self.has_suffix) {
+            (false, _, _) => "",
+            (true, true, _) => " (replies (R ..) (R ..) ..)",
+            (true, false, false) => " (replies (R ..) (R ..) (R ..))",
+            (true, false, true) => " (replies (R ..) (R ..) (R ..) (R ..))",
+        }
+    }
+}
+
+impl fmt::Display for Written {
+    fn fmt<W: fmt::Write>(&self, f: &mut fmt::Formatter<W>) -> fmt::Result {
+        let head = if self.is_run { "run" } else { "case" };
+        let branches = self.branches();
+        let suffix = if self.has_suffix {
+            " (suffix CALL ..)"
+        } else {
+            ""
+        };
+        let replies = self.replies();
+        write!(
+            f,
+            "it is written `({head} (prefix CALL ..) {branches}{suffix}{replies})`"
+        )
+    }
+}
+
+/// Whether a word heads one of the trees in a tree.
+fn has_part(form: &Form, word: &str) -> bool {
+    trees_in(form).iter().any(|part| is_headed(part, word))
+}
 
 /// The place of the part that has all branches.
 const BRANCHES: usize = 2;
@@ -139,8 +198,32 @@ fn command_problem(alloc: Global, item: usize, command: Command<'_>) -> Judged {
     }
 }
 
+/// The problem of a part that has no place where it is.
+fn misplaced_problem(alloc: Global, item: usize, place: usize, form: &Form) -> Judged {
+    let path = [item, place];
+    let part = match trees_in(form).get(place) {
+        Some(part) => head_word(part),
+        None => "",
+    };
+    match part {
+        "replies" if !is_headed(form, "run") => {
+            wrong(
+                alloc,
+                &path,
+                "a case has no replies: with replies it is a run",
+            )
+        }
+        "suffix" => wrong(
+            alloc,
+            &path,
+            "an item has one suffix: behind the branches, and before the replies",
+        ),
+        _ => wrong(alloc, &path, "the item has no such part, or not here"),
+    }
+}
+
 /// The problem of a fault of the item of a number.
-fn fault_problem(alloc: Global, item: usize, fault: Fault<'_>) -> Judged {
+fn fault_problem(alloc: Global, item: usize, form: &Form, fault: Fault<'_>) -> Judged {
     match fault {
         Fault::Missing(word) => wrong(alloc, &[item], format_args!("`({word} ..)` is missing")),
         Fault::OtherPart(word, place, form) => wrong_tree(
@@ -161,19 +244,34 @@ fn fault_problem(alloc: Global, item: usize, fault: Fault<'_>) -> Judged {
             &[item, BRANCHES, number],
             "a branch is a list of calls: `(CALL ..)`",
         ),
-        Fault::Misplaced(place) => wrong(
-            alloc,
-            &[item, place],
-            "the item has no such part, or not here",
-        ),
+        Fault::Misplaced(place) => misplaced_problem(alloc, item, place, form),
     }
 }
 
 /// What is wrong with the parts of a case or a run.
 fn parts_problem(alloc: Global, item: usize, form: &Form, is_run: bool) -> Judged {
     match fault_of(trees_in(form), is_run) {
-        Some(fault) => fault_problem(alloc, item, fault),
+        Some(fault) => fault_problem(alloc, item, form, fault),
         None => wrong(alloc, &[item], "the replies are lists, one for each part"),
+    }
+}
+
+/// The head of items that may be meant by another one.
+fn head_meant(alloc: Global, head: &str) -> Result<Option<DidYouMean<'static>>, AllocError> {
+    let near = NearestName::to(head).or(alloc, "case", head)?;
+    Ok(near.or(alloc, "run", head)?.hint())
+}
+
+/// The problem of a tree that is neither a case nor a run.
+fn headed_otherwise(alloc: Global, item: usize, form: &Form) -> Judged {
+    let head = head_word(form);
+    if head.is_empty() {
+        return wrong_tree(alloc, &[item], "", form, " is neither a case nor a run");
+    }
+    let what = format_args!("`{head}` heads neither a case nor a run");
+    match head_meant(alloc, head)? {
+        Some(hint) => noted_at(alloc, &[item], 0, what, hint),
+        None => wrong_at(alloc, &[item], 0, what),
     }
 }
 
@@ -187,16 +285,21 @@ fn form_problem(alloc: Global, item: usize, form: &Form) -> Judged {
             &[item],
             "a second model: the first tree of an input is its model",
         ),
-        _ => wrong_tree(alloc, &[item], "", form, " is neither a case nor a run"),
+        _ => headed_otherwise(alloc, item, form),
     }
 }
 
-/// What is wrong with the item of a number, which is of another form than a case or a run.
+/// What is wrong with the item of a number, which is of another form than a case or a run. It comes with the form of the
+/// nearest item.
 pub fn bad_form(alloc: Global, item: usize, form: &Form) -> Judged {
     let found = form_problem(alloc, item, form)?;
-    if is_headed(form, "run") {
-        with_note(alloc, found, WRITTEN_RUN)
-    } else {
-        with_note(alloc, found, WRITTEN_CASE)
-    }
+    let is_run = match head_meant(alloc, head_word(form))? {
+        Some(DidYouMean(head)) => head == "run",
+        None => false,
+    };
+    with_note(
+        alloc,
+        found,
+        Written::of(form, is_run || has_part(form, "replies")),
+    )
 }

@@ -1,10 +1,10 @@
 //! What is ill first in an argument or a reply.
 
-use crate::command::{Part, behind_head, is_headed, place_of, result_of, variable};
+use crate::command::{Part, behind_head, command_at, is_headed, place_of, result_of, variable};
 use crate::entries::{ill_entry, is_truth};
 use crate::ill::{Ill, ill_problem};
 use pst_model::{Param, Source};
-use pst_problems::Judged;
+use pst_problems::{Judged, Problem, TypeText, short_text, with_note};
 use pst_sexpr::Form;
 use pst_value::{KeyTy, Ty};
 use pst_words::is_integer;
@@ -268,6 +268,60 @@ fn first_in_part<'a>(
     }
 }
 
+/// The same problem, with the command whose result a variable refers to.
+fn with_result(
+    alloc: Global,
+    search: &Search<'_>,
+    found: Option<Problem>,
+    number: usize,
+) -> Judged {
+    let (Some(command), Some(ty)) = (
+        command_at(search.parts, number),
+        result_of(search.source, search.parts, number),
+    ) else {
+        return Ok(found);
+    };
+    let call = short_text(alloc, command.form)?;
+    let ty = TypeText(ty);
+    with_note(
+        alloc,
+        found,
+        format_args!(
+            "${number} is a reference to the result of command {number}, `{call}`: a (ref {ty})"
+        ),
+    )
+}
+
+/// The same problem of a tree that spells no value of a type, with what its variable refers to, or how a value of the
+/// type is written.
+fn with_type_note(
+    alloc: Global,
+    search: &Search<'_>,
+    found: Option<Problem>,
+    form: &Form,
+    wanted: &Ty,
+) -> Judged {
+    if let Some(number) = named(form) {
+        return with_result(alloc, search, found, number);
+    }
+    match (form, wanted) {
+        (Form::Word(word), Ty::Text) => {
+            let word = word.as_str();
+            with_note(
+                alloc,
+                found,
+                format_args!("hint: a text is in quotes: `\"{word}\"`"),
+            )
+        }
+        (_, Ty::Ref(_)) => with_note(
+            alloc,
+            found,
+            "a reference is written `$n`: it refers to the result of command `n`, from 1",
+        ),
+        _ => Ok(found),
+    }
+}
+
 /// The problem of what is ill first in a tree, by the path to the tree. Where nothing is found, `other` says
 /// what is ill.
 pub fn problem_in(
@@ -279,6 +333,10 @@ pub fn problem_in(
     other: Option<Ill<'_>>,
 ) -> Judged {
     let mut path = Vec::from_slice(alloc, path)?;
-    let found = first_ill(search, &mut path, form, wanted)?;
-    ill_problem(alloc, path.as_slice(), found.or(other))
+    let ill = first_ill(search, &mut path, form, wanted)?.or(other);
+    let found = ill_problem(alloc, path.as_slice(), ill)?;
+    match ill {
+        Some(Ill::OtherType(form, wanted)) => { with_type_note(alloc, search, found, form, wanted) }
+        _ => Ok(found),
+    }
 }

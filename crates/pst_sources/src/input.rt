@@ -3,7 +3,7 @@
 //! What stands here serves messages, which are tested and not proved.
 
 use crate::files::{FilePlace, SourceFile, locate};
-use pst_places::{LineStart, Span, first_line, line_from, place_of, place_on};
+use pst_places::{LineStart, Place, Span, first_line, line_from, place_of, place_on};
 use std::alloc::{AllocError, Global};
 
 /// An input: its files, and their text, as `joined` gives it.
@@ -84,18 +84,40 @@ impl<'a> Input<'a> {
         }
     }
 
-    /// The line of a place, as `line 3`; with the name of its file, as `line 3 of FILE`, where another place stands in
+    /// The name of the file of a place, if another place is in another file.
+    fn other_file(&self, at: usize, other: usize) -> Option<&'a str> {
+        let found = locate(self.files, at)?;
+        let from = locate(self.files, other)?;
+        if found.file == from.file {
+            return None;
+        }
+        let file = self.files.get(found.file)?;
+        Some(file.name)
+    }
+
+    /// The line and the column of a place.
+    fn shown_place(&self, alloc: Global, at: usize) -> Result<Place, AllocError> {
+        let part = self.part_at(Span { start: at, end: at });
+        place_of(alloc, part.bytes, part.span)
+    }
+
+    /// The line of a place, as `line 3`; with the name of its file, as `line 3 of FILE`, if another place is in
     /// another file.
     pub fn line_at(&self, alloc: Global, at: usize, other: usize) -> Result<String, AllocError> {
-        let part = self.part_at(Span { start: at, end: at });
-        let place = place_of(alloc, part.bytes, part.span)?;
-        let line = place.line;
-        match (locate(self.files, at), locate(self.files, other)) {
-            (Some(found), Some(from)) if found.file != from.file => {
-                let name = part.name;
-                format!(in alloc; "line {line} of {name}")
-            }
-            _ => format!(in alloc; "line {line}"),
+        let line = self.shown_place(alloc, at)?.line;
+        match self.other_file(at, other) {
+            Some(name) => format!(in alloc; "line {line} of {name}"),
+            None => format!(in alloc; "line {line}"),
+        }
+    }
+
+    /// The line and the column of a place, as `3:7`; with the name of its file, as `FILE:3:7`, if another place is in
+    /// another file.
+    pub fn place_at(&self, alloc: Global, at: usize, other: usize) -> Result<String, AllocError> {
+        let Place { line, column, .. } = self.shown_place(alloc, at)?;
+        match self.other_file(at, other) {
+            Some(name) => format!(in alloc; "{name}:{line}:{column}"),
+            None => format!(in alloc; "{line}:{column}"),
         }
     }
 

@@ -10,4 +10,4 @@ mod operands;
 mod trees;
 mod typing;
 
-pub use typing::type_problem;
+pub use typing::type_problems;

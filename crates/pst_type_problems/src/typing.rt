@@ -6,7 +6,7 @@ use crate::trees::{enter_part, head_word, tree_in};
 use pst_blame::{Blame, find};
 use pst_items::{Boxed, Items};
 use pst_model::{Expr, Fun, Item, Op, Source, state_of};
-use pst_problems::{Judged, Problem, noted, wrong};
+use pst_problems::{Judged, MOST_PROBLEMS, Problem, noted, tell, wrong};
 use pst_sexpr::{Form, node_of};
 use pst_typing::{Context, Scope, holds_call, holds_ref};
 use pst_value::Ty;
@@ -180,18 +180,17 @@ fn of_declared(alloc: Global, op: &Op, number: usize) -> Judged {
     )
 }
 
-/// What is wrong with an operation.
-fn of_operation(alloc: Global, op: &Op, here: Here<'_>) -> Judged {
-    if let Some(found) = of_declared(alloc, op, here.number)? {
-        return Ok(Some(found));
-    }
-    if let Some(found) = of_pre(alloc, op, here)? {
-        return Ok(Some(found));
-    }
-    if let Some(found) = of_next(alloc, op, here)? {
-        return Ok(Some(found));
-    }
-    of_post(alloc, op, here)
+/// What is wrong with an operation: the types that it declares, and each of its callbacks.
+fn tell_operation(
+    problems: &mut Vec<Problem>,
+    alloc: Global,
+    op: &Op,
+    here: Here<'_>,
+) -> Result<(), AllocError> {
+    tell(problems, of_declared(alloc, op, here.number)?)?;
+    tell(problems, of_pre(alloc, op, here)?)?;
+    tell(problems, of_next(alloc, op, here)?)?;
+    tell(problems, of_post(alloc, op, here)?)
 }
 
 /// A copy of a type.
@@ -274,41 +273,64 @@ fn of_command(alloc: Global, expr: &Expr, here: Here<'_>) -> Judged {
     of_expression(expr, &context, &scope, &site)
 }
 
-/// What is wrong with an item.
-fn of_item(alloc: Global, item: &Item, here: Here<'_>) -> Judged {
-    match item {
-        Item::Fun(fun) => of_function(alloc, fun, here),
-        Item::Op(op) => of_operation(alloc, op, here),
-        Item::Init(expr) => of_init(alloc, expr, here),
-        Item::Command(expr) => of_command(alloc, expr, here),
-        Item::State(_) => wrong(alloc, &[0, here.number, 1], "the state holds no `call`"),
+/// What is wrong with the type of the state.
+fn of_state(alloc: Global, state: &Ty, here: Here<'_>) -> Judged {
+    if holds_call(state) {
+        wrong(alloc, &[0, here.number, 1], "the state holds no `call`")
+    } else {
+        Ok(None)
     }
 }
 
-/// What is wrong with the item of a number, from 1, of a model that is not well typed.
-pub fn type_problem(
+/// Adds what is wrong with an item.
+fn tell_item(
+    problems: &mut Vec<Problem>,
+    alloc: Global,
+    item: &Item,
+    here: Here<'_>,
+) -> Result<(), AllocError> {
+    match item {
+        Item::Fun(fun) => tell(problems, of_function(alloc, fun, here)?),
+        Item::Op(op) => tell_operation(problems, alloc, op, here),
+        Item::Init(expr) => tell(problems, of_init(alloc, expr, here)?),
+        Item::Command(expr) => tell(problems, of_command(alloc, expr, here)?),
+        Item::State(state) => tell(problems, of_state(alloc, state, here)?),
+    }
+}
+
+/// What is wrong with the item of a number, from 1, of a model that is not well typed, and with those behind it: the
+/// problem that the model is refused for first. Each is independent of the others, since functions and operations are
+/// used by the types that they declare.
+pub fn type_problems(
     alloc: Global,
     source: &Source,
     model: &Form,
     number: usize,
-) -> Result<Option<Problem>, AllocError> {
+) -> Result<Vec<Problem>, AllocError> {
+    let mut problems = Vec::new(alloc);
     let items = source.items.as_slice();
     let Some(state) = state_of(items) else {
-        return Ok(None);
+        return Ok(problems);
     };
-    let Some(item) = items.get(number.saturating_sub(1)) else {
-        return Ok(None);
-    };
-    let place = number.saturating_add(1);
-    let here = Here {
-        items,
-        state,
-        form: tree_in(model, place),
-        number: place,
-        has_maps: source.has_maps,
-    };
-    match of_item(alloc, item, here)? {
-        Some(found) => Ok(Some(found)),
-        None => wrong(alloc, &[0, place], "the item is not well typed"),
+    for (index, item) in items.iter().enumerate() {
+        let place = index.saturating_add(2);
+        let is_first = index.saturating_add(1) == number;
+        if index.saturating_add(1) >= number && problems.len() <= MOST_PROBLEMS {
+            let here = Here {
+                items,
+                state,
+                form: tree_in(model, place),
+                number: place,
+                has_maps: source.has_maps,
+            };
+            tell_item(&mut problems, alloc, item, here)?;
+        }
+        if is_first && problems.is_empty() {
+            tell(
+                &mut problems,
+                wrong(alloc, &[0, place], "the item is not well typed")?,
+            )?;
+        }
     }
+    Ok(problems)
 }

@@ -7,11 +7,11 @@ use Rattle.pst_blame.proofs.search.+blame.Goals as goal
 
 pub blamed-returns-in-Int : goal.blamed-returns-in-Int
 blamed-returns-in-Int t c =
-    named_leaf (type_in c.args.context.now) (names_of c.args.scope.now) c.args.expr.now _ c.in-Int.is c.requires.none _ (parts_int _) c.nothing.ensures
+    named_leaf (type_in c.args.context.now) (names_of c.args.scope.now) c.args.expr.now _ c.in-Int.is c.requires.none _ _ (parts_int _) c.nothing.ensures.path c.nothing.ensures.types
 
 pub blamed-returns-in-Text : goal.blamed-returns-in-Text
 blamed-returns-in-Text t c =
-    named_leaf (type_in c.args.context.now) (names_of c.args.scope.now) c.args.expr.now _ c.in-Text.is c.requires.none _ (parts_text _) c.nothing-in-Text.ensures
+    named_leaf (type_in c.args.context.now) (names_of c.args.scope.now) c.args.expr.now _ c.in-Text.is c.requires.none _ _ (parts_text _) c.nothing-in-Text.ensures.path c.nothing-in-Text.ensures.types
 
 pub blamed-returns-in-Name : goal.blamed-returns-in-Name
 blamed-returns-in-Name t c =
@@ -81,11 +81,11 @@ in_each-find-requires t c =
 pub in_each-returns-in-Err : goal.in_each-returns-in-Err
 in_each-returns-in-Err t c =
     let b = rw c.in-Err.is at c.in_ok-ty.ensures in
-    inside (type_in c.args.context.now) _ c.loop-i.i c.in-Err.blame.path _ (each_leads (type_in c.args.context.now) (names_of c.args.scope.now) c.args.exprs.now c.loop-i.i c.index-exprs-i.result c.loop-i-test.true c.index-exprs-i.is c.in-Err.blame.path b) c.inside.ensures
+    inside (type_in c.args.context.now) _ c.loop-i.i c.in-Err.blame.types c.in-Err.blame.path _ (each_leads (type_in c.args.context.now) (names_of c.args.scope.now) c.args.exprs.now c.loop-i.i c.index-exprs-i.result c.loop-i-test.true c.index-exprs-i.is c.in-Err.blame.types c.in-Err.blame.path b) c.inside.ensures
 
 pub in_each-loop-i-preserved : goal.in_each-loop-i-preserved
 in_each-loop-i-preserved t c =
-    each_goes (type_in c.args.context.now) (names_of c.args.scope.now) c.args.exprs.now c.loop-i.i c.index-exprs-i.result c.loop-i-test.true c.index-exprs-i.is c.in-Ok.ty (rw c.in-Ok.is at c.in_ok-ty.ensures) c.loop-i.invariant
+    each_goes (type_in c.args.context.now) (names_of c.args.scope.now) c.args.exprs.now c.loop-i.i c.index-exprs-i.result c.loop-i-test.true c.index-exprs-i.is c.in-Ok.ty c.loop-i.types c.push.new.self (rw c.in-Ok.is at c.in_ok-ty.ensures) c.in_ok-push-in-Ok.ensures.ok c.loop-i.invariant
 
 pub in_for-returns-in-None : goal.in_for-returns-in-None
 in_for-returns-in-None t c =
@@ -93,20 +93,20 @@ in_for-returns-in-None t c =
 
 pub in_items-returns-in-Err : goal.in_items-returns-in-Err
 in_items-returns-in-Err t c =
-    in_blamed (type_in c.args.context.now) (names_of c.args.scope.now) c.args.list.now c.args.rest.now c.args.body.now c.args.name.now c.in-Err.blame.path _ (rw c.in-Err.is at c.in_ok-ty.ensures) c.inside.ensures
+    in_blamed (type_in c.args.context.now) (names_of c.args.scope.now) c.args.list.now c.args.rest.now c.args.body.now c.args.name.now c.in-Err.blame.types c.in-Err.blame.path _ (rw c.in-Err.is at c.in_ok-ty.ensures) c.inside.ensures
 
 pub in_items-returns-in_default : goal.in_items-returns-in_default
 in_items-returns-in_default t c =
-    in_ends (type_in c.args.context.now) (names_of c.args.scope.now) c.args.list.now c.args.rest.now c.args.body.now c.args.name.now c.in-Ok.ty _ _ (rw c.in-Ok.is at c.in_ok-ty.ensures) (sym c.in_default.ensures) c.nothing.ensures c.behind.ensures
+    in_ends (type_in c.args.context.now) (names_of c.args.scope.now) c.args.list.now c.args.rest.now c.args.body.now c.args.name.now c.in-Ok.ty _ _ _ (rw c.in-Ok.is at c.in_ok-ty.ensures) (sym c.in_default.ensures) c.nothing.ensures.path c.nothing.ensures.types c.behind.ensures
 
 pub in_items-returns : goal.in_items-returns
 in_items-returns t c =
-    in_goes (type_in c.args.context.now) (names_of c.args.scope.now) c.args.list.now c.args.rest.now c.args.body.now c.args.name.now c.in-Some.item.now c.in-Ok.ty _ _ (rw c.in-Ok.is at c.in_ok-ty.ensures) (sym c.in-Some.ensures) c.in_ok-blame.ensures c.behind-2.ensures
+    in_goes (type_in c.args.context.now) (names_of c.args.scope.now) c.args.list.now c.args.rest.now c.args.body.now c.args.name.now c.in-Some.item.now c.in-Ok.ty _ _ _ (rw c.in-Ok.is at c.in_ok-ty.ensures) (sym c.in-Some.ensures) c.in_ok-blame.ensures c.behind-2.ensures
 
 pub in_test-returns-in-Err : goal.in_test-returns-in-Err
 in_test-returns-in-Err t c =
-    when_blamed (type_in c.args.context.now) (names_of c.args.scope.now) c.args.test.now c.args.rest.now c.args.body.now c.in-Err.blame.path _ (rw c.in-Err.is at c.in_ok-ty.ensures) c.inside.ensures
+    when_blamed (type_in c.args.context.now) (names_of c.args.scope.now) c.args.test.now c.args.rest.now c.args.body.now c.in-Err.blame.types c.in-Err.blame.path _ (rw c.in-Err.is at c.in_ok-ty.ensures) c.inside.ensures
 
 pub in_test-returns : goal.in_test-returns
 in_test-returns t c =
-    when_goes (type_in c.args.context.now) (names_of c.args.scope.now) c.args.test.now c.args.rest.now c.args.body.now c.in-Ok.ty _ _ (rw c.in-Ok.is at c.in_ok-ty.ensures) c.in_ok-blame.ensures c.behind.ensures
+    when_goes (type_in c.args.context.now) (names_of c.args.scope.now) c.args.test.now c.args.rest.now c.args.body.now c.in-Ok.ty _ _ _ (rw c.in-Ok.is at c.in_ok-ty.ensures) c.in_ok-blame.ensures c.behind.ensures

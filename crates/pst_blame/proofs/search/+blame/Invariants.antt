@@ -1,6 +1,5 @@
-use Rattle.std.proofs.Common.{◌≡◌, ◌+◌, ◌*◌, map, drop}
-use Rattle.std.specs.List.{list_all}
-use Rattle.pst_blame.specs.Blamed.{each_part, is_typed}
+use Rattle.std.proofs.Common.{◌≡◌, ◌+◌, ◌*◌, ◌++◌, Some, map, drop}
+use Rattle.pst_blame.proofs.Leading.{types_in}
 use Rattle.pst_typing.specs.Scope.{names_of, type_in}
 use Rattle.pst_meaning.specs.Weight.{weight, clause_weight, total}
 use Rattle.pst_blame.proofs.search.+blame.Given as goal
@@ -40,4 +39,4 @@ decreases-in_test l = 4 * (weight l.test.now + total (map clause_weight l.rest.n
 
 abbrev pub invariant-in_each-loop-i : goal.invariant-in_each-loop-i
 invariant-in_each-loop-i l =
-    list_all (is_typed (type_in l.context)) (each_part (names_of l.scope) (drop l.i l.exprs)) ≡ list_all (is_typed (type_in l.context)) (each_part (names_of l.scope) l.exprs)
+    map Some l.types ++ types_in (type_in l.context) (names_of l.scope) (drop l.i l.exprs) ≡ types_in (type_in l.context) (names_of l.scope) l.exprs
