@@ -37,8 +37,8 @@ fn watched<W: Sink, R: Threads + Wait + Sync + Eprint + Clock>(
     campaign_text(rt, alloc, input, settings, systems, &Unwatched, out)
 }
 
-/// Runs a campaign whose report is written once it stands whole. An explanation of its least failure stands on
-/// standard error in the end.
+/// Runs a campaign whose report is written once it stands whole. Explanations of its least failure and of its first trial
+/// without a case stand on standard error in the end.
 fn explained<W: Sink, R: Threads + Wait + Sync + Eprint + Clock>(
     rt: &R,
     alloc: Global,
@@ -69,13 +69,13 @@ fn explained<W: Sink, R: Threads + Wait + Sync + Eprint + Clock>(
     if put_all(report.as_slice(), out).is_err() {
         return Status::Lost;
     }
-    least::explain(rt, alloc, input, report.as_slice());
+    least::explain(rt, alloc, settings, input, report.as_slice());
     status
 }
 
 /// Runs a campaign with a worker for each of the systems, if there are some. Unless the words forbid it, a line on
-/// standard error, where that is a terminal, says how far the campaign is, and an explanation of the least failure
-/// stands there in the end.
+/// standard error, where that is a terminal, says how far the campaign is, and explanations of the least failure and of the
+/// first trial without a case stand there in the end.
 pub fn campaign<W: Sink, R: Threads + Wait + Sync + Eprint + Clock>(
     rt: &R,
     alloc: Global,

@@ -1,4 +1,4 @@
-//! `pst judge`, with warnings on standard error.
+//! `pst judge`, with messages on standard error.
 ghost use Rattle.std.specs.Prelude.{◌≡◌, false, All, IfSome};
 ghost use Rattle.pst_runs.specs.Lawful.{AreLawful};
 
@@ -9,19 +9,19 @@ use pst_cli::{
 };
 use pst_sink::Sink;
 use pst_sources::{Input, SourceFile};
-use pst_warnings::{warnings_on_answers, warnings_on_runs};
+use pst_warnings::{broken_answer, broken_run, warnings_on_answers, warnings_on_runs};
 use std::alloc::{AllocError, Global};
 use std::mem::forget;
 use std::thread::Threads;
 
-/// Writes warnings to standard error. Where memory was refused for them or they cannot be written, nothing more is said.
-fn warn<R: Eprint>(rt: &R, warnings: Result<Option<String>, AllocError>) {
-    if let Ok(Some(warnings)) = warnings {
-        let _ = eprint!(rt; "{warnings}");
+/// Writes messages to standard error. Where memory was refused for them or they cannot be written, nothing more is said.
+fn say<R: Eprint>(rt: &R, messages: Result<Option<String>, AllocError>) {
+    if let Ok(Some(messages)) = messages {
+        let _ = eprint!(rt; "{messages}");
     }
 }
 
-/// Writes the warnings on items that were judged.
+/// Writes why the first broken item of those that were judged is broken, and the warnings on them.
 ///
 /// The program ends behind this, and the system takes its memory back at once. So the items are not let go one by one:
 /// with many small items that would be an eighth of the instructions of the whole run.
@@ -43,20 +43,22 @@ fn warn_on_runs<R: Eprint>(
     ) = judged
     {
         let input = Input { files, bytes };
+        let typed = compiled.typed();
+        say(rt, broken_run(alloc, typed, input, judged.as_slice()));
         let warnings = warnings_on_runs(
             &compiled,
             alloc,
-            compiled.typed(),
+            typed,
             input,
             runs.as_slice(),
             judged.as_slice(),
         );
-        warn(rt, warnings);
+        say(rt, warnings);
         forget((compiled, runs, judged));
     }
 }
 
-/// Writes the warnings on items to which there are answers.
+/// Writes why the first broken item of those to which there are answers is broken, and the warnings on them.
 fn warn_on_answers<R: Eprint>(
     rt: &R,
     alloc: Global,
@@ -66,20 +68,26 @@ fn warn_on_answers<R: Eprint>(
 ) {
     if let Some(AnsweredFile { file, answers }) = answered {
         let input = Input { files, bytes };
+        let typed = file.compiled.typed();
+        let trees = file.trees.as_slice();
+        say(
+            rt,
+            broken_answer(alloc, typed, input, trees, answers.as_slice()),
+        );
         let warnings = warnings_on_answers(
             &file.compiled,
             alloc,
-            file.compiled.typed(),
+            typed,
             input,
-            file.trees.as_slice(),
+            trees,
             answers.as_slice(),
         );
-        warn(rt, warnings)
+        say(rt, warnings)
     }
 }
 
 /// Judges the items of the input, up to the first that is refused, or all of them where the words ask for it. Behind
-/// the lines on standard output warnings may stand on standard error, unless the words forbid it.
+/// the lines on standard output messages may stand on standard error, unless the words forbid it.
 pub fn judge<W: Sink, R: Threads + Sync + Eprint>(
     rt: &R,
     alloc: Global,

@@ -1,62 +1,61 @@
-//! The explanation of a campaign's least failure, on standard error.
+//! What is said of a campaign's report on standard error: why its least failure is one, and why its first trial without a
+//! case has none.
+ghost use Rattle.pst_trial.specs.Settings.{AreInRange};
 
-use pst_cli::{Status, explain_text};
-use pst_places::span_of;
-use pst_sink::Out;
-use std::alloc::{AllocError, Global};
+use crate::explained::explain_run;
+use pst_trial::Settings;
+use pst_warnings::genfault_text;
+use std::alloc::Global;
 use std::thread::Threads;
 
-/// The width of lines.
-const WIDTH: usize = 80;
-
-/// The run to which a report says that its least failure was shrunk: its line that begins with `to `.
-fn last_run(report: &[u8]) -> Option<&[u8]> {
+/// What stands after the beginning of the first line of a report that begins so.
+fn after<'a>(report: &'a [u8], beginning: &[u8]) -> Option<&'a [u8]> {
     report
         .split(|byte| *byte == b'\n')
-        .find_map(|line| line.strip_prefix(b"to "))
+        .find_map(|line| line.strip_prefix(beginning))
 }
 
-/// A file of the model that the input begins with, and of the run.
-fn file_of(alloc: Global, input: &[u8], run: &[u8]) -> Result<Vec<u8>, AllocError> {
-    let model = span_of(input, &[0]);
-    let mut file = Vec::new(alloc);
-    file.extend_from_slice(input.get(model.start..model.end).unwrap_or(&[]))?;
-    file.push(b'\n')?;
-    file.extend_from_slice(run)?;
-    Ok(file)
+/// The number of the first trial without a case.
+fn first_genfault(report: &[u8]) -> Option<u64> {
+    let line = std::str::from_utf8(after(report, b"genfault-first ")?).ok()?;
+    let (number, _) = line.split_once(' ')?;
+    number.parse::<u64>().ok()
 }
 
-/// The explanation of a run on the model that the input begins with, behind its first line, which names the place of an
-/// item in a file.
-fn explained<R: Threads + Sync>(
+/// Writes why the first trial without a case has none, if there is one.
+fn explain_genfault<R: Eprint>(
     rt: &R,
     alloc: Global,
+    settings: Settings,
     input: &[u8],
-    run: &[u8],
-) -> Result<Option<Vec<u8>>, AllocError> {
-    let file = file_of(alloc, input, run)?;
-    let mut out = Out::new(Vec::new(alloc));
-    let status = explain_text(rt, alloc, file.as_slice(), &[], WIDTH, &mut out);
-    if status != Status::Failed {
-        return Ok(None);
+    report: &[u8],
+)
+    requires { AreInRange settings }
+{
+    let Some(number) = first_genfault(report) else {
+        return;
+    };
+    let text = genfault_text(alloc, input, settings.seed, number, settings.commands);
+    if let Ok(Some(text)) = text {
+        let _ = eprint!(rt; "trial {number} has no case:\n{text}");
     }
-    Ok(Some(out.into_inner()))
 }
 
-/// Writes to standard error why no interleaving explains the least failure of a report, if there is one. Where memory is
-/// refused or nothing can be written, the report and the status stand without it.
-pub fn explain<R: Threads + Sync + Eprint>(rt: &R, alloc: Global, input: &[u8], report: &[u8]) {
-    let Some(run) = last_run(report) else {
-        return;
-    };
-    let Ok(Some(text)) = explained(rt, alloc, input, run) else {
-        return;
-    };
-    let lines = text.split(|byte| *byte == b'\n').skip(1);
-    let _ = eprintln!(rt; "the least failure:");
-    for line in lines.filter(|line| !line.is_empty()) {
-        if let Ok(line) = std::str::from_utf8(line) {
-            let _ = eprintln!(rt; "{line}");
-        }
+/// Writes to standard error why no interleaving explains the least failure of a report, and why its first trial without a
+/// case has none, if there are some. If memory is refused or nothing can be written, the report and the status stand without
+/// it.
+pub fn explain<R: Threads + Sync + Eprint>(
+    rt: &R,
+    alloc: Global,
+    settings: Settings,
+    input: &[u8],
+    report: &[u8],
+)
+    requires { AreInRange settings }
+{
+    // The run to which the least failure was shrunk.
+    if let Some(run) = after(report, b"to ") {
+        explain_run(rt, alloc, "the least failure:", input, run);
     }
+    explain_genfault(rt, alloc, settings, input, report);
 }

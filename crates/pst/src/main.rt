@@ -6,6 +6,8 @@ ghost use Rattle.std.specs.Prelude.{◌≡◌, false};
 mod arguments;
 mod campaigning;
 mod clients;
+mod driving;
+mod explained;
 mod explaining;
 mod hangs;
 mod input;
@@ -20,9 +22,10 @@ mod words;
 
 use campaigning::campaign;
 use clap::ArgMatches;
+use driving::drive;
 use input::Reading;
 use judging::judge;
-use pst_cli::{Absence, KnownSystem, Status, check_text, list_text, refuse_text, run_text};
+use pst_cli::{Absence, KnownSystem, Status, check_text, list_text, refuse_text};
 use pst_misfits::{Misfits, Overheard};
 use pst_samples::{Counter, Meet, Queue, Racy, Registry, Stuck};
 use pst_sink::{Out, Sink};
@@ -56,31 +59,6 @@ fn and_one(systems: Systems, system: Result<BoxedSystem, Unmade>) -> Systems {
         Ok(()) => Ok(systems),
         Err(_) => Err(Unmade::NoMemory),
     }
-}
-
-/// Drives the items of the input on a system, if there is one. Where misfits are kept, lines on standard error say in
-/// the end what was answered.
-fn drive<W: Sink, R: Threads + Wait + Eprint>(
-    rt: &R,
-    alloc: Global,
-    name: &str,
-    mut systems: Vec<BoxedSystem>,
-    misfits: Option<&Misfits>,
-    input: &[u8],
-    out: &mut W,
-) -> Status
-    requires { W.broken out.old ≡ false }
-{
-    let Some(mut system) = systems.pop() else {
-        return refuse_text(Absence::NoSystem(name), out);
-    };
-    let Some(misfits) = misfits else {
-        return run_text(rt, alloc, input, &mut system, out);
-    };
-    overheard::begin(alloc, misfits, input);
-    let status = run_text(rt, alloc, input, &mut system, out);
-    overheard::report(rt, alloc, misfits);
-    status
 }
 
 /// Does what the word says that takes a system.

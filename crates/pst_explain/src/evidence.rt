@@ -4,7 +4,7 @@ use pst_case::Reply;
 use pst_eval::Callback;
 use pst_evidence::{Binding, FaultyPart, bindings_of, faulty_part, words_of};
 use pst_meaning::Env;
-use pst_model::{Expr, opening_of};
+use pst_model::{Expr, calls_of, opening_of};
 use pst_scene::{
     Call, Page, Scene, Table, arguments, expression_text, joined, operation, reference, two,
     value_text,
@@ -105,6 +105,22 @@ fn add_in(
 pub fn add_init(page: &mut Page, alloc: Global, scene: &Scene<'_>) -> Result<(), AllocError> {
     match opening_of(scene.model.items.as_slice()) {
         Some(expr) => add_in(page, alloc, scene, expr, &Env::Frame(&[], &[])),
+        None => Ok(()),
+    }
+}
+
+/// Adds the expression of the calls to pick from in a state, and the part of it that faults, where it does.
+pub fn add_command(
+    page: &mut Page,
+    alloc: Global,
+    scene: &Scene<'_>,
+    state: &Value,
+) -> Result<(), AllocError> {
+    match calls_of(scene.model.items.as_slice()) {
+        Some(expr) => {
+            let frame = Env::Frame(&[], &[]);
+            add_in(page, alloc, scene, expr, &Env::With(b"s", &*state, &frame))
+        }
         None => Ok(()),
     }
 }

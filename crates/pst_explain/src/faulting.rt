@@ -1,11 +1,12 @@
 //! Items in which a callback faults.
 
-use crate::evidence::{add_callback, add_init};
+use crate::evidence::{add_callback, add_command, add_init};
 use pst_eval::{Callback, Place};
 use pst_scene::{
-    Call, Page, Part, Scene, add, add_states, add_word, call_numbered, calls_before, states_along,
-    text_of,
+    Call, Page, Part, Scene, add, add_states, add_word, call_numbered, calls_before, joined,
+    states_along, text_of,
 };
+use pst_value::Fault;
 use std::alloc::{AllocError, Global};
 
 /// Adds a callback of a command in the interleaving: its expression with what is known of it on the state before the
@@ -98,4 +99,30 @@ pub fn add_fault(
         Some(call) => add_callback_with_states(page, alloc, scene, word, place.callback, &call),
         None => add_init(page, alloc, scene),
     }
+}
+
+/// Adds that the calls to pick from fault behind the commands of a script, which are all of the item: their expression, the
+/// part of it that faults, and the states before.
+pub fn add_command_fault(
+    page: &mut Page,
+    alloc: Global,
+    scene: &Scene<'_>,
+    fault: Fault,
+) -> Result<(), AllocError> {
+    let calls = scene.all.as_slice();
+    let states = states_along(alloc, scene, calls)?;
+    let sentence = joined(
+        alloc,
+        &[
+            b"The callback command faults with ",
+            fault.name().as_bytes(),
+            b":",
+        ],
+    )?;
+    page.add_sentence(alloc, 2, sentence.as_slice())?;
+    if let Some(state) = states.get(calls.len()) {
+        add_command(page, alloc, scene, state)?;
+    }
+    page.add_sentence(alloc, 2, b"The states before it:")?;
+    add_states(page, alloc, scene, calls, states.as_slice())
 }

@@ -36,10 +36,12 @@ pub enum Deep {
     Commands,
     /// One command more before the branches.
     TooManyCommands,
+    /// 65,536 calls to pick from, each of which has a precondition of nearly all turns.
+    Calls,
 }
 
 /// All of them, by their names.
-pub const LIMITS: [(&str, Deep); 15] = [
+pub const LIMITS: [(&str, Deep); 16] = [
     ("functions", Deep::Functions),
     ("false functions", Deep::FalseFunctions),
     ("faulting functions", Deep::FaultingFunctions),
@@ -55,6 +57,7 @@ pub const LIMITS: [(&str, Deep); 15] = [
     ("map", Deep::Map),
     ("commands", Deep::Commands),
     ("one command more", Deep::TooManyCommands),
+    ("calls", Deep::Calls),
 ];
 
 /// A case and a run of calls of `get` that answer 0.
@@ -204,6 +207,15 @@ const MAP: [&str; 6] = [
     "(= r (get s 0))",
 ];
 
+/// 65,536 calls of `inc`, whose precondition takes 999,000 turns. `get` is never called.
+const CALLS: &str = "(model wide (state int) (init 0)
+  (command (for ((in i (range 0 65536))) (call inc)))
+  (op inc () int
+    (pre (= (list int) (for ((in i (range 0 1000)) (in j (range 0 998)) (when (< j i)) (when (< i j))) i)))
+    (next (+ s 1)) (post (= r (+ s 1))))
+  (op get () int (pre true) (next s) (post (= r s))))
+(case (prefix) (left (inc)) (right))";
+
 /// The text of a model and its items.
 pub fn text_of(alloc: Global, deep: Deep) -> Result<String, AllocError> {
     match deep {
@@ -222,5 +234,6 @@ pub fn text_of(alloc: Global, deep: Deep) -> Result<String, AllocError> {
         Deep::Map => kept(alloc, MAP),
         Deep::Commands => commands(alloc, 64),
         Deep::TooManyCommands => commands(alloc, 65),
+        Deep::Calls => String::from_str(alloc, CALLS),
     }
 }

@@ -6,11 +6,13 @@ use crate::deep::{Deep, LIMITS, text_of};
 use pst_print::print_model;
 use pst_sexpr::{read, write};
 use pst_sink::Out;
+use pst_sources::SourceFile;
 use pst_syntax::{Model, read_model};
+use pst_warnings::warnings_of;
 use std::alloc::Global;
-use std::io;
 use std::sync::Wait;
 use std::thread::Threads;
+use std::{io, slice};
 
 /// The model that a text begins with.
 fn model_of(alloc: Global, text: &[u8]) -> Option<Model> {
@@ -55,15 +57,29 @@ fn print_command<R: Threads + Wait + Sync + Print + AllocGlobal>(
     }
 }
 
-/// The commands that are asked: where the opening state takes long to compute, the first three alone.
+/// Prints the first line of the warnings on a model.
+fn print_warnings<R: Print + AllocGlobal>(rt: &R, text: &str) -> io::Result<()> {
+    let file = SourceFile {
+        name: "-",
+        bytes: Vec::from_slice(rt.alloc(), text.as_bytes())?,
+    };
+    let warnings = warnings_of(rt.alloc(), slice::from_ref(&file), text.as_bytes())?;
+    let line = match &warnings {
+        Some(warnings) => warnings.as_str().lines().next().unwrap_or(""),
+        None => "none",
+    };
+    println!(rt; "  warnings: {line}")
+}
+
+/// The commands that are asked: where the opening state or the precondition takes long to compute, the first three alone.
 fn asked(deep: Deep) -> &'static [Command] {
     match deep {
-        Deep::List | Deep::Map => &[Command::Check, Command::List, Command::Judge],
+        Deep::List | Deep::Map | Deep::Calls => &[Command::Check, Command::List, Command::Judge],
         _ => &COMMANDS,
     }
 }
 
-/// Prints what each command answers at each limit.
+/// Prints what each command answers at each limit, and the warnings.
 pub fn print_depths<R: Threads + Wait + Sync + Print + AllocGlobal>(rt: &R) -> io::Result<()> {
     for (name, deep) in LIMITS {
         let text = text_of(rt.alloc(), deep)?;
@@ -76,6 +92,7 @@ pub fn print_depths<R: Threads + Wait + Sync + Print + AllocGlobal>(rt: &R) -> i
         for command in asked(deep) {
             print_command(rt, *command, text.as_bytes())?;
         }
+        print_warnings(rt, text.as_str())?;
     }
     Ok(())
 }

@@ -326,7 +326,7 @@ pub const CLOSED_FILES: [(&str, &str); 2] = [
 ];
 
 /// A model that is accepted, and of which warnings may speak, by the name of its file.
-pub const ACCEPTED: [(&str, &str); 4] = [
+pub const ACCEPTED: [(&str, &str); 11] = [
     (
         "never.model",
         "(model m (state int) (init 0) (command (list call (call a)))\n  (op a () int (pre true) (next s) (post true))\n  (op b () int (pre true) (next s) (post true)))\n",
@@ -342,5 +342,33 @@ pub const ACCEPTED: [(&str, &str); 4] = [
     (
         "turns.model",
         "(model m (state bool) (init false) (command (list call (call a) (call b)))\n  (op a () int (pre (not s)) (next true) (post true))\n  (op b () int (pre s) (next false) (post true)))\n",
+    ),
+    (
+        "next.model",
+        "(model m (state int) (init 0) (command (list call (call a)))\n  (op a () int (pre true) (next (nth (list int 1) -1)) (post true)))\n",
+    ),
+    (
+        "some.model",
+        "(model m (state int) (init 0) (command (list call (call a) (call b)))\n  (op a () int (pre (= s 0)) (next 1) (post true))\n  (op b () int (pre (= s 0)) (next (nth (list int) s)) (post true)))\n",
+    ),
+    (
+        "command.model",
+        "(model m (state (list int)) (init (list int 1 2))\n  (command (list call (call push (nth (list int 7) (- (len s) 2)))))\n  (op push ((x int)) int (pre true) (next (++ s (list int x))) (post true)))\n",
+    ),
+    (
+        "init.model",
+        "(model m (state int) (init (div 1 0)) (command (list call (call a)))\n  (op a () int (pre true) (next s) (post true)))\n",
+    ),
+    (
+        "pre.model",
+        "(model m (state int) (init 0) (command (list call (call a 1) (call a 0)))\n  (op a ((n int)) int (pre (< 0 (div 1 n))) (next s) (post true)))\n",
+    ),
+    (
+        "steps.model",
+        "(model m (state int) (init 0) (command (for ((in i (range 0 60000))) (call a)))\n  (op a () int (pre (= (list int) (for ((in i (range 0 500)) (when (< i 0))) i))) (next s) (post true))\n  (op b () int (pre true) (next s) (post true)))\n",
+    ),
+    (
+        "endless.model",
+        "(model m (state int) (init 0) (command (list call (call a)))\n  (op a () int (pre true)\n    (next (fold i (range 0 1001) x s (fold j (range 0 1000) y x y)))\n    (post true)))\n",
     ),
 ];

@@ -1,10 +1,11 @@
 //! The warnings on an input.
 
-use crate::called::{COMMANDS, SCRIPTS, called};
+use crate::faults::on_faults;
+use crate::scripts::{COMMANDS, SCRIPTS, generated_scripts};
+use pst_compile::{Compiled, compile};
 use pst_load::{ModelFile, items_of, load};
 use pst_model::Item;
 use pst_places::span_of;
-use pst_rules::Typed;
 use pst_sexpr::{Form, Tree, node_of, word_of};
 use pst_sources::{Input, SourceFile};
 use std::alloc::{AllocError, Global};
@@ -25,7 +26,7 @@ pub fn warning<D: Display + Drop, N: Display + Drop>(
 }
 
 /// The number of the tree of an item of a model, by the number of the item from 0: its head and its name come before.
-fn tree_of(item: usize) -> usize {
+pub fn tree_of(item: usize) -> usize {
     item.saturating_add(2)
 }
 
@@ -83,15 +84,23 @@ fn on_operations(
     Ok(text)
 }
 
-/// The warnings on the calls of a model.
-fn on_calls(alloc: Global, input: &Input<'_>, typed: &Typed) -> Result<String, AllocError> {
+/// The warnings on generated scripts of a model. If they are not all generated, nothing is said of operations that none of
+/// them calls.
+fn on_scripts(alloc: Global, input: &Input<'_>, compiled: &Compiled) -> Result<String, AllocError> {
+    let typed = compiled.typed();
     let items = typed.source().items.as_slice();
-    match called(alloc, typed)? {
-        Some(called) if called.iter().any(|is_called| *is_called) => {
-            on_operations(alloc, input, items, called.as_slice())
-        }
-        Some(_) => none_offered(alloc, input, items),
-        None => Ok(String::new(alloc)),
+    let scripts = generated_scripts(alloc, compiled)?;
+    if scripts.faulty > 0 {
+        return on_faults(alloc, input, typed, scripts);
+    }
+    if scripts.is_cut {
+        return Ok(String::new(alloc));
+    }
+    let called = scripts.called.as_slice();
+    if called.iter().any(|is_called| *is_called) {
+        on_operations(alloc, input, items, called)
+    } else {
+        none_offered(alloc, input, items)
     }
 }
 
@@ -125,12 +134,13 @@ fn on_trees(alloc: Global, input: &Input<'_>, trees: &[Tree]) -> Result<String, 
     Ok(text)
 }
 
-/// Warnings on an input whose model is accepted, for a person to read, each in the form of a message: an operation that
-/// no generated script calls, a model of which no call may be made at first, and a second model behind the first.
-/// `input` is the text of the files. `None` where there are none, and where the model is refused.
+/// Warnings on an input whose model is accepted, for a person to read, each in the form of a message: scripts in which a
+/// callback faults, an operation that no generated script calls, a model of which no call may be made at first, and a second
+/// model after the first. `input` is the text of the files. `None`: there are none, or the model is refused.
 ///
-/// Sixteen scripts of at most sixteen commands are generated, always of the same words. Where a callback faults in one
-/// of them, nothing is said of calls.
+/// At most sixteen scripts of at most sixteen commands are generated, always of the same random words, and their callbacks
+/// take a bounded number of steps. If a callback faults in one of them, or the steps do not suffice for all, nothing is said
+/// of calls.
 ///
 /// `AllocError`: memory was refused.
 pub fn warnings_of(
@@ -145,7 +155,10 @@ pub fn warnings_of(
     let Ok(ModelFile { typed, trees }) = load(alloc, input.bytes)? else {
         return Ok(None);
     };
-    let mut text = on_calls(alloc, &input, &typed)?;
+    let Ok(compiled) = compile(alloc, typed) else {
+        return Err(AllocError);
+    };
+    let mut text = on_scripts(alloc, &input, &compiled)?;
     text.push_str(on_trees(alloc, &input, trees.as_slice())?.as_str())?;
     if text.is_empty() {
         Ok(None)

@@ -1,0 +1,165 @@
+//! Why recorded runs are broken.
+
+use pst_each::Answer;
+use crate::stubs::broken_text;
+use pst_judge::{Judged, Verdict};
+use pst_places::span_of;
+use pst_rules::Typed;
+use pst_run_problems::{commands_of, place_of};
+use pst_runs::read_runs;
+use pst_sexpr::{Form, Tree, node_of, read, word_of};
+use pst_sources::Input;
+use std::alloc::{AllocError, Global};
+use std::slice;
+
+/// The items that are broken: the first of them, and how many there are.
+#[derive(Drop)]
+struct Broken {
+    /// The number of the first, from 1.
+    item: usize,
+    /// The number of its command whose reply is no value, from 1.
+    command: u32,
+    count: usize,
+}
+
+/// Adds an item if it is broken.
+fn with_item(broken: Option<Broken>, item: usize, judged: &Judged) -> Option<Broken> {
+    let Judged::Verdict(Verdict::Broken(command)) = judged else {
+        return broken;
+    };
+    match broken {
+        Some(
+            Broken {
+                item,
+                command,
+                count,
+            },
+        ) => Some(Broken {
+            item,
+            command,
+            count: count.saturating_add(1),
+        }),
+        None => Some(Broken {
+            item,
+            command: *command,
+            count: 1,
+        }),
+    }
+}
+
+/// Whether a tree is headed by the word `replies`.
+fn is_replies(form: &Form) -> bool {
+    match node_of(form).unwrap_or(&[]).first() {
+        Some(head) => match word_of(head) {
+            Some(word) => word.as_str() == "replies",
+            None => false,
+        },
+        None => false,
+    }
+}
+
+/// The path to the reply of a command of an item. The replies of each part are a tree after the head of the replies.
+fn path_of(
+    alloc: Global,
+    form: &Form,
+    item: usize,
+    command: usize,
+) -> Result<Vec<usize>, AllocError> {
+    let parts = commands_of(alloc, form)?;
+    let trees = node_of(form).unwrap_or(&[]);
+    let replies = trees.iter().position(|tree| is_replies(tree));
+    match (replies, place_of(parts.as_slice(), command)) {
+        (Some(replies), Some((part, offset))) => {
+            Vec::from_slice(alloc, &[item, replies, part.saturating_add(1), offset])
+        }
+        _ => Vec::from_slice(alloc, &[item]),
+    }
+}
+
+/// Why the item of a tree is broken.
+fn sentence_of(
+    alloc: Global,
+    typed: &Typed,
+    tree: &Tree,
+    command: u32,
+) -> Result<Option<Vec<u8>>, AllocError> {
+    let Ok(runs) = read_runs(alloc, typed, slice::from_ref(tree)) else {
+        return Ok(None);
+    };
+    match runs.first() {
+        Some(run) => broken_text(alloc, typed, run, command),
+        None => Ok(None),
+    }
+}
+
+/// The message on the first broken item, and how many others there are.
+fn text_of(
+    alloc: Global,
+    typed: &Typed,
+    input: &Input<'_>,
+    trees: &[Tree],
+    broken: &Broken,
+) -> Result<Option<String>, AllocError> {
+    let item = broken.item;
+    let Some(tree) = trees.get(item) else {
+        return Ok(None);
+    };
+    let Some(sentence) = sentence_of(alloc, typed, tree, broken.command)? else {
+        return Ok(None);
+    };
+    let Ok(sentence) = std::str::from_utf8(sentence.as_slice()) else {
+        return Ok(None);
+    };
+    let path = path_of(alloc, tree.form(), item, broken.command as usize)?;
+    let span = span_of(input.bytes, path.as_slice());
+    let what = format!(in alloc; "item {item} is broken: {sentence}")?;
+    let mut text = input.message(alloc, span, what.as_str(), &[])?;
+    let more = broken.count.saturating_sub(1);
+    if more > 0 {
+        let items = if more == 1 { "item is" } else { "items are" };
+        write!(text, "{more} more {items} broken\n")?;
+    }
+    Ok(Some(text))
+}
+
+/// Why the first broken one of the items that were judged is broken, for a person to read, and how many others are. `typed`
+/// is the model of the input, and `judged` are the judgements on all items in their order. The trees of the input are read
+/// once more if an item is broken. `None`: none is. `AllocError`: memory was refused.
+pub fn broken_run(
+    alloc: Global,
+    typed: &Typed,
+    input: Input<'_>,
+    judged: &[Judged],
+) -> Result<Option<String>, AllocError> {
+    let mut broken = None;
+    for (index, judged) in judged.iter().enumerate() {
+        broken = with_item(broken, index.saturating_add(1), judged);
+    }
+    let Some(broken) = broken else {
+        return Ok(None);
+    };
+    match read(alloc, input.bytes) {
+        Ok(trees) => text_of(alloc, typed, &input, trees.as_slice(), &broken),
+        Err(_) => Ok(None),
+    }
+}
+
+/// The same of the items to which there is an answer. `trees` are the trees of the input. `AllocError`: memory was refused.
+pub fn broken_answer(
+    alloc: Global,
+    typed: &Typed,
+    input: Input<'_>,
+    trees: &[Tree],
+    answers: &[Answer],
+) -> Result<Option<String>, AllocError> {
+    let mut broken = None;
+    for (index, answer) in answers.iter().enumerate() {
+        if let Answer::Judged(judged) = answer {
+            broken = with_item(broken, index.saturating_add(1), judged);
+        }
+    }
+    match broken {
+        Some(broken) => text_of(alloc, typed, &input, trees, &broken),
+        None => Ok(None),
+    }
+}

@@ -1,0 +1,168 @@
+//! The warnings on an input.
+
+use crate::faults::on_faults;
+use crate::scripts::{COMMANDS, SCRIPTS, generated_scripts};
+use pst_compile::{Compiled, compile};
+use pst_load::{ModelFile, items_of, load};
+use pst_model::Item;
+use pst_places::span_of;
+use pst_sexpr::{Form, Tree, node_of, word_of};
+use pst_sources::{Input, SourceFile};
+use std::alloc::{AllocError, Global};
+use std::fmt::Display;
+
+/// The warning on the tree that a path leads to, with a note. `AllocError`: memory was refused.
+pub fn warning<D: Display + Drop, N: Display + Drop>(
+    alloc: Global,
+    input: &Input<'_>,
+    path: &[usize],
+    what: D,
+    note: N,
+) -> Result<String, AllocError> {
+    let span = span_of(input.bytes, path);
+    let what = format!(in alloc; "warning: {what}")?;
+    let note = format!(in alloc; "{note}")?;
+    input.message(alloc, span, what.as_str(), &[note])
+}
+
+/// The number of the tree of an item of a model, by the number of the item from 0: its head and its name come before.
+pub fn tree_of(item: usize) -> usize {
+    item.saturating_add(2)
+}
+
+/// The warning that no call may be made at first, at the item `command`.
+fn none_offered(alloc: Global, input: &Input<'_>, items: &[Item]) -> Result<String, AllocError> {
+    let mut place = 0;
+    for (number, item) in items.iter().enumerate() {
+        if let Item::Command(_) = item {
+            place = number;
+        }
+    }
+    warning(
+        alloc,
+        input,
+        &[0, tree_of(place)],
+        "no call may be made at first",
+        "`command` lists none in the opening state, or the precondition of each is false there",
+    )
+}
+
+/// The warning that no script calls an operation.
+fn never_called(
+    alloc: Global,
+    input: &Input<'_>,
+    item: usize,
+    name: &str,
+) -> Result<String, AllocError> {
+    warning(
+        alloc,
+        input,
+        &[0, tree_of(item), 1],
+        format_args!("none of {SCRIPTS} generated scripts of {COMMANDS} commands calls `{name}`"),
+        "`command` does not list it in their states, or its precondition is false there",
+    )
+}
+
+/// The warnings on the operations of a model, by which of them scripts call.
+fn on_operations(
+    alloc: Global,
+    input: &Input<'_>,
+    items: &[Item],
+    called: &[bool],
+) -> Result<String, AllocError> {
+    let mut text = String::new(alloc);
+    let mut operation: usize = 0;
+    for (number, item) in items.iter().enumerate() {
+        if let Item::Op(op) = item {
+            if called.get(operation) == Some(&false) {
+                let warning = never_called(alloc, input, number, op.name.as_str())?;
+                text.push_str(warning.as_str())?;
+            }
+            operation = operation.saturating_add(1);
+        }
+    }
+    Ok(text)
+}
+
+/// The warnings on generated scripts of a model. If they are not all generated, nothing is said of operations that none of
+/// them calls.
+fn on_scripts(alloc: Global, input: &Input<'_>, compiled: &Compiled) -> Result<String, AllocError> {
+    let typed = compiled.typed();
+    let items = typed.source().items.as_slice();
+    let scripts = generated_scripts(alloc, compiled)?;
+    if scripts.faulty > 0 {
+        return on_faults(alloc, input, typed, scripts);
+    }
+    if scripts.is_cut {
+        return Ok(String::new(alloc));
+    }
+    let called = scripts.called.as_slice();
+    if called.iter().any(|is_called| *is_called) {
+        on_operations(alloc, input, items, called)
+    } else {
+        none_offered(alloc, input, items)
+    }
+}
+
+/// Whether a tree is headed as a model is.
+fn is_model(form: &Form) -> bool {
+    match node_of(form).unwrap_or(&[]).first() {
+        Some(head) => match word_of(head) {
+            Some(word) => word.as_str() == "model" || word.as_str() == "model2",
+            None => false,
+        },
+        None => false,
+    }
+}
+
+/// The warnings on further models behind the first.
+fn on_trees(alloc: Global, input: &Input<'_>, trees: &[Tree]) -> Result<String, AllocError> {
+    let mut text = String::new(alloc);
+    for (index, tree) in items_of(trees).iter().enumerate() {
+        if is_model(tree.form()) {
+            let path = [index.saturating_add(1)];
+            let warning = warning(
+                alloc,
+                input,
+                &path,
+                "a second model, which is not read",
+                "the first tree of an input is its model; cases and runs stand behind it",
+            )?;
+            text.push_str(warning.as_str())?;
+        }
+    }
+    Ok(text)
+}
+
+/// Warnings on an input whose model is accepted, for a person to read, each in the form of a message: scripts in which a
+/// callback faults, an operation that no generated script calls, a model of which no call may be made at first, and a second
+/// model after the first. `input` is the text of the files. `None`: there are none, or the model is refused.
+///
+/// At most sixteen scripts of at most sixteen commands are generated, always of the same random words, and their callbacks
+/// take a bounded number of steps. If a callback faults in one of them, or the steps do not suffice for all, nothing is said
+/// of calls.
+///
+/// `AllocError`: memory was refused.
+pub fn warnings_of(
+    alloc: Global,
+    files: &[SourceFile<'_>],
+    input: &[u8],
+) -> Result<Option<String>, AllocError> {
+    let input = Input {
+        files,
+        bytes: input,
+    };
+    let Ok(ModelFile { typed, trees }) = load(alloc, input.bytes)? else {
+        return Ok(None);
+    };
+    let Ok(compiled) = compile(alloc, typed) else {
+        return Err(AllocError);
+    };
+    let mut text = on_scripts(alloc, &input, &compiled)?;
+    text.push_str(on_trees(alloc, &input, trees.as_slice())?.as_str())?;
+    if text.is_empty() {
+        Ok(None)
+    } else {
+        Ok(Some(text))
+    }
+}

@@ -1,0 +1,135 @@
+//! The warning on scripts in which a callback faults, and the explanation of one.
+ghost use Rattle.std.specs.Prelude.{◌≤◌};
+
+use crate::scripts::{FaultyScript, Scripts, faulty_script};
+use crate::warning::{tree_of, warning};
+use pst_case::Command;
+use pst_compile::{Compiled, compile};
+use pst_eval::{Callback, Place};
+use pst_explain::explain_script;
+use pst_load::load;
+use pst_model::Item;
+use pst_rules::Typed;
+use pst_sources::Input;
+use std::alloc::{AllocError, Global};
+
+/// The width of lines.
+const WIDTH: usize = 80;
+
+/// The number of the item `init`, from 0, that of the item `command`, or that of the operation of a number.
+fn item_of(items: &[Item], callback: Callback, operation: u32) -> usize {
+    let mut operations: u32 = 0;
+    for (number, item) in items.iter().enumerate() {
+        match item {
+            Item::Init(_) if callback == Callback::Init => return number,
+            Item::Command(_) if callback == Callback::Command => return number,
+            Item::Op(_) => {
+                let is_asked = !matches!(callback, Callback::Init | Callback::Command);
+                if is_asked && operations == operation {
+                    return number;
+                }
+                operations = operations.saturating_add(1);
+            }
+            _ => {}
+        }
+    }
+    0
+}
+
+/// The path to the expression of the callback that faults. In the tree of an operation, its callbacks come after its head,
+/// its name, its parameters and its type.
+fn path_of(
+    alloc: Global,
+    items: &[Item],
+    commands: &[Command],
+    place: Place,
+) -> Result<Vec<usize>, AllocError> {
+    let operation = match commands.last() {
+        Some(command) => command.op,
+        None => 0,
+    };
+    let tree = tree_of(item_of(items, place.callback, operation));
+    match place.callback {
+        Callback::Init | Callback::Command => Vec::from_slice(alloc, &[0, tree, 1]),
+        Callback::Pre => Vec::from_slice(alloc, &[0, tree, 4, 1]),
+        Callback::Next => Vec::from_slice(alloc, &[0, tree, 5, 1]),
+        Callback::Post => Vec::from_slice(alloc, &[0, tree, 6, 1]),
+    }
+}
+
+/// Why a script faults, in the lines of `pst explain`.
+fn explanation(alloc: Global, typed: &Typed, script: FaultyScript) -> Result<String, AllocError> {
+    let FaultyScript { commands, place } = script;
+    let Some(text) = explain_script(alloc, typed, commands, place, WIDTH)? else {
+        return Ok(String::new(alloc));
+    };
+    match std::str::from_utf8(text.as_slice()) {
+        Ok(text) => String::from_str(alloc, text),
+        Err(_) => Ok(String::new(alloc)),
+    }
+}
+
+/// How many scripts fault. If not all were generated, their number says nothing.
+fn count_text(alloc: Global, scripts: &Scripts) -> Result<String, AllocError> {
+    let count = scripts.count;
+    let faulty = scripts.faulty;
+    if scripts.is_cut {
+        String::from_str(alloc, "a generated script faults here")
+    } else if faulty == count {
+        String::from_str(
+            alloc,
+            "every generated script faults, the first of them here",
+        )
+    } else {
+        format!(in alloc; "{faulty} of {count} generated scripts fault, the first of them here")
+    }
+}
+
+/// The warning that scripts fault, with the explanation of the first of them, if there is one.
+pub fn on_faults(
+    alloc: Global,
+    input: &Input<'_>,
+    typed: &Typed,
+    scripts: Scripts,
+) -> Result<String, AllocError> {
+    let what = count_text(alloc, &scripts)?;
+    let Some(first) = scripts.first_faulty else {
+        return Ok(String::new(alloc));
+    };
+    let items = typed.source().items.as_slice();
+    let path = path_of(alloc, items, first.commands.as_slice(), first.place)?;
+    let mut text = warning(
+        alloc,
+        input,
+        path.as_slice(),
+        what,
+        "a campaign has no case for such a script and counts it under `genfault`",
+    )?;
+    text.push_str(explanation(alloc, typed, first)?.as_str())?;
+    Ok(text)
+}
+
+/// Why a trial of a campaign has no case, if a callback faults in its script, in the lines of `pst explain`. `input` begins
+/// with the model, `seed` and `commands` are those of the campaign's plan, and `number` is that of the trial. `None`: the
+/// model is refused, or no callback faults. `AllocError`: memory was refused.
+pub fn genfault_text(
+    alloc: Global,
+    input: &[u8],
+    seed: u64,
+    number: u64,
+    commands: u32,
+) -> Result<Option<String>, AllocError>
+    requires some { 1 ≤ commands }
+    requires few { commands ≤ 64 }
+{
+    let Ok(file) = load(alloc, input)? else {
+        return Ok(None);
+    };
+    let Ok(compiled) = compile(alloc, file.typed) else {
+        return Err(AllocError);
+    };
+    match faulty_script(alloc, &compiled, seed, number, commands)? {
+        Some(script) => Ok(Some(explanation(alloc, compiled.typed(), script)?)),
+        None => Ok(None),
+    }
+}

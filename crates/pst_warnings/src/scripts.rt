@@ -1,0 +1,178 @@
+//! Generated scripts of a model: which operations they call, and which of them fault.
+ghost use Rattle.std.specs.Prelude.{◌≤◌};
+
+use crate::bounded::Bounded;
+use pst_case::Command;
+use pst_compile::Compiled;
+use pst_eval::Place;
+use pst_gen::generate;
+use pst_items::Items;
+use pst_judge::Valid;
+use pst_model::Item;
+use pst_rules::Typed;
+use rand_pcg::Pcg64;
+use std::alloc::{AllocError, Global};
+
+/// The most scripts that are generated for warnings.
+pub const SCRIPTS: u32 = 16;
+
+/// The most commands of a script.
+pub const COMMANDS: u32 = 16;
+
+/// How many steps the callbacks may take before the generation of scripts for warnings ends, as `Bounded` counts them. A call
+/// that has begun goes on to its end.
+const STEPS: u64 = 1_000_000;
+
+/// A script in which a callback faults.
+#[derive(Drop)]
+pub struct FaultyScript {
+    /// Its commands; where `pre` or `next` faults, that of the faulting call is the last.
+    pub commands: Items<Command>,
+    /// Where the callback faults.
+    pub place: Place,
+}
+
+/// How a generation ends.
+#[derive(Drop)]
+enum Script {
+    /// It gives a case.
+    Whole(Valid),
+    /// A callback faults.
+    Faulty(FaultyScript),
+    /// No steps are left.
+    Cut,
+}
+
+/// What generated scripts of a model show.
+#[derive(Drop)]
+pub struct Scripts {
+    /// For each operation, in their order, whether a script calls it.
+    pub called: Vec<bool>,
+    /// How many were generated.
+    pub count: u32,
+    /// How many of them fault.
+    pub faulty: u32,
+    /// The first that faults.
+    pub first_faulty: Option<FaultyScript>,
+    /// Whether there were too few steps for all of them.
+    pub is_cut: bool,
+}
+
+/// Generates a script of the random words of a trial: the seed and the number of the trial choose them. `steps` are those
+/// that the callbacks may take, and then those that are left.
+fn generated(
+    alloc: Global,
+    compiled: &Compiled,
+    seed: u64,
+    number: u64,
+    commands: u32,
+    steps: &mut u64,
+) -> Result<Script, AllocError>
+    requires some { 1 ≤ commands }
+    requires few { commands ≤ 64 }
+{
+    let callbacks = Bounded::new(alloc, compiled, *steps);
+    let mut words = Pcg64::new(seed as u128, number as u128);
+    let generated = generate(
+        &callbacks,
+        alloc,
+        compiled.typed(),
+        &mut words,
+        commands,
+        1,
+        0,
+    );
+    *steps = callbacks.steps_left();
+    match generated {
+        Ok(Ok(valid)) => Ok(Script::Whole(valid)),
+        Ok(Err(place)) => Ok(Script::Faulty(FaultyScript {
+            commands: callbacks.into_commands(),
+            place,
+        })),
+        Err(AllocError) if *steps == 0 => Ok(Script::Cut),
+        Err(AllocError) => Err(AllocError),
+    }
+}
+
+/// Why no case of a trial is generated, if a callback faults there. The seed and the number of the trial choose the random
+/// words, and `commands` is the most commands of a script. `AllocError`: memory was refused.
+pub fn faulty_script(
+    alloc: Global,
+    compiled: &Compiled,
+    seed: u64,
+    number: u64,
+    commands: u32,
+) -> Result<Option<FaultyScript>, AllocError>
+    requires some { 1 ≤ commands }
+    requires few { commands ≤ 64 }
+{
+    let mut steps = u64::MAX;
+    match generated(alloc, compiled, seed, number, commands, &mut steps)? {
+        Script::Faulty(script) => Ok(Some(script)),
+        _ => Ok(None),
+    }
+}
+
+/// A mark for each operation of a model, in their order, none of them set.
+fn unmarked(alloc: Global, typed: &Typed) -> Result<Vec<bool>, AllocError> {
+    let mut marks = Vec::new(alloc);
+    for item in typed.source().items.as_slice() {
+        if let Item::Op(_) = item {
+            marks.push(false)?;
+        }
+    }
+    Ok(marks)
+}
+
+/// Sets the marks of the operations that commands call.
+fn mark(marks: &mut Vec<bool>, commands: &[Command]) {
+    for command in commands {
+        if let Some(mark) = marks.get_mut(command.op as usize) {
+            *mark = true;
+        }
+    }
+}
+
+impl Scripts {
+    /// Adds a script.
+    fn add(&mut self, script: Script) {
+        match script {
+            Script::Whole(valid) => {
+                let case = valid.shaped().case();
+                mark(&mut self.called, case.prefix.as_slice());
+            }
+            Script::Faulty(script) => {
+                self.faulty = self.faulty.saturating_add(1);
+                if self.first_faulty.is_none() {
+                    self.first_faulty = Some(script);
+                }
+            }
+            Script::Cut => {
+                self.is_cut = true;
+                return;
+            }
+        }
+        self.count = self.count.saturating_add(1);
+    }
+}
+
+/// Generates scripts of a model, always of the same random words, up to a number of scripts and of steps. `AllocError`: memory
+/// was refused.
+pub fn generated_scripts(alloc: Global, compiled: &Compiled) -> Result<Scripts, AllocError> {
+    let mut scripts = Scripts {
+        called: unmarked(alloc, compiled.typed())?,
+        count: 0,
+        faulty: 0,
+        first_faulty: None,
+        is_cut: false,
+    };
+    let mut steps = STEPS;
+    for number in 0..SCRIPTS {
+        let script = generated(alloc, compiled, 0, u64::from(number), COMMANDS, &mut steps)?;
+        scripts.add(script);
+        if scripts.is_cut {
+            break;
+        }
+    }
+    Ok(scripts)
+}
