@@ -59,12 +59,21 @@ fn keep_going<'a>(alloc: Global) -> Arg<'a> {
         .help("judges the items behind one that is refused too")
 }
 
+/// The option that leaves out the items that are explained or valid.
+pub fn failures<'a>(alloc: Global) -> Arg<'a> {
+    Arg::new(alloc, "failures")
+        .long("failures")
+        .action(ArgAction::SetTrue)
+        .help("leaves out the items that are explained or valid")
+}
+
 /// `judge`, with the files of a model and its items.
 fn judge_command<'a>(alloc: Global) -> Result<Command<'a>, AllocError> {
     Command::new(alloc, "judge")
         .about("judges the cases and recorded runs behind a model: a line for each")
         .arg(files(alloc))?
         .arg(keep_going(alloc))?
+        .arg(failures(alloc))?
         .arg(quiet(alloc))
 }
 
@@ -164,7 +173,7 @@ fn quiet<'a>(alloc: Global) -> Arg<'a> {
     Arg::new(alloc, "quiet")
         .long("quiet")
         .action(ArgAction::SetTrue)
-        .help("writes no messages, no warnings and no line of progress")
+        .help("writes no messages, no warnings, no summary and no line of progress")
 }
 
 /// `campaign`, with the name of a system and the numbers of its plan.
