@@ -3,7 +3,7 @@ ghost use Rattle.std.specs.Prelude.{◌≡◌, false};
 
 use crate::explained::explain_run;
 use crate::overheard;
-use pst_cli::{Absence, Status, refuse_text, run_text};
+use pst_cli::{Absence, Counts, Status, refuse_text, run_counting};
 use pst_misfits::Misfits;
 use pst_sink::{Out, Sink, put_all};
 use pst_system::BoxedSystem;
@@ -61,13 +61,14 @@ fn drive_and_explain<W: Sink, R: Threads + Wait + Sync + Eprint>(
     system: &mut BoxedSystem,
     misfits: &Misfits,
     input: &[u8],
+    counts: &mut Counts,
     out: &mut W,
 ) -> Status
     requires { W.broken out.old ≡ false }
 {
     overheard::begin(alloc, misfits, input);
     let mut report = Out::new(Vec::new(alloc));
-    let status = run_text(rt, alloc, input, system, &mut report);
+    let status = run_counting(rt, alloc, input, system, counts, &mut report);
     let report = report.into_inner();
     // Each status but `Accepted` has a line: there is none only if the buffer was refused memory.
     if report.is_empty() && status != Status::Accepted {
@@ -90,6 +91,7 @@ pub fn drive<W: Sink, R: Threads + Wait + Sync + Eprint>(
     mut systems: Vec<BoxedSystem>,
     misfits: Option<&Misfits>,
     input: &[u8],
+    counts: &mut Counts,
     out: &mut W,
 ) -> Status
     requires { W.broken out.old ≡ false }
@@ -98,7 +100,7 @@ pub fn drive<W: Sink, R: Threads + Wait + Sync + Eprint>(
         return refuse_text(Absence::NoSystem(name), out);
     };
     match misfits {
-        Some(misfits) => drive_and_explain(rt, alloc, &mut system, misfits, input, out),
-        None => run_text(rt, alloc, input, &mut system, out),
+        Some(misfits) => drive_and_explain(rt, alloc, &mut system, misfits, input, counts, out),
+        None => run_counting(rt, alloc, input, &mut system, counts, out),
     }
 }

@@ -1,6 +1,6 @@
 //! Explanations of runs that a command printed, on standard error.
 
-use pst_cli::{Status, explain_text};
+use pst_cli::{Chosen, Status, explain_text};
 use pst_places::span_of;
 use pst_sink::Out;
 use std::alloc::{AllocError, Global};
@@ -28,7 +28,7 @@ fn explanation<R: Threads + Sync>(
 ) -> Result<Option<Vec<u8>>, AllocError> {
     let file = file_of(alloc, input, run)?;
     let mut out = Out::new(Vec::new(alloc));
-    let status = explain_text(rt, alloc, file.as_slice(), &[], WIDTH, &mut out);
+    let status = explain_text(rt, alloc, file.as_slice(), &[], Chosen::All, WIDTH, &mut out);
     if status != Status::Failed {
         return Ok(None);
     }

@@ -4,7 +4,7 @@ ghost use Rattle.std.specs.Prelude.{◌≡◌, false};
 
 use clap::builder::ValueParser;
 use clap::{Arg, ArgAction, ArgMatches, Command};
-use pst_cli::{Status, explain_text, graph_text};
+use pst_cli::{Chosen, Status, explain_text, graph_text};
 use pst_sexpr::MAX_BYTES;
 use pst_sink::Sink;
 use pst_sources::SourceFile;
@@ -25,21 +25,24 @@ fn width_option<'a>(alloc: Global) -> Arg<'a> {
 }
 
 /// The option that asks for a graph.
-fn dot_option<'a>(alloc: Global) -> Arg<'a> {
+fn dot_option<'a>(alloc: Global) -> Result<Arg<'a>, AllocError> {
     Arg::new(alloc, "dot")
         .long("dot")
         .action(ArgAction::SetTrue)
         .help("writes the search of one item as a graph for Graphviz, and no explanations")
+        .conflicts_with("failures")
 }
 
-/// The option that names the item that is drawn.
+/// The option that names the item that is explained or drawn.
 fn item_option<'a>(alloc: Global) -> Result<Arg<'a>, AllocError> {
     Arg::new(alloc, "item")
         .long("item")
         .value_name("N")
         .value_parser(ValueParser::Unsigned(1, MAX_BYTES as u64))
-        .help("with --dot, the item that is drawn; without it the first that is not explained")
-        .requires_arg("dot")
+        .help(
+            "the one item that is explained; with --dot the one that is drawn, else the first that is not explained",
+        )
+        .conflicts_with("failures")
 }
 
 /// `explain`, with files and the width of lines.
@@ -50,10 +53,11 @@ fn with_files<'a>(alloc: Global) -> Result<Command<'a>, AllocError> {
         .arg(width_option(alloc))
 }
 
-/// `explain`, with files, the width of lines, and the item that is drawn.
+/// `explain`, with files, the width of lines, and the items that are explained or drawn.
 pub fn command<'a>(alloc: Global) -> Result<Command<'a>, AllocError> {
     with_files(alloc)?
-        .arg(dot_option(alloc))?
+        .arg(crate::words::failures(alloc))?
+        .arg(dot_option(alloc)?)?
         .arg(item_option(alloc)?)
 }
 
@@ -75,8 +79,17 @@ fn item(words: &ArgMatches<'_>) -> Option<usize> {
     }
 }
 
-/// Explains the items of the input, which stands in the files, or draws the search of one of them where the
-/// words ask for it.
+/// The items that the words choose to be explained.
+fn chosen(words: &ArgMatches<'_>) -> Chosen {
+    match item(words) {
+        Some(number) => Chosen::Item(number),
+        None if words.get_flag("failures") => Chosen::Failures,
+        None => Chosen::All,
+    }
+}
+
+/// Explains the chosen items of the input, which is the text of the files, or draws the search of one of them if the words
+/// ask for it.
 pub fn explain<W: Sink, R: Threads + Sync>(
     rt: &R,
     alloc: Global,
@@ -90,6 +103,6 @@ pub fn explain<W: Sink, R: Threads + Sync>(
     if words.get_flag("dot") {
         graph_text(rt, alloc, input, item(words), out)
     } else {
-        explain_text(rt, alloc, input, files, width(words), out)
+        explain_text(rt, alloc, input, files, chosen(words), width(words), out)
     }
 }

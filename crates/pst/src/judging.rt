@@ -4,7 +4,7 @@ ghost use Rattle.pst_runs.specs.Lawful.{AreLawful};
 
 use clap::ArgMatches;
 use pst_cli::{
-    AnsweredFile, JudgedFile, Status, judge_file, judge_file_keeping_on, judge_text,
+    AnsweredFile, Counts, JudgedFile, Shown, Status, judge_file, judge_file_keeping_on, judge_text,
     judge_text_keeping_on,
 };
 use pst_sink::Sink;
@@ -86,28 +86,48 @@ fn warn_on_answers<R: Eprint>(
     }
 }
 
+/// The items whose lines the words ask for.
+fn shown(words: &ArgMatches<'_>) -> Shown {
+    if words.get_flag("failures") {
+        Shown::Failures
+    } else {
+        Shown::All
+    }
+}
+
 /// Judges the items of the input, up to the first that is refused, or all of them where the words ask for it. Behind
-/// the lines on standard output messages may stand on standard error, unless the words forbid it.
+/// the lines on standard output messages may stand on standard error, unless the words forbid it. Then the items are
+/// counted as well.
 pub fn judge<W: Sink, R: Threads + Sync + Eprint>(
     rt: &R,
     alloc: Global,
     words: &ArgMatches<'_>,
     files: &[SourceFile<'_>],
     input: &[u8],
+    counts: &mut Counts,
     out: &mut W,
 ) -> Status
     requires { W.broken out.old ≡ false }
 {
+    let shown = shown(words);
     match (words.get_flag("keep-going"), words.get_flag("quiet")) {
-        (false, true) => judge_text(rt, alloc, input, out),
-        (true, true) => judge_text_keeping_on(rt, alloc, input, out),
+        (false, true) if shown == Shown::All => judge_text(rt, alloc, input, out),
+        (true, true) if shown == Shown::All => judge_text_keeping_on(rt, alloc, input, out),
+        (false, true) => judge_file(rt, alloc, input, shown, out).0,
+        (true, true) => judge_file_keeping_on(rt, alloc, input, shown, out).0,
         (false, false) => {
-            let (status, judged) = judge_file(rt, alloc, input, out);
+            let (status, judged) = judge_file(rt, alloc, input, shown, out);
+            if let Some(judged) = &judged {
+                counts.add_all(judged.judged.as_slice());
+            }
             warn_on_runs(rt, alloc, files, input, judged);
             status
         }
         (true, false) => {
-            let (status, answered) = judge_file_keeping_on(rt, alloc, input, out);
+            let (status, answered) = judge_file_keeping_on(rt, alloc, input, shown, out);
+            if let Some(answered) = &answered {
+                counts.add_answers(answered.answers.as_slice());
+            }
             warn_on_answers(rt, alloc, files, input, answered);
             status
         }

@@ -16,6 +16,7 @@ mod least;
 mod overheard;
 mod progress;
 mod refused;
+mod summary;
 mod systems;
 mod warned;
 mod words;
@@ -25,7 +26,7 @@ use clap::ArgMatches;
 use driving::drive;
 use input::Reading;
 use judging::judge;
-use pst_cli::{Absence, KnownSystem, Status, check_text, list_text, refuse_text};
+use pst_cli::{Absence, Counts, KnownSystem, Status, check_text, list_text, refuse_text};
 use pst_misfits::{Misfits, Overheard};
 use pst_samples::{Counter, Meet, Queue, Racy, Registry, Stuck};
 use pst_sink::{Out, Sink};
@@ -69,6 +70,7 @@ fn with_systems<W: Sink, R: Threads + Wait + Sync + Eprint + Clock + AllocGlobal
     misfits: Option<&Misfits>,
     is_terminal: bool,
     input: &[u8],
+    counts: &mut Counts,
     out: &mut W,
 ) -> Status
     requires { W.broken out.old ≡ false }
@@ -79,14 +81,16 @@ fn with_systems<W: Sink, R: Threads + Wait + Sync + Eprint + Clock + AllocGlobal
     let alloc = rt.alloc();
     let name = words.get_str("SYSTEM").unwrap_or("");
     match systems {
-        Ok(systems) if word == "run" => drive(rt, alloc, name, systems, misfits, input, out),
+        Ok(systems) if word == "run" => {
+            drive(rt, alloc, name, systems, misfits, input, counts, out)
+        }
         Ok(systems) => campaign(rt, alloc, words, name, systems, is_terminal, input, out),
         Err(Unmade::NoMemory) => refuse_text(Absence::NoMemory, out),
         Err(Unmade::NoSystem) => refuse_text(Absence::NoSystem(name), out),
     }
 }
 
-/// Does what the words say of an input, on standard output.
+/// Does what the words say of an input, on standard output, and counts what its items came to.
 fn answer<W: Sink, R: Threads + Wait + Sync + Eprint + Clock + AllocGlobal>(
     rt: &R,
     matches: &ArgMatches<'_>,
@@ -94,6 +98,7 @@ fn answer<W: Sink, R: Threads + Wait + Sync + Eprint + Clock + AllocGlobal>(
     misfits: Option<&Misfits>,
     is_terminal: bool,
     input: Input<'_>,
+    counts: &mut Counts,
     out: &mut W,
 ) -> Status
     requires { W.broken out.old ≡ false }
@@ -106,9 +111,18 @@ fn answer<W: Sink, R: Threads + Wait + Sync + Eprint + Clock + AllocGlobal>(
     match word {
         "check" => check_text(alloc, bytes, out),
         "list" => list_text(alloc, bytes, out),
-        "judge" => judge(rt, alloc, words, files, bytes, out),
+        "judge" => judge(rt, alloc, words, files, bytes, counts, out),
         "explain" => explaining::explain(rt, alloc, words, files, bytes, out),
-        _ => with_systems(rt, matches, systems, misfits, is_terminal, bytes, out),
+        _ => with_systems(
+            rt,
+            matches,
+            systems,
+            misfits,
+            is_terminal,
+            bytes,
+            counts,
+            out,
+        ),
     }
 }
 
@@ -173,7 +187,8 @@ fn read<'a, R: Runtime + AllocGlobal>(
 }
 
 /// Does what the words say, on standard output. Beside each refusal a message is on standard error, and warnings may be
-/// there beside a model that `check` accepts and after the lines of `judge`, unless the words forbid it.
+/// there beside a model that `check` accepts and after the lines of `judge`, unless the words forbid it. Last is a line that
+/// sums up the items of `judge` and `run`.
 fn run<R: Runtime + AllocGlobal + Threads + Wait + Sync>(
     rt: &R,
     matches: &ArgMatches<'_>,
@@ -183,8 +198,21 @@ fn run<R: Runtime + AllocGlobal + Threads + Wait + Sync>(
     input: Input<'_>,
 ) -> Status {
     let mut out = Out::new(io::writer(rt));
-    let status = answer(rt, matches, systems, misfits, is_terminal, input, &mut out);
+    let mut counts = Counts::new();
+    let status = answer(
+        rt,
+        matches,
+        systems,
+        misfits,
+        is_terminal,
+        input,
+        &mut counts,
+        &mut out,
+    );
     say(rt, matches, status, input);
+    if !is_quiet(matches) {
+        summary::report(rt, &counts);
+    }
     status
 }
 

@@ -69,6 +69,14 @@ fn all_messages<'a>(alloc: Global) -> Arg<'a> {
         )
 }
 
+/// The option that leaves out the items that are explained or valid.
+pub fn failures<'a>(alloc: Global) -> Arg<'a> {
+    Arg::new(alloc, "failures")
+        .long("failures")
+        .action(ArgAction::SetTrue)
+        .help("leaves out the items that are explained or valid")
+}
+
 /// `judge`, with the files of a model and its items.
 fn judge_command<'a>(alloc: Global) -> Result<Command<'a>, AllocError> {
     Command::new(alloc, "judge")
@@ -76,6 +84,7 @@ fn judge_command<'a>(alloc: Global) -> Result<Command<'a>, AllocError> {
         .arg(files(alloc))?
         .arg(keep_going(alloc))?
         .arg(all_messages(alloc))?
+        .arg(failures(alloc))?
         .arg(quiet(alloc))
 }
 
@@ -175,7 +184,7 @@ fn quiet<'a>(alloc: Global) -> Arg<'a> {
     Arg::new(alloc, "quiet")
         .long("quiet")
         .action(ArgAction::SetTrue)
-        .help("writes no messages, no warnings and no line of progress")
+        .help("writes no messages, no warnings, no summary and no line of progress")
 }
 
 /// `campaign`, with the name of a system and the numbers of its plan.

@@ -44,9 +44,110 @@ fn is_one_of(answer: &Value, answers: &[Value]) -> bool
     *first == *answer || is_one_of(answer, rest)
 }
 
-/// The answer that is proposed for a merge, where the model allows it, it does not stand yet, and so many may still
-/// be added.
+/// The answer that is proposed for a merge, if it is a new one and the model allows it.
 fn next_value<C: Callbacks, P: Candidates>(
+    callbacks: &C,
+    alloc: Global,
+    model: &Source,
+    shaped: &Shaped,
+    history: &History,
+    others: &[u32],
+    number: u32,
+    candidates: &P,
+    word: &[usize],
+    known: &[Value],
+) -> Result<Option<Value>, AllocError>
+    requires same { model.now ≡ C.model callbacks.now }
+    requires model { shaped.now.model ≡ C.model callbacks.now }
+    requires matches { matches (C.model callbacks.now) shaped.now.case history.now ≡ true }
+    requires answered { first_broken 1 (recorded history.now) ≡ None }
+    ensures allowed { IfOk result (λ found. IfSome found
+        (IsAllowed (C.model callbacks.now) shaped.now.case history.now others.now number)) }
+    ensures new { IfOk result (λ found. IfSome found (λ value. spec.is_one_of value known.now ≡ false)) }
+{
+    let Some(value) = candidates.candidate(alloc, word)? else {
+        return Ok(None);
+    };
+    if is_one_of(&value, known) {
+        return Ok(None);
+    }
+    let allowed = is_allowed(
+        callbacks, alloc, model, shaped, history, others, number, &value,
+    )?;
+    if allowed { Ok(Some(value)) } else { Ok(None) }
+}
+
+/// The answers, and the one that is recorded for the command with the number.
+fn with_recorded(
+    alloc: Global,
+    history: &History,
+    number: u32,
+    answers: &[Value],
+) -> Result<Vec<Value>, AllocError> {
+    let mut all = Vec::new(alloc);
+    for answer in answers {
+        all.push(answer.copy(alloc)?)?;
+    }
+    let results = history.recorded(alloc)?;
+    let index = (number as usize).saturating_sub(1);
+    if let Some(Some(answer)) = results.get(index) {
+        all.push(answer.copy(alloc)?)?;
+    }
+    Ok(all)
+}
+
+/// The answer that is proposed for a merge in which the recorded answer is wrong and the known ones are, if it is a new
+/// one and the model allows it. The postcondition does not fault in such a merge.
+fn value_beyond_recorded<C: Callbacks, P: Candidates>(
+    callbacks: &C,
+    alloc: Global,
+    model: &Source,
+    shaped: &Shaped,
+    history: &History,
+    others: &[u32],
+    number: u32,
+    candidates: &P,
+    known: &[Value],
+) -> Result<Option<Value>, AllocError>
+    requires same { model.now ≡ C.model callbacks.now }
+    requires model { shaped.now.model ≡ C.model callbacks.now }
+    requires matches { matches (C.model callbacks.now) shaped.now.case history.now ≡ true }
+    requires answered { first_broken 1 (recorded history.now) ≡ None }
+    ensures allowed { IfOk result (λ found. IfSome found
+        (IsAllowed (C.model callbacks.now) shaped.now.case history.now others.now number)) }
+    ensures new { IfOk result (λ found. IfSome found (λ value. spec.is_one_of value known.now ≡ false)) }
+{
+    let wrong = with_recorded(alloc, history, number, known)?;
+    let merge = merge_beyond(
+        callbacks,
+        alloc,
+        model,
+        shaped,
+        history,
+        others,
+        number,
+        wrong.as_slice(),
+    )?;
+    let Some(word) = merge else {
+        return Ok(None);
+    };
+    next_value(
+        callbacks,
+        alloc,
+        model,
+        shaped,
+        history,
+        others,
+        number,
+        candidates,
+        word.as_slice(),
+        known,
+    )
+}
+
+/// A new answer that the model allows, where `left` is not 0: the one that is proposed for the merge, or else for one in
+/// which the postcondition does not fault.
+fn proposed_value<C: Callbacks, P: Candidates>(
     callbacks: &C,
     alloc: Global,
     model: &Source,
@@ -71,16 +172,15 @@ fn next_value<C: Callbacks, P: Candidates>(
     if left == 0 {
         return Ok(None);
     }
-    let Some(value) = candidates.candidate(alloc, word)? else {
-        return Ok(None);
-    };
-    if is_one_of(&value, known) {
-        return Ok(None);
-    }
-    let allowed = is_allowed(
-        callbacks, alloc, model, shaped, history, others, number, &value,
+    let first = next_value(
+        callbacks, alloc, model, shaped, history, others, number, candidates, word, known,
     )?;
-    if allowed { Ok(Some(value)) } else { Ok(None) }
+    if let Some(value) = first {
+        return Ok(Some(value));
+    }
+    value_beyond_recorded(
+        callbacks, alloc, model, shaped, history, others, number, candidates, known,
+    )
 }
 
 /// Adds the answers that the model allows, at most so many, to those that are known.
@@ -117,7 +217,7 @@ fn add_allowed<C: Callbacks, P: Candidates>(
     let Some(word) = merge else {
         return Ok(AllowedValues { values, all: true });
     };
-    let found = next_value(
+    let found = proposed_value(
         callbacks,
         alloc,
         model,
@@ -155,8 +255,9 @@ fn add_allowed<C: Callbacks, P: Candidates>(
 /// The answers come from the candidates: each is certified by a search of its own. Where `all` is true, in each
 /// interleaving in which the rest of the core is right one of the values would have been right for the command
 /// (or its postcondition faults with one of them). Where it is false there is one in which none would have been:
-/// more than `at_most` answers are allowed, or the candidates have no other that is. It takes two searches for
-/// each value, and one more. `AllocError` where memory is refused.
+/// more than `at_most` answers are allowed, or the candidates have no other that is. Where they have none for the first merge,
+/// as where the postcondition faults there, they are asked for one in which it is false of the recorded answer. It takes at
+/// most four searches for each value, and four more. `AllocError` where memory is refused.
 pub fn allowed<C: Callbacks, P: Candidates>(
     callbacks: &C,
     alloc: Global,

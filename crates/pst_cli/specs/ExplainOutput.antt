@@ -1,12 +1,19 @@
--- What `pst explain` writes: its refusals and its status are those of `pst judge`.
+-- What `pst explain` writes: its refusals and its status are those of `pst judge`, and it refuses an item that
+-- there is none of.
 use Rattle.std.specs.Prelude.{◌≡◌, ℕ, List}
+use Rattle.pst_cli.specs.ChosenItem.{IsOfItem}
 use Rattle.pst_cli.specs.Output.{IsOutput, status_of}
+use Rattle.pst_cli.specs.declared.chosen.Chosen.{Chosen}
+use Rattle.pst_cli.specs.declared.chosen.Chosen.TheVariants as chosen
 use Rattle.pst_cli.specs.declared.status.Status.{Status}
 use Rattle.pst_judge.specs.declared.judgement.Judged.{Judged}
 
--- a text, of which nothing is said, with the status of the judgements
-abbrev pub IsExplanation : List Judged → List ℕ → Status → Type 0
-IsExplanation js text status = status ≡ status_of js
+-- a text, of which nothing is said, with the status of the judgements; or the refusal of an item that there
+-- is none of
+abbrev pub IsExplanation : Chosen → List Judged → List ℕ → Status → Type 0
+IsExplanation chosen.All js text status = status ≡ status_of js
+IsExplanation chosen.Failures js text status = status ≡ status_of js
+IsExplanation (chosen.Item number) js text status = IsOfItem number js text status
 
-abbrev pub IsExplainOutput : List ℕ → List ℕ → Status → Type 0
-IsExplainOutput input text status = IsOutput IsExplanation input text status
+abbrev pub IsExplainOutput : List ℕ → Chosen → List ℕ → Status → Type 0
+IsExplainOutput input which text status = IsOutput (IsExplanation which) input text status

@@ -1,10 +1,9 @@
 -- What `pst explain --dot` writes: its refusals and its status are those of `pst judge`, and it refuses an
 -- item that there is none of.
-use Rattle.std.specs.Prelude.{◌≡◌, ◌≤◌, ℕ, ◌+◌, if◌then◌else◌, List, [], ◌∷◌, ◌++◌, length, Option, Some, None, codes, decimal}
-use Rattle.pst_cli.specs.Head.{line_end}
-use Rattle.pst_cli.specs.Output.{IsOutput, is_good, status_of}
+use Rattle.std.specs.Prelude.{ℕ, ◌+◌, if◌then◌else◌, List, [], ◌∷◌, Option, Some, None}
+use Rattle.pst_cli.specs.ChosenItem.{IsOfItem}
+use Rattle.pst_cli.specs.Output.{IsOutput, is_good}
 use Rattle.pst_cli.specs.declared.status.Status.{Status}
-use Rattle.pst_cli.specs.declared.status.Status.TheVariants.{Refused}
 use Rattle.pst_judge.specs.declared.judgement.Judged.{Judged}
 
 -- the number of the first item that is neither explained nor valid, where the first of these has this number;
@@ -19,21 +18,10 @@ abbrev pub drawn_number : Option ℕ → List Judged → ℕ
 drawn_number (Some number) js = number
 drawn_number None js = first_failed 1 js
 
--- there is an item of the number
-abbrev pub IsItem : ℕ → List Judged → Type 0
-IsItem number js = (1 ≤ number) × (number ≤ length js)
-
--- `refused item N of COUNT`
-abbrev pub no_item_line : ℕ → ℕ → List ℕ
-no_item_line number count =
-    codes "refused item " ++ (decimal number ++ (codes " of " ++ (decimal count ++ line_end)))
-
--- a text, of which nothing is said, with the status of the judgements; or the refusal of an item that there
+-- a graph, of which nothing is said, with the status of the judgements; or the refusal of an item that there
 -- is none of
-pub data IsGraphOf (item : Option ℕ) (js : List Judged) (text : List ℕ) (status : Status) : Type 0 where
-  drawn : IsItem (drawn_number item js) js → status ≡ status_of js → IsGraphOf item js text status
-  no_item : (IsItem (drawn_number item js) js → ⊥) → text ≡ no_item_line (drawn_number item js) (length js)
-      → status ≡ Refused → IsGraphOf item js text status
+abbrev pub IsGraphOf : Option ℕ → List Judged → List ℕ → Status → Type 0
+IsGraphOf item js text status = IsOfItem (drawn_number item js) js text status
 
 abbrev pub IsGraphOutput : List ℕ → Option ℕ → List ℕ → Status → Type 0
 IsGraphOutput input item text status = IsOutput (IsGraphOf item) input text status

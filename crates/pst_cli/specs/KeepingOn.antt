@@ -1,11 +1,13 @@
 -- The output of `pst judge --keep-going`: a text and a status, for an input.
-use Rattle.std.specs.Prelude.{◌≡◌, ℕ, ◌+◌, List, [], ◌∷◌, ◌++◌, Ok}
+use Rattle.std.specs.Prelude.{◌≡◌, ℕ, ◌+◌, Bool, false, if◌then◌else◌, List, [], ◌∷◌, ◌++◌, Ok}
 use Rattle.std.specs.List.{AllZip}
 use Rattle.pst_case.specs.declared.history.Run.{Run}
 use Rattle.pst_cli.specs.Head.{refusal_line}
-use Rattle.pst_cli.specs.Output.{AreJudged, item_line, item_lines, run_line, status_of}
+use Rattle.pst_cli.specs.Output.{AreJudged, is_good, item_line, item_lines, run_line, status_of}
 use Rattle.pst_cli.specs.RunOutput.{status_of_one}
 use Rattle.pst_cli.specs.Status.{or_worse}
+use Rattle.pst_cli.specs.declared.shown.Shown.{Shown}
+use Rattle.pst_cli.specs.declared.shown.Shown.TheVariants as shown
 use Rattle.pst_cli.specs.declared.status.Status.{Status}
 use Rattle.pst_cli.specs.declared.status.Status.TheVariants.{Accepted, Refused}
 use Rattle.pst_each.specs.Answers.{IsAnswer}
@@ -29,6 +31,26 @@ abbrev pub answer_lines : ℕ → List Answer → List ℕ
 answer_lines number [] = []
 answer_lines number (a ∷ answers) = answer_line number a ++ answer_lines (number + 1) answers
 
+-- whether the item is explained or valid
+abbrev pub is_good_answer : Answer → Bool
+is_good_answer (answer.Judged judged) = is_good judged
+is_good_answer (answer.Refused kind command) = false
+
+-- the line of an item; nothing where it is explained or valid
+abbrev pub failed_answer_line : ℕ → Answer → List ℕ
+failed_answer_line number a = if is_good_answer a then [] else answer_line number a
+
+-- the lines of those items that are neither explained nor valid, where the first of all items has the number
+abbrev pub failed_answer_lines : ℕ → List Answer → List ℕ
+failed_answer_lines number [] = []
+failed_answer_lines number (a ∷ answers) =
+    failed_answer_line number a ++ failed_answer_lines (number + 1) answers
+
+-- the lines of all items, or of those that are neither explained nor valid, each with its number from 1
+abbrev pub shown_answer_lines : Shown → List Answer → List ℕ
+shown_answer_lines shown.All answers = answer_lines 1 answers
+shown_answer_lines shown.Failures answers = failed_answer_lines 1 answers
+
 -- Refused where the item is, else Accepted where it is explained or valid
 abbrev pub answer_status : Answer → Status
 answer_status (answer.Judged judged) = status_of_one judged
@@ -39,14 +61,19 @@ abbrev pub worst_status : Status → List Answer → Status
 worst_status so_far [] = so_far
 worst_status so_far (a ∷ answers) = worst_status (or_worse so_far (answer_status a)) answers
 
--- a line for each item, from 1: its verdict or its refusal; or the refusal of the model
-pub data IsKeepingOnOutput (input text : List ℕ) (status : Status) : Type 0 where
+-- the lines of the items, of all or with `--failures` of some: the verdict or the refusal of each; or the
+-- refusal of the model. The status is that of all items.
+pub data IsShownKeepingOn (which : Shown) (input text : List ℕ) (status : Status) : Type 0 where
   answered : (m : Source) (trees : List Form) (answers : List Answer) → Holds input m trees
       → AllZip (IsAnswer m) (items_of trees) answers
-      → text ≡ answer_lines 1 answers → status ≡ worst_status Accepted answers
-      → IsKeepingOnOutput input text status
+      → text ≡ shown_answer_lines which answers → status ≡ worst_status Accepted answers
+      → IsShownKeepingOn which input text status
   refused : (refusal : Refusal) → IsRefusal input refusal → text ≡ refusal_line refusal → status ≡ Refused
-      → IsKeepingOnOutput input text status
+      → IsShownKeepingOn which input text status
+
+-- a line for each item, from 1: its verdict or its refusal; or the refusal of the model
+abbrev pub IsKeepingOnOutput : List ℕ → List ℕ → Status → Type 0
+IsKeepingOnOutput input text status = IsShownKeepingOn shown.All input text status
 
 -- where no item is refused, the lines and the status of `pst judge` are those with `--keep-going`
 abbrev pub KeepsJudgements : Type 0

@@ -1,6 +1,7 @@
 -- what the public contracts cite
 pub mod Absent
 pub mod CampaignOutput
+pub mod ChosenItem
 pub mod ExplainOutput
 pub mod GraphOutput
 pub mod KeepingOn

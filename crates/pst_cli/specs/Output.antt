@@ -5,6 +5,8 @@ use Rattle.pst_case.specs.declared.history.Run.{Run}
 use Rattle.pst_cli.specs.Head.{refusal_line, line_end}
 use Rattle.pst_load.specs.Loading.{Holds, items_of, IsRefusal}
 use Rattle.pst_load.specs.declared.refusal.Refusal.{Refusal}
+use Rattle.pst_cli.specs.declared.shown.Shown.{Shown}
+use Rattle.pst_cli.specs.declared.shown.Shown.TheVariants as shown
 use Rattle.pst_cli.specs.declared.status.Status.{Status}
 use Rattle.pst_cli.specs.declared.status.Status.TheVariants.{Accepted, Failed, Refused}
 use Rattle.pst_judge.specs.JudgedText.{judged_text}
@@ -99,3 +101,27 @@ AreItemLines js text status = (text ≡ item_lines 1 js) × (status ≡ status_o
 
 abbrev pub IsJudgeOutput : List ℕ → List ℕ → Status → Type 0
 IsJudgeOutput input text status = IsOutput AreItemLines input text status
+
+-- ---- `pst judge --failures`
+
+-- the line of an item; nothing where it is explained or valid
+abbrev pub failure_line : ℕ → Judged → List ℕ
+failure_line number j = if is_good j then [] else item_line number j
+
+-- the lines of those items that are neither explained nor valid, where the first of all items has the number
+abbrev pub failure_lines : ℕ → List Judged → List ℕ
+failure_lines number [] = []
+failure_lines number (j ∷ js) = failure_line number j ++ failure_lines (number + 1) js
+
+-- the lines of all items, or of those that are neither explained nor valid, each with its number from 1
+abbrev pub shown_lines : Shown → List Judged → List ℕ
+shown_lines shown.All js = item_lines 1 js
+shown_lines shown.Failures js = failure_lines 1 js
+
+-- these lines, with the status of the judgements on all items
+abbrev pub AreShownLines : Shown → List Judged → List ℕ → Status → Type 0
+AreShownLines which js text status = (text ≡ shown_lines which js) × (status ≡ status_of js)
+
+-- what `pst judge` writes, and with `--failures`; of all items it is `IsJudgeOutput`
+abbrev pub IsShownOutput : Shown → List ℕ → List ℕ → Status → Type 0
+IsShownOutput which input text status = IsOutput (AreShownLines which) input text status

@@ -1,18 +1,12 @@
 //! `pst explain --dot`.
-ghost use Rattle.std.specs.Prelude.{◌≡◌, false, IfOk, MatchOption, string_bytes};
-ghost use Rattle.pst_cli.specs.GraphOutput.{
-  IsGraphOf,
-  IsGraphOutput,
-  IsItem,
-  drawn_number,
-  first_failed,
-  no_item_line,
-};
+ghost use Rattle.std.specs.Prelude.{◌≡◌, false, IfOk, MatchOption};
+ghost use Rattle.pst_cli.specs.ChosenItem.{IsItem};
+ghost use Rattle.pst_cli.specs.GraphOutput.{IsGraphOf, IsGraphOutput, drawn_number, first_failed};
 ghost use Rattle.pst_cli.specs.Output.{AreJudged};
 ghost use Rattle.pst_cli.specs.Sending.{Prints};
-ghost use Rattle.pst_cli.specs.declared.status.Status.TheVariants.{Refused};
 ghost use Rattle.pst_runs.specs.Lawful.{AreLawful};
 
+use crate::chosen::refused_item;
 use crate::judge::{is_good, status_of};
 use crate::judged::{JudgedFile, joined, judged_file};
 use crate::kept::Keep;
@@ -73,22 +67,6 @@ fn item_graph(
     };
     let graph = graph_item(compiled, alloc, compiled.typed(), run, judged, number)?;
     Ok(Some(graph))
-}
-
-/// `refused item N of COUNT`.
-fn no_item_line(alloc: Global, number: usize, count: usize) -> Result<String, AllocError>
-    ensures { IfOk result (λ line. string_bytes line ≡ no_item_line number count) }
-{
-    format!(in alloc; "refused item {number} of {count}\n")
-}
-
-/// The line of an item that there is none of, and how the program ends then.
-fn refused_item(alloc: Global, number: usize, count: usize) -> Result<Output, AllocError>
-    ensures text { IfOk result (λ output. output.text.items ≡ no_item_line number count) }
-    ensures status { IfOk result (λ output. output.status ≡ Refused) }
-{
-    let line = no_item_line(alloc, number, count)?;
-    Ok(Output::new(line, Status::Refused))
 }
 
 /// The graph of the item that is asked for, or the refusal where there is none.

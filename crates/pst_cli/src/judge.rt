@@ -1,7 +1,7 @@
 //! `pst judge`.
 ghost use Rattle.std.specs.Prelude.{◌≡◌, false, All, IfOk, IfSome, MatchResult, string_bytes};
 ghost use Rattle.std.specs.List.{list_all};
-ghost use Rattle.pst_cli.specs.Output.{IsJudgeOutput, is_good, run_line, status_of};
+ghost use Rattle.pst_cli.specs.Output.{IsJudgeOutput, IsShownOutput, is_good, run_line, status_of};
 ghost use Rattle.pst_cli.specs.Sending.{Prints};
 ghost use Rattle.pst_cli.specs.declared.status.Status.TheVariants.{Refused};
 ghost use Rattle.pst_runs.specs.Items.{runs_of};
@@ -9,8 +9,9 @@ ghost use Rattle.pst_runs.specs.Lawful.{AreLawful};
 
 use crate::judged::{JudgedFile, judged_file};
 use crate::kept::Keep;
-use crate::lines::item_lines;
+use crate::lines::shown_lines;
 use crate::output::{Output, send};
+use crate::shown::Shown;
 use crate::status::Status;
 use pst_case::{CaseFaultKind, Run};
 use pst_judge::{Judged, Verdict};
@@ -90,9 +91,10 @@ fn judge_output<R: Threads + Sync>(
     rt: &R,
     alloc: Global,
     input: &[u8],
+    shown: Shown,
     keep: Keep,
 ) -> Result<(Output, Option<JudgedFile>), AllocError>
-    ensures output { IfOk result (λ r. IsJudgeOutput input.now r.0.text.items r.0.status) }
+    ensures output { IfOk result (λ r. IsShownOutput shown input.now r.0.text.items r.0.status) }
     ensures lawful { IfOk result
         (λ r. IfSome r.1 (λ judged. All (λ runs. AreLawful judged.compiled runs.items) judged.runs.items)) }
 {
@@ -100,47 +102,50 @@ fn judge_output<R: Threads + Sync>(
         Ok(file) => file,
         Err(output) => return Ok((output, None)),
     };
-    let text = item_lines(rt, alloc, file.judged.as_slice())?;
+    let text = shown_lines(rt, alloc, shown, file.judged.as_slice())?;
     let output = Output::new(text, status_of(file.judged.as_slice()));
     Ok((output, Some(file)))
 }
 
-/// Does what [`judge_text`] does, and gives back the judgements where all items were judged, with the items that are kept.
+/// Does what [`judge_file`] does, with the items that are kept.
 fn judge_keeping<W: Sink, R: Threads + Sync>(
     rt: &R,
     alloc: Global,
     input: &[u8],
+    shown: Shown,
     keep: Keep,
     sink: &mut W,
 ) -> (Status, Option<JudgedFile>)
     requires { W.broken sink.old ≡ false }
-    ensures prints { Prints (IsJudgeOutput input.now)
+    ensures prints { Prints (IsShownOutput shown input.now)
         (W.taken sink.old) (W.taken sink.new) (W.broken sink.new) result.0 }
     ensures lawful { IfSome result.1
         (λ judged. All (λ runs. AreLawful judged.compiled runs.items) judged.runs.items) }
 {
-    match judge_output(rt, alloc, input, keep) {
+    match judge_output(rt, alloc, input, shown, keep) {
         Ok((output, judged)) => (send(output.text.as_slice(), output.status, sink), judged),
         Err(AllocError) => (send(b"refused memory\n", Status::Lost, sink), None),
     }
 }
 
-/// Does what [`judge_text`] does, and gives back the judgements where all items were judged, with the items where the
+/// Does what [`judge_text`] does, or with [`Shown::Failures`] writes only the lines of items that are neither explained nor
+/// valid, with the same status. Gives back the judgements where all items were judged, with the items where the
 /// precondition of some operation is another expression than `true`. Over any other model no item is worth a warning, and
 /// each thread lets the items go that it judged.
 pub fn judge_file<W: Sink, R: Threads + Sync>(
     rt: &R,
     alloc: Global,
     input: &[u8],
+    shown: Shown,
     sink: &mut W,
 ) -> (Status, Option<JudgedFile>)
     requires { W.broken sink.old ≡ false }
-    ensures prints { Prints (IsJudgeOutput input.now)
+    ensures prints { Prints (IsShownOutput shown input.now)
         (W.taken sink.old) (W.taken sink.new) (W.broken sink.new) result.0 }
     ensures lawful { IfSome result.1
         (λ judged. All (λ runs. AreLawful judged.compiled runs.items) judged.runs.items) }
 {
-    judge_keeping(rt, alloc, input, Keep::ForWarnings, sink)
+    judge_keeping(rt, alloc, input, shown, Keep::ForWarnings, sink)
 }
 
 /// Judges the items behind the model that the input begins with, several at once: writes a line `NUMBER VERDICT`
@@ -156,6 +161,6 @@ pub fn judge_text<W: Sink, R: Threads + Sync>(
     ensures { Prints (IsJudgeOutput input.now)
         (W.taken sink.old) (W.taken sink.new) (W.broken sink.new) result }
 {
-    let (status, _) = judge_keeping(rt, alloc, input, Keep::Nothing, sink);
+    let (status, _) = judge_keeping(rt, alloc, input, Shown::All, Keep::Nothing, sink);
     status
 }

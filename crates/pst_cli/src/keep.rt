@@ -1,16 +1,28 @@
 //! `pst judge --keep-going`.
 ghost use Rattle.std.specs.Prelude.{◌≡◌, ◌++◌, false, IfOk, OnOk, string_bytes};
-ghost use Rattle.pst_cli.specs.KeepingOn.{IsKeepingOnOutput, answer_line, answer_lines, answer_status, worst_status};
+ghost use Rattle.pst_cli.specs.KeepingOn.{
+  IsKeepingOnOutput,
+  IsShownKeepingOn,
+  answer_line,
+  answer_lines,
+  answer_status,
+  failed_answer_line,
+  failed_answer_lines,
+  is_good_answer,
+  shown_answer_lines,
+  worst_status,
+};
 ghost use Rattle.pst_cli.specs.Sending.{Prints};
 ghost use Rattle.pst_cli.specs.declared.status.Status.TheVariants.{Accepted};
 
 use crate::compiled::{CompiledFile, load_compiled};
-use crate::judge::run_line;
+use crate::judge::{is_good, run_line};
 use crate::lines::add_item_line;
 use crate::output::{Output, send};
 use crate::refusal::refusal_output;
 use crate::run::status_of_one;
 use crate::sharing::may_share_compiled;
+use crate::shown::Shown;
 use crate::status::Status;
 use pst_each::{Answer, judge_each};
 use pst_load::items_of;
@@ -53,6 +65,53 @@ fn answer_lines(alloc: Global, answers: &[Answer]) -> Result<String, AllocError>
     Ok(text)
 }
 
+/// Whether the item is explained or valid.
+fn is_good_answer(answer: &Answer) -> bool
+    ensures { result ≡ is_good_answer answer.now }
+{
+    match answer {
+        Answer::Judged(judged) => is_good(judged),
+        Answer::Refused { .. } => false,
+    }
+}
+
+/// Adds the line of an item to a text, unless it is explained or valid.
+fn add_failed_line(
+    alloc: Global,
+    text: &mut String,
+    number: usize,
+    answer: &Answer,
+) -> Result<(), AllocError>
+    ensures { OnOk result
+        (string_bytes text.new ≡ string_bytes text.old ++ failed_answer_line number answer.now) }
+{
+    if is_good_answer(answer) {
+        return Ok(());
+    }
+    add_answer_line(alloc, text, number, answer)
+}
+
+/// The lines of the items that are neither explained nor valid, each with its number among all of them, from 1.
+fn failed_lines(alloc: Global, answers: &[Answer]) -> Result<String, AllocError>
+    ensures { IfOk result (λ text. string_bytes text ≡ failed_answer_lines 1 answers.now) }
+{
+    let mut text = String::new(alloc);
+    for (index, answer) in answers.iter().enumerate() {
+        add_failed_line(alloc, &mut text, index + 1, answer)?;
+    }
+    Ok(text)
+}
+
+/// The lines of the items that are shown, numbered from 1.
+fn shown_lines(alloc: Global, shown: Shown, answers: &[Answer]) -> Result<String, AllocError>
+    ensures { IfOk result (λ text. string_bytes text ≡ shown_answer_lines shown answers.now) }
+{
+    match shown {
+        Shown::All => answer_lines(alloc, answers),
+        Shown::Failures => failed_lines(alloc, answers),
+    }
+}
+
 /// Refused where the item is, and else as the judgement on it says.
 fn answer_status(answer: &Answer) -> Status
     ensures { result ≡ answer_status answer.now }
@@ -83,13 +142,14 @@ pub struct AnsweredFile {
     pub answers: Vec<Answer>,
 }
 
-/// The lines of all items behind the model, and the answers; or the refusal of the model.
+/// The lines of the items behind the model that are shown, and all answers; or the refusal of the model.
 fn keeping_on_output<R: Threads + Sync>(
     rt: &R,
     alloc: Global,
     input: &[u8],
+    shown: Shown,
 ) -> Result<(Output, Option<AnsweredFile>), AllocError>
-    ensures { IfOk result (λ r. IsKeepingOnOutput input.now r.0.text.items r.0.status) }
+    ensures { IfOk result (λ r. IsShownKeepingOn shown input.now r.0.text.items r.0.status) }
 {
     let file = match load_compiled(alloc, input)? {
         Ok(file) => file,
@@ -98,23 +158,25 @@ fn keeping_on_output<R: Threads + Sync>(
     let items = items_of(file.trees.as_slice());
     may_share_compiled();
     let answers = judge_each(rt, &file.compiled, alloc, file.compiled.typed(), items)?;
-    let text = answer_lines(alloc, answers.as_slice())?;
+    let text = shown_lines(alloc, shown, answers.as_slice())?;
     let output = Output::new(text, worst_status(answers.as_slice()));
     Ok((output, Some(AnsweredFile { file, answers })))
 }
 
-/// Does what [`judge_text_keeping_on`] does, and gives back the answers where there are some.
+/// Does what [`judge_text_keeping_on`] does, or with [`Shown::Failures`] writes only the lines of items that are refused, or
+/// neither explained nor valid, with the same status. Gives back the answers where there are some.
 pub fn judge_file_keeping_on<W: Sink, R: Threads + Sync>(
     rt: &R,
     alloc: Global,
     input: &[u8],
+    shown: Shown,
     sink: &mut W,
 ) -> (Status, Option<AnsweredFile>)
     requires { W.broken sink.old ≡ false }
-    ensures { Prints (IsKeepingOnOutput input.now)
+    ensures { Prints (IsShownKeepingOn shown input.now)
         (W.taken sink.old) (W.taken sink.new) (W.broken sink.new) result.0 }
 {
-    match keeping_on_output(rt, alloc, input) {
+    match keeping_on_output(rt, alloc, input, shown) {
         Ok((output, answered)) => (send(output.text.as_slice(), output.status, sink), answered),
         Err(AllocError) => (send(b"refused memory\n", Status::Lost, sink), None),
     }
@@ -139,6 +201,6 @@ pub fn judge_text_keeping_on<W: Sink, R: Threads + Sync>(
     ensures { Prints (IsKeepingOnOutput input.now)
         (W.taken sink.old) (W.taken sink.new) (W.broken sink.new) result }
 {
-    let (status, _) = judge_file_keeping_on(rt, alloc, input, sink);
+    let (status, _) = judge_file_keeping_on(rt, alloc, input, Shown::All, sink);
     status
 }

@@ -1,9 +1,11 @@
 //! The lines of items that were judged.
 ghost use Rattle.std.specs.Prelude.{◌≡◌, ◌++◌, IfOk, OnOk, string_bytes};
-ghost use Rattle.pst_cli.specs.Output.{item_line, item_lines};
+ghost use Rattle.pst_cli.specs.Output.{failure_line, failure_lines, item_line, item_lines, shown_lines};
 ghost use Rattle.pst_cli.specs.Rows.{IsRow, first_of};
 
+use crate::judge::is_good;
 use crate::sharing::may_share_judged;
+use crate::shown::Shown;
 use pst_judge::Judged;
 use rayon::prelude::*;
 use std::alloc::{AllocError, Global};
@@ -48,7 +50,7 @@ fn row_lines(alloc: Global, all: &[Judged], row: usize) -> Result<String, AllocE
 }
 
 /// The lines of all items, numbered from 1. Several threads write rows of them at once.
-pub fn item_lines<R: Threads + Sync>(
+fn item_lines<R: Threads + Sync>(
     rt: &R,
     alloc: Global,
     all: &[Judged],
@@ -67,4 +69,40 @@ pub fn item_lines<R: Threads + Sync>(
         )
         .collect::<Result<Vec<String>, AllocError>>(rt, alloc)??;
     lines.as_slice().concat(alloc)
+}
+
+/// Adds the line of an item to a text, unless it is explained or valid.
+fn add_failure_line(text: &mut String, number: usize, judged: &Judged) -> Result<(), AllocError>
+    ensures { OnOk result (string_bytes text.new ≡ string_bytes text.old ++ failure_line number judged.now) }
+{
+    if is_good(judged) {
+        return Ok(());
+    }
+    add_item_line(text, number, judged)
+}
+
+/// The lines of the items that are neither explained nor valid, each with its number among all of them, from 1.
+fn failure_lines(alloc: Global, all: &[Judged]) -> Result<String, AllocError>
+    ensures { IfOk result (λ text. string_bytes text ≡ failure_lines 1 all.now) }
+{
+    let mut text = String::new(alloc);
+    for (index, judged) in all.iter().enumerate() {
+        add_failure_line(&mut text, index + 1, judged)?;
+    }
+    Ok(text)
+}
+
+/// The lines of the items that are shown, numbered from 1.
+pub fn shown_lines<R: Threads + Sync>(
+    rt: &R,
+    alloc: Global,
+    shown: Shown,
+    all: &[Judged],
+) -> Result<String, AllocError>
+    ensures { IfOk result (λ text. string_bytes text ≡ shown_lines shown all.now) }
+{
+    match shown {
+        Shown::All => item_lines(rt, alloc, all),
+        Shown::Failures => failure_lines(alloc, all),
+    }
 }

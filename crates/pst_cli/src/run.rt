@@ -14,6 +14,7 @@ ghost use Rattle.pst_write.specs.Lines.{line_of};
 ghost use Rattle.pst_write.specs.Written.{run_form};
 
 use crate::compiled::load_compiled;
+use crate::counts::Counts;
 use crate::judge::{is_good, refused_run, runs_in};
 use crate::lines::item_line;
 use crate::output::{Output, send};
@@ -73,6 +74,7 @@ fn run_report(
     number: usize,
     shaped: Shaped,
     history: History,
+    counts: &mut Counts,
 ) -> Result<Output, AllocError>
     requires model { shaped.model ≡ compiled.now }
     requires matches { matches compiled.now shaped.case history ≡ true }
@@ -85,6 +87,7 @@ fn run_report(
     };
     let mut text = tree_line(alloc, compiled.typed(), &run)?;
     let judged = judge_one(compiled, alloc, &run)?;
+    counts.add(&judged);
     let line = item_line(alloc, number, &judged)?;
     text.extend_from_slice(line.as_bytes())?;
     let status = status_of_one(&judged);
@@ -120,6 +123,7 @@ fn valid_report<R: Threads + Wait>(
     system: &mut BoxedSystem,
     number: usize,
     valid: Valid,
+    counts: &mut Counts,
 ) -> Result<Output, AllocError>
     requires model { valid.model ≡ compiled.now }
     ensures reported { IfOk result (λ output.
@@ -130,8 +134,18 @@ fn valid_report<R: Threads + Wait>(
 {
     let _shaped = valid.shaped();
     match pst_driver::run(rt, alloc, compiled.typed(), system, &valid) {
-        Ok(history) => run_report(alloc, compiled, number, valid.into_shaped(), history),
+        Ok(history) => {
+            run_report(
+                alloc,
+                compiled,
+                number,
+                valid.into_shaped(),
+                history,
+                counts,
+            )
+        }
         Err(fault) => {
+            counts.add_lost();
             let line = lost_line(alloc, number, fault)?;
             Ok(Output::new(line, Status::Lost))
         }
@@ -146,6 +160,7 @@ fn item_report<R: Threads + Wait>(
     system: &mut BoxedSystem,
     number: usize,
     shaped: &Shaped,
+    counts: &mut Counts,
 ) -> Result<Output, AllocError>
     requires model { shaped.now.model ≡ compiled.now }
     ensures reported { IfOk result (λ output.
@@ -156,8 +171,9 @@ fn item_report<R: Threads + Wait>(
 {
     let copy = shaped.copy(alloc, compiled.typed().source())?;
     match valid(compiled, alloc, copy) {
-        Ok(valid) => valid_report(rt, alloc, compiled, system, number, valid),
+        Ok(valid) => valid_report(rt, alloc, compiled, system, number, valid, counts),
         Err(refused) => {
+            counts.add_invalid(&refused.1);
             let line = why_line(alloc, number, refused.1)?;
             Ok(Output::new(line, Status::Failed))
         }
@@ -171,6 +187,7 @@ fn item_reports<R: Threads + Wait>(
     compiled: &Compiled,
     system: &mut BoxedSystem,
     runs: &[Run],
+    counts: &mut Counts,
 ) -> Result<Output, AllocError>
     requires { AreLawful compiled.now runs.now }
     ensures reported { IfOk result (λ output.
@@ -182,7 +199,7 @@ fn item_reports<R: Threads + Wait>(
     let mut text = Vec::new(alloc);
     let mut status = Status::Accepted;
     for (index, run) in runs.iter().enumerate() {
-        let output = item_report(rt, alloc, compiled, system, index + 1, &run.shaped)?;
+        let output = item_report(rt, alloc, compiled, system, index + 1, &run.shaped, counts)?;
         text.extend_from_slice(output.text.as_slice())?;
         status = status.or_worse(output.status);
     }
@@ -195,6 +212,7 @@ fn run_output<R: Threads + Wait>(
     alloc: Global,
     input: &[u8],
     system: &mut BoxedSystem,
+    counts: &mut Counts,
 ) -> Result<Output, AllocError>
     ensures output { IfOk result (λ output.
         IsRunOutput (answers system.old) (fails system.old) (reset_fails system.old)
@@ -208,7 +226,7 @@ fn run_output<R: Threads + Wait>(
     };
     let items = items_of(file.trees.as_slice());
     match runs_in(alloc, file.compiled.typed(), items)? {
-        Ok(runs) => item_reports(rt, alloc, &file.compiled, system, runs.as_slice()),
+        Ok(runs) => item_reports(rt, alloc, &file.compiled, system, runs.as_slice(), counts),
         Err(fault) => refused_run(alloc, &fault),
     }
 }
@@ -234,8 +252,31 @@ pub fn run_text<W: Sink, R: Threads + Wait>(
     ensures kept { AreKept (answers system.new) (answers system.old) (fails system.new) (fails system.old)
         (reset_fails system.new) (reset_fails system.old) }
 {
-    match run_output(rt, alloc, input, system) {
+    run_counting(rt, alloc, input, system, &mut Counts::new(), sink)
+}
+
+/// Does what [`run_text`] does, and adds to the counts what each item that was reported came to. Where memory is refused
+/// outside the driver nothing is counted.
+pub fn run_counting<W: Sink, R: Threads + Wait>(
+    rt: &R,
+    alloc: Global,
+    input: &[u8],
+    system: &mut BoxedSystem,
+    counts: &mut Counts,
+    sink: &mut W,
+) -> Status
+    requires { W.broken sink.old ≡ false }
+    ensures prints { Prints
+        (IsRunOutput (answers system.old) (fails system.old) (reset_fails system.old) input.now)
+        (W.taken sink.old) (W.taken sink.new) (W.broken sink.new) result }
+    ensures kept { AreKept (answers system.new) (answers system.old) (fails system.new) (fails system.old)
+        (reset_fails system.new) (reset_fails system.old) }
+{
+    match run_output(rt, alloc, input, system, counts) {
         Ok(output) => send(output.text.as_slice(), output.status, sink),
-        Err(AllocError) => send(b"refused memory\n", Status::Lost, sink),
+        Err(AllocError) => {
+            *counts = Counts::new();
+            send(b"refused memory\n", Status::Lost, sink)
+        }
     }
 }

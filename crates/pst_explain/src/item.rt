@@ -93,8 +93,8 @@ fn add_heading(
     page.add_heading(alloc, heading.as_slice())
 }
 
-/// The explanation of an item of the model, in lines of at most `width` bytes as far as sentences allow: `judged` is its
-/// judgement, `number` its number, and `place` where it begins, as `line 3`.
+/// The explanation of an item of the model, in lines of at most `width` bytes: what is longer than a line is cut in the
+/// middle with `..`. `judged` is its judgement, `number` its number, and `place` where it begins, as `line 3`.
 pub fn explain_item<C: Callbacks>(
     callbacks: &C,
     alloc: Global,

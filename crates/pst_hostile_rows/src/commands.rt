@@ -3,7 +3,9 @@ ghost use Rattle.std.specs.Prelude.{◌≡◌, false};
 
 use crate::short::Short;
 use pst_campaign::Unwatched;
-use pst_cli::{Status, campaign_text, check_text, explain_text, judge_text, list_text, run_text};
+use pst_cli::{
+    Chosen, Status, campaign_text, check_text, explain_text, judge_text, list_text, run_text,
+};
 use pst_samples::Stuck;
 use pst_system::BoxedSystem;
 use pst_trial::Settings;
@@ -107,7 +109,7 @@ pub fn answer_of<R: Threads + Wait + Sync>(
         Command::Check => check_text(alloc, input, &mut short),
         Command::List => list_text(alloc, input, &mut short),
         Command::Judge => judge_text(rt, alloc, input, &mut short),
-        Command::Explain => explain_text(rt, alloc, input, &[], 80, &mut short),
+        Command::Explain => explain_text(rt, alloc, input, &[], Chosen::All, 80, &mut short),
         Command::Run => write_runs(rt, alloc, input, &mut short)?,
         Command::Campaign => write_campaign(rt, alloc, input, &mut short)?,
     };

@@ -1,7 +1,7 @@
 //! The warnings on items that were judged.
 
 use crate::judged_rows::{ANSWERED, JUDGED, MODEL, ONE};
-use pst_cli::{judge_file, judge_file_keeping_on};
+use pst_cli::{Shown, judge_file, judge_file_keeping_on};
 use pst_sink::Out;
 use pst_sources::{Input, SourceFile, joined};
 use pst_warnings::{warnings_on_answers, warnings_on_runs};
@@ -42,7 +42,7 @@ fn on_runs<R: Threads + Sync>(
         files: files.as_slice(),
         bytes,
     };
-    let (_, judged) = judge_file(rt, alloc, bytes, &mut Out::new(Vec::new(alloc)));
+    let (_, judged) = judge_file(rt, alloc, bytes, Shown::All, &mut Out::new(Vec::new(alloc)));
     let Some(judged) = judged else {
         return String::from_str(alloc, "not judged\n");
     };
@@ -71,7 +71,13 @@ fn on_answers<R: Threads + Sync>(
         files: files.as_slice(),
         bytes,
     };
-    let (_, answered) = judge_file_keeping_on(rt, alloc, bytes, &mut Out::new(Vec::new(alloc)));
+    let (_, answered) = judge_file_keeping_on(
+        rt,
+        alloc,
+        bytes,
+        Shown::All,
+        &mut Out::new(Vec::new(alloc)),
+    );
     let Some(answered) = answered else {
         return String::from_str(alloc, "not judged\n");
     };

@@ -8,7 +8,7 @@ use std::alloc::{AllocError, Global};
 pub struct Page {
     /// The lines so far.
     pub text: Vec<u8>,
-    /// The most bytes of a line, as far as it can be cut.
+    /// The most bytes of a line.
     pub width: usize,
 }
 
@@ -43,9 +43,15 @@ impl Page {
         Ok(())
     }
 
-    /// Adds a word of a sentence, on a new line where it does not fit, and answers the column behind it. Column 0: it is
-    /// the first.
-    fn add_word(&mut self, indent: usize, column: usize, word: &[u8]) -> Result<usize, AllocError> {
+    /// Adds a word of a sentence and returns the column after it. If it does not fit, it is on a new line, where one that
+    /// is longer than a line is cut in the middle. Column 0: it is the first.
+    fn add_word(
+        &mut self,
+        alloc: Global,
+        indent: usize,
+        column: usize,
+        word: &[u8],
+    ) -> Result<usize, AllocError> {
         let end = column.saturating_add(1).saturating_add(word.len());
         if column > 0 && end <= self.width {
             self.text.push(b' ')?;
@@ -56,7 +62,8 @@ impl Page {
             self.text.push(b'\n')?;
         }
         self.add_spaces(indent)?;
-        self.text.extend_from_slice(word)?;
+        let word = cut(alloc, word, self.width.saturating_sub(indent))?;
+        self.text.extend_from_slice(word.as_slice())?;
         Ok(indent.saturating_add(word.len()).max(1))
     }
 
@@ -74,14 +81,14 @@ impl Page {
         for byte in sentence {
             if *byte == b' ' {
                 let indent = if column == 0 { first } else { later };
-                column = self.add_word(indent, column, word.as_slice())?;
+                column = self.add_word(alloc, indent, column, word.as_slice())?;
                 word.clear();
             } else {
                 word.push(*byte)?;
             }
         }
         let indent = if column == 0 { first } else { later };
-        self.add_word(indent, column, word.as_slice())?;
+        self.add_word(alloc, indent, column, word.as_slice())?;
         self.text.push(b'\n')?;
         Ok(())
     }

@@ -1,5 +1,9 @@
-use Rattle.std.proofs.Common.{ap, ◌∙◌}
-use Rattle.pst_cli.specs.Output.{judged, refused, status_of}
+use Rattle.std.proofs.Common.{List, subst}
+use Rattle.pst_cli.proofs.Reporting.{if_ok_then}
+use Rattle.pst_cli.specs.ExplainOutput.{IsExplainOutput, IsExplanation}
+use Rattle.pst_cli.specs.Output.{judged, refused}
+use Rattle.pst_cli.specs.declared.output.Output.{Output}
+use Rattle.pst_judge.specs.declared.judgement.Judged.{Judged}
 use Rattle.pst_cli.proofs.explain.explain_output.Goals as goal
 
 pub returns-in-Err : goal.returns-in-Err
@@ -9,4 +13,10 @@ pub returns : goal.returns
 returns g c =
     let file = c.in-Ok.file in
     let read = rw c.in-Ok.is at c.in_ok-file.ensures in
-    judged file.compiled read.runs file.judged.items read.holds read.judged (c.status_of.ensures ∙ ap status_of c.as_slice-3.ensures.value)
+    let all = file.judged.items in
+    let OfAll : Output → List Judged → Type 0 = λ o js. IsExplanation c.args.chosen js o.text.items o.status in
+    let IsChosen : Output → Type 0 = λ o. OfAll o c.as_slice-3.result.now in
+    let IsSo : Output → Type 0 = λ o. IsExplainOutput c.args.input.now c.args.chosen o.text.items o.status in
+    if_ok_then IsChosen IsSo (λ o h. judged file.compiled read.runs all read.holds read.judged
+    (subst (OfAll o) c.as_slice-3.ensures.value h))
+    c.chosen_output.result c.chosen_output.ensures

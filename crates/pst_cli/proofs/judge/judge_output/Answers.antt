@@ -1,6 +1,6 @@
 use Rattle.std.proofs.Common.{ap, ◌∙◌}
 use Rattle.pst_cli.proofs.Judging.{lawful_parts}
-use Rattle.pst_cli.specs.Output.{item_lines, judged, refused, status_of}
+use Rattle.pst_cli.specs.Output.{judged, refused, shown_lines, status_of}
 use Rattle.pst_cli.proofs.judge.judge_output.Goals as goal
 
 pub returns-in-Err-clause-output : goal.returns-in-Err-clause-output
@@ -11,7 +11,7 @@ returns-clause-output g c =
     let file = c.in-Ok.file in
     let read = rw c.in-Ok.is at c.in_ok-file.ensures in
     judged file.compiled read.runs file.judged.items read.holds read.judged (
-      c.new-output.ensures.text ∙ c.in_ok-text.ensures ∙ ap (item_lines 1) c.as_slice.ensures.value,
+      c.new-output.ensures.text ∙ c.in_ok-text.ensures ∙ ap (shown_lines c.args.shown) c.as_slice.ensures.value,
       c.new-output.ensures.status ∙ c.status_of.ensures ∙ ap status_of c.as_slice-2.ensures.value,
     )
 

@@ -1,6 +1,6 @@
 use Rattle.std.proofs.Common.{◌≡◌, List, sym, ap, ◌∙◌, subst}
 use Rattle.std.specs.List.{AllZip}
-use Rattle.pst_cli.specs.KeepingOn.{answer_lines, worst_status, answered, refused}
+use Rattle.pst_cli.specs.KeepingOn.{shown_answer_lines, worst_status, answered, refused}
 use Rattle.pst_cli.specs.declared.status.Status.TheVariants.{Accepted}
 use Rattle.pst_each.specs.Answers.{IsAnswer}
 use Rattle.pst_load.specs.Loading.{items_of}
@@ -21,5 +21,5 @@ returns g c =
     let AreAnswered : List Form → Type 0 = λ forms. AllZip (IsAnswer m) forms answers in
     answered m trees answers (rw c.in-Ok.is at c.in_ok-file.ensures)
     (subst AreAnswered (sym items) c.in_ok-answers.ensures)
-    (c.new-output.ensures.text ∙ c.in_ok-text.ensures ∙ ap (answer_lines 1) c.as_slice-2.ensures.value)
+    (c.new-output.ensures.text ∙ c.in_ok-text.ensures ∙ ap (shown_answer_lines c.args.shown) c.as_slice-2.ensures.value)
     (c.new-output.ensures.status ∙ c.worst_status.ensures ∙ ap (worst_status Accepted) c.as_slice-3.ensures.value)

@@ -1,6 +1,6 @@
 use Rattle.pst_cli.proofs.Printing.{prints}
 use Rattle.pst_cli.specs.RunOutput.{IsRunOutput}
-use Rattle.pst_cli.proofs.run.run_text.Goals as goal
+use Rattle.pst_cli.proofs.run.run_counting.Goals as goal
 
 pub returns-in-Ok-clause-prints : goal.returns-in-Ok-clause-prints
 returns-in-Ok-clause-prints g c =

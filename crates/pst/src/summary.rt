@@ -1,0 +1,67 @@
+//! The line that sums up what items came to, on standard error.
+
+use pst_cli::Counts;
+use std::alloc::{AllocError, Global};
+
+/// How many items each word is said of, in the order of the line.
+fn each_count(counts: &Counts) -> [(usize, &'static str); 9] {
+    [
+        (counts.explained, "explained"),
+        (counts.unexplained, "unexplained"),
+        (counts.fault, "fault"),
+        (counts.broken, "broken"),
+        (counts.valid, "valid"),
+        (counts.prefalse, "prefalse"),
+        (counts.casefault, "casefault"),
+        (counts.refused, "refused"),
+        (counts.lost, "lost"),
+    ]
+}
+
+/// Adds a number to a text, with a comma between thousands, as `16,002`.
+fn add_number(text: &mut String, alloc: Global, number: usize) -> Result<(), AllocError> {
+    let digits = format!(in alloc; "{number}")?;
+    let mut left = digits.len();
+    for digit in digits.as_str().chars() {
+        if left < digits.len() && left % 3 == 0 {
+            text.push(',')?;
+        }
+        text.push(digit)?;
+        left = left.saturating_sub(1);
+    }
+    Ok(())
+}
+
+/// The line for more than one item, as `pst: 3 items: 2 explained, 1 unexplained`. There is none for fewer.
+fn line_of(alloc: Global, counts: &Counts) -> Result<Option<String>, AllocError> {
+    let each = each_count(counts);
+    let mut total = 0usize;
+    for (count, _) in &each {
+        total = total.saturating_add(*count);
+    }
+    if total < 2 {
+        return Ok(None);
+    }
+    let mut line = String::from_str(alloc, "pst: ")?;
+    add_number(&mut line, alloc, total)?;
+    line.push_str(" items")?;
+    let mut before = ": ";
+    for (count, word) in &each {
+        if *count > 0 {
+            line.push_str(before)?;
+            add_number(&mut line, alloc, *count)?;
+            line.push_str(" ")?;
+            line.push_str(word)?;
+            before = ", ";
+        }
+    }
+    Ok(Some(line))
+}
+
+/// Writes a line to standard error that sums up what the items came to, if there is more than one. If it cannot be written,
+/// nothing more is said.
+pub fn report<R: Eprint + AllocGlobal>(rt: &R, counts: &Counts) {
+    if let Ok(Some(line)) = line_of(rt.alloc(), counts) {
+        let _ = eprintln!(rt; "{line}");
+    }
+}

@@ -1,0 +1,92 @@
+//! How many items came to what.
+
+use pst_each::Answer;
+use pst_judge::{Judged, Verdict, Why};
+
+/// How many items came to what. The names are those of the lines that are written.
+#[derive(Clone, Copy, Debug, PartialEq, Eq, Drop)]
+pub struct Counts {
+    /// Runs that some interleaving explains.
+    pub explained: usize,
+    /// Runs that none explains.
+    pub unexplained: usize,
+    /// Runs that none explains, where a callback faults in some.
+    pub fault: usize,
+    /// Runs with a reply that is no value.
+    pub broken: usize,
+    /// Cases that are valid.
+    pub valid: usize,
+    /// Cases with a precondition that is not true.
+    pub prefalse: usize,
+    /// Cases in which a callback faults.
+    pub casefault: usize,
+    /// Items that are refused.
+    pub refused: usize,
+    /// Items that could not be driven.
+    pub lost: usize,
+}
+
+/// Adds one.
+fn add_one(count: &mut usize) {
+    *count = count.saturating_add(1);
+}
+
+impl Counts {
+    /// No items.
+    pub fn new() -> Counts {
+        Counts {
+            explained: 0,
+            unexplained: 0,
+            fault: 0,
+            broken: 0,
+            valid: 0,
+            prefalse: 0,
+            casefault: 0,
+            refused: 0,
+            lost: 0,
+        }
+    }
+
+    /// Counts a judged item.
+    pub fn add(&mut self, judged: &Judged) {
+        match judged {
+            Judged::Verdict(Verdict::Explained(_)) => add_one(&mut self.explained),
+            Judged::Verdict(Verdict::Unexplained(_)) => add_one(&mut self.unexplained),
+            Judged::Verdict(Verdict::Faulted(_)) => add_one(&mut self.fault),
+            Judged::Verdict(Verdict::Broken(_)) => add_one(&mut self.broken),
+            Judged::Valid => add_one(&mut self.valid),
+            Judged::Invalid(why) => self.add_invalid(why),
+        }
+    }
+
+    /// Counts a case that is not valid.
+    pub(crate) fn add_invalid(&mut self, why: &Why) {
+        match why {
+            Why::PreFalse { .. } => add_one(&mut self.prefalse),
+            Why::CallbackFault { .. } => add_one(&mut self.casefault),
+            Why::NoMemory => self.add_lost(),
+        }
+    }
+
+    /// Counts judged items.
+    pub fn add_all(&mut self, all: &[Judged]) {
+        for judged in all {
+            self.add(judged);
+        }
+    }
+
+    /// Counts items to which there are answers.
+    pub fn add_answers(&mut self, answers: &[Answer]) {
+        for answer in answers {
+            match answer {
+                Answer::Judged(judged) => self.add(judged),
+                Answer::Refused { .. } => add_one(&mut self.refused),
+            }
+        }
+    }
+
+    /// Counts an item that could not be driven.
+    pub(crate) fn add_lost(&mut self) {
+        add_one(&mut self.lost);
+    }
+}
