@@ -1,6 +1,6 @@
 //! The arguments of the program: their words, help, and what is wrong with them.
 
-use crate::{refused, words};
+use crate::{help, refused, words};
 use clap::error::ErrorKind;
 use clap::{ArgMatches, Error};
 use pst_cli::Status;
@@ -51,6 +51,14 @@ fn report<R: Runtime + AllocGlobal>(rt: &R, error: &Error) -> Status {
     }
 }
 
+/// Prints a text on standard output, and returns the status that the program ends with.
+fn show<R: Runtime + AllocGlobal>(rt: &R, text: &str) -> Status {
+    match print!(rt; "{text}") {
+        Ok(()) => Status::Accepted,
+        Err(_) => Status::Lost,
+    }
+}
+
 /// The arguments of the program, parsed. If they cannot be had or are wrong, the status that the program ends with.
 pub fn parsed<'a, R: Runtime + AllocGlobal>(
     rt: &R,
@@ -60,6 +68,9 @@ pub fn parsed<'a, R: Runtime + AllocGlobal>(
         return Err(refused::memory(rt));
     };
     match command.try_get_matches_from(started) {
+        Ok(matches) if matches.subcommand_name() == Some("verdicts") => {
+            Err(show(rt, help::VERDICTS))
+        }
         Ok(matches) => Ok(matches),
         Err(error) => Err(report(rt, &error)),
     }

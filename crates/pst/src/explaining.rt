@@ -2,6 +2,7 @@
 
 ghost use Rattle.std.specs.Prelude.{◌≡◌, false};
 
+use crate::help;
 use clap::builder::ValueParser;
 use clap::{Arg, ArgAction, ArgMatches, Command};
 use pst_cli::{Chosen, Status, explain_text, graph_text};
@@ -21,7 +22,7 @@ fn width_option<'a>(alloc: Global) -> Arg<'a> {
         .value_name("N")
         .value_parser(ValueParser::Unsigned(20, 1_000))
         .default_value("80")
-        .help("the width of lines")
+        .help("The width of lines, from 20 to 1000")
 }
 
 /// The option that asks for a graph.
@@ -29,7 +30,7 @@ fn dot_option<'a>(alloc: Global) -> Result<Arg<'a>, AllocError> {
     Arg::new(alloc, "dot")
         .long("dot")
         .action(ArgAction::SetTrue)
-        .help("writes the search of one item as a graph for Graphviz, and no explanations")
+        .help("Writes the search of one item as a graph for Graphviz, and no explanations")
         .conflicts_with("failures")
 }
 
@@ -40,7 +41,7 @@ fn item_option<'a>(alloc: Global) -> Result<Arg<'a>, AllocError> {
         .value_name("N")
         .value_parser(ValueParser::Unsigned(1, MAX_BYTES as u64))
         .help(
-            "the one item that is explained; with --dot the one that is drawn, else the first that is not explained",
+            "The one item that is explained; with --dot the one that is drawn, else the first that is not explained",
         )
         .conflicts_with("failures")
 }
@@ -48,7 +49,8 @@ fn item_option<'a>(alloc: Global) -> Result<Arg<'a>, AllocError> {
 /// `explain`, with files and the width of lines.
 fn with_files<'a>(alloc: Global) -> Result<Command<'a>, AllocError> {
     Command::new(alloc, "explain")
-        .about("explains the verdicts on the cases and recorded runs behind a model")
+        .about("Explains the verdicts on cases and recorded runs")
+        .after_help(help::EXPLAIN)
         .arg(crate::words::files(alloc))?
         .arg(width_option(alloc))
 }

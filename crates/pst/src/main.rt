@@ -10,6 +10,7 @@ mod driving;
 mod explained;
 mod explaining;
 mod hangs;
+mod help;
 mod input;
 mod judging;
 mod least;

@@ -1,8 +1,9 @@
-//! The words of the program.
+//! The commands of the program and their options.
 
 ghost use Rattle.std.specs.Prelude.{IfSome};
 ghost use Rattle.pst_trial.specs.Settings.{AreInRange};
 
+use crate::help;
 use clap::builder::ValueParser;
 use clap::{Arg, ArgAction, ArgMatches, Command};
 use pst_trial::{
@@ -10,26 +11,26 @@ use pst_trial::{
 };
 use std::alloc::{AllocError, Global};
 
-/// The file of a model behind a word of the program.
+/// The file of a model.
 fn file<'a>(alloc: Global) -> Arg<'a> {
-    Arg::new(alloc, "FILE").help("the model; standard input where it is absent or `-`")
+    Arg::new(alloc, "FILE").help("The model; standard input if it is absent or `-`")
 }
 
-/// The files of a model and its items behind a word of the program.
+/// The files of a model and its items.
 pub fn files<'a>(alloc: Global) -> Arg<'a> {
     Arg::new(alloc, "FILE").num_args(0..).help(
-        "the model, and behind it the items, in one file or several; `-` is standard input, as is no file",
+        "The model and then the items, in one file or several; `-` is standard input, as is no file",
     )
 }
 
 /// The name of a system behind a word of the program.
 fn system<'a>(alloc: Global) -> Arg<'a> {
     Arg::new(alloc, "SYSTEM").required(true).help(
-        "a sample system: counter, racy, stuck, registry, queue or meet; or clients whose pipes are in a folder: clients:FOLDER or shared:FOLDER",
+        "A sample system: counter, racy, stuck, registry, queue or meet. Or clients whose pipes are in a folder: clients:FOLDER, shared:FOLDER",
     )
 }
 
-/// A word of the program whose input is a file.
+/// A command whose input is the file of a model.
 fn with_file<'a>(alloc: Global, name: &'a str, about: &'a str) -> Result<Command<'a>, AllocError> {
     Command::new(alloc, name)
         .about(about)
@@ -39,7 +40,8 @@ fn with_file<'a>(alloc: Global, name: &'a str, about: &'a str) -> Result<Command
 
 /// `check`, with the file of a model.
 fn check_command<'a>(alloc: Global) -> Result<Command<'a>, AllocError> {
-    with_file(alloc, "check", "checks a model: `ok NAME`, or the refusal")
+    let command = with_file(alloc, "check", "Checks a model: prints `ok NAME`, or the refusal")?;
+    Ok(command.after_help(help::CHECK))
 }
 
 /// `list`, with the file of a model.
@@ -47,16 +49,20 @@ fn list_command<'a>(alloc: Global) -> Result<Command<'a>, AllocError> {
     with_file(
         alloc,
         "list",
-        "lists the code of a model: a line for each instruction, or the refusal",
-    )
+        "Lists the code of a model: a line for each instruction, or the refusal",
+    )?
+    .after_help(help::LIST)
+    .hide(true)
+    .alias("disasm")
 }
 
-/// The option that judges the items behind a refused one.
+/// The option that judges the items after a refused one.
 fn keep_going<'a>(alloc: Global) -> Arg<'a> {
     Arg::new(alloc, "keep-going")
+        .short('k')
         .long("keep-going")
         .action(ArgAction::SetTrue)
-        .help("judges the items behind one that is refused too")
+        .help("Judges the items after a refused one too")
 }
 
 /// The option that shows each message.
@@ -65,7 +71,7 @@ fn all_messages<'a>(alloc: Global) -> Arg<'a> {
         .long("all-messages")
         .action(ArgAction::SetTrue)
         .help(
-            "with --keep-going: writes a message for each refused item, not for the first 20 alone",
+            "With --keep-going: writes a message for each refused item, not for the first 20 alone",
         )
 }
 
@@ -74,13 +80,14 @@ pub fn failures<'a>(alloc: Global) -> Arg<'a> {
     Arg::new(alloc, "failures")
         .long("failures")
         .action(ArgAction::SetTrue)
-        .help("leaves out the items that are explained or valid")
+        .help("Leaves out the items that are explained or valid")
 }
 
 /// `judge`, with the files of a model and its items.
 fn judge_command<'a>(alloc: Global) -> Result<Command<'a>, AllocError> {
     Command::new(alloc, "judge")
-        .about("judges the cases and recorded runs behind a model: a line for each")
+        .about("Judges cases and recorded runs: prints a verdict for each")
+        .after_help(help::JUDGE)
         .arg(files(alloc))?
         .arg(keep_going(alloc))?
         .arg(all_messages(alloc))?
@@ -91,9 +98,8 @@ fn judge_command<'a>(alloc: Global) -> Result<Command<'a>, AllocError> {
 /// `run`, with the name of a system.
 fn run_command<'a>(alloc: Global) -> Result<Command<'a>, AllocError> {
     Command::new(alloc, "run")
-        .about(
-            "drives the cases behind a model on a system, once each: the runs and their verdicts",
-        )
+        .about("Drives cases on a system, once each: prints the runs and their verdicts")
+        .after_help(help::RUN)
         .arg(system(alloc))?
         .arg(files(alloc))?
         .arg(quiet(alloc))
@@ -115,56 +121,56 @@ const PLAN_NUMBERS: [PlanNumber; 8] = [
         least: 0,
         most: u64::MAX,
         default: "0",
-        help: "chooses the random words",
+        help: "Chooses the cases: the same seed generates the same ones",
     },
     PlanNumber {
         name: "trials",
         least: 0,
         most: MAX_TRIALS as u64,
         default: "100",
-        help: "how many cases are tried",
+        help: "How many cases are tried",
     },
     PlanNumber {
         name: "commands",
         least: 1,
         most: MAX_COMMANDS as u64,
         default: "16",
-        help: "the most commands of a case",
+        help: "The most commands of a case",
     },
     PlanNumber {
         name: "branches",
         least: 1,
         most: MAX_BRANCHES as u64,
         default: "2",
-        help: "the branches that run at once",
+        help: "How many branches run at the same time",
     },
     PlanNumber {
         name: "suffix",
         least: 0,
         most: MAX_SUFFIX as u64,
         default: "0",
-        help: "the commands behind the branches",
+        help: "How many commands come after the branches",
     },
     PlanNumber {
         name: "repeats",
         least: 1,
         most: MAX_REPEATS as u64,
         default: "5",
-        help: "how often a case is driven",
+        help: "How often a case is driven",
     },
     PlanNumber {
         name: "workers",
         least: 1,
         most: 16,
         default: "4",
-        help: "how many systems run at once",
+        help: "How many systems run at the same time",
     },
     PlanNumber {
         name: "limit",
         least: 0,
         most: MAX_LIMIT as u64,
         default: "1000",
-        help: "the most cases driven to shrink one",
+        help: "The most cases driven to shrink one",
     },
 ];
 
@@ -179,20 +185,20 @@ fn plan_option<'a>(alloc: Global, number: &PlanNumber) -> Arg<'a> {
         .help(number.help)
 }
 
-/// The option that forbids what stands on standard error.
+/// The option that keeps standard error empty.
 fn quiet<'a>(alloc: Global) -> Arg<'a> {
     Arg::new(alloc, "quiet")
+        .short('q')
         .long("quiet")
         .action(ArgAction::SetTrue)
-        .help("writes no messages, no warnings, no summary and no line of progress")
+        .help("Writes no messages, no warnings, no summary and no line of progress")
 }
 
 /// `campaign`, with the name of a system and the numbers of its plan.
 fn campaign_command<'a>(alloc: Global) -> Result<Command<'a>, AllocError> {
     let mut command = Command::new(alloc, "campaign")
-        .about(
-            "generates cases of a model, drives them on a system and shrinks those that fail: a report",
-        )
+        .about("Generates cases, drives them on a system and shrinks those that fail: prints a report")
+        .after_help(help::CAMPAIGN)
         .arg(system(alloc))?
         .arg(file(alloc))?;
     for number in &PLAN_NUMBERS {
@@ -201,37 +207,45 @@ fn campaign_command<'a>(alloc: Global) -> Result<Command<'a>, AllocError> {
     command.arg(quiet(alloc))
 }
 
-/// Adds the words whose input is a model.
+/// Adds the commands whose input is a model.
 fn with_models<'a>(alloc: Global, command: Command<'a>) -> Result<Command<'a>, AllocError> {
     command
         .subcommand(check_command(alloc)?)?
         .subcommand(list_command(alloc)?)
 }
 
-/// Adds the words whose input is a model and the items behind it.
+/// Adds the commands whose input is a model and items.
 fn with_items<'a>(alloc: Global, command: Command<'a>) -> Result<Command<'a>, AllocError> {
     command
         .subcommand(judge_command(alloc)?)?
         .subcommand(crate::explaining::command(alloc)?)
 }
 
-/// Adds the words that take a system.
+/// `verdicts`, which prints what verdicts, reports and exit statuses mean.
+fn verdicts_command<'a>(alloc: Global) -> Command<'a> {
+    Command::new(alloc, "verdicts")
+        .about("Explains verdicts, reports and exit statuses")
+        .override_help(help::VERDICTS)
+}
+
+/// Adds the commands that take a system.
 fn with_systems<'a>(alloc: Global, command: Command<'a>) -> Result<Command<'a>, AllocError> {
     command
         .subcommand(run_command(alloc)?)?
         .subcommand(campaign_command(alloc)?)
 }
 
-/// The words that the program takes.
+/// The commands of the program.
 pub fn command<'a>(alloc: Global) -> Result<Command<'a>, AllocError> {
     let command = Command::new(alloc, "pst")
         .version("0.1.0")
-        .about("a tester of systems against models")
+        .about("Finds races in servers: tests concurrent systems against a sequential model")
+        .after_help(help::PROGRAM)
         .subcommand_required(true)
         .arg_required_else_help(true);
     let command = with_models(alloc, command)?;
     let command = with_items(alloc, command)?;
-    with_systems(alloc, command)
+    with_systems(alloc, command)?.subcommand(verdicts_command(alloc))
 }
 
 /// The number of an option.
@@ -239,7 +253,7 @@ fn small_number(words: &ArgMatches<'_>, name: &str) -> Option<u32> {
     words.get_one(name)
 }
 
-/// The settings that the words of `campaign` give. Each has a default and was found to be in its range.
+/// The settings that the arguments of `campaign` give. Each has a default and was found to be in its range.
 pub fn settings(words: &ArgMatches<'_>) -> Option<Settings>
     ensures { IfSome result AreInRange }
 {
