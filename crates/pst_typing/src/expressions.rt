@@ -42,7 +42,8 @@ pub fn type_of(
     }
 }
 
-/// The same as `type_of`, with equal parts of the type shared.
+/// The type of an expression among the names of a scope, with its equal parts shared. `None` if the expression is
+/// not well typed.
 pub fn find_kind(
     expr: &Expr,
     context: &Context<'_>,

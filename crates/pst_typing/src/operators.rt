@@ -24,7 +24,7 @@ pub fn kind_of(alloc: Global, ty: &Ty) -> Result<Kind, Refusal>
     Ok(Kind::of(alloc, ty)?)
 }
 
-/// A copy of a kind, where there is one.
+/// A copy of a kind, if there is one.
 pub fn copied(kind: Option<&Kind>) -> Result<Kind, Refusal>
     ensures { Answers (option_copied kind.entry) result }
 {
@@ -34,7 +34,7 @@ pub fn copied(kind: Option<&Kind>) -> Result<Kind, Refusal>
     }
 }
 
-/// The kind of a type, where a test is passed.
+/// The kind of a type, if a test is passed.
 fn where_true(alloc: Global, test: bool, ty: &Ty) -> Result<Kind, Refusal>
     ensures { Answers (spec.where_true test (Some ty.now)) result }
 {
@@ -45,7 +45,7 @@ fn where_true(alloc: Global, test: bool, ty: &Ty) -> Result<Kind, Refusal>
     }
 }
 
-/// A kind, where a test is passed.
+/// A kind, if a test is passed.
 fn kept(test: bool, kind: Kind) -> Result<Kind, Refusal>
     ensures { Answers (spec.where_true test (Some kind)) result }
 {
@@ -237,7 +237,7 @@ fn keys_list_type(alloc: Global, map: &Kind) -> Result<Kind, Refusal>
     Ok(keys.list(alloc)?)
 }
 
-/// The kind of a list of integers, where both are `int`.
+/// The kind of lists of integers, if both are `int`.
 fn range_type(alloc: Global, first: &Kind, second: &Kind) -> Result<Kind, Refusal>
     ensures { Answers (spec.where_true (spec.both_int first.now second.now) (Some (list int))) result }
 {
