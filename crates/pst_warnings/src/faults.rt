@@ -93,7 +93,14 @@ pub fn on_faults(
     scripts: Scripts,
 ) -> Result<String, AllocError> {
     let what = count_text(alloc, &scripts)?;
-    let Some(first) = scripts.first_faulty else {
+    let Scripts {
+        called: _called,
+        count: _,
+        faulty: _,
+        first_faulty,
+        is_cut: _,
+    } = scripts;
+    let Some(first) = first_faulty else {
         return Ok(String::new(alloc));
     };
     let items = typed.source().items.as_slice();
