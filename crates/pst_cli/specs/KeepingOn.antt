@@ -20,6 +20,11 @@ use Rattle.pst_model.specs.declared.model.Source.{Source}
 use Rattle.pst_runs.specs.Items.{runs_of}
 use Rattle.pst_sexpr.specs.declared.form.Form.{Form}
 
+-- the input holds a model and these trees, and these are the answers to the items among them, in their order
+pub record HoldsAnswers (input : List ℕ) (m : Source) (trees : List Form) (answers : List Answer) : Type 0 where
+  pub holds : Holds input m trees
+  pub answered : AllZip (IsAnswer m) (items_of trees) answers
+
 -- `NUMBER VERDICT`, or `refused run NUMBER command C KIND`
 abbrev pub answer_line : ℕ → Answer → List ℕ
 answer_line number (answer.Judged judged) = item_line number judged

@@ -1,9 +1,11 @@
 //! `pst judge`.
 ghost use Rattle.std.specs.Prelude.{◌≡◌, false, All, IfOk, IfSome, MatchResult, string_bytes};
 ghost use Rattle.std.specs.List.{list_all};
+ghost use Rattle.pst_cli.specs.Kept.{HoldsJudged, keeps_all};
 ghost use Rattle.pst_cli.specs.Output.{IsJudgeOutput, IsShownOutput, is_good, run_line, status_of};
 ghost use Rattle.pst_cli.specs.Sending.{Prints};
 ghost use Rattle.pst_cli.specs.declared.status.Status.TheVariants.{Refused};
+ghost use Rattle.pst_each.specs.Parts.{joined};
 ghost use Rattle.pst_runs.specs.Items.{runs_of};
 ghost use Rattle.pst_runs.specs.Lawful.{AreLawful};
 
@@ -95,6 +97,8 @@ fn judge_output<R: Threads + Sync>(
     keep: Keep,
 ) -> Result<(Output, Option<JudgedFile>), AllocError>
     ensures output { IfOk result (λ r. IsShownOutput shown input.now r.0.text.items r.0.status) }
+    ensures held { IfOk result (λ r. IfSome r.1 (λ file. HoldsJudged (keeps_all keep) input.now file.compiled
+        (joined file.runs.items) file.judged.items)) }
     ensures lawful { IfOk result
         (λ r. IfSome r.1 (λ judged. All (λ runs. AreLawful judged.compiled runs.items) judged.runs.items)) }
 {
@@ -119,6 +123,8 @@ fn judge_keeping<W: Sink, R: Threads + Sync>(
     requires { W.broken sink.old ≡ false }
     ensures prints { Prints (IsShownOutput shown input.now)
         (W.taken sink.old) (W.taken sink.new) (W.broken sink.new) result.0 }
+    ensures held { IfSome result.1 (λ file. HoldsJudged (keeps_all keep) input.now file.compiled
+        (joined file.runs.items) file.judged.items) }
     ensures lawful { IfSome result.1
         (λ judged. All (λ runs. AreLawful judged.compiled runs.items) judged.runs.items) }
 {
@@ -142,6 +148,8 @@ pub fn judge_file<W: Sink, R: Threads + Sync>(
     requires { W.broken sink.old ≡ false }
     ensures prints { Prints (IsShownOutput shown input.now)
         (W.taken sink.old) (W.taken sink.new) (W.broken sink.new) result.0 }
+    ensures held { IfSome result.1 (λ file. HoldsJudged false input.now file.compiled
+        (joined file.runs.items) file.judged.items) }
     ensures lawful { IfSome result.1
         (λ judged. All (λ runs. AreLawful judged.compiled runs.items) judged.runs.items) }
 {

@@ -1,6 +1,7 @@
 //! `pst judge --keep-going`.
-ghost use Rattle.std.specs.Prelude.{◌≡◌, ◌++◌, false, IfOk, OnOk, string_bytes};
+ghost use Rattle.std.specs.Prelude.{◌≡◌, ◌++◌, false, IfOk, IfSome, OnOk, string_bytes};
 ghost use Rattle.pst_cli.specs.KeepingOn.{
+  HoldsAnswers,
   IsKeepingOnOutput,
   IsShownKeepingOn,
   answer_line,
@@ -149,7 +150,9 @@ fn keeping_on_output<R: Threads + Sync>(
     input: &[u8],
     shown: Shown,
 ) -> Result<(Output, Option<AnsweredFile>), AllocError>
-    ensures { IfOk result (λ r. IsShownKeepingOn shown input.now r.0.text.items r.0.status) }
+    ensures output { IfOk result (λ r. IsShownKeepingOn shown input.now r.0.text.items r.0.status) }
+    ensures held { IfOk result (λ r. IfSome r.1 (λ answered. HoldsAnswers input.now answered.file.compiled
+        answered.file.trees.items answered.answers.items)) }
 {
     let file = match load_compiled(alloc, input)? {
         Ok(file) => file,
@@ -173,8 +176,10 @@ pub fn judge_file_keeping_on<W: Sink, R: Threads + Sync>(
     sink: &mut W,
 ) -> (Status, Option<AnsweredFile>)
     requires { W.broken sink.old ≡ false }
-    ensures { Prints (IsShownKeepingOn shown input.now)
+    ensures prints { Prints (IsShownKeepingOn shown input.now)
         (W.taken sink.old) (W.taken sink.new) (W.broken sink.new) result.0 }
+    ensures held { IfSome result.1 (λ answered. HoldsAnswers input.now answered.file.compiled
+        answered.file.trees.items answered.answers.items) }
 {
     match keeping_on_output(rt, alloc, input, shown) {
         Ok((output, answered)) => (send(output.text.as_slice(), output.status, sink), answered),

@@ -20,3 +20,6 @@ returns-clause-lawful g c =
     let file = c.in-Ok.file in
     let read = rw c.in-Ok.is at c.in_ok-file.ensures in
     lawful_parts file.compiled file.runs.items read.lawful
+
+pub returns-clause-held : goal.returns-clause-held
+returns-clause-held g c = rw c.in-Ok.is at c.in_ok-file.ensures
