@@ -20,17 +20,10 @@ class Cache:
         return key in self.kept
 
     def clear(self):
-        self.kept.clear()
-        return True
+        return self.kept.clear() is None
 
 
-def locked():
-    return Cache(threading.Lock())
-
-
-def racy():
-    return Cache(contextlib.nullcontext())
-
-
+locked = lambda: Cache(threading.Lock())
+racy = lambda: Cache(contextlib.nullcontext())
 if __name__ == "__main__":
     serve(racy if "--racy" in sys.argv else locked)

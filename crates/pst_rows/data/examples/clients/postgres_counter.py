@@ -1,10 +1,6 @@
 #!/usr/bin/env python3
-"""A client of examples/counter.model: a number in PostgreSQL, incremented by one statement, or by two (--racy).
-
-The variables of libpq say where the server is: PGHOST, PGPORT, PGUSER, PGDATABASE.
-"""
-import json, os, sys
-import psycopg2
+"""A client of examples/counter.model: a number in PostgreSQL (at PGHOST, PGPORT), incremented by one statement, or by two (--racy)."""
+import json, os, psycopg2, sys
 
 connection = psycopg2.connect("")
 connection.autocommit = True
@@ -18,8 +14,7 @@ def ask(statement, *values):
 
 
 def reset():
-    ask("drop table if exists {}")
-    ask("create table {} as select 0 as n")
+    ask("drop table if exists {0}; create table {0} as select 0 as n")
 
 
 def inc():

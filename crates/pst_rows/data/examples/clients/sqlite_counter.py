@@ -1,10 +1,6 @@
 #!/usr/bin/env python3
 """A client of examples/counter.model: a number in an SQLite file, incremented by one statement, or by two (--racy)."""
-import json
-import os
-import sqlite3
-import sys
-import tempfile
+import json, os, sqlite3, sys, tempfile
 
 file = sqlite3.connect(f"{tempfile.gettempdir()}/pst-{os.environ['PST_WORKER']}.db", isolation_level=None, timeout=10)
 file.execute("pragma synchronous = off")
