@@ -28,7 +28,15 @@ fn explanation<R: Threads + Sync>(
 ) -> Result<Option<Vec<u8>>, AllocError> {
     let file = file_of(alloc, input, run)?;
     let mut out = Out::new(Vec::new(alloc));
-    let status = explain_text(rt, alloc, file.as_slice(), &[], Chosen::All, WIDTH, &mut out);
+    let status = explain_text(
+        rt,
+        alloc,
+        file.as_slice(),
+        &[],
+        Chosen::All,
+        WIDTH,
+        &mut out,
+    );
     if status != Status::Failed {
         return Ok(None);
     }

@@ -63,7 +63,11 @@ fn say<R: Eprint>(rt: &R, place: usize, seconds: u64) {
 }
 
 /// Looks each second which clients have not answered, until it is over.
-fn look_each_second<R: Wait + Eprint>(rt: &R, alloc: Global, watched: &Watched) -> Result<(), AllocError> {
+fn look_each_second<R: Wait + Eprint>(
+    rt: &R,
+    alloc: Global,
+    watched: &Watched,
+) -> Result<(), AllocError> {
     let waits = watched.notes.waits();
     let mut clients = Vec::with_capacity(alloc, waits.len())?;
     for _ in 0..waits.len() {

@@ -40,7 +40,11 @@ fn with_file<'a>(alloc: Global, name: &'a str, about: &'a str) -> Result<Command
 
 /// `check`, with the file of a model.
 fn check_command<'a>(alloc: Global) -> Result<Command<'a>, AllocError> {
-    let command = with_file(alloc, "check", "Checks a model: prints `ok NAME`, or the refusal")?;
+    let command = with_file(
+        alloc,
+        "check",
+        "Checks a model: prints `ok NAME`, or the refusal",
+    )?;
     Ok(command.after_help(help::CHECK))
 }
 
@@ -197,7 +201,9 @@ fn quiet<'a>(alloc: Global) -> Arg<'a> {
 /// `campaign`, with the name of a system and the numbers of its plan.
 fn campaign_command<'a>(alloc: Global) -> Result<Command<'a>, AllocError> {
     let mut command = Command::new(alloc, "campaign")
-        .about("Generates cases, drives them on a system and shrinks those that fail: prints a report")
+        .about(
+            "Generates cases, drives them on a system and shrinks those that fail: prints a report",
+        )
         .after_help(help::CAMPAIGN)
         .arg(system(alloc))?
         .arg(file(alloc))?;

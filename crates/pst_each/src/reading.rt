@@ -64,7 +64,11 @@ fn unread(fault: SexprFault) -> PartFault {
 }
 
 /// The runs that the bytes of a part spell.
-pub(crate) fn runs_of_part(alloc: Global, typed: &Typed, bytes: &[u8]) -> Result<Vec<Run>, PartFault>
+pub(crate) fn runs_of_part(
+    alloc: Global,
+    typed: &Typed,
+    bytes: &[u8],
+) -> Result<Vec<Run>, PartFault>
     ensures spelled { IfOk result (λ runs. SpellsRuns typed.now bytes.now runs.items) }
     ensures lawful { IfOk result (λ runs. AreLawful typed.now runs.items) }
 {
