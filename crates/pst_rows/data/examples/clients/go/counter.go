@@ -7,32 +7,22 @@ import (
 	"sync/atomic"
 )
 
-// Counter counts its calls of inc.
-type Counter struct{ number atomic.Int64 }
-
-func (c *Counter) inc() int64 { return c.number.Add(1) }
-
-func (c *Counter) racyInc() int64 {
-	next := c.number.Load() + 1
-	runtime.Gosched()
-	c.number.Store(next)
-	return next
-}
-
 func newCounter() Calls {
-	c := &Counter{}
-	return Calls{"inc": c.inc, "get": c.number.Load}
+	var number atomic.Int64
+	return Calls{"inc": func() int64 { return number.Add(1) }, "get": number.Load}
 }
 
 func newRacyCounter() Calls {
-	c := &Counter{}
-	return Calls{"inc": c.racyInc, "get": c.number.Load}
+	var number atomic.Int64
+	inc := func() int64 {
+		next := number.Load() + 1
+		runtime.Gosched()
+		number.Store(next)
+		return next
+	}
+	return Calls{"inc": inc, "get": number.Load}
 }
 
 func main() {
-	if len(os.Args) > 1 {
-		Serve(newRacyCounter)
-	} else {
-		Serve(newCounter)
-	}
+	Serve(map[bool]func() Calls{false: newCounter, true: newRacyCounter}[len(os.Args) > 1])
 }
