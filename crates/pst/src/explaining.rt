@@ -60,7 +60,8 @@ pub fn command<'a>(alloc: Global) -> Result<Command<'a>, AllocError> {
     with_files(alloc)?
         .arg(crate::words::failures(alloc))?
         .arg(dot_option(alloc)?)?
-        .arg(item_option(alloc)?)
+        .arg(item_option(alloc)?)?
+        .arg(crate::words::output(alloc))
 }
 
 /// The width of lines that the words ask for.

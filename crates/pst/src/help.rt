@@ -60,6 +60,15 @@ Examples:
 Exit status: 0 if all trials passed, 1 if some trial did not, 2 if the input is refused, 3 if a trial was lost,
 an allocation failed or the output cannot be written.";
 
+/// After the help of `fmt`.
+pub const FMT: &str = "\
+Examples:
+  pst fmt cache.model
+  pst fmt --check *.model
+
+Exit status: 0 if all files are laid out, 1 if with --check one would change, 2 if one cannot be read, 3 if an allocation
+failed or a file cannot be written.";
+
 /// The help of `verdicts`.
 pub const VERDICTS: &str = "\
 The verdict on a recorded run:

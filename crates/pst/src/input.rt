@@ -7,7 +7,7 @@ use std::io::{self, ErrorKind, Read};
 use std::rt::Files;
 
 /// The name of standard input.
-const STANDARD_INPUT: &str = "-";
+pub const STANDARD_INPUT: &str = "-";
 
 /// How the input is read.
 #[derive(Clone, Copy, Drop)]

@@ -9,6 +9,7 @@ mod clients;
 mod driving;
 mod explained;
 mod explaining;
+mod formatting;
 mod hangs;
 mod help;
 mod input;
@@ -35,7 +36,7 @@ use pst_sources::{Input, SourceFile, joined};
 use pst_system::BoxedSystem;
 use std::alloc::Global;
 use std::io;
-use std::io::IsTerminal;
+use std::io::{IsTerminal, Write};
 use std::process::ExitCode;
 use std::rt::Runtime;
 use std::sync::Wait;
@@ -165,8 +166,8 @@ fn names<'a>(matches: &'a ArgMatches<'_>) -> &'a [&'a str] {
     }
 }
 
-/// The files that the words name. If there are none, or no system of the name that they give, the status that the program
-/// ends with.
+/// The files that the words name. If there are none, or no system of the name that they give, or files are only laid out, the
+/// status that the program ends with.
 fn read<'a, R: Runtime + AllocGlobal>(
     rt: &R,
     matches: &'a ArgMatches<'_>,
@@ -181,24 +182,28 @@ fn read<'a, R: Runtime + AllocGlobal>(
         is_quiet,
         is_terminal: terminals.input,
     };
+    if let Some(("fmt", words)) = matches.subcommand() {
+        return Err(formatting::lay_out(rt, words, reading));
+    }
     match input::files(rt, names(matches), reading) {
         Ok(files) => Ok(files),
         Err(why) => Err(refuse_text(why, &mut out)),
     }
 }
 
-/// Does what the words say, on standard output. Beside each refusal a message is on standard error, and warnings may be
-/// there beside a model that `check` accepts and after the lines of `judge`, unless the words forbid it. Last is a line that
-/// sums up the items of `judge` and `run`.
-fn run<R: Runtime + AllocGlobal + Threads + Wait + Sync>(
+/// Does what the words say, and writes it. Beside each refusal a message is on standard error, and warnings may be there beside
+/// a model that `check` accepts and after the lines of `judge`, unless the words forbid it. Last is a line that sums up the
+/// items of `judge` and `run`.
+fn run_to<W: Write + Drop, R: Runtime + AllocGlobal + Threads + Wait + Sync>(
     rt: &R,
     matches: &ArgMatches<'_>,
     systems: Systems,
     misfits: Option<&Misfits>,
     is_terminal: bool,
     input: Input<'_>,
+    writer: W,
 ) -> Status {
-    let mut out = Out::new(io::writer(rt));
+    let mut out = Out::new(writer);
     let mut counts = Counts::new();
     let status = answer(
         rt,
@@ -215,6 +220,34 @@ fn run<R: Runtime + AllocGlobal + Threads + Wait + Sync>(
         summary::report(rt, &counts);
     }
     status
+}
+
+/// The name of the file that the words give for the output.
+fn output_name<'a>(matches: &ArgMatches<'a>) -> Option<&'a str> {
+    let (_, words) = matches.subcommand()?;
+    words.get_str("output")
+}
+
+/// Does what the words say, and writes it to the file that they name, or to standard output.
+fn run<R: Runtime + AllocGlobal + Threads + Wait + Sync>(
+    rt: &R,
+    matches: &ArgMatches<'_>,
+    systems: Systems,
+    misfits: Option<&Misfits>,
+    is_terminal: bool,
+    input: Input<'_>,
+) -> Status {
+    let Some(name) = output_name(matches) else {
+        let writer = io::writer(rt);
+        return run_to(rt, matches, systems, misfits, is_terminal, input, writer);
+    };
+    match std::fs::create(rt, name) {
+        Ok(file) => run_to(rt, matches, systems, misfits, is_terminal, input, file),
+        Err(error) => {
+            let _ = eprintln!(rt; "pst: cannot write {name}: {error}");
+            Status::Lost
+        }
+    }
 }
 
 /// A system in a box.

@@ -35,6 +35,7 @@ fn with_file<'a>(alloc: Global, name: &'a str, about: &'a str) -> Result<Command
     Command::new(alloc, name)
         .about(about)
         .arg(file(alloc))?
+        .arg(output(alloc))?
         .arg(quiet(alloc))
 }
 
@@ -96,6 +97,7 @@ fn judge_command<'a>(alloc: Global) -> Result<Command<'a>, AllocError> {
         .arg(keep_going(alloc))?
         .arg(all_messages(alloc))?
         .arg(failures(alloc))?
+        .arg(output(alloc))?
         .arg(quiet(alloc))
 }
 
@@ -106,6 +108,7 @@ fn run_command<'a>(alloc: Global) -> Result<Command<'a>, AllocError> {
         .after_help(help::RUN)
         .arg(system(alloc))?
         .arg(files(alloc))?
+        .arg(output(alloc))?
         .arg(quiet(alloc))
 }
 
@@ -189,8 +192,17 @@ fn plan_option<'a>(alloc: Global, number: &PlanNumber) -> Arg<'a> {
         .help(number.help)
 }
 
+/// The option that names a file for the output.
+pub fn output<'a>(alloc: Global) -> Arg<'a> {
+    Arg::new(alloc, "output")
+        .short('o')
+        .long("output")
+        .value_name("FILE")
+        .help("Writes to FILE in place of standard output")
+}
+
 /// The option that keeps standard error empty.
-fn quiet<'a>(alloc: Global) -> Arg<'a> {
+pub fn quiet<'a>(alloc: Global) -> Arg<'a> {
     Arg::new(alloc, "quiet")
         .short('q')
         .long("quiet")
@@ -210,7 +222,7 @@ fn campaign_command<'a>(alloc: Global) -> Result<Command<'a>, AllocError> {
     for number in &PLAN_NUMBERS {
         command = command.arg(plan_option(alloc, number))?;
     }
-    command.arg(quiet(alloc))
+    command.arg(output(alloc))?.arg(quiet(alloc))
 }
 
 /// Adds the commands whose input is a model.
@@ -251,7 +263,9 @@ pub fn command<'a>(alloc: Global) -> Result<Command<'a>, AllocError> {
         .arg_required_else_help(true);
     let command = with_models(alloc, command)?;
     let command = with_items(alloc, command)?;
-    with_systems(alloc, command)?.subcommand(verdicts_command(alloc))
+    with_systems(alloc, command)?
+        .subcommand(crate::formatting::command(alloc)?)?
+        .subcommand(verdicts_command(alloc))
 }
 
 /// The number of an option.

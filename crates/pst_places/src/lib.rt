@@ -15,6 +15,6 @@ pub use chars::char_at;
 pub use closed::{ClosedItem, closed_item, first_item};
 pub use find::{span_in, span_of};
 pub use open::{Unclosed, open_item};
-pub use scan::tree_at;
+pub use scan::{State, after, is_space, tree_at};
 pub use shown::{LineStart, Place, first_line, line_from, place_of, place_on};
 pub use span::Span;

@@ -1,4 +1,5 @@
 -- what the public contracts cite
+pub mod FaultName
 pub mod Number
 pub mod Candidates
 pub mod Weight

@@ -1,4 +1,6 @@
 //! Why a case was not shrunk.
+ghost use Rattle.std.specs.Prelude.{◌≡◌};
+ghost use Rattle.pst_shrink.specs.FaultName.{fault_name};
 
 use std::alloc::AllocError;
 
@@ -9,6 +11,18 @@ pub enum ShrinkFault<F> {
     Attempt(F),
     /// Memory was refused to shrinking itself.
     NoMemory,
+}
+
+impl<F> ShrinkFault<F> {
+    /// The name of its kind, as `Attempt`.
+    pub fn name(&self) -> &'static str
+        ensures { result.now ≡ fault_name self.now }
+    {
+        match self {
+            ShrinkFault::Attempt(_) => "Attempt",
+            ShrinkFault::NoMemory => "NoMemory",
+        }
+    }
 }
 
 impl<F> From<AllocError> for ShrinkFault<F> {

@@ -1,0 +1,68 @@
+//! A file that is laid out.
+
+use crate::layout::Layout;
+use crate::measure::measures;
+use crate::tokens::{Token, bytes_of, tokens};
+use pst_sexpr::{SexprFault, Tree, read};
+use std::alloc::{AllocError, Global};
+
+/// The tokens of a file on new lines.
+fn relaid(alloc: Global, input: &[u8], tokens: &[Token]) -> Result<Vec<u8>, AllocError> {
+    let measures = measures(alloc, input, tokens)?;
+    let mut layout = Layout::new(alloc, input, tokens, measures.as_slice());
+    for (number, token) in tokens.iter().enumerate() {
+        layout.add(number, token)?;
+    }
+    layout.into_text()
+}
+
+/// Whether two files have the same tokens, comments among them.
+fn have_same_tokens(
+    alloc: Global,
+    first: &[u8],
+    of_first: &[Token],
+    second: &[u8],
+) -> Result<bool, AllocError> {
+    let of_second = tokens(alloc, second)?;
+    if of_first.len() != of_second.len() {
+        return Ok(false);
+    }
+    for (one, other) in of_first.iter().zip(of_second.as_slice()) {
+        if one.kind != other.kind || bytes_of(first, one) != bytes_of(second, other) {
+            return Ok(false);
+        }
+    }
+    Ok(true)
+}
+
+/// Whether two lists hold the same trees.
+fn are_same(first: &[Tree], second: &[Tree]) -> bool {
+    if first.len() != second.len() {
+        return false;
+    }
+    for (one, other) in first.iter().zip(second) {
+        if *one.form() != *other.form() {
+            return false;
+        }
+    }
+    true
+}
+
+/// The file on new lines: a model in at most 80 columns where its tokens allow it, each part of a node that does not fit on
+/// lines of its own; a case or a recorded run on one line; comments where they were, and at most one empty line between items. It has the same tokens and comments, and spells
+/// the same trees: that is checked, and the file is left as it is otherwise.
+///
+/// The fault is that of a file that cannot be read, as `read` returns it.
+pub fn laid_out(alloc: Global, input: &[u8]) -> Result<Vec<u8>, SexprFault> {
+    let trees = read(alloc, input)?;
+    let old = tokens(alloc, input)?;
+    let text = relaid(alloc, input, old.as_slice())?;
+    if have_same_tokens(alloc, input, old.as_slice(), text.as_slice())? {
+        if let Ok(again) = read(alloc, text.as_slice()) {
+            if are_same(trees.as_slice(), again.as_slice()) {
+                return Ok(text);
+            }
+        }
+    }
+    Ok(Vec::from_slice(alloc, input)?)
+}
