@@ -132,8 +132,8 @@ impl<'a> Layout<'a> {
         matches!(self.head(number), Some(b"state") | Some(b"init"))
     }
 
-    /// Whether the node that begins with a token is a case or a recorded run without a comment in it. It takes one line, however
-    /// long it is.
+    /// Whether the node that begins with a token is a case or a recorded run without a comment in it. If it is on one line in the
+    /// file, it stays on one, however long that is.
     fn is_item(&self, number: usize) -> bool {
         let has_comment = match self.measures.get(number) {
             Some(measure) => measure.has_comment,
@@ -164,6 +164,7 @@ impl<'a> Layout<'a> {
         match frame.style.rule {
             Rule::First(count) => frame.parts <= count,
             Rule::Filled | Rule::Operation => fits,
+            Rule::Item => !begins_line,
             Rule::Model => frame.parts <= 1 || fits && self.is_start(number),
         }
     }
@@ -212,8 +213,8 @@ impl<'a> Layout<'a> {
             None => style_without_head(column),
         };
         let is_kept = style.rule.keeps_lines() && self.has_lines(number);
-        let fits = !is_kept && self.fits(number, column);
-        let is_flat = self.is_in_flat() || fits || self.is_item(number);
+        let fits = self.fits(number, column) || self.is_item(number);
+        let is_flat = self.is_in_flat() || fits && !is_kept;
         self.put(b"(")?;
         self.frames.push(Frame {
             style,

@@ -49,7 +49,7 @@ fn are_same(first: &[Tree], second: &[Tree]) -> bool {
 }
 
 /// The file on new lines: a model in at most 80 columns where its tokens allow it, each part of a node that does not fit on
-/// lines of its own; a case or a recorded run on one line; comments where they were, and at most one empty line between items. It has the same tokens and comments, and spells
+/// lines of its own; a case or a recorded run on the lines that it has; comments where they were, and at most one empty line between items. It has the same tokens and comments, and spells
 /// the same trees: that is checked, and the file is left as it is otherwise.
 ///
 /// The fault is that of a file that cannot be read, as `read` returns it.

@@ -10,6 +10,8 @@ pub enum Rule {
     Filled,
     /// Each part of an operation that fits there, and begins no line in the file.
     Operation,
+    /// Each part of a case or of a recorded run that begins no line in the file.
+    Item,
     /// The name, and then the state and the initial state where they fit and begin no line in the file.
     Model,
 }
@@ -32,7 +34,8 @@ fn rule_of(head: &[u8]) -> (Rule, bool) {
         b"op" => (Rule::Operation, true),
         b"fun" | b"postfun" => (Rule::First(3), true),
         b"let" => (Rule::First(2), true),
-        b"for" | b"case" | b"run" => (Rule::First(1), true),
+        b"for" => (Rule::First(1), true),
+        b"case" | b"run" => (Rule::Item, true),
         b"fold" => (Rule::First(4), true),
         b"list" | b"tuple" | b"call" | b"replies" => (Rule::Filled, false),
         b"prefix" | b"left" | b"right" | b"branches" | b"suffix" => (Rule::Filled, false),
@@ -56,7 +59,7 @@ pub fn style_of(head: &[u8], column: usize) -> Style {
 impl Rule {
     /// Whether a part that begins a line in the file begins one.
     pub fn keeps_lines(self) -> bool {
-        matches!(self, Rule::Operation | Rule::Model)
+        matches!(self, Rule::Operation | Rule::Item | Rule::Model)
     }
 }
 
