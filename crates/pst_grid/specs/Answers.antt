@@ -30,8 +30,8 @@ module _ {S F : Type 0} (turn : S → ℕ → ℕ → Turn S F) (rest : S → En
 
   -- found: the least merge that is all true
   -- faulted: no merge is all true, and this is the least that faults, with its place and its fault
-  -- nothing: no merge is all true and none faults, this is the least with so many true events before a false one,
-  -- and none has more
+  -- nothing: no merge is all true and none faults, this is the least with so many true events before a false
+  -- one, and none has more
   abbrev pub IsAnswer : SomeAnswer F → Type 0
   IsAnswer (Found word) = IsLeast (Ends AllTrue) word.items
   IsAnswer (Faulted word at fault) =

@@ -30,7 +30,7 @@ module _ {S F : Type 0} (turn : S → ℕ → ℕ → Turn S F) (rest : S → En
     pub place : x.at ≡ length before + steps
     pub least : (v : List ℕ) → W v → FaultsOn v → IsUpTo letters v
 
-  -- the least word of W with so many true events before a false one, as it is kept behind the letters before it
+  -- the least word of W with so many true events before a false one, kept behind the letters before it
   pub record IsLeastFalse (before : List ℕ) (W : List ℕ → Type 0) (x : FalseMerge) : Type 0 where
     pub letters : List ℕ
     pub steps : ℕ
@@ -48,8 +48,8 @@ module _ {S F : Type 0} (turn : S → ℕ → ℕ → Turn S F) (rest : S → En
     pub least : IsLeastFalse before W merge
 
   -- What the search has seen, old before and new after it covered the words of W, which stand behind the
-  -- letters before: none of W is all true; the first fault is kept, and is that of W's least faulting word; no word
-  -- of W is further than the furthest merge, which is the one before or the least so far in W.
+  -- letters before: none of W is all true; the first fault is kept, and is that of W's least faulting word;
+  -- no word of W is further than the furthest merge, which is the one before or the least so far in W.
   pub record Covered (before : List ℕ) (W : List ℕ → Type 0) (old new : Best F) : Type 0 where
     pub none_true : (w : List ℕ) → W w → run turn rest done s w ≡ AllTrue → ⊥
     pub kept : (x : FaultedMerge F) → old.fault ≡ Some x → new.fault ≡ Some x

@@ -29,7 +29,8 @@ module _ {S F : Type 0} (turn : S → ℕ → ℕ → Turn S F) (rest : S → En
     pub none_faults :
         best.fault ≡ None → (w : List ℕ) → Completes lengths done w → FaultsOn turn rest done s w → ⊥
     pub bounds : (w : List ℕ) (n : ℕ) →
-        Completes lengths done w → run turn rest done s w ≡ StopsAt n False → sum done + n < reach best.furthest
+        Completes lengths done w → run turn rest done s w ≡ StopsAt n False
+        → sum done + n < reach best.furthest
 
   -- so it is with each position at which so many commands are done
   abbrev pub AreAccounted : ℕ → Best F → List (Position S) → Type 0
