@@ -6,7 +6,7 @@ use Rattle.pst_case.specs.declared.case.Case.{Case}
 use Rattle.pst_case.specs.declared.history.History.{History}
 use Rattle.pst_eval.specs.declared.place.Place.{Place}
 use Rattle.pst_grid.specs.Answers.{IsAnswer, ending}
-use Rattle.pst_grid.specs.Merges.{IsMerge, IsLeast, IsUpTo, after, later, run, one_more, times, none_done}
+use Rattle.pst_grid.specs.Merges.{IsMerge, IsUpTo, after, later, run, one_more, times, none_done}
 use Rattle.pst_grid.specs.declared.answer.Ending.{Ending}
 use Rattle.pst_grid.specs.declared.answer.Ending.TheVariants.{AllTrue, StopsAt}
 use Rattle.pst_grid.specs.declared.answer.SomeAnswer.{SomeAnswer}
@@ -18,9 +18,9 @@ use Rattle.pst_grid.specs.declared.answer.Why.TheVariants.{False, Fault}
 use Rattle.pst_judge.proofs.FromSearch.{first_merge, first_is_merge, first_is_least, judged_by}
 use Rattle.pst_judge.proofs.Shifted.{shifted, shifted-true, shifted-stops, from_false, from_fault}
 use Rattle.pst_judge.specs.FromAnswer.{verdict_of, letters_of}
-use Rattle.pst_judge.specs.Interleaving.{StopsAllAsking, IsFurthestAsking, IsFaultingAsking, HasLettersAsking, IsInterleaving, word_or}
+use Rattle.pst_judge.specs.Interleaving.{IsFurthestAsking, IsFaultingAsking, HasLettersAsking, IsInterleaving, word_or}
 use Rattle.pst_judge.specs.Replay.{Asking, post_asked, replayed_asking, branch_lengths}
-use Rattle.pst_judge.specs.Verdict.{EndsAsking, FaultsAsking, IsJudgedAsking}
+use Rattle.pst_judge.specs.Verdict.{IsJudgedAsking}
 use Rattle.pst_judge.specs.declared.verdicts.Verdict.{Verdict}
 use Rattle.pst_judge.specs.declared.verdicts.Verdict.TheVariants.{Explained, Faulted, Unexplained, Broken}
 use Rattle.pst_model.specs.declared.model.Source.{Source}
