@@ -13,8 +13,7 @@ use crate::invalid::add_invalid;
 use crate::unexplained::add_unexplained;
 use pst_case::{History, Run};
 use pst_eval::{Callbacks, Place};
-use pst_judge::{Judged, Verdict};
-use pst_paths::faulting;
+use pst_judge::{Judged, Verdict, verdict_with_interleaving};
 use pst_rules::Typed;
 use pst_scene::{Page, Part, Scene, add, add_number, call_numbered, scene_of};
 use std::alloc::{AllocError, Global};
@@ -34,7 +33,7 @@ fn add_faulted<C: Callbacks>(
     requires verdict { IsVerdict (C.model callbacks.now) scene.now.run.now.shaped.case history.now
         (verdict.Faulted place) }
 {
-    let mut word = faulting(callbacks, alloc, &scene.run.shaped, history)?;
+    let (_, mut word) = verdict_with_interleaving(callbacks, alloc, &scene.run.shaped, history)?;
     if let Some(call) = call_numbered(scene.all.as_slice(), place.command) {
         if let Part::Branch(branch) = call.part {
             word.push(branch)?;

@@ -2,8 +2,8 @@
 //!
 //! `explain_item` writes the explanation of one item, whose judgement is known, and `first_places` finds
 //! where the trees of an input begin. `explain_script` says why no case can be generated, and `broken_text` which reply
-//! makes a run broken. What is reported as a core comes from `pst_reasons`, and what is
-//! reported of interleavings and their states from `pst_paths`; how it is laid out is tested and not proved.
+//! makes a run broken. What is reported as a core comes from `pst_reasons`, the interleavings from `pst_judge`,
+//! and their states from `pst_paths`; how it is laid out is tested and not proved.
 #![tactic(auto)]
 
 mod allowing;

@@ -7,8 +7,8 @@ ghost use Rattle.pst_judge.specs.declared.verdicts.Verdict.TheVariants as verdic
 use crate::cores::add_core;
 use pst_case::History;
 use pst_eval::Callbacks;
-use pst_judge::Postconditions;
-use pst_paths::{furthest, states};
+use pst_judge::{Postconditions, verdict_with_interleaving};
+use pst_paths::states;
 use pst_scene::{
     Call, Page, Scene, Table, add, add_number, add_states, add_word, falsity_text, in_order,
     next_calls, text_of, two,
@@ -92,7 +92,7 @@ pub fn add_unexplained<C: Callbacks>(
 {
     add_core(page, callbacks, alloc, scene, history)?;
     let shaped = &scene.run.shaped;
-    let word = furthest(callbacks, alloc, shaped, history, far)?;
+    let (_, word) = verdict_with_interleaving(callbacks, alloc, shaped, history)?;
     let sentence = far_sentence(alloc, far, word.as_slice())?;
     page.add_sentence(alloc, 2, sentence.as_slice())?;
     let order = in_order(alloc, &scene.calls, word.as_slice())?;

@@ -1,7 +1,7 @@
 //! The search of an item as a graph in the language of Graphviz: what `pst explain --dot` writes.
 //!
 //! `graph_item` draws the positions that the search of an item meets, the commands that lead from one to
-//! another, and the dead ends. The interleaving that is drawn bold comes from `pst_paths`; what is drawn
+//! another, and the dead ends. The interleaving that is drawn bold comes from `pst_judge`; what is drawn
 //! beside it is found by plain evaluation, is tested and not proved.
 #![tactic(auto)]
 

@@ -1,13 +1,11 @@
 //! The interleaving that a graph shows.
 ghost use Rattle.std.specs.Prelude.{◌≡◌, true};
 ghost use Rattle.pst_case.specs.Matches.{matches};
-ghost use Rattle.pst_judge.specs.Judgement.{HistoryMatches, IsJudgement};
-ghost use Rattle.pst_judge.specs.Verdict.{IsVerdict};
+ghost use Rattle.pst_judge.specs.Judgement.{HistoryMatches};
 
 use pst_case::History;
 use pst_eval::Callbacks;
-use pst_judge::{Judged, Verdict, Why};
-use pst_paths::{faulting, furthest};
+use pst_judge::{Judged, Verdict, Why, verdict_with_interleaving};
 use pst_scene::{Call, Part, Scene, call_numbered, calls_before, first_calls, in_order};
 use std::alloc::{AllocError, Global};
 
@@ -51,18 +49,16 @@ fn of_verdict<'a, C: Callbacks>(
 ) -> Result<Vec<Call<'a>>, AllocError>
     requires shaped { scene.now.run.now.shaped.model ≡ C.model callbacks.now }
     requires matches { matches (C.model callbacks.now) scene.now.run.now.shaped.case history.now ≡ true }
-    requires verdict { IsVerdict (C.model callbacks.now) scene.now.run.now.shaped.case history.now
-        verdict.now }
 {
     let shaped = &scene.run.shaped;
     match verdict {
         Verdict::Explained(word) => in_order(alloc, &scene.calls, word.as_slice()),
         Verdict::Faulted(place) => {
-            let word = faulting(callbacks, alloc, shaped, history)?;
+            let (_, word) = verdict_with_interleaving(callbacks, alloc, shaped, history)?;
             before_fault(alloc, scene, word.as_slice(), place.command)
         }
         Verdict::Unexplained(far) => {
-            let word = furthest(callbacks, alloc, shaped, history, *far)?;
+            let (_, word) = verdict_with_interleaving(callbacks, alloc, shaped, history)?;
             let order = in_order(alloc, &scene.calls, word.as_slice())?;
             first_calls(alloc, order.as_slice(), *far)
         }
@@ -97,7 +93,6 @@ pub fn shown_calls<'a, C: Callbacks>(
 ) -> Result<Vec<Call<'a>>, AllocError>
     requires shaped { scene.now.run.now.shaped.model ≡ C.model callbacks.now }
     requires matches { HistoryMatches (C.model callbacks.now) scene.now.run.now }
-    requires judged { IsJudgement (C.model callbacks.now) scene.now.run.now judged.now }
 {
     match judged {
         Judged::Verdict(verdict) => match &scene.run.history {

@@ -1,5 +1,5 @@
 -- From what a whole search has covered to its answer.
-use Rattle.std.proofs.Common.{◌≡◌, ℕ, zero, suc, ◌⊎◌, inl, inr, List, [], length, sum, get_or, replicate, Bool, true, false, MatchBool, Option, Some, None, MatchOption, refl, sym, ap, subst, ◌∙◌, arith}
+use Rattle.std.proofs.Common.{◌≡◌, ℕ, zero, suc, inl, inr, List, [], length, sum, get_or, replicate, Bool, true, false, MatchBool, Option, Some, None, MatchOption, refl, sym, ap, subst, ◌∙◌, arith}
 use Rattle.std.proofs.lemmas.List.{length-replicate}
 use Rattle.std.specs.declared.vec.Vec.{Vec}
 use Rattle.std.specs.declared.alloc.Global.{Global}
@@ -10,13 +10,15 @@ use Rattle.pst_grid.specs.declared.answer.SomeAnswer.TheVariants.{Found, Faulted
 use Rattle.pst_grid.specs.Answers.{IsEveryAnswer, FailsToBeTrue, IsAnswer, ending, Ends, Faults}
 use Rattle.pst_grid.specs.Checked.{AreTrue, IsLeastFailed, IsChecked}
 use Rattle.pst_grid.specs.Completions.{Completes, fill_from, IsAt}
-use Rattle.pst_grid.specs.Covered.{IsFalseAfter, Covered, IsLeastTrue}
+use Rattle.pst_grid.specs.Covered.{IsFurther, IsLeastFalse, Covered, IsLeastTrue}
+use Rattle.pst_grid.specs.Furthest.{HasEnd, reach}
 use Rattle.pst_grid.specs.Merges.{IsUpTo, IsMerge, none_done}
 use Rattle.pst_grid.specs.declared.answer.Ending.{Ending}
 use Rattle.pst_grid.specs.declared.answer.Ending.TheVariants.{AllTrue, StopsAt}
 use Rattle.pst_grid.specs.declared.every_search.FailedMerge.{FailedMerge}
 use Rattle.pst_grid.specs.declared.position.Position.{Position}
 use Rattle.pst_grid.specs.declared.search.Best.{Best}
+use Rattle.pst_grid.specs.declared.search.FalseMerge.{FalseMerge}
 use Rattle.pst_grid.specs.declared.search.FaultedMerge.{FaultedMerge}
 use Rattle.pst_grid.specs.declared.search.Search.{Search}
 use Rattle.pst_grid.specs.declared.answer.EveryAnswer.{EveryAnswer}
@@ -43,7 +45,7 @@ module _ {S F : Type 0} (turn : S → ℕ → ℕ → Turn S F) (rest : S → En
   found word l = subst (λ w. Ends turn rest lengths state AllTrue w × ((v : List ℕ) → Ends turn rest lengths state AllTrue v → IsUpTo w v)) (sym l.word_is)
       ((completes lengths l.letters l.member, l.is_true), λ v k. l.least v (merge lengths v k.0) k.1)
 
-  module _ (old best : Best F) (was : old.fault ≡ None) (zero_far : old.far ≡ 0) (c : Covered turn rest (none_done lengths) state [] (Completes lengths (none_done lengths)) old best) where
+  module _ (old best : Best F) (was : old.fault ≡ None) (nowhere : old.furthest ≡ None) (c : Covered turn rest (none_done lengths) state [] (Completes lengths (none_done lengths)) old best) where
     none_true : (v : List ℕ) → Ends turn rest lengths state AllTrue v → ⊥
     none_true v k = c.none_true v (merge lengths v k.0) k.1
 
@@ -53,25 +55,37 @@ module _ {S F : Type 0} (turn : S → ℕ → ℕ → Turn S F) (rest : S → En
     some_false none (StopsAt n False) w k r = (n, r)
     some_false none (StopsAt n (Fault f)) w k r = absurd (c.none_faults none w k (n, f, r))
 
-    pub nothing : best.fault ≡ None → IsAnswer turn rest lengths state (Nothing best.far)
-    nothing none = (none_true, λ v k. c.none_faults none v (merge lengths v k.0) k.1, furthest c.reached, λ v n k. omega (arith, c.bounds v n (merge lengths v k.0) k.1))
+    -- some merge is
+    one_false : best.fault ≡ None → best.furthest ≡ old.furthest → ⊥
+    one_false none e =
+        let at = IsAt-none lengths in
+        let w = fill_from 0 lengths (none_done lengths) in
+        let is = Completes-fill lengths (none_done lengths) at.branches at.within in
+        let s = some_false none (ending turn rest lengths state w) w is refl in
+        let z : reach best.furthest ≡ 0 = ap reach (e ∙ nowhere) in
+        omega (arith, c.bounds w s.0 is s.1, z)
+
+    pub is_further : best.fault ≡ None → IsFurther turn rest (none_done lengths) state [] (Completes lengths (none_done lengths)) old.furthest best.furthest
+    is_further none = elim c.reached [ inl e ↦ absurd (one_false none e) | inr p ↦ p ]
+
+    pub nothing : best.fault ≡ None → (x : FalseMerge) → best.furthest ≡ Some x → IsAnswer turn rest lengths state (Nothing x.at x.word)
+    nothing none x e = (none_true, λ v k. c.none_faults none v (merge lengths v k.0) k.1, least, λ v n k. omega (arith, c.bounds v n (merge lengths v k.0) k.1, ap reach e))
       where
-        at : IsAt lengths (none_done lengths)
-        at = IsAt-none lengths
+        p : IsFurther turn rest (none_done lengths) state [] (Completes lengths (none_done lengths)) old.furthest best.furthest
+        p = is_further none
 
-        first_word : List ℕ
-        first_word = fill_from 0 lengths (none_done lengths)
+        same : p.merge ≡ x
+        same = let r : Some p.merge ≡ Some x = sym p.kept ∙ e in cc
 
-        completes_first : Completes lengths (none_done lengths) (fill_from 0 lengths (none_done lengths))
-        completes_first = let a = IsAt-none lengths in Completes-fill lengths (none_done lengths) a.branches a.within
+        l : IsLeastFalse turn rest (none_done lengths) state [] (Completes lengths (none_done lengths)) x
+        l = subst (λ y. IsLeastFalse turn rest (none_done lengths) state [] (Completes lengths (none_done lengths)) y) same p.least
 
-        furthest : (best.far ≡ old.far) ⊎ IsFalseAfter turn rest (none_done lengths) state [] (Completes lengths (none_done lengths)) best.far → (v : List ℕ) × Ends turn rest lengths state (StopsAt best.far False) v
-        furthest (inl e) =
-            let w = fill_from 0 lengths (none_done lengths) in
-            let s = some_false none (ending turn rest lengths state w) w completes_first refl in
-            let z : s.0 ≡ best.far = (let b = c.bounds w s.0 completes_first s.1 in omega arith) in
-            (w, (completes lengths w completes_first, s.1 ∙ ap (λ n. StopsAt n False) z))
-        furthest (inr p) = let z : p.steps ≡ best.far = (let q = p.place in omega arith) in (p.letters, (completes lengths p.letters p.member, p.stops ∙ ap (λ n. StopsAt n False) z))
+        at : l.steps ≡ x.at
+        at = omega (arith, l.place)
+
+        least : Ends turn rest lengths state (StopsAt x.at False) x.word.items × ((v : List ℕ) → Ends turn rest lengths state (StopsAt x.at False) v → IsUpTo x.word.items v)
+        least = subst (λ w. Ends turn rest lengths state (StopsAt x.at False) w × ((v : List ℕ) → Ends turn rest lengths state (StopsAt x.at False) v → IsUpTo w v)) (sym l.word)
+            ((completes lengths l.letters l.member, l.stops ∙ ap (λ n. StopsAt n False) at), λ v k. l.least v (merge lengths v k.0) (k.1 ∙ sym (ap (λ n. StopsAt n False) at)))
 
     pub faulted : (f : FaultedMerge F) → best.fault ≡ Some f → IsAnswer turn rest lengths state (Faulted f.word f.at f.fault)
     faulted f e =
@@ -84,25 +98,49 @@ module _ {S F : Type 0} (turn : S → ℕ → ℕ → Turn S F) (rest : S → En
         )
 
 module _ {S F : Type 0} (turn : S → ℕ → ℕ → Turn S F) (rest : S → Ending F) (lengths : List ℕ) (state : S) where
-  pub ended : (P : Type 0) (done word : List ℕ) (old best : Best F) (after : Vec ℕ Global) (b : Bool) (answer : SomeAnswer F)
-      → done ≡ none_done lengths → word ≡ [] → old.fault ≡ None → old.far ≡ 0
-      → (P → Covered turn rest done state word (Completes lengths done) old best)
-      → MatchBool b (IsLeastTrue turn rest state done word (Completes lengths done) after.items) P
-      → MatchBool b (answer ≡ Found after) (MatchOption best.fault (answer ≡ Nothing best.far) (λ f. answer ≡ Faulted f.word f.at f.fault))
-      → IsAnswer turn rest lengths state answer
-  ended P done word old best after true answer d w none zero_far covered k e =
-      let l = subst (λ u. IsLeastTrue turn rest state (none_done lengths) u (Completes lengths (none_done lengths)) after.items) w
-      (subst (λ x. IsLeastTrue turn rest state x word (Completes lengths x) after.items) d k) in
-      subst (λ a. IsAnswer turn rest lengths state a) (sym e) (found turn rest lengths state after.items l)
-  ended P done word old best after false answer d w none zero_far covered k e =
-      let l = subst (λ u. Covered turn rest (none_done lengths) state u (Completes lengths (none_done lengths)) old best) w
-      (subst (λ x. Covered turn rest x state word (Completes lengths x) old best) d (covered k)) in
-      by l best.fault refl e
-    where
-      by : Covered turn rest (none_done lengths) state [] (Completes lengths (none_done lengths)) old best → (o : Option (FaultedMerge F)) → best.fault ≡ o
-          → MatchOption o (answer ≡ Nothing best.far) (λ f. answer ≡ Faulted f.word f.at f.fault) → IsAnswer turn rest lengths state answer
-      by l None q e = subst (λ a. IsAnswer turn rest lengths state a) (sym e) (nothing turn rest lengths state old best none zero_far l q)
-      by l (Some f) q e = subst (λ a. IsAnswer turn rest lengths state a) (sym e) (faulted turn rest lengths state old best none zero_far l f q)
+  -- a whole search from its start, of what it has covered
+  module _ (done word : List ℕ) (old best : Best F) (d : done ≡ none_done lengths) (w : word ≡ []) (none : old.fault ≡ None) (nowhere : old.furthest ≡ None) where
+    at_start : Covered turn rest done state word (Completes lengths done) old best → Covered turn rest (none_done lengths) state [] (Completes lengths (none_done lengths)) old best
+    at_start c =
+        subst (λ u. Covered turn rest (none_done lengths) state u (Completes lengths (none_done lengths)) old best) w
+        (subst (λ x. Covered turn rest x state word (Completes lengths x) old best) d c)
+
+    kept_one : Covered turn rest done state word (Completes lengths done) old best → HasEnd false best
+    kept_one c = by best.fault refl
+      where
+        further : (o : Option FalseMerge) → (x : FalseMerge) → o ≡ Some x → MatchOption o ⊥ (λ x. Unit {0})
+        further None x e = cc
+        further (Some y) x e = tt
+
+        by : (o : Option (FaultedMerge F)) → best.fault ≡ o → MatchOption o (MatchOption best.furthest ⊥ (λ x. Unit {0})) (λ f. Unit {0})
+        by None e = let p = is_further turn rest lengths state old best none nowhere (at_start c) e in further best.furthest p.merge p.kept
+        by (Some f) e = tt
+
+    -- there is an answer
+    pub has_end : (P Q : Type 0) (b : Bool) → (P → Covered turn rest done state word (Completes lengths done) old best) → MatchBool b Q P → HasEnd b best
+    has_end P Q true covered k = tt
+    has_end P Q false covered k = kept_one (covered k)
+
+    pub ended : (P : Type 0) (after : Vec ℕ Global) (b : Bool) (answer : SomeAnswer F)
+        → (P → Covered turn rest done state word (Completes lengths done) old best)
+        → MatchBool b (IsLeastTrue turn rest state done word (Completes lengths done) after.items) P
+        → MatchBool b (answer ≡ Found after) (MatchOption best.fault (MatchOption best.furthest ⊥ (λ x. answer ≡ Nothing x.at x.word)) (λ f. answer ≡ Faulted f.word f.at f.fault))
+        → IsAnswer turn rest lengths state answer
+    ended P after true answer covered k e =
+        let l = subst (λ u. IsLeastTrue turn rest state (none_done lengths) u (Completes lengths (none_done lengths)) after.items) w
+        (subst (λ x. IsLeastTrue turn rest state x word (Completes lengths x) after.items) d k) in
+        subst (λ a. IsAnswer turn rest lengths state a) (sym e) (found turn rest lengths state after.items l)
+    ended P after false answer covered k e = by (at_start (covered k)) best.fault refl e
+      where
+        nothing_of : Covered turn rest (none_done lengths) state [] (Completes lengths (none_done lengths)) old best → best.fault ≡ None → (o : Option FalseMerge) → best.furthest ≡ o
+            → MatchOption o ⊥ (λ x. answer ≡ Nothing x.at x.word) → IsAnswer turn rest lengths state answer
+        nothing_of l q None r e = absurd e
+        nothing_of l q (Some x) r e = subst (λ a. IsAnswer turn rest lengths state a) (sym e) (nothing turn rest lengths state old best none nowhere l q x r)
+
+        by : Covered turn rest (none_done lengths) state [] (Completes lengths (none_done lengths)) old best → (o : Option (FaultedMerge F)) → best.fault ≡ o
+            → MatchOption o (MatchOption best.furthest ⊥ (λ x. answer ≡ Nothing x.at x.word)) (λ f. answer ≡ Faulted f.word f.at f.fault) → IsAnswer turn rest lengths state answer
+        by l None q e = nothing_of l q best.furthest refl e
+        by l (Some f) q e = subst (λ a. IsAnswer turn rest lengths state a) (sym e) (faulted turn rest lengths state old best none nowhere l f q)
 
 module _ {S F : Type 0} (turn : S → ℕ → ℕ → Turn S F) (rest : S → Ending F) (lengths : List ℕ) (state : S) where
   pub ended-every : (old new : Search F) (keys : List (Position S)) (found_it : Option (FailedMerge F)) (answer : EveryAnswer F) → old.done.items ≡ none_done lengths → old.word.items ≡ []

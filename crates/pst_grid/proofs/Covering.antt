@@ -1,22 +1,64 @@
 -- How what a search has covered grows.
-use Rattle.std.proofs.Common.{◌≡◌, ℕ, suc, ◌+◌, ◌<◌, ◌≤◌, ◌⊎◌, inl, inr, List, [], ◌∷◌, ◌++◌, length, get_or, Option, Some, None, refl, sym, ap, subst, ◌∙◌, arith, append_assoc, length-append}
+use Rattle.std.proofs.Common.{◌≡◌, ℕ, suc, ◌+◌, ◌<◌, ◌≤◌, ◌⊎◌, inl, inr, List, [], ◌∷◌, ◌++◌, length, get_or, nat_lt, Bool, true, false, MatchBool, Option, Some, None, MatchOption, refl, sym, ap, subst, ◌∙◌, arith, append_assoc, length-append}
 use Rattle.std.proofs.lemmas.Bool.{cases_lt}
+use Rattle.std.proofs.lemmas.Bool.Decides.{nat_tests}
 use Rattle.pst_grid.specs.declared.answer.Why.{Why}
 use Rattle.pst_grid.specs.declared.answer.Why.TheVariants.{False, Fault}
 use Rattle.pst_grid.specs.declared.answer.Turn.{Turn}
 use Rattle.pst_grid.specs.declared.answer.Turn.TheVariants.{Next, Stop}
 use Rattle.pst_grid.specs.Completions.{Completes, Begins}
-use Rattle.pst_grid.specs.Covered.{FaultsOn, IsLeastFault, IsFalseAfter, Covered}
+use Rattle.pst_grid.specs.Covered.{FaultsOn, IsLeastFault, IsFurther, Covered}
+use Rattle.pst_grid.specs.Furthest.{reach, KeepsFurthest}
 use Rattle.pst_grid.specs.Merges.{run, IsUpTo, after, later, one_more}
 use Rattle.pst_grid.specs.declared.answer.Ending.{Ending}
 use Rattle.pst_grid.specs.declared.answer.Ending.TheVariants.{AllTrue, StopsAt}
 use Rattle.pst_grid.specs.declared.search.Best.{Best}
+use Rattle.pst_grid.specs.declared.search.FalseMerge.{FalseMerge}
 use Rattle.pst_grid.specs.declared.search.FaultedMerge.{FaultedMerge}
 use Rattle.pst_grid.proofs.Completing.{BeginsBelow, Completes-head, Completes-tail, Completes-cons, Completes-letter}
 
 pub later-AllTrue : {F : Type 0} (e : Ending F) → later e ≡ AllTrue → e ≡ AllTrue
 later-AllTrue AllTrue h = refl
 later-AllTrue (StopsAt n why) h = cc
+
+-- ---- what is kept of the merges that stop at a false event
+
+pub same_reach : (old new : Option FalseMerge) → new ≡ old → reach old ≤ reach new
+same_reach old new e = omega (arith, ap reach e)
+
+-- this word, which stops at a false event after so many true ones, is kept, and is further than the one before
+pub record IsNew (n : ℕ) (w : List ℕ) (old new : Option FalseMerge) : Type 0 where
+  pub merge : FalseMerge
+  pub kept : new ≡ Some merge
+  pub more : reach old ≤ n
+  pub place : merge.at ≡ n
+  pub word : merge.word.items ≡ w
+
+pub record IsKept (n : ℕ) (w : List ℕ) (old new : Option FalseMerge) : Type 0 where
+  pub grows : reach old ≤ reach new
+  pub bounds : n < reach new
+  pub either : (new ≡ old) ⊎ IsNew n w old new
+
+kept_new : (at : ℕ) (word : List ℕ) (old new : Option FalseMerge) → reach old ≤ at → MatchOption new ⊥ (λ x. (x.at ≡ at) × (x.word.items ≡ word)) → IsKept at word old new
+kept_new at word old None more h = absurd h
+kept_new at word old (Some x) more h = record {
+  grows = omega (arith, more, h.0);
+  bounds = omega (arith, h.0);
+  either = inr (record { merge = x; kept = refl; more = more; place = h.0; word = h.1 });
+}
+
+kept_old : (at : ℕ) (word : List ℕ) (old new : Option FalseMerge) → at < reach old → new ≡ old → IsKept at word old new
+kept_old at word old new less e = record { grows = same_reach old new e; bounds = omega (arith, less, ap reach e); either = inl e }
+
+pub kept_furthest : (at : ℕ) (word : List ℕ) (old new : Option FalseMerge) → KeepsFurthest at word old new → IsKept at word old new
+kept_furthest at word None new h = kept_new at word None new (omega arith) h
+kept_furthest at word (Some x) new h = by (nat_lt x.at at) refl h
+  where
+    by : (b : Bool) → nat_lt x.at at ≡ b → MatchBool b (MatchOption new ⊥ (λ y. (y.at ≡ at) × (y.word.items ≡ word))) (new ≡ Some x) → IsKept at word (Some x) new
+    by true e k = kept_new at word (Some x) new (let l : x.at < at = grind (arith, nat_tests) in omega (arith, l)) k
+    by false e k = kept_old at word (Some x) new (let l : at ≤ x.at = grind (arith, nat_tests) in omega (arith, l)) k
+
+-- ---- endings
 
 pub record Earlier {F : Type 0} (e : Ending F) (n : ℕ) (why : Why F) : Type 0 where
   pub steps : ℕ
@@ -75,13 +117,43 @@ module _ {S F : Type 0} (turn : S → ℕ → ℕ → Turn S F) (rest : S → En
                 least = λ v p q. elim (split v p) [ inl s ↦ l.least v s q | inr s ↦ sorted l.letters v l.member s ];
               }
 
-      reached_by_both : (z.far ≡ x.far) ⊎ IsFalseAfter turn rest done state before W z.far
+      -- the words of A that stop at a false event do so before the furthest merge of B
+      further_right : IsFurther turn rest done state before B y.furthest z.furthest → IsFurther turn rest done state before W x.furthest z.furthest
+      further_right p = let l = p.least in record {
+        merge = p.merge;
+        kept = p.kept;
+        more = omega (arith, a.grows, p.more);
+        least = record {
+          letters = l.letters;
+          steps = l.steps;
+          member = right l.letters l.member;
+          word = l.word;
+          stops = l.stops;
+          place = l.place;
+          least = λ v k q. elim (split v k) [ inl s ↦ absurd (omega (arith, a.bounds v l.steps s q, p.more, l.place)) | inr s ↦ l.least v s q ];
+        };
+      }
+
+      further_left : z.furthest ≡ y.furthest → IsFurther turn rest done state before A x.furthest y.furthest → IsFurther turn rest done state before W x.furthest z.furthest
+      further_left e p = let l = p.least in record {
+        merge = p.merge;
+        kept = e ∙ p.kept;
+        more = p.more;
+        least = record {
+          letters = l.letters;
+          steps = l.steps;
+          member = left l.letters l.member;
+          word = l.word;
+          stops = l.stops;
+          place = l.place;
+          least = λ v k q. elim (split v k) [ inl s ↦ l.least v s q | inr s ↦ sorted l.letters v l.member s ];
+        };
+      }
+
+      reached_by_both : (z.furthest ≡ x.furthest) ⊎ IsFurther turn rest done state before W x.furthest z.furthest
       reached_by_both = elim b.reached [
-        | inr p ↦ inr (record { letters = p.letters; steps = p.steps; member = right p.letters p.member; stops = p.stops; place = p.place })
-        | inl e ↦ elim a.reached [
-          | inl d ↦ inl (e ∙ d)
-          | inr p ↦ inr (record { letters = p.letters; steps = p.steps; member = left p.letters p.member; stops = p.stops; place = e ∙ p.place })
-        ]
+        | inr p ↦ inr (further_right p)
+        | inl e ↦ elim a.reached [ inl d ↦ inl (e ∙ d) | inr p ↦ inr (further_left e p) ]
       ]
 
   -- the same words by another name
@@ -101,8 +173,24 @@ module _ {S F : Type 0} (turn : S → ℕ → ℕ → Turn S F) (rest : S → En
     };
     grows = a.grows;
     bounds = λ w n k e. a.bounds w n (from w k) e;
-    reached = elim a.reached [ inl e ↦ inl e | inr p ↦ inr (record { letters = p.letters; steps = p.steps; member = to p.letters p.member; stops = p.stops; place = p.place }) ];
+    reached = elim a.reached [ inl e ↦ inl e | inr p ↦ inr (further p) ];
   }
+    where
+      further : IsFurther turn rest done state before A x.furthest y.furthest → IsFurther turn rest done state before B x.furthest y.furthest
+      further p = let l = p.least in record {
+        merge = p.merge;
+        kept = p.kept;
+        more = p.more;
+        least = record {
+          letters = l.letters;
+          steps = l.steps;
+          member = to l.letters l.member;
+          word = l.word;
+          stops = l.stops;
+          place = l.place;
+          least = λ v k q. l.least v (from v k) q;
+        };
+      }
 
   -- no words at all
   pub Covered-none : (before : List ℕ) (W : List ℕ → Type 0) (x : Best F) → ((w : List ℕ) → W w → ⊥) → Covered turn rest done state before W x x
@@ -142,16 +230,7 @@ module _ {S F : Type 0} (turn : S → ℕ → ℕ → Turn S F) (rest : S → En
     };
     grows = a.grows;
     bounds = bounds;
-    reached = elim a.reached [
-      | inl e ↦ inl e
-      | inr p ↦ inr (record {
-        letters = b ∷ p.letters;
-        steps = suc p.steps;
-        member = (refl, Completes-cons lengths done b fits p.letters p.member);
-        stops = run-Next next e p.letters ∙ ap later p.stops;
-        place = omega (arith, p.place, length-append before (b ∷ []));
-      })
-    ];
+    reached = elim a.reached [ inl e ↦ inl e | inr p ↦ inr (further p) ];
   }
     where
       at_letter : (c : ℕ) (w : List ℕ) → c ≡ b → Completes lengths done (c ∷ w) → Completes lengths (one_more done b) w
@@ -176,49 +255,87 @@ module _ {S F : Type 0} (turn : S → ℕ → ℕ → Turn S F) (rest : S → En
       least letters h [] k f = absurd k.0
       least letters h (c ∷ v) k f = inr (sym k.0, h v (at_letter c v k.0 k.1) (faults_on c v k.0 f))
 
-      bounds : (w : List ℕ) (n : ℕ) → Begins lengths done b w → run turn rest done state w ≡ StopsAt n False → length before + n ≤ y.far
+      bounds : (w : List ℕ) (n : ℕ) → Begins lengths done b w → run turn rest done state w ≡ StopsAt n False → length before + n < reach y.furthest
       bounds [] n k f = absurd k.0
       bounds (c ∷ w) n k f = let s = later-StopsAt _ n False (sym (run-letter c w k.0) ∙ f) in
           omega (arith, a.bounds w s.steps (at_letter c w k.0 k.1) s.ends, s.more, length-append before (b ∷ []))
+
+      false_on : (c : ℕ) (w : List ℕ) (n : ℕ) → c ≡ b → run turn rest done state (c ∷ w) ≡ StopsAt (suc n) False → run turn rest (one_more done b) next w ≡ StopsAt n False
+      false_on c w n d f =
+          let s = later-StopsAt _ (suc n) False (sym (run-letter c w d) ∙ f) in
+          let z : s.steps ≡ n = omega (arith, s.more) in
+          s.ends ∙ ap (λ k. StopsAt k False) z
+
+      least_false : (letters : List ℕ) (n : ℕ) → ((v : List ℕ) → Completes lengths (one_more done b) v → run turn rest (one_more done b) next v ≡ StopsAt n False → IsUpTo letters v)
+          → (v : List ℕ) → Begins lengths done b v → run turn rest done state v ≡ StopsAt (suc n) False → IsUpTo (b ∷ letters) v
+      least_false letters n h [] k f = absurd k.0
+      least_false letters n h (c ∷ v) k f = inr (sym k.0, h v (at_letter c v k.0 k.1) (false_on c v n k.0 f))
+
+      further : IsFurther turn rest (one_more done b) next (before ++ b ∷ []) (Completes lengths (one_more done b)) x.furthest y.furthest → IsFurther turn rest done state before (Begins lengths done b) x.furthest y.furthest
+      further p = let l = p.least in record {
+        merge = p.merge;
+        kept = p.kept;
+        more = p.more;
+        least = record {
+          letters = b ∷ l.letters;
+          steps = suc l.steps;
+          member = (refl, Completes-cons lengths done b fits l.letters l.member);
+          word = l.word ∙ append_assoc before (b ∷ []) l.letters;
+          stops = run-Next next e l.letters ∙ ap later l.stops;
+          place = omega (arith, l.place, length-append before (b ∷ []));
+          least = least_false l.letters l.steps l.least;
+        };
+      }
 
   -- the words behind a stop, and the run of each
   run-begins : (why : Why F) → turn state b (get_or done b 0) ≡ Stop why → (w : List ℕ) → Begins lengths done b w → run turn rest done state w ≡ StopsAt 0 why
   run-begins why e [] k = absurd k.0
   run-begins why e (c ∷ w) k = ap (λ a. run turn rest done state (a ∷ w)) k.0 ∙ run-Stop why e w
 
-  -- the words behind a false event
+  -- the words behind a false event, of which the one with these letters is the least
   pub Covered-False : (before : List ℕ) (x y : Best F) → turn state b (get_or done b 0) ≡ Stop False
-      → (w : List ℕ) → Completes lengths (one_more done b) w
-      → y.fault ≡ x.fault → x.far ≤ y.far → length before ≤ y.far → (y.far ≡ x.far) ⊎ (y.far ≡ length before)
+      → (letters : List ℕ) → Completes lengths (one_more done b) letters → ((v : List ℕ) → Completes lengths (one_more done b) v → IsUpTo letters v)
+      → y.fault ≡ x.fault → IsKept (length before) (before ++ b ∷ letters) x.furthest y.furthest
       → Covered turn rest done state before (Begins lengths done b) x y
-  Covered-False before x y e some some_is same grows bound far = record {
+  Covered-False before x y e letters is least same h = record {
     none_true = λ w k f. let r : StopsAt 0 False ≡ AllTrue = sym (run-begins False e w k) ∙ f in cc;
     kept = λ f g. same ∙ g;
     none_faults = λ n w k f. let r : StopsAt 0 False ≡ StopsAt f.0 (Fault f.1) = sym (run-begins False e w k) ∙ f.2 in cc;
     first = λ n f g. let r : Some f ≡ None = sym g ∙ same ∙ n in cc;
-    grows = grows;
-    bounds = λ w n k f. let r : StopsAt 0 False ≡ StopsAt n False = sym (run-begins False e w k) ∙ f in let z : n ≡ 0 = cc in omega arith;
-    reached = elim far [
-      | inl d ↦ inl d
-      | inr d ↦ inr (record {
-        letters = b ∷ some;
-        steps = 0;
-        member = (refl, Completes-cons lengths done b fits some some_is);
-        stops = run-Stop False e some;
-        place = omega arith;
-      })
-    ];
+    grows = h.grows;
+    bounds = λ w n k f. let r : StopsAt 0 False ≡ StopsAt n False = sym (run-begins False e w k) ∙ f in let z : n ≡ 0 = cc in omega (arith, h.bounds, z);
+    reached = elim h.either [ inl d ↦ inl d | inr p ↦ inr (further p) ];
   }
+    where
+      least_here : (v : List ℕ) → Begins lengths done b v → IsUpTo (b ∷ letters) v
+      least_here [] k = absurd k.0
+      least_here (c ∷ v) k = inr (sym k.0, least v (Completes-tail lengths done b fits v (subst (λ a. Completes lengths done (a ∷ v)) k.0 k.1)))
+
+      further : IsNew (length before) (before ++ b ∷ letters) x.furthest y.furthest → IsFurther turn rest done state before (Begins lengths done b) x.furthest y.furthest
+      further p = record {
+        merge = p.merge;
+        kept = p.kept;
+        more = omega (arith, p.more, p.place);
+        least = record {
+          letters = b ∷ letters;
+          steps = 0;
+          member = (refl, Completes-cons lengths done b fits letters is);
+          word = p.word;
+          stops = run-Stop False e letters;
+          place = omega (arith, p.place);
+          least = λ v k q. least_here v k;
+        };
+      }
 
   -- the words behind a fault, where one was found before
   pub Covered-Fault-later : (before : List ℕ) (fault : F) (x y : Best F) (g : FaultedMerge F) → turn state b (get_or done b 0) ≡ Stop (Fault fault)
-      → x.fault ≡ Some g → y.fault ≡ Some g → y.far ≡ x.far → Covered turn rest done state before (Begins lengths done b) x y
+      → x.fault ≡ Some g → y.fault ≡ Some g → y.furthest ≡ x.furthest → Covered turn rest done state before (Begins lengths done b) x y
   Covered-Fault-later before fault x y g e there now far = record {
     none_true = λ w k f. let r : StopsAt 0 (Fault fault) ≡ AllTrue = sym (run-begins (Fault fault) e w k) ∙ f in cc;
     kept = λ f h. now ∙ sym there ∙ h;
     none_faults = λ n w k f. let r : Some g ≡ None = sym now ∙ n in cc;
     first = λ n f h. let r : Some g ≡ None = sym there ∙ n in cc;
-    grows = omega arith;
+    grows = same_reach x.furthest y.furthest far;
     bounds = λ w n k f. let r : StopsAt 0 (Fault fault) ≡ StopsAt n False = sym (run-begins (Fault fault) e w k) ∙ f in cc;
     reached = inl far;
   }
@@ -227,7 +344,7 @@ module _ {S F : Type 0} (turn : S → ℕ → ℕ → Turn S F) (rest : S → En
   pub Covered-Fault-first : (before : List ℕ) (x y : Best F) (g : FaultedMerge F) → turn state b (get_or done b 0) ≡ Stop (Fault g.fault)
       → (letters : List ℕ) → Completes lengths (one_more done b) letters → ((v : List ℕ) → Completes lengths (one_more done b) v → IsUpTo letters v)
       → g.word.items ≡ before ++ b ∷ letters → g.at ≡ length before
-      → x.fault ≡ None → y.fault ≡ Some g → y.far ≡ x.far → Covered turn rest done state before (Begins lengths done b) x y
+      → x.fault ≡ None → y.fault ≡ Some g → y.furthest ≡ x.furthest → Covered turn rest done state before (Begins lengths done b) x y
   Covered-Fault-first before x y g e letters is least word place was now far = record {
     none_true = λ w k f. let r : StopsAt 0 (Fault g.fault) ≡ AllTrue = sym (run-begins (Fault g.fault) e w k) ∙ f in cc;
     kept = λ f h. let r : Some f ≡ None = sym h ∙ was in cc;
@@ -241,7 +358,7 @@ module _ {S F : Type 0} (turn : S → ℕ → ℕ → Turn S F) (rest : S → En
       place = omega arith;
       least = least_here;
     });
-    grows = omega arith;
+    grows = same_reach x.furthest y.furthest far;
     bounds = λ w n k f. let r : StopsAt 0 (Fault g.fault) ≡ StopsAt n False = sym (run-begins (Fault g.fault) e w k) ∙ f in cc;
     reached = inl far;
   }

@@ -1,6 +1,5 @@
 -- Where all branches have ended: the run goes on with the rest.
-use Rattle.std.proofs.Common.{◌≡◌, ℕ, suc, ◌+◌, ◌≤◌, inl, inr, List, [], ◌∷◌, ◌++◌, length, get_or, sum, max, Bool, true, false, if◌then◌else◌, Option, Some, None, MatchOption, refl, sym, ap, subst, ◌∙◌, arith}
-use Rattle.std.proofs.lemmas.Bool.{cases_lt}
+use Rattle.std.proofs.Common.{◌≡◌, ℕ, suc, ◌+◌, ◌≤◌, inl, inr, List, [], ◌∷◌, ◌++◌, length, get_or, sum, Bool, true, false, Option, Some, None, MatchOption, refl, sym, ap, subst, ◌∙◌, arith}
 use Rattle.std.specs.Prelude.{Result, Ok, Err, IfOk, OnOk}
 use Rattle.std.specs.declared.alloc.AllocError.{AllocError}
 use Rattle.pst_grid.specs.declared.answer.Why.TheVariants.{False, Fault}
@@ -9,7 +8,8 @@ use Rattle.pst_grid.specs.declared.answer.Ending.TheVariants.{AllTrue, StopsAt}
 use Rattle.pst_grid.specs.declared.answer.Turn.{Turn}
 use Rattle.pst_grid.specs.Checked.{AreTrue, AreAllTrue, IsChecked, IsLeastFailed}
 use Rattle.pst_grid.specs.Completions.{Completes, IsAt}
-use Rattle.pst_grid.specs.Covered.{IsEmpty, IsExplored, Covered, IsLeastTrue, IsLeastFault}
+use Rattle.pst_grid.specs.Covered.{IsEmpty, IsExplored, Covered, IsLeastTrue, IsLeastFault, IsFurther}
+use Rattle.pst_grid.specs.Furthest.{KeepsFurthest}
 use Rattle.pst_grid.specs.Merges.{run, IsUpTo}
 use Rattle.pst_grid.specs.declared.every_search.FailedMerge.{FailedMerge}
 use Rattle.pst_grid.specs.Remembered.{IsAccounted, AreAccounted, IsSearched}
@@ -18,7 +18,7 @@ use Rattle.pst_grid.specs.declared.search.Best.{Best}
 use Rattle.pst_grid.specs.declared.search.FaultedMerge.{FaultedMerge}
 use Rattle.pst_grid.specs.declared.search.Search.{Search}
 use Rattle.pst_grid.proofs.Completing.{Completes-head}
-use Rattle.pst_grid.proofs.Covering.{Covered-same}
+use Rattle.pst_grid.proofs.Covering.{Covered-same, IsKept, IsNew, kept_furthest, same_reach}
 use Rattle.pst_grid.specs.Bounds.{Each}
 use Rattle.pst_grid.proofs.Remembering.{Each-append, from-all, accounted, all-accounted-on}
 
@@ -82,24 +82,40 @@ module _ {S F : Type 0} (turn : S → ℕ → ℕ → Turn S F) (rest : S → En
   }
 
   pub finished-False : (done before : List ℕ) (at : ℕ) (x y : Best F) → rest state ≡ StopsAt at False
-      → y.fault ≡ x.fault → y.far ≡ max x.far (length before + at) → Covered turn rest done state before IsEmpty x y
-  finished-False done before at x y e same far = record {
+      → y.fault ≡ x.fault → KeepsFurthest (length before + at) before x.furthest y.furthest → Covered turn rest done state before IsEmpty x y
+  finished-False done before at x y e same furthest = record {
     none_true = λ w k f. let r : StopsAt at False ≡ AllTrue = sym e ∙ sym (run-empty done w k) ∙ f in cc;
     kept = λ f g. same ∙ g;
     none_faults = λ n w k f. let r : StopsAt at False ≡ StopsAt f.0 (Fault f.1) = sym e ∙ sym (run-empty done w k) ∙ f.2 in cc;
     first = λ n f g. let r : Some f ≡ None = sym g ∙ same ∙ n in cc;
-    grows = omega arith;
+    grows = kept.grows;
     bounds = λ w n k f. let r : StopsAt at False ≡ StopsAt n False = sym e ∙ sym (run-empty done w k) ∙ f in
-        let z : n ≡ at = cc in omega arith;
-    reached = elim (cases_lt x.far (length before + at)) [
-      | inl h ↦ inr (record { letters = []; steps = at; member = refl; stops = e; place = omega arith })
-      | inr h ↦ inl (omega arith)
-    ];
+        let z : n ≡ at = cc in omega (arith, kept.bounds, z);
+    reached = elim kept.either [ inl d ↦ inl d | inr p ↦ inr (further p) ];
   }
+    where
+      kept : IsKept (length before + at) before x.furthest y.furthest
+      kept = kept_furthest (length before + at) before x.furthest y.furthest furthest
+
+      further : IsNew (length before + at) before x.furthest y.furthest → IsFurther turn rest done state before IsEmpty x.furthest y.furthest
+      further p = record {
+        merge = p.merge;
+        kept = p.kept;
+        more = omega (arith, p.more, p.place);
+        least = record {
+          letters = [];
+          steps = at;
+          member = refl;
+          word = p.word ∙ sym (append_nil before);
+          stops = e;
+          place = p.place;
+          least = λ v k r. tt;
+        };
+      }
 
   pub finished-Fault : (done before : List ℕ) (at total : ℕ) (fault : F) (x y : Best F)
       → rest state ≡ StopsAt at (Fault fault) → total ≡ length before + at
-      → y.far ≡ x.far → MatchOption x.fault (Unit {0}) (λ g. y.fault ≡ Some g)
+      → y.furthest ≡ x.furthest → MatchOption x.fault (Unit {0}) (λ g. y.fault ≡ Some g)
       → MatchOption x.fault
       (MatchOption y.fault ⊥ (λ g. (g.fault ≡ fault) × (g.at ≡ total) × (g.word.items ≡ before)))
       (λ _. Unit {0})
@@ -112,7 +128,7 @@ module _ {S F : Type 0} (turn : S → ℕ → ℕ → Turn S F) (rest : S → En
         kept = λ f h. now ∙ sym there ∙ h;
         none_faults = λ n w k f. let r : Some g ≡ None = sym now ∙ n in cc;
         first = λ n f h. let r : Some g ≡ None = sym there ∙ n in cc;
-        grows = omega arith;
+        grows = same_reach x.furthest y.furthest far;
         bounds = λ w n k f. let r : StopsAt at (Fault fault) ≡ StopsAt n False = sym e ∙ sym (run-empty done w k) ∙ f in cc;
         reached = inl far;
       }
@@ -139,7 +155,7 @@ module _ {S F : Type 0} (turn : S → ℕ → ℕ → Turn S F) (rest : S → En
         none_faults = λ n w p f. let r : Some g ≡ None = sym k ∙ n in cc;
         first = λ n f j. let r : g ≡ f = (let u : Some g ≡ Some f = sym k ∙ j in cc) in
             subst (λ z. IsLeastFault turn rest done state before IsEmpty z) r (least g h.0 (h.1 ∙ sum_is) h.2);
-        grows = omega arith;
+        grows = same_reach x.furthest y.furthest far;
         bounds = λ w n p f. let r : StopsAt at (Fault fault) ≡ StopsAt n False = sym e ∙ sym (run-empty done w p) ∙ f in cc;
         reached = inl far;
       }

@@ -1,5 +1,5 @@
 -- What is remembered, and what it gives.
-use Rattle.std.proofs.Common.{◌≡◌, ℕ, ◌+◌, ◌<◌, ◌≤◌, ◌⊎◌, inl, inr, List, [], ◌∷◌, ◌++◌, length, sum, Bool, true, false, Option, Some, None, refl, sym, ap, subst, ◌∙◌, arith, true≢false, ◌||◌, ◌&&◌, if◌then◌else◌, not, MatchBool}
+use Rattle.std.proofs.Common.{◌≡◌, ℕ, ◌+◌, ◌≤◌, inl, inr, List, [], ◌∷◌, ◌++◌, length, sum, Bool, true, false, Option, Some, None, refl, sym, ap, subst, ◌∙◌, arith, true≢false, ◌||◌, ◌&&◌, if◌then◌else◌, not, MatchBool}
 use Rattle.std.proofs.lemmas.Slice.Eq.{bytes_eq-Decides}
 use Rattle.std.specs.Str.{bytes_eq}
 use Rattle.std.specs.List.{list_any}
@@ -8,6 +8,7 @@ use Rattle.pst_grid.specs.declared.answer.Turn.{Turn}
 use Rattle.pst_grid.specs.Bounds.{Each}
 use Rattle.pst_grid.specs.Completions.{Completes}
 use Rattle.pst_grid.specs.Covered.{Covered}
+use Rattle.pst_grid.specs.Furthest.{reach}
 use Rattle.pst_grid.specs.Remembered.{EachFrom, IsAccounted, AreAccounted, IsRemembered}
 use Rattle.pst_grid.specs.declared.position.Position.{Position}
 use Rattle.pst_grid.specs.declared.search.Best.{Best}
@@ -113,12 +114,12 @@ module _ {S F : Type 0} (turn : S → ℕ → ℕ → Turn S F) (rest : S → En
   }
 
   -- it stays so while the search goes on
-  pub accounted-on : (old new : Best F) → ((x : FaultedMerge F) → old.fault ≡ Some x → new.fault ≡ Some x) → old.far ≤ new.far
+  pub accounted-on : (old new : Best F) → ((x : FaultedMerge F) → old.fault ≡ Some x → new.fault ≡ Some x) → reach old.furthest ≤ reach new.furthest
       → (done : List ℕ) (state : S) → IsAccounted turn rest lengths old done state → IsAccounted turn rest lengths new done state
   accounted-on old new kept grows done state a = record {
     none_true = a.none_true;
     none_faults = λ n. a.none_faults (none_before n);
-    bounds = λ w n k r. omega (arith, a.bounds w n k r);
+    bounds = λ w n k r. omega (arith, a.bounds w n k r, grows);
   }
     where
       none_before : new.fault ≡ None → old.fault ≡ None

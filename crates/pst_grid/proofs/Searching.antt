@@ -1,5 +1,5 @@
 -- The steps of a search.
-use Rattle.std.proofs.Common.{◌≡◌, ℕ, suc, ◌+◌, ◌-◌, ◌<◌, ◌≤◌, ◌⊎◌, inl, inr, List, [], ◌∷◌, ◌++◌, length, take, get_or, set, sum, max, Option, Some, None, MatchOption, refl, sym, ap, subst, ◌∙◌, arith, append_assoc, length-append}
+use Rattle.std.proofs.Common.{◌≡◌, ℕ, suc, ◌+◌, ◌-◌, ◌<◌, ◌≤◌, ◌⊎◌, inl, inr, List, [], ◌∷◌, ◌++◌, length, take, get_or, set, sum, Option, Some, None, MatchOption, refl, sym, ap, subst, ◌∙◌, arith, append_assoc, length-append}
 use Rattle.std.proofs.lemmas.Bool.{cases_eq, cases_lt}
 use Rattle.std.proofs.lemmas.List.{get_or-set_same, get_or-set_other, set-set, set-get_or, length-set, take_at, get_or_past}
 use Rattle.std.proofs.lemmas.List.Sums.{sum_by-set, sum_by-cons}
@@ -9,6 +9,7 @@ use Rattle.pst_grid.specs.declared.answer.Turn.{Turn}
 use Rattle.pst_grid.specs.declared.answer.Turn.TheVariants.{Next, Stop}
 use Rattle.pst_grid.specs.Completions.{Completes, fill_from, IsAt, Begins}
 use Rattle.pst_grid.specs.Covered.{Covered, IsLeastTrue, HasCovered}
+use Rattle.pst_grid.specs.Furthest.{KeepsFurthest}
 use Rattle.pst_grid.specs.Merges.{run, IsUpTo, later, one_more}
 use Rattle.pst_grid.specs.declared.answer.Ending.TheVariants.{AllTrue}
 use Rattle.pst_grid.specs.declared.search.Best.{Best}
@@ -16,7 +17,7 @@ use Rattle.pst_grid.specs.declared.search.FaultedMerge.{FaultedMerge}
 use Rattle.pst_grid.specs.declared.search.Search.{Search}
 use Rattle.pst_grid.proofs.Completing.{BeginsBelow, Completes-head, Completes-tail, Completes-cons}
 use Rattle.pst_grid.proofs.Filling.{Completes-fill, fill_least}
-use Rattle.pst_grid.proofs.Covering.{later-AllTrue, run-Next, Covered-Next, Covered-False, Covered-Fault-later, Covered-Fault-first, Covered-start, Covered-more, Covered-all}
+use Rattle.pst_grid.proofs.Covering.{later-AllTrue, run-Next, Covered-Next, Covered-False, Covered-Fault-later, Covered-Fault-first, kept_furthest, Covered-start, Covered-more, Covered-all}
 
 -- one more command of a branch that has one left
 module _ (lengths done : List ℕ) (b : ℕ) (at : IsAt lengths done) (left : get_or done b 0 < get_or lengths b 0) where
@@ -145,18 +146,15 @@ module _ {S F : Type 0} (turn : S → ℕ → ℕ → Turn S F) (rest : S → En
         (subst (λ x. Covered turn rest (one_more done b) next x (Completes lengths (one_more done b)) entered.best explored.best) u
         (subst (λ x. Covered turn rest x next entered.word.items (Completes lengths x) entered.best explored.best) d h.covered))))
 
-    pub visited-False : (x y : Best F) → turn state b (get_or done b 0) ≡ Stop False → y.fault ≡ x.fault → y.far ≡ max x.far (length before)
+    pub visited-False : (x y : Best F) → turn state b (get_or done b 0) ≡ Stop False → y.fault ≡ x.fault
+        → KeepsFurthest (length before) (before ++ b ∷ fill_from 0 lengths (one_more done b)) x.furthest y.furthest
         → Covered turn rest done state before (Begins lengths done b) x y
-    visited-False x y e f far =
+    visited-False x y e f kept =
         let n = IsAt-more lengths done b at left in
         Covered-False turn rest lengths done state b (IsAt-branch lengths done b at left) before x y e (fill_from 0 lengths (one_more done b)) (Completes-fill lengths (one_more done b) n.branches n.within)
-        f (omega arith) (omega arith) (by (cases_lt x.far (length before)))
-      where
-        by : (x.far < length before) ⊎ (length before ≤ x.far) → (y.far ≡ x.far) ⊎ (y.far ≡ length before)
-        by (inl h) = inr (omega arith)
-        by (inr h) = inl (omega arith)
+        (λ v q. fill_least lengths (one_more done b) v q) f (kept_furthest (length before) _ x.furthest y.furthest kept)
 
-    pub visited-Fault : (fault : F) (x y : Best F) → turn state b (get_or done b 0) ≡ Stop (Fault fault) → y.far ≡ x.far
+    pub visited-Fault : (fault : F) (x y : Best F) → turn state b (get_or done b 0) ≡ Stop (Fault fault) → y.furthest ≡ x.furthest
         → MatchOption x.fault (Unit {0}) (λ g. y.fault ≡ Some g)
         → MatchOption x.fault (MatchOption y.fault ⊥ (λ g. (g.fault ≡ fault) × (g.at ≡ length before) × (g.word.items ≡ before ++ b ∷ fill_from 0 lengths (one_more done b)))) (λ _. Unit {0})
         → Covered turn rest done state before (Begins lengths done b) x y

@@ -30,16 +30,17 @@ module _ {S F : Type 0} (turn : S → ℕ → ℕ → Turn S F) (rest : S → En
 
   -- found: the least merge that is all true
   -- faulted: no merge is all true, and this is the least that faults, with its place and its fault
-  -- nothing: no merge is all true and none faults, and the most true events before a false one are so many
+  -- nothing: no merge is all true and none faults, this is the least with so many true events before a false
+  -- one, and none has more
   abbrev pub IsAnswer : SomeAnswer F → Type 0
   IsAnswer (Found word) = IsLeast (Ends AllTrue) word.items
   IsAnswer (Faulted word at fault) =
       ((v : List ℕ) → Ends AllTrue v → ⊥)
       × (IsLeast Faults word.items × (ending word.items ≡ StopsAt at (Fault fault)))
-  IsAnswer (Nothing far) =
+  IsAnswer (Nothing far word) =
       ((v : List ℕ) → Ends AllTrue v → ⊥)
       × ((v : List ℕ) → Faults v → ⊥)
-      × ((v : List ℕ) × Ends (StopsAt far False) v)
+      × IsLeast (Ends (StopsAt far False)) word.items
       × ((v : List ℕ) (n : ℕ) → Ends (StopsAt n False) v → n ≤ far)
 
   -- all: each merge is all true

@@ -1,10 +1,12 @@
 -- What a search knows of the words that it has covered.
-use Rattle.std.specs.Prelude.{◌≡◌, ℕ, ◌+◌, ◌≤◌, ◌⊎◌, List, [], ◌++◌, length, Some, None, Bool, MatchBool}
+use Rattle.std.specs.Prelude.{◌≡◌, ℕ, ◌+◌, ◌<◌, ◌≤◌, ◌⊎◌, List, [], ◌++◌, length, Option, Some, None, Bool, MatchBool}
 use Rattle.pst_grid.specs.declared.answer.Why.TheVariants.{False, Fault}
 use Rattle.pst_grid.specs.declared.answer.Turn.{Turn}
 use Rattle.pst_grid.specs.declared.search.Best.{Best}
+use Rattle.pst_grid.specs.declared.search.FalseMerge.{FalseMerge}
 use Rattle.pst_grid.specs.declared.search.FaultedMerge.{FaultedMerge}
 use Rattle.pst_grid.specs.declared.search.Search.{Search}
+use Rattle.pst_grid.specs.Furthest.{reach}
 use Rattle.pst_grid.specs.Merges.{run, IsUpTo}
 use Rattle.pst_grid.specs.declared.answer.Ending.{Ending}
 use Rattle.pst_grid.specs.declared.answer.Ending.TheVariants.{AllTrue, StopsAt}
@@ -28,26 +30,35 @@ module _ {S F : Type 0} (turn : S → ℕ → ℕ → Turn S F) (rest : S → En
     pub place : x.at ≡ length before + steps
     pub least : (v : List ℕ) → W v → FaultsOn v → IsUpTo letters v
 
-  -- a false word of W with so many true events, those of the letters before it among them
-  pub record IsFalseAfter (before : List ℕ) (W : List ℕ → Type 0) (far : ℕ) : Type 0 where
+  -- the least word of W with so many true events before a false one, kept behind the letters before it
+  pub record IsLeastFalse (before : List ℕ) (W : List ℕ → Type 0) (x : FalseMerge) : Type 0 where
     pub letters : List ℕ
     pub steps : ℕ
     pub member : W letters
+    pub word : x.word.items ≡ before ++ letters
     pub stops : run turn rest done s letters ≡ StopsAt steps False
-    pub place : far ≡ length before + steps
+    pub place : x.at ≡ length before + steps
+    pub least : (v : List ℕ) → W v → run turn rest done s v ≡ StopsAt steps False → IsUpTo letters v
+
+  -- the furthest merge that is kept is one of W, and further than the one before
+  pub record IsFurther (before : List ℕ) (W : List ℕ → Type 0) (old new : Option FalseMerge) : Type 0 where
+    pub merge : FalseMerge
+    pub kept : new ≡ Some merge
+    pub more : reach old ≤ merge.at
+    pub least : IsLeastFalse before W merge
 
   -- What the search has seen, old before and new after it covered the words of W, which stand behind the
   -- letters before: none of W is all true; the first fault is kept, and is that of W's least faulting word;
-  -- `far` is reached, and bounds W.
+  -- no word of W is further than the furthest merge, which is the one before or the least so far in W.
   pub record Covered (before : List ℕ) (W : List ℕ → Type 0) (old new : Best F) : Type 0 where
     pub none_true : (w : List ℕ) → W w → run turn rest done s w ≡ AllTrue → ⊥
     pub kept : (x : FaultedMerge F) → old.fault ≡ Some x → new.fault ≡ Some x
     pub none_faults : new.fault ≡ None → (w : List ℕ) → W w → FaultsOn w → ⊥
     pub first : old.fault ≡ None → (x : FaultedMerge F) → new.fault ≡ Some x → IsLeastFault before W x
-    pub grows : old.far ≤ new.far
+    pub grows : reach old.furthest ≤ reach new.furthest
     pub bounds : (w : List ℕ) (n : ℕ) →
-        W w → run turn rest done s w ≡ StopsAt n False → length before + n ≤ new.far
-    pub reached : (new.far ≡ old.far) ⊎ IsFalseAfter before W new.far
+        W w → run turn rest done s w ≡ StopsAt n False → length before + n < reach new.furthest
+    pub reached : (new.furthest ≡ old.furthest) ⊎ IsFurther before W old.furthest new.furthest
 
 module _ {S F : Type 0} (turn : S → ℕ → ℕ → Turn S F) (rest : S → Ending F) (s : S) where
   -- the least word of W that is all true, kept behind the letters before it

@@ -1,5 +1,5 @@
 -- What the hasher of positions computes.
-use Rattle.std.specs.Prelude.{ℕ, ◌+◌, ◌-◌, ◌*◌, ◌/◌, ◌^◌, ◌==◌, List, length, Option, Some, None, if◌then◌else◌, bit_and, bit_xor}
+use Rattle.std.specs.Prelude.{ℕ, ◌-◌, ◌*◌, ◌/◌, ◌^◌, ◌==◌, List, length, Option, Some, None, if◌then◌else◌, bit_and, bit_xor}
 use Rattle.std.specs.Int.{from_le_bytes, w64}
 use Rattle.std.specs.List.{fold}
 use Rattle.pst_grid.specs.declared.hasher.WordHasher.{WordHasher}

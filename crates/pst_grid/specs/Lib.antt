@@ -6,6 +6,7 @@ pub mod Bounds
 pub mod Laws
 -- what the contracts within a search cite
 pub mod Completions
+pub mod Furthest
 pub mod Covered
 pub mod Remembered
 pub mod Checked

@@ -1,5 +1,5 @@
 -- What a search that remembers knows of the positions that it has searched from.
-use Rattle.std.specs.Prelude.{◌≡◌, ℕ, ◌+◌, ◌*◌, ◌≤◌, List, [], ◌∷◌, ◌++◌, ◌⊎◌, length, sum, None, Bool, MatchBool, bytes_eq, if◌then◌else◌}
+use Rattle.std.specs.Prelude.{◌≡◌, ℕ, ◌+◌, ◌*◌, ◌<◌, ◌≤◌, List, [], ◌∷◌, ◌++◌, ◌⊎◌, length, sum, None, Bool, MatchBool, bytes_eq, if◌then◌else◌}
 use Rattle.pst_grid.specs.declared.answer.Why.TheVariants.{False}
 use Rattle.pst_grid.specs.declared.answer.Ending.{Ending}
 use Rattle.pst_grid.specs.declared.answer.Ending.TheVariants.{AllTrue, StopsAt}
@@ -10,6 +10,7 @@ use Rattle.pst_grid.specs.declared.position.Position.{Position}
 use Rattle.pst_grid.specs.Bounds.{Each, Leads}
 use Rattle.pst_grid.specs.Completions.{Completes}
 use Rattle.pst_grid.specs.Covered.{FaultsOn, IsLeastTrue, HasCovered}
+use Rattle.pst_grid.specs.Furthest.{reach}
 use Rattle.pst_grid.specs.Merges.{run}
 
 -- a fact of each position at which so many commands are done
@@ -28,7 +29,8 @@ module _ {S F : Type 0} (turn : S → ℕ → ℕ → Turn S F) (rest : S → En
     pub none_faults :
         best.fault ≡ None → (w : List ℕ) → Completes lengths done w → FaultsOn turn rest done s w → ⊥
     pub bounds : (w : List ℕ) (n : ℕ) →
-        Completes lengths done w → run turn rest done s w ≡ StopsAt n False → sum done + n ≤ best.far
+        Completes lengths done w → run turn rest done s w ≡ StopsAt n False
+        → sum done + n < reach best.furthest
 
   -- so it is with each position at which so many commands are done
   abbrev pub AreAccounted : ℕ → Best F → List (Position S) → Type 0

@@ -42,9 +42,10 @@ pub enum SomeAnswer<F> {
         fault: F,
     },
     /// No merge is true to its end and none faults. `far` is the most events that a merge has true before its false
-    /// one, those of the rest among them.
+    /// one, those of the rest among them, and `word` is the least merge that has so many.
     Nothing {
         far: usize,
+        word: Vec<usize>,
     },
 }
 

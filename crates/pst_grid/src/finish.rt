@@ -26,7 +26,7 @@ pub(crate) fn finish<S: Steps>(
         Ending::AllTrue => Ok(true),
         Ending::StopsAt(at, Why::False) => {
             let at = search.word.len() + at;
-            search.note_false(at);
+            search.note_false_word(alloc, at)?;
             Ok(false)
         }
         Ending::StopsAt(at, Why::Fault(fault)) => {

@@ -1,6 +1,8 @@
 //! Where a search stands and what it has seen, for each of the searches.
-ghost use Rattle.std.specs.Prelude.{◌≡◌, ◌+◌, ◌-◌, ◌*◌, ◌^◌, ◌++◌, ◌∷◌, [], ◌<◌, ◌≤◌, ℕ, length, take, max, sum, slice_index, slice_set, IfOk, OnOk, MatchBool, MatchOption, Some, None};
+ghost use Rattle.std.specs.Prelude.{◌≡◌, ◌+◌, ◌-◌, ◌*◌, ◌^◌, ◌++◌, ◌∷◌, [], ◌<◌, ◌≤◌, ℕ, length, take, sum, slice_index, slice_set, IfOk, OnOk, MatchBool, MatchOption, Some, None};
 ghost use Rattle.pst_grid.specs.Completions.{IsAt, fill_from};
+ghost use Rattle.pst_grid.specs.Furthest as spec;
+ghost use Rattle.pst_grid.specs.Furthest.{HasEnd, KeepsFurthest};
 ghost use Rattle.pst_grid.specs.Merges.{one_more, none_done};
 
 use crate::SomeAnswer;
@@ -14,11 +16,18 @@ pub(crate) struct FaultedMerge<F> {
     pub fault: F,
 }
 
-/// The least faulting merge so far, and the most events that a merge so far has true before its false one.
+/// A merge whose run stops at a false event, after `at` true events.
+#[derive(Drop)]
+pub(crate) struct FalseMerge {
+    pub word: Vec<usize>,
+    pub at: usize,
+}
+
+/// The least faulting merge so far, and the least of those so far that have the most true events before a false one.
 #[derive(Drop)]
 pub(crate) struct Best<F> {
     pub fault: Option<FaultedMerge<F>>,
-    pub far: usize,
+    pub furthest: Option<FalseMerge>,
 }
 
 /// Where a search stands, and what it has seen.
@@ -40,7 +49,7 @@ impl<F: Drop> Search<F> {
         ensures depth { IfOk result (λ s. sum s.done.items ≡ length s.word.items) }
         ensures word { IfOk result (λ s. s.word.items ≡ []) }
         ensures fault { IfOk result (λ s. s.best.fault ≡ None) }
-        ensures far { IfOk result (λ s. s.best.far ≡ 0) }
+        ensures furthest { IfOk result (λ s. s.best.furthest ≡ None) }
         ensures steps { IfOk result (λ s. s.steps ≡ 0) }
     {
         Ok(Search {
@@ -48,7 +57,7 @@ impl<F: Drop> Search<F> {
             word: Vec::new(alloc),
             best: Best {
                 fault: None,
-                far: 0,
+                furthest: None,
             },
             steps: 0,
         })
@@ -90,15 +99,47 @@ impl<F: Drop> Search<F> {
         self.done[branch] -= 1;
     }
 
-    /// Notes that an event is false after so many true ones.
-    pub(crate) fn note_false(&mut self, at: usize)
-        ensures done { self.new.done.items ≡ self.old.done.items }
-        ensures word { self.new.word.items ≡ self.old.word.items }
-        ensures fault { self.new.best.fault ≡ self.old.best.fault }
+    /// Notes that a branch's next command is false behind the word, if no merge so far has so many true events.
+    pub(crate) fn note_false(
+        &mut self,
+        alloc: Global,
+        lengths: &[usize],
+        branch: usize,
+    ) -> Result<(), AllocError>
+        requires branches { length self.old.done.items ≡ length lengths.now }
+        requires branch { branch < length self.old.done.items }
+        requires room { slice_index self.old.done.items branch + 1 < 2 ^ 64 }
+        ensures done { OnOk result (self.new.done.items ≡ self.old.done.items) }
+        ensures word { OnOk result (self.new.word.items ≡ self.old.word.items) }
+        ensures fault { OnOk result (self.new.best.fault ≡ self.old.best.fault) }
         ensures steps { self.new.steps ≡ self.old.steps }
-        ensures far { self.new.best.far ≡ max self.old.best.far at }
+        ensures furthest { OnOk result (KeepsFurthest (length self.old.word.items)
+            (self.old.word.items ++ branch ∷ fill_from 0 lengths.now (one_more self.old.done.items branch))
+            self.old.best.furthest self.new.best.furthest) }
     {
-        self.best.far = self.best.far.max(at);
+        let at = self.word.len();
+        if is_further(at, &self.best.furthest) {
+            let word = self.least_merge(alloc, lengths, branch)?;
+            self.best.furthest = Some(FalseMerge { word, at });
+        }
+        Ok(())
+    }
+
+    /// Notes that the word, which is a merge, stops at a false event after `at` true ones, if no merge so far has so
+    /// many true events.
+    pub(crate) fn note_false_word(&mut self, alloc: Global, at: usize) -> Result<(), AllocError>
+        ensures done { OnOk result (self.new.done.items ≡ self.old.done.items) }
+        ensures word { OnOk result (self.new.word.items ≡ self.old.word.items) }
+        ensures fault { OnOk result (self.new.best.fault ≡ self.old.best.fault) }
+        ensures steps { self.new.steps ≡ self.old.steps }
+        ensures furthest { OnOk result
+            (KeepsFurthest at self.old.word.items self.old.best.furthest self.new.best.furthest) }
+    {
+        if is_further(at, &self.best.furthest) {
+            let word = self.word.to_vec(alloc)?;
+            self.best.furthest = Some(FalseMerge { word, at });
+        }
+        Ok(())
     }
 
     /// Notes that a branch's next command faults behind the word, if it is the first fault.
@@ -114,7 +155,7 @@ impl<F: Drop> Search<F> {
         requires room { slice_index self.old.done.items branch + 1 < 2 ^ 64 }
         ensures done { OnOk result (self.new.done.items ≡ self.old.done.items) }
         ensures word { OnOk result (self.new.word.items ≡ self.old.word.items) }
-        ensures far { OnOk result (self.new.best.far ≡ self.old.best.far) }
+        ensures furthest { OnOk result (self.new.best.furthest ≡ self.old.best.furthest) }
         ensures steps { self.new.steps ≡ self.old.steps }
         ensures later { OnOk result (MatchOption self.old.best.fault (Unit {0})
             (λ g. self.new.best.fault ≡ Some g)) }
@@ -144,7 +185,7 @@ impl<F: Drop> Search<F> {
     ) -> Result<(), AllocError>
         ensures done { OnOk result (self.new.done.items ≡ self.old.done.items) }
         ensures word { OnOk result (self.new.word.items ≡ self.old.word.items) }
-        ensures far { OnOk result (self.new.best.far ≡ self.old.best.far) }
+        ensures furthest { OnOk result (self.new.best.furthest ≡ self.old.best.furthest) }
         ensures steps { self.new.steps ≡ self.old.steps }
         ensures later { OnOk result (MatchOption self.old.best.fault (Unit {0})
             (λ g. self.new.best.fault ≡ Some g)) }
@@ -185,22 +226,46 @@ impl<F: Drop> Search<F> {
 
     /// What the search answers in the end: whether it found a merge that is true to its end, which is then its word.
     pub(crate) fn into_answer(self, found: bool) -> SomeAnswer<F>
+        requires { HasEnd found self.best }
         ensures { MatchBool found (result ≡ SomeAnswer.Found self.word)
-            (MatchOption self.best.fault (result ≡ SomeAnswer.Nothing self.best.far)
+            (MatchOption self.best.fault
+            (MatchOption self.best.furthest ⊥ (λ x. result ≡ SomeAnswer.Nothing x.at x.word))
             (λ f. result ≡ SomeAnswer.Faulted f.word f.at f.fault)) }
     {
         let Search { word, best, .. } = self;
         if found {
             return SomeAnswer::Found { word };
         }
-        match best.fault {
+        let Best { fault, furthest } = best;
+        match fault {
             Some(faulted) => SomeAnswer::Faulted {
                 word: faulted.word,
                 at: faulted.at,
                 fault: faulted.fault,
             },
-            None => SomeAnswer::Nothing { far: best.far },
+            None => furthest_answer(furthest),
         }
+    }
+}
+
+/// What a search answers that has found no merge which is true to its end or faults.
+fn furthest_answer<F: Drop>(furthest: Option<FalseMerge>) -> SomeAnswer<F>
+    requires { MatchOption furthest ⊥ (λ _. Unit {0}) }
+    ensures { MatchOption furthest ⊥ (λ x. result ≡ SomeAnswer.Nothing x.at x.word) }
+{
+    match furthest {
+        Some(FalseMerge { word, at }) => SomeAnswer::Nothing { far: at, word },
+        None => unreachable!(),
+    }
+}
+
+/// Whether `at` true events are more than those of the furthest merge so far.
+fn is_further(at: usize, furthest: &Option<FalseMerge>) -> bool
+    ensures { result ≡ spec.is_further at furthest.now }
+{
+    match furthest {
+        Some(merge) => merge.at < at,
+        None => true,
     }
 }
 

@@ -154,8 +154,7 @@ fn visit<S: Steps>(
             Ok(false)
         }
         Turn::Stop(Why::False) => {
-            let at = search.word.len();
-            search.note_false(at);
+            search.note_false(alloc, lengths, branch)?;
             Ok(false)
         }
         Turn::Stop(Why::Fault(fault)) => {

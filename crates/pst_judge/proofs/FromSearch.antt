@@ -77,9 +77,9 @@ module _ (m : Source) (asked : Asking) (c : Case) (h : History) where
         (n + at, stops_to word.items at (Fault place) k.1.1),
       ),
     )
-    judged_by (Nothing far) k = (
+    judged_by (Nothing far word) k = (
       λ w e. k.0 w (e.0, true_from w e.1),
       λ w e. let q = from_fault n _ e.1.0 e.1.1 (sym (all w) ∙ e.1.2) in k.1 w (e.0, (q.0, e.1.1, q.1)),
-      (k.2.0, (k.2.1.0, stops_to k.2.0 far False k.2.1.1)),
+      (word.items, (k.2.0.0, stops_to word.items far False k.2.0.1)),
       λ w j e. let q = from_false n _ j (sym (all w) ∙ e.1) in let b = k.3 w q.0 (e.0, q.1) in let z = q.2 in omega (arith, b, z),
     )

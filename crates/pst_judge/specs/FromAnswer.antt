@@ -1,5 +1,5 @@
 -- The verdict that an answer of the search stands for.
-use Rattle.std.specs.Prelude.{◌≡◌, ℕ, ◌+◌, List}
+use Rattle.std.specs.Prelude.{◌≡◌, ℕ, ◌+◌, List, [], take}
 use Rattle.pst_eval.specs.declared.place.Place.{Place}
 use Rattle.pst_grid.specs.Answers.{IsAnswer}
 use Rattle.pst_grid.specs.declared.answer.SomeAnswer.{SomeAnswer}
@@ -16,20 +16,27 @@ use Rattle.pst_value.specs.declared.value.Value.{Value}
 abbrev pub verdict_of : (prefix : ℕ) → SomeAnswer Place → Verdict
 verdict_of prefix (Found word) = Explained word
 verdict_of prefix (FaultedWord word at place) = Faulted place
-verdict_of prefix (Nothing far) = Unexplained (prefix + far)
+verdict_of prefix (Nothing far word) = Unexplained (prefix + far)
+
+-- the letters of the true events of the merge that an answer names, where it is not all true
+abbrev pub letters_of : SomeAnswer Place → List ℕ
+letters_of (Found word) = []
+letters_of (FaultedWord word at place) = take at word.items
+letters_of (Nothing far word) = take far word.items
 
 -- the verdict of a search over the merges of branches with these events, from a state that so many events
--- lead to, and with these events behind each merge
+-- lead to, and with these events behind each merge; and the letters of its merge
 abbrev pub IsVerdictOfSearch :
     Source → Asking → (branches : List (List Event)) → (suffix : List Event) → (lengths : List ℕ)
-    → (prefix : ℕ) → Value → Verdict → Type 0
-IsVerdictOfSearch m asked branches suffix lengths prefix s v =
+    → (prefix : ℕ) → Value → Verdict → (letters : List ℕ) → Type 0
+IsVerdictOfSearch m asked branches suffix lengths prefix s v letters =
     (answer : SomeAnswer Place)
     × IsAnswer (branch_turn_asking m asked branches) (last_events m asked suffix) lengths s answer
     × (v ≡ verdict_of prefix answer)
+    × (letters ≡ letters_of answer)
 
 -- a fact of the events that an answer counts, where it finds no merge
 abbrev pub OnNothing : SomeAnswer Place → (ℕ → Type 0) → Type 0
 OnNothing (Found word) P = Unit {0}
 OnNothing (FaultedWord word at place) P = Unit {0}
-OnNothing (Nothing far) P = P far
+OnNothing (Nothing far word) P = P far

@@ -1,7 +1,7 @@
 //! The search over the merges of the branches.
 ghost use Rattle.std.specs.Prelude.{◌≡◌, ◌+◌, ◌<◌, ◌≤◌, ◌^◌, IfOk, map, length, sum};
 ghost use Rattle.pst_case.specs.Shape.{result_types};
-ghost use Rattle.pst_judge.specs.FromAnswer.{IsVerdictOfSearch, OnNothing, verdict_of};
+ghost use Rattle.pst_judge.specs.FromAnswer.{IsVerdictOfSearch, OnNothing, letters_of, verdict_of};
 ghost use Rattle.pst_judge.specs.Replay.{branch_lengths};
 ghost use Rattle.pst_judge.specs.Running.{BranchesFit, EventsFit, IsRealState};
 
@@ -120,25 +120,38 @@ pub fn lengths_of(alloc: Global, branches: &[Items<Command>]) -> Result<Vec<usiz
     Ok(lengths)
 }
 
-/// The verdict that an answer stands for, where so many events stand before the branches.
-fn verdict_of(prefix: usize, answer: SomeAnswer<Place>) -> Verdict
+/// The verdict that an answer stands for, where so many events stand before the branches. Beside it are the letters of
+/// the true events of the merge that the answer names, where that merge is not true to its end.
+fn verdict_of(alloc: Global, prefix: usize, answer: SomeAnswer<Place>) -> (Verdict, Vec<usize>)
     requires { OnNothing answer (λ far. prefix + far < 2 ^ 64) }
-    ensures { result ≡ verdict_of prefix answer }
+    ensures verdict { result.0 ≡ verdict_of prefix answer }
+    ensures letters { result.1.items ≡ letters_of answer }
 {
     match answer {
-        SomeAnswer::Found { word } => Verdict::Explained(word),
-        SomeAnswer::Faulted { fault, .. } => Verdict::Faulted(fault),
-        SomeAnswer::Nothing { far } => Verdict::Unexplained(prefix + far),
+        SomeAnswer::Found { word } => (Verdict::Explained(word), Vec::new(alloc)),
+        SomeAnswer::Faulted {
+            mut word,
+            at,
+            fault,
+        } => {
+            word.truncate(at);
+            (Verdict::Faulted(fault), word)
+        }
+        SomeAnswer::Nothing { far, mut word } => {
+            word.truncate(far);
+            (Verdict::Unexplained(prefix + far), word)
+        }
     }
 }
 
-/// Searches the merges of the branches, from the state after the prefix, with the suffix behind each.
+/// Searches the merges of the branches, from the state after the prefix, with the suffix behind each: the verdict, and
+/// the letters of the true events of the merge that it rests on, where no merge explains.
 pub fn search<C: Callbacks, A: Condition>(
     alloc: Global,
     branches: &Branches<'_, C, A>,
     state: &Value,
     prefix: usize,
-) -> Result<Verdict, AllocError>
+) -> Result<(Verdict, Vec<usize>), AllocError>
     requires state { IsRealState (C.model branches.now.callbacks.now) branches.now.shaped.now.case state.now }
     requires commands { let m = C.model branches.now.callbacks.now in
         BranchesFit m branches.now.shaped.now.case branches.now.events }
@@ -148,10 +161,10 @@ pub fn search<C: Callbacks, A: Condition>(
     requires lengths { sum (branch_lengths branches.now.shaped.now.case) ≤ 16 }
     requires suffix { length branches.now.suffix ≤ 8 }
     ensures { let b = branches.now in let m = C.model b.callbacks.now in IfOk result
-        (IsVerdictOfSearch m (A.asked b.condition.now m) b.events b.suffix (branch_lengths b.shaped.now.case)
-        prefix state.now) }
+        (λ r. IsVerdictOfSearch m (A.asked b.condition.now m) b.events b.suffix
+        (branch_lengths b.shaped.now.case) prefix state.now r.0 r.1.items) }
 {
     let lengths = lengths_of(alloc, branches.shaped.case().branches.as_slice())?;
     let (answer, _) = some(alloc, branches, lengths.as_slice(), state)?;
-    Ok(verdict_of(prefix, answer))
+    Ok(verdict_of(alloc, prefix, answer))
 }

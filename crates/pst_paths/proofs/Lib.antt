@@ -1,4 +1,1 @@
-pub mod Marks
-pub mod Reaching
-pub mod LeastFault
 pub mod Along

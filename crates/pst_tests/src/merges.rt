@@ -169,7 +169,7 @@ const CASES: [Case; 11] = [
         lengths: &[2, 1],
         commands: [NONE, NONE, (0, 1), NONE],
         asks_last: false,
-        some: "Nothing { far: 2 }",
+        some: "Nothing { far: 2, word: [0, 1, 0] }",
         every: "Not { word: [0, 0, 1], at: 1, why: False }",
     },
     // The place after one command of each branch is met with the lamp off, which fails, and then with it on.
@@ -224,14 +224,14 @@ const CASES: [Case; 11] = [
         lengths: &[2, 1],
         commands: [NONE, NONE, NONE, NONE],
         asks_last: true,
-        some: "Nothing { far: 3 }",
+        some: "Nothing { far: 3, word: [0, 0, 1] }",
         every: "Not { word: [0, 0, 1], at: 3, why: False }",
     },
     Case {
         lengths: &[0, 0],
         commands: [NONE, NONE, NONE, NONE],
         asks_last: true,
-        some: "Nothing { far: 0 }",
+        some: "Nothing { far: 0, word: [] }",
         every: "Not { word: [], at: 0, why: False }",
     },
 ];
@@ -286,7 +286,7 @@ fn is_counted(
     let lit = Lamp::new([NONE, NONE, NONE, NONE], false);
     let (all, seen) = every(alloc, &lit, lengths, &false)?;
     Ok(
-        matches!(nothing, SomeAnswer::Nothing { far: 15 })
+        matches!(nothing, SomeAnswer::Nothing { far: 15, .. })
             && matches!(all, EveryAnswer::All)
             && tried <= most
             && seen <= most

@@ -1,4 +1,4 @@
-use Rattle.std.proofs.Common.{◌≡◌, ℕ, ◌∷◌, ◌++◌, [], rules, ◌+◌, ◌<◌, ◌≤◌, ◌⊎◌, inl, inr, refl, ap, ◌∙◌, sym, subst, get_or, sum, length, arith}
+use Rattle.std.proofs.Common.{◌≡◌, ◌++◌, rules, ◌+◌, ◌<◌, ◌≤◌, refl, ap, ◌∙◌, sym, subst, get_or, sum, length, arith}
 use Rattle.std.proofs.lemmas.Grind.{common_steps}
 use Rattle.pst_grid.specs.declared.answer.Turn.TheVariants.{Stop}
 use Rattle.pst_grid.specs.Checked.{AreTrue, AreAllTrue, IsChecked, IsLeastFailed}

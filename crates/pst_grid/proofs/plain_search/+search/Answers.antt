@@ -1,4 +1,4 @@
-use Rattle.std.proofs.Common.{◌≡◌, ℕ, ◌<◌, ◌≤◌, ap, ◌∙◌, sym, subst, get_or, length, max, arith}
+use Rattle.std.proofs.Common.{◌≡◌, ℕ, ◌<◌, ◌≤◌, ◌∙◌, sym, subst, get_or, arith}
 use Rattle.std.proofs.lemmas.Grind.{common_steps}
 use Rattle.pst_grid.specs.declared.answer.Turn.TheVariants.{Stop}
 use Rattle.pst_grid.specs.declared.answer.Why.TheVariants.{False, Fault}
@@ -56,20 +56,19 @@ visit-returns-else-branch g t c =
           (rw index_is at turn_is) c.in_ok-enter-in-Next.ensures.done c.in_ok-enter-in-Next.ensures.word c.in_ok-enter-in-Next.ensures.best h c.leave.ensures.best;
     }
 
-pub visit-returns-in-Stop-False : goal.visit-returns-in-Stop-False
-visit-returns-in-Stop-False g t c =
+pub visit-returns-in_ok-note_false-in-Stop-False : goal.visit-returns-in_ok-note_false-in-Stop-False
+visit-returns-in_ok-note_false-in-Stop-False g t c =
     let here = c.args.search.now in
     let index_is : c.index-index.result.now ≡ get_or here.done.items c.args.branch 0 = grind (arith, common_steps) in
     let left : get_or here.done.items c.args.branch 0 < get_or c.args.lengths.now c.args.branch 0 = grind (arith, common_steps) in
     let stops : c.in_ok-next.field-0 ≡ Stop False = cc in
     let turn_is = sym c.in_ok-next.ensures.answer ∙ stops in
-    let depth : c.len-at.result ≡ length here.word.items = c.len-at.ensures ∙ here.word.ok.0 in
-    let far = c.note_false.ensures.far ∙ ap (max here.best.far) depth in
+    let e = c.in_ok-note_false-in-Stop-False.ensures in
     record {
-      word = c.note_false.ensures.word;
-      done = c.note_false.ensures.done;
+      word = e.word;
+      done = e.done;
       covered = visited-False (g.S.Steps.turn c.args.steps.now) (g.S.Steps.rest c.args.steps.now) c.args.lengths.now c.args.state.now here.done.items here.word.items c.args.branch c.requires.place left
-          here.best c.note_false.new.self.best (rw index_is at turn_is) c.note_false.ensures.fault far;
+          here.best c.note_false.new.self.best (rw index_is at turn_is) e.fault e.furthest;
     }
 
 pub visit-returns-in_ok-note_fault-in-Stop-Fault : goal.visit-returns-in_ok-note_fault-in-Stop-Fault
@@ -84,5 +83,5 @@ visit-returns-in_ok-note_fault-in-Stop-Fault g t c =
       word = e.word;
       done = e.done;
       covered = visited-Fault (g.S.Steps.turn c.args.steps.now) (g.S.Steps.rest c.args.steps.now) c.args.lengths.now c.args.state.now here.done.items here.word.items c.args.branch c.requires.place left
-          c.in-Stop-Fault.fault here.best c.note_fault.new.self.best (rw index_is at turn_is) e.far e.later e.first;
+          c.in-Stop-Fault.fault here.best c.note_fault.new.self.best (rw index_is at turn_is) e.furthest e.later e.first;
     }

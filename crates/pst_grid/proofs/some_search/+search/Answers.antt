@@ -1,4 +1,4 @@
-use Rattle.std.proofs.Common.{◌≡◌, ◌++◌, rules, ◌+◌, ◌<◌, ◌≤◌, refl, ap, ◌∙◌, sym, subst, get_or, sum, length, max, arith}
+use Rattle.std.proofs.Common.{◌≡◌, ◌++◌, rules, ◌+◌, ◌<◌, ◌≤◌, refl, ap, ◌∙◌, sym, subst, get_or, sum, length, arith}
 use Rattle.std.proofs.lemmas.Grind.{common_steps}
 use Rattle.pst_grid.specs.declared.answer.Turn.TheVariants.{Stop}
 use Rattle.pst_grid.specs.declared.answer.Why.TheVariants.{False, Fault}
@@ -95,19 +95,18 @@ visit-returns-else-branch-clause-searched g t c =
           (ap sum c.in_ok-enter-in-Next.ensures.done ∙ sum-more c.args.lengths.now here.done.items c.args.branch c.requires.place left) all.accounted);
     }
 
-pub visit-returns-in-Stop-False-clause-searched : goal.visit-returns-in-Stop-False-clause-searched
-visit-returns-in-Stop-False-clause-searched g t c =
+pub visit-returns-in_ok-note_false-in-Stop-False-clause-searched : goal.visit-returns-in_ok-note_false-in-Stop-False-clause-searched
+visit-returns-in_ok-note_false-in-Stop-False-clause-searched g t c =
     let here = c.args.search.now in
     let index_is : c.index-index.result.now ≡ get_or here.done.items c.args.branch 0 = grind (arith, common_steps) in
     let left : get_or here.done.items c.args.branch 0 < get_or c.args.lengths.now c.args.branch 0 = grind (arith, common_steps) in
     let stops : c.in_ok-next.field-0 ≡ Stop False = cc in
     let turn_is = sym c.in_ok-next.ensures.answer ∙ stops in
-    let depth : c.len-at.result ≡ length here.word.items = c.len-at.ensures ∙ here.word.ok.0 in
-    let far = c.note_false.ensures.far ∙ ap (max here.best.far) depth in
+    let e = c.in_ok-note_false-in-Stop-False.ensures in
     let k = visited-False (g.S.Steps.turn c.args.steps.now) (g.S.Steps.rest c.args.steps.now) c.args.lengths.now c.args.state.now here.done.items here.word.items c.args.branch c.requires.place left
-    here.best c.note_false.new.self.best (rw index_is at turn_is) c.note_false.ensures.fault far in
+    here.best c.note_false.new.self.best (rw index_is at turn_is) e.fault e.furthest in
     record {
-      covered = record { word = c.note_false.ensures.word; done = c.note_false.ensures.done; covered = k };
+      covered = record { word = e.word; done = e.done; covered = k };
       accounted = all-accounted-on (g.S.Steps.turn c.args.steps.now) (g.S.Steps.rest c.args.steps.now) c.args.lengths.now (sum here.done.items + 1) here.done.items here.word.items c.args.state.now _ here.best c.note_false.new.self.best c.args.seen.now.keys k c.requires.accounted;
     }
 
@@ -120,7 +119,7 @@ visit-returns-in_ok-note_fault-in-Stop-Fault-clause-searched g t c =
     let turn_is = sym c.in_ok-next.ensures.answer ∙ stops in
     let e = c.in_ok-note_fault-in-Stop-Fault.ensures in
     let k = visited-Fault (g.S.Steps.turn c.args.steps.now) (g.S.Steps.rest c.args.steps.now) c.args.lengths.now c.args.state.now here.done.items here.word.items c.args.branch c.requires.place left
-    c.in-Stop-Fault.fault here.best c.note_fault.new.self.best (rw index_is at turn_is) e.far e.later e.first in
+    c.in-Stop-Fault.fault here.best c.note_fault.new.self.best (rw index_is at turn_is) e.furthest e.later e.first in
     record {
       covered = record { word = e.word; done = e.done; covered = k };
       accounted = all-accounted-on (g.S.Steps.turn c.args.steps.now) (g.S.Steps.rest c.args.steps.now) c.args.lengths.now (sum here.done.items + 1) here.done.items here.word.items c.args.state.now _ here.best c.note_fault.new.self.best c.args.seen.now.keys k c.requires.accounted;
@@ -151,8 +150,8 @@ visit-returns-else-branch-clause-grown g t c =
     here.steps c.enter.new.self.steps c.leave.new.self.steps left (rw index_is at turn_is) c.in_ok-enter-in-Next.ensures.done (sum-more c.args.lengths.now here.done.items c.args.branch c.requires.place left) made
     (subst (λ n. IsGrown (g.S.Steps.turn c.args.steps.now) c.args.lengths.now (g.S.Steps.most_rest c.args.steps.now) 0 (sum c.enter.new.self.done.items) c.enter.new.self.done.items c.in-Next.next c.args.seen.now.keys c.explore.new.seen.keys c.enter.new.self.steps n) (sym c.leave.ensures.steps) c.in_ok-explore-in-Next.ensures.grown)
 
-pub visit-returns-in-Stop-False-clause-grown : goal.visit-returns-in-Stop-False-clause-grown
-visit-returns-in-Stop-False-clause-grown g t c =
+pub visit-returns-in_ok-note_false-in-Stop-False-clause-grown : goal.visit-returns-in_ok-note_false-in-Stop-False-clause-grown
+visit-returns-in_ok-note_false-in-Stop-False-clause-grown g t c =
     let made : c.note_false.new.self.steps ≤ c.args.search.now.steps + 1 = grind (arith, c.saturating_add-search.ensures, c.note_false.ensures.steps) in
     grown-none (g.S.Steps.turn c.args.steps.now) c.args.lengths.now (g.S.Steps.most_rest c.args.steps.now) _ _ _ c.args.seen.now.keys 1 c.args.search.now.steps c.note_false.new.self.steps made
 

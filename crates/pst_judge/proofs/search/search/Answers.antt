@@ -18,4 +18,4 @@ verdict_of-requires g c =
 pub returns : goal.returns
 returns g c =
     let a = rw (c.as_slice-2.ensures.value, c.in_ok-lengths.ensures, c.as_slice.ensures, c.case.ensures.same) at c.in_ok-answer.ensures.answer in
-    (c.in_ok-answer.answer, a, c.verdict_of.ensures)
+    (c.in_ok-answer.answer, a, c.verdict_of.ensures.verdict, c.verdict_of.ensures.letters)

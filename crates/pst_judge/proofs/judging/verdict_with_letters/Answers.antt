@@ -1,7 +1,7 @@
 use Rattle.std.proofs.Common.{◌≡◌, length, ap, ◌∙◌, arith}
 use Rattle.pst_judge.proofs.Fitted.{recorded_within}
 use Rattle.pst_case.specs.Recorded.{recorded}
-use Rattle.pst_judge.proofs.judging.verdict_asking.Goals as goal
+use Rattle.pst_judge.proofs.judging.verdict_with_letters.Goals as goal
 
 pub first_broken-requires : goal.first_broken-requires
 first_broken-requires g c =
