@@ -303,3 +303,41 @@ fn steps_are_counted(rt: HostRuntime) -> Result<(), Fail> {
     assert!(rt; is_counted(alloc, &[4, 4, 4, 4], (3, 3), 2500)?);
     Ok(())
 }
+
+/// Whether `some` finds nothing in at most `most` steps where what runs after the branches is false, and `every` holds in as
+/// few where it is true. The searches count that step as the lamp does.
+fn is_counted_to_the_end(alloc: Global, lengths: &[usize], most: usize) -> Result<bool, AllocError>
+    requires { sum lengths.now + 1 < 2 ^ 32 }
+{
+    let dark = Lamp::new([NONE, NONE, NONE, NONE], true);
+    let (nothing, tried) = some(alloc, &dark, lengths, &false)?;
+    let lit = Lamp::new([NONE, NONE, NONE, NONE], true);
+    let (all, seen) = every(alloc, &lit, lengths, &true)?;
+    Ok(
+        matches!(nothing, SomeAnswer::Nothing { far: 16 })
+            && matches!(all, EveryAnswer::All)
+            && tried <= most
+            && seen <= most
+            && tried == dark.steps_made.get()
+            && seen == lit.steps_made.get(),
+    )
+}
+
+// The same branches. All their events are true, and one more runs after them.
+#[test]
+fn steps_after_the_branches_are_counted(rt: HostRuntime) -> Result<(), Fail> {
+    let alloc = rt.alloc();
+    assert!(rt; is_counted_to_the_end(alloc, &[8, 8], 163)?);
+    assert!(rt; is_counted_to_the_end(alloc, &[4, 4, 4, 4], 2501)?);
+    Ok(())
+}
+
+// The two orders of two commands end in two states, and in each of them one more event runs.
+#[test]
+fn steps_after_each_state_are_counted(rt: HostRuntime) -> Result<(), Fail> {
+    let lamp = Lamp::new([(0, 0), (1, 0), NONE, NONE], true);
+    let (found, tried) = some(rt.alloc(), &lamp, &[1, 1], &false)?;
+    assert!(rt; matches!(found, SomeAnswer::Found { .. }));
+    assert!(rt; (tried, lamp.steps_made.get()) == (6, 6));
+    Ok(())
+}
