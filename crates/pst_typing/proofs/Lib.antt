@@ -1,13 +1,16 @@
+pub mod Blaming
+pub mod ByForms
 pub mod Complete
 pub mod Exactly
 pub mod Formed
 pub mod Forms
-pub mod Found
+pub mod Gathers
 pub mod Holding
 pub mod Ill
 pub mod Judging
 pub mod Operating
 pub mod Seeing
+pub mod Sound
 pub mod Steps
 pub mod WellItems
 pub mod Whole
