@@ -8,7 +8,7 @@ use std::alloc::{AllocError, Global};
 
 /// The most forms of a type that are shown: a type may have more forms than memory holds, since its equal parts are
 /// shared. `..` stands for the others.
-const MOST_FORMS: usize = 256;
+const MOST_FORMS: usize = 64;
 
 /// A type, as it is written.
 pub fn spelled(alloc: Global, kind: &Kind) -> Result<String, AllocError> {
@@ -76,11 +76,11 @@ fn spell_all(
 {
     text.push_str("(tuple")?;
     for kind in kinds {
-        text.push_str(" ")?;
-        spell(text, alloc, kind, left)?;
         if *left == 0 {
             return text.push_str(" ..)");
         }
+        text.push_str(" ")?;
+        spell(text, alloc, kind, left)?;
     }
     text.push_str(")")
 }

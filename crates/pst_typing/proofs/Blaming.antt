@@ -1,9 +1,10 @@
 -- What is found of an expression, by what is known of its parts.
-use Rattle.std.proofs.Common.{◌≡◌, ℕ, suc, ◌+◌, Bool, List, [], ◌∷◌, ◌++◌, length, map, Option, Some, None, Result, Ok, Err, IfOk, slice_get, refl, sym, ap, ◌∙◌, subst, append_assoc}
+use Rattle.std.proofs.Common.{◌≡◌, ℕ, zero, suc, ◌+◌, Bool, List, [], ◌∷◌, ◌++◌, length, map, Option, Some, None, Result, Ok, Err, IfOk, slice_get, refl, sym, ap, ◌∙◌, subst, append_assoc}
 use Rattle.pst_model.specs.declared.expr.Clause.{Clause}
 use Rattle.pst_model.specs.declared.expr.Expr.{Expr, out-Expr}
 use Rattle.pst_model.specs.declared.expr.Expr.TheVariants as expr
 use Rattle.pst_model.specs.declared.model.Item.{Item}
+use Rattle.std.specs.declared.alloc.AllocError.{AllocError}
 use Rattle.pst_rules.specs.Rules.{Context}
 use Rattle.pst_typing.specs.Blamed.{Typing, Seen, type_seen, AreTypes, Leads, Parts, ForParts, parts_for, IsBlamed}
 use Rattle.pst_typing.specs.ByParts.{by_form}
@@ -29,7 +30,7 @@ module _ (f : Typing) where
   -- a part that has no type
   leads_none : (P : List Seen) (types : List Ty) (k : ℕ) (path : List ℕ) → Leads f P types (k ∷ path) → all_some (map (type_seen f) P) ≡ None
   leads_none [] types k path l = absurd l
-  leads_none (p ∷ P) types 0 path l = ap (λ o. o >>= (λ T. all_some (map (type_seen f) P) >>= (λ Ts. Some (T ∷ Ts)))) l.0
+  leads_none (p ∷ P) types zero path l = ap (λ o. o >>= (λ T. all_some (map (type_seen f) P) >>= (λ Ts. Some (T ∷ Ts)))) l.0
   leads_none (p ∷ P) types (suc k) path l = rest_none (f p.1 p.0) _ (leads_none P types k path l)
 
   on_none : (P : List Seen) (types : List Ty) (path : List ℕ) → LeadsOn f P types path → all_some (map (type_seen f) P) ≡ None
@@ -81,3 +82,22 @@ module _ (items earlier : List Item) (post : Bool) (G : Context) (e : Expr) (all
         let here : IsBlamed f G e all.kinds [] = (none, (known.parts, known.are, known.known.types whole)) in
         let reason : IsReason f G e (found.Blamed (one ∷ [])) = (λ h. absurd (cc), (here, tt)) in
         record { type = none; reason = subst (λ cs. IsReason f G e (found.Blamed cs)) (sym j.1) reason }
+
+    pub judged_ok : (r : Result Found AllocError) → IfOk r (λ x. IsJudged (by_form items earlier post G (out-Expr e) all.kinds) all.kinds x) → IfOk r (λ x. IsFound f G e x)
+    judged_ok (Ok x) j = judged_parts x j
+    judged_ok (Err why) j = tt
+
+-- ---- what is known of the parts of each form
+
+module _ (f : Typing) (G : Context) (e e' : Expr) (is : e ≡ e') where
+  pub named_leaf : (all : Gathered) → Parts f G e' [] → all ≡ nothing → ArePartsOf f G e all
+  named_leaf all parts h = record { parts = []; are = subst (λ x. Parts f G x []) (sym is) parts; known = subst (IsGathered f []) (sym h) (none_yet f) }
+
+  pub named : (P : List Seen) (r : Result Gathered AllocError) → Parts f G e' P → IfOk r (λ all. IsGathered f P all) → IfOk r (λ all. ArePartsOf f G e all)
+  named P (Ok all) parts known = record { parts = P; are = subst (λ x. Parts f G x P) (sym is) parts; known = known }
+  named P (Err why) parts known = tt
+
+  pub named_for : (cs : List Clause) (b : Expr) (old : Gathered) (r : Result Gathered AllocError) → e' ≡ expr.For cs b → old ≡ nothing
+      → IfOk r (λ all. AreClausesOf f G cs b old all) → IfOk r (λ all. ArePartsOf f G e all)
+  named_for cs b old (Ok all) at h a = clauses_all f G e cs b all (is ∙ at) (subst (λ o. AreClausesOf f G cs b o all) h a)
+  named_for cs b old (Err why) at h a = tt

@@ -32,11 +32,14 @@ abbrev holds : Option (List Ty) → (List Ty → Bool) → Bool
 holds None p = false
 holds (Some Ts) p = p Ts
 
-where_none : {A : Type 0} (b : Bool) → where_true b None ≡ None
+abbrev no_type : Option Ty
+no_type = None
+
+where_none : (b : Bool) → where_true b no_type ≡ no_type
 where_none true = refl
 where_none false = refl
 
-then_none : {A B : Type 0} (o : Option A) → (o >>= (λ x. None)) ≡ None
+then_none : {A : Type 0} (o : Option A) → (o >>= (λ x. no_type)) ≡ no_type
 then_none None = refl
 then_none (Some x) = refl
 
@@ -74,10 +77,10 @@ at_part_type : (place : ℕ) (o : Option Ty) → (o >>= (λ T. part_type T place
 at_part_type place None = refl
 at_part_type place (Some T) = refl
 
-values_none : (b : Bool) (v : Option Ty) → where_true b (v >>= (λ T. None)) ≡ (None : Option Ty)
+values_none : (b : Bool) (v : Option Ty) → where_true b (v >>= (λ T. no_type)) ≡ no_type
 values_none b v = ap (where_true b) (then_none v) ∙ where_none b
 
-keys_none : (S : Ty) (q v : Option Ty) → (q >>= (λ K. where_true (same_ty S K) (v >>= (λ T. None)))) ≡ (None : Option Ty)
+keys_none : (S : Ty) (q v : Option Ty) → (q >>= (λ K. where_true (same_ty S K) (v >>= (λ T. no_type)))) ≡ no_type
 keys_none S None v = refl
 keys_none S (Some K) v = values_none (same_ty S K) v
 

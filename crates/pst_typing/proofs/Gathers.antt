@@ -1,5 +1,5 @@
 -- What is known of parts, one part more at a time.
-use Rattle.std.proofs.Common.{◌≡◌, ℕ, suc, ◌+◌, ◌<◌, List, [], ◌∷◌, ◌++◌, length, map, take, get_or, Option, Some, None, MatchOption, Result, Ok, Err, IfOk, slice_get, refl, sym, ap, ◌∙◌, subst, append_assoc, arith}
+use Rattle.std.proofs.Common.{◌≡◌, ℕ, zero, suc, ◌+◌, ◌<◌, List, [], ◌∷◌, ◌++◌, length, map, take, get_or, Option, Some, None, MatchOption, Result, Ok, Err, IfOk, slice_get, refl, sym, ap, ◌∙◌, subst, append_assoc, arith}
 use Rattle.std.proofs.lemmas.List.{map-append, length-append, take_more}
 use Rattle.std.specs.declared.alloc.AllocError.{AllocError}
 use Rattle.pst_model.specs.Parts.{Name}
@@ -9,7 +9,7 @@ use Rattle.pst_model.specs.declared.expr.Expr.{Expr}
 use Rattle.pst_rules.specs.Rules.{Context}
 use Rattle.pst_typing.specs.Blamed.{Typing, Seen, type_seen, Leads, IsBlamed, each_part, let_parts, fold_parts, ForParts, for_body, for_in, for_ends_in, for_when}
 use Rattle.pst_typing.specs.Decision.{◌>>=◌, item_type}
-use Rattle.pst_typing.specs.Gathering.{kind_found, AreBlamed, IsFound, inside, most_blames, nothing, with_found, LeadsOn, AllLeadOn, IsGathered, AreClausesOf}
+use Rattle.pst_typing.specs.Gathering.{kind_found, item_in, AreBlamed, IsFound, inside, most_blames, nothing, with_found, LeadsOn, AllLeadOn, IsGathered, AreClausesOf}
 use Rattle.pst_typing.specs.declared.blame.Blame.{Blame}
 use Rattle.pst_typing.specs.declared.blame.Found.{Found}
 use Rattle.pst_typing.specs.declared.blame.Found.TheVariants as found
@@ -39,7 +39,7 @@ take_empty n (x ∷ xs) e = absurd (cc)
 module _ (f : Typing) where
   longer_at : (P Q : List Seen) (types : List Ty) (k : ℕ) (path : List ℕ) → Leads f P types (k ∷ path) → Leads f (P ++ Q) types (k ∷ path)
   longer_at [] Q types k path l = absurd l
-  longer_at (p ∷ P) Q types 0 path l = l
+  longer_at (p ∷ P) Q types zero path l = l
   longer_at (p ∷ P) Q types (suc k) path l = longer_at P Q types k path l
 
   longer : (P Q : List Seen) (types : List Ty) (path : List ℕ) → LeadsOn f P types path → LeadsOn f (P ++ Q) types path
@@ -55,7 +55,7 @@ module _ (f : Typing) where
   both_lead P (b ∷ bs) cs l m = (l.0, both_lead P bs cs l.1 m)
 
   first_lead : (n : ℕ) (P : List Seen) (bs : List Blame) → AllLeadOn f P bs → AllLeadOn f P (take n bs)
-  first_lead 0 P bs l = tt
+  first_lead zero P bs l = tt
   first_lead (suc n) P [] l = tt
   first_lead (suc n) P (b ∷ bs) l = (l.0, first_lead n P bs l.1)
 
@@ -100,6 +100,9 @@ module _ (f : Typing) where
 
 -- ---- results of the walk
 
+abbrev no_names : Option Context
+no_names = None
+
 module _ (f : Typing) where
   -- the type that is found is that of the expression
   pub type_found : (G : Context) (e : Expr) (x : Found) (o : Option Ty) → IsFound f G e x → o ≡ kind_found x → f e G ≡ o
@@ -136,13 +139,29 @@ module _ (f : Typing) where
   two_more G e i old all y z start list h first r k =
       ok_more ((G, e) ∷ []) all G i z r (more f [] old (subst (IsGathered f []) (sym start) (none_yet f)) G e y all list h) first k
 
-  pub fold_ends : (x : Name) (e : Expr) (acc : Name) (i b : Expr) (G : Context) (old all : Gathered) (y z : Found) → old ≡ nothing → IsFound f G e y → all ≡ with_found old y → IsFound f G i z
+  then_no_names : (m : Option Ty) → (m >>= (λ S. no_names)) ≡ no_names
+  then_no_names None = refl
+  then_no_names (Some S) = refl
+
+  fold_ends : (x : Name) (e : Expr) (acc : Name) (i b : Expr) (G : Context) (old all : Gathered) (y z : Found) → old ≡ nothing → IsFound f G e y → all ≡ with_found old y → IsFound f G i z
       → (kind_found y >>= item_type >>= (λ S. kind_found z >>= (λ T. Some ((acc, T) ∷ (x, S) ∷ G)))) ≡ None
       → (r : Result Gathered AllocError) → IfOk r (λ new. new ≡ with_found all z) → FoldGoal x e acc i b G r
   fold_ends x e acc i b G old all y z start list h first none r k = rw (list.type, first.type, none) (two_more G e i old all y z start list h first r k)
 
+  -- over no list
+  pub fold_no_list : (x : Name) (e : Expr) (acc : Name) (i b : Expr) (G : Context) (old all : Gathered) (y z : Found) (r : Result Gathered AllocError) → old ≡ nothing → IsFound f G e y → all ≡ with_found old y
+      → None ≡ item_in y → IsFound f G i z → IfOk r (λ new. new ≡ with_found all z) → FoldGoal x e acc i b G r
+  fold_no_list x e acc i b G old all y z r start list h item first k =
+      fold_ends x e acc i b G old all y z start list h first (ap (λ m. m >>= (λ S. kind_found z >>= (λ T. Some ((acc, T) ∷ (x, S) ∷ G)))) (sym item)) r k
+
+  -- whose first value is ill-typed
+  pub fold_no_first : (x : Name) (e : Expr) (acc : Name) (i b : Expr) (G : Context) (old all : Gathered) (y : Found) (bs : List Blame) (r : Result Gathered AllocError) → old ≡ nothing → IsFound f G e y → all ≡ with_found old y
+      → IsFound f G i (found.Blamed bs) → IfOk r (λ new. new ≡ with_found all (found.Blamed bs)) → FoldGoal x e acc i b G r
+  fold_no_first x e acc i b G old all y bs r start list h first k =
+      fold_ends x e acc i b G old all y (found.Blamed bs) start list h first (then_no_names (item_in y)) r k
+
   pub fold_goes : (x : Name) (e : Expr) (acc : Name) (i b : Expr) (G : Context) (S T : Ty) (old all next : Gathered) (y w : Found) → old ≡ nothing → IsFound f G e y → all ≡ with_found old y
-      → Some S ≡ (kind_found y >>= item_type) → IsFound f G i (found.Kind T) → next ≡ with_found all (found.Kind T) → IsFound f ((acc, T) ∷ (x, S) ∷ G) b w
+      → Some S ≡ item_in y → IsFound f G i (found.Kind T) → next ≡ with_found all (found.Kind T) → IsFound f ((acc, T) ∷ (x, S) ∷ G) b w
       → (r : Result Gathered AllocError) → IfOk r (λ new. new ≡ with_found next w) → FoldGoal x e acc i b G r
   fold_goes x e acc i b G S T old all next y w start list h item first h2 body r k =
       let one : IsGathered f ((G, e) ∷ []) all = more f [] old (subst (IsGathered f []) (sym start) (none_yet f)) G e y all list h in
@@ -166,7 +185,7 @@ module _ (f : Typing) where
       more = λ P known. subst (λ Q. IsGathered f Q new) (append_assoc P ((G, e) ∷ []) a.parts) (a.more (P ++ (G, e) ∷ []) (more f P old known G e x all is h));
     }
 
-    pub in_goes : (y : Name) (S : Ty) → Some S ≡ (kind_found x >>= item_type) → AreClausesOf f ((y, S) ∷ G) cs b all new → AreClausesOf f G (clause.In y e ∷ cs) b old new
+    pub in_goes : (y : Name) (S : Ty) → Some S ≡ item_in x → AreClausesOf f ((y, S) ∷ G) cs b all new → AreClausesOf f G (clause.In y e ∷ cs) b old new
     in_goes y S item a = record {
       parts = (G, e) ∷ a.parts;
       are = for_in G y e cs b S a.parts (ap (λ o. o >>= item_type) is.type ∙ sym item) a.are;
@@ -174,7 +193,7 @@ module _ (f : Typing) where
     }
 
   pub in_ends : (G : Context) (e : Expr) (cs : List Clause) (b : Expr) (old all : Gathered) (x : Found) → IsFound f G e x → all ≡ with_found old x → (y : Name)
-      → None ≡ (kind_found x >>= item_type) → AreClausesOf f G (clause.In y e ∷ cs) b old all
+      → None ≡ item_in x → AreClausesOf f G (clause.In y e ∷ cs) b old all
   in_ends G e cs b old all x is h y item = record {
     parts = (G, e) ∷ [];
     are = for_ends_in G y e cs b (ap (λ o. o >>= item_type) is.type ∙ sym item);
@@ -189,3 +208,15 @@ module _ (f : Typing) where
     more = λ P known. more f P old known G b x new is h;
   }
   ok_body G cs b old x (Err why) empty is h = tt
+
+  -- the same for results
+  pub ok_when : (G : Context) (e : Expr) (cs ds : List Clause) (c : Clause) (b : Expr) (old all : Gathered) (x : Found) (r : Result Gathered AllocError) → cs ≡ c ∷ ds → c ≡ clause.When e
+      → IsFound f G e x → all ≡ with_found old x → IfOk r (λ new. AreClausesOf f G ds b all new) → IfOk r (λ new. AreClausesOf f G cs b old new)
+  ok_when G e cs ds c b old all x (Ok new) parts at is h a =
+      subst (λ xs. AreClausesOf f G xs b old new) (sym (parts ∙ ap (λ d. d ∷ ds) at)) (when_goes G e ds b old all new x is h a)
+  ok_when G e cs ds c b old all x (Err why) parts at is h a = tt
+
+  pub ok_in : (G : Context) (e : Expr) (cs : List Clause) (b : Expr) (y : Name) (S : Ty) (old all : Gathered) (x : Found) (r : Result Gathered AllocError) → IsFound f G e x → all ≡ with_found old x → Some S ≡ item_in x
+      → IfOk r (λ new. AreClausesOf f ((y, S) ∷ G) cs b all new) → IfOk r (λ new. AreClausesOf f G (clause.In y e ∷ cs) b old new)
+  ok_in G e cs b y S old all x (Ok new) is h item a = in_goes G e cs b old all new x is h y S item a
+  ok_in G e cs b y S old all x (Err why) is h item a = tt

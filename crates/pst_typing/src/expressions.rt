@@ -87,7 +87,8 @@ fn in_let(
 {
     let alloc = context.alloc;
     let none = Gathered::new(alloc);
-    match find_kind(bound.get(), context, names)? {
+    let found = find_kind(bound.get(), context, names)?;
+    match found {
         Found::Blamed(blames) => none.with(alloc, Found::Blamed(blames)),
         Found::Kind(kind) => {
             let inner = Names::With(name.as_bytes(), &kind, &*names);
@@ -181,14 +182,18 @@ fn in_fold(
     let found = find_kind(list.get(), context, names)?;
     let item = item_found(alloc, &found)?;
     let all = Gathered::new(alloc).with(alloc, found)?;
-    match (item, find_kind(first.get(), context, names)?) {
-        (Some(item), Found::Kind(kind)) => {
+    let found = find_kind(first.get(), context, names)?;
+    let Some(item) = item else {
+        return all.with(alloc, found);
+    };
+    match found {
+        Found::Blamed(blames) => all.with(alloc, Found::Blamed(blames)),
+        Found::Kind(kind) => {
             let outer = Names::With(name.as_bytes(), &item, &*names);
             let inner = Names::With(acc.as_bytes(), &kind, &outer);
             let found = find_kind(body.get(), context, &inner)?;
             all.with(alloc, Found::Kind(kind))?.with(alloc, found)
         }
-        (_, found) => all.with(alloc, found),
     }
 }
 
