@@ -274,13 +274,7 @@ fn fits_clause(alloc: Global, clause: &Tree, found: &Kind) -> Result<bool, Alloc
 }
 
 /// A clause, by its number, of another type.
-fn ill_clause(
-    alloc: Global,
-    leaf: &Leaf<'_>,
-    clause: &Tree,
-    place: usize,
-    found: &Kind,
-) -> Judged {
+fn ill_clause(alloc: Global, leaf: &Leaf<'_>, clause: &Tree, place: usize, found: &Kind) -> Judged {
     let mut path = Vec::from_slice(alloc, leaf.path)?;
     path.extend_from_slice(&[1, place])?;
     if goes_over_list(clause) {

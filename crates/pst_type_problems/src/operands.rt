@@ -74,7 +74,12 @@ pub fn wanted_type<D: Display + Drop>(
 }
 
 /// The first part of another kind than its form takes.
-pub fn ill_first<D: Display + Drop>(alloc: Global, leaf: &Leaf<'_>, what: D, found: &Kind) -> Judged {
+pub fn ill_first<D: Display + Drop>(
+    alloc: Global,
+    leaf: &Leaf<'_>,
+    what: D,
+    found: &Kind,
+) -> Judged {
     let found = spelled(alloc, found)?;
     wrong_at(alloc, leaf.path, 1, format_args!("{what}, found {found}"))
 }

@@ -20,12 +20,7 @@ pub fn spelled(alloc: Global, kind: &Kind) -> Result<String, AllocError> {
 
 /// Adds a type. Its forms are taken off `left`.
 #[cycle(spell)]
-fn spell(
-    text: &mut String,
-    alloc: Global,
-    kind: &Kind,
-    left: &mut usize,
-) -> Result<(), AllocError>
+fn spell(text: &mut String, alloc: Global, kind: &Kind, left: &mut usize) -> Result<(), AllocError>
     ensures { left.new ≤ left.old }
 {
     if *left == 0 {

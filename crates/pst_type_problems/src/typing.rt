@@ -181,7 +181,9 @@ fn tell_next(
     let params = Scope::Parameters(op.params.as_slice());
     let seen = Scope::With(b"s".as_slice(), here.state, &params);
     let scope = Scope::With(b"r".as_slice(), &named, &seen);
-    tell_callback(problems, &op.next, "next", &context, &scope, here.state, here)
+    tell_callback(
+        problems, &op.next, "next", &context, &scope, here.state, here,
+    )
 }
 
 /// Adds what is wrong with the callback `post`, which sees the state and the result.

@@ -93,7 +93,10 @@ fn part_of<'a>(
         }
         (Expr::Unary(_, operand) | Expr::At(operand, _), _) => Ok(operand.get()),
         (
-            Expr::Tuple(exprs) | Expr::List(_, exprs) | Expr::Call(_, exprs) | Expr::Apply(_, exprs),
+            Expr::Tuple(exprs)
+            | Expr::List(_, exprs)
+            | Expr::Call(_, exprs)
+            | Expr::Apply(_, exprs),
             _,
         ) => Ok(one_of(expr, exprs, part)),
         _ => Ok(expr),

@@ -12,7 +12,7 @@ use Rattle.pst_model.specs.declared.model.Fun.{Fun}
 use Rattle.pst_model.specs.declared.model.Item.{Item}
 use Rattle.pst_model.specs.declared.model.Op.{Op}
 use Rattle.pst_rules.specs.Rules.{Context, signature}
-use Rattle.pst_typing.specs.Blamed.{Seen, type_seen, each_part, body_seen, with_name, Parts, parts_int, parts_bool, parts_text, parts_name, parts_let, parts_if, parts_and, parts_or, parts_unary, parts_binary, parts_tuple, parts_at, parts_list, parts_for, parts_fold, parts_map, parts_put, parts_call, parts_apply, ForParts, for_body, for_in, for_ends_in, for_when}
+use Rattle.pst_typing.specs.Blamed.{Seen, type_seen, let_parts, if_parts, two_parts, one_part, fold_parts, each_part, body_seen, with_name, Parts, parts_int, parts_bool, parts_text, parts_name, parts_let, parts_if, parts_and, parts_or, parts_unary, parts_binary, parts_tuple, parts_at, parts_list, parts_for, parts_fold, parts_map, parts_put, parts_call, parts_apply, ForParts, for_body, for_in, for_ends_in, for_when}
 use Rattle.pst_typing.specs.ByParts.{of_if, of_both, of_unary, of_binary, of_at, all_are, fits_clause, fits_at, of_for, of_fold, of_put, each_is, of_call, of_applied, by_form}
 use Rattle.pst_typing.specs.Decision.{◌>>=◌, where_true, Finds, Part, item_type, part_type, keys_type, values_type, unary_type, binary_type, all_types, all_have, each_has, built_type, operation_called, type_at, type_of, part_of, part_at}
 use Rattle.pst_typing.proofs.Forms.{part_in, part_when}
@@ -253,22 +253,22 @@ module _ (items earlier : List Item) (post : Bool) where
       ∙ ap (λ d. all_some (map (type_seen f) P) >>= by_form items earlier post G d) (sym outs)
 
   pub by_parts_found : (G : Context) (e : Expr) (P : List Seen) → Parts f G e P → f e G ≡ (all_some (map (type_seen f) P) >>= by_form items earlier post G (out-Expr e))
-  by_parts_found G _ _ (parts_int n) = to G _ _ _ (expr.rolls-Int n) (expr.outs-Int n) refl
-  by_parts_found G _ _ (parts_bool b) = to G _ _ _ (expr.rolls-Bool b) (expr.outs-Bool b) refl
-  by_parts_found G _ _ (parts_text t) = to G _ _ _ (expr.rolls-Text t) (expr.outs-Text t) refl
-  by_parts_found G _ _ (parts_name x) = to G _ _ _ (expr.rolls-Name x) (expr.outs-Name x) refl
-  by_parts_found G _ _ (parts_let x e b) = to G _ _ _ (expr.rolls-Let x e b) (expr.outs-Let x e b) (let_parts_type f x b G (f e G))
-  by_parts_found G _ _ (parts_if c a b) = to G _ _ _ (expr.rolls-If c a b) (expr.outs-If c a b) (if_parts_type (f c G) (f a G) (f b G))
-  by_parts_found G _ _ (parts_and a b) = to G _ _ _ (expr.rolls-And a b) (expr.outs-And a b) (both_parts_type (f a G) (f b G))
-  by_parts_found G _ _ (parts_or a b) = to G _ _ _ (expr.rolls-Or a b) (expr.outs-Or a b) (both_parts_type (f a G) (f b G))
-  by_parts_found G _ _ (parts_unary op e) = to G _ _ _ (expr.rolls-Unary op e) (expr.outs-Unary op e) (unary_part_type post op (f e G))
-  by_parts_found G _ _ (parts_binary op a b) = to G _ _ _ (expr.rolls-Binary op a b) (expr.outs-Binary op a b) (binary_parts_type post op (f a G) (f b G))
-  by_parts_found G _ _ (parts_tuple es) = to G _ _ _ (expr.rolls-Tuple es) (expr.outs-Tuple es) (ap (λ o. o >>= (λ Ts. Some (ty.Tuple Ts))) (types_each f G es))
-  by_parts_found G _ _ (parts_at e place) = to G _ _ _ (expr.rolls-At e place) (expr.outs-At e place) (at_part_type place (f e G))
-  by_parts_found G _ _ (parts_list T es) = to G _ _ _ (expr.rolls-List T es) (expr.outs-List T es) (list_parts_type f T G es _ (length-map es f))
-  by_parts_found G _ _ (parts_for cs b P p) = to G _ _ _ (expr.rolls-For cs b) (expr.outs-For cs b) (for_parts_type G cs b P p)
-  by_parts_found G _ _ (parts_fold x e acc i b) = to G _ _ _ (expr.rolls-Fold x e acc i b) (expr.outs-Fold x e acc i b) (fold_parts_type f x acc b G (f e G) (f i G))
-  by_parts_found G _ _ (parts_map k T) = to G _ _ _ (expr.rolls-Map k T) (expr.outs-Map k T) refl
-  by_parts_found G _ _ (parts_put m k e) = to G _ _ _ (expr.rolls-Put m k e) (expr.outs-Put m k e) (put_parts_type (f m G) (f k G) (f e G))
-  by_parts_found G _ _ (parts_call x es) = to G _ _ _ (expr.rolls-Call x es) (expr.outs-Call x es) (call_parts_type f G es (operation_called items x))
-  by_parts_found G _ _ (parts_apply g es) = to G _ _ _ (expr.rolls-Apply g es) (expr.outs-Apply g es) (applied_parts_type f post G es (signature earlier g))
+  by_parts_found G _ _ (parts_int n) = to G _ _ [] (expr.rolls-Int n) (expr.outs-Int n) refl
+  by_parts_found G _ _ (parts_bool b) = to G _ _ [] (expr.rolls-Bool b) (expr.outs-Bool b) refl
+  by_parts_found G _ _ (parts_text t) = to G _ _ [] (expr.rolls-Text t) (expr.outs-Text t) refl
+  by_parts_found G _ _ (parts_name x) = to G _ _ [] (expr.rolls-Name x) (expr.outs-Name x) refl
+  by_parts_found G _ _ (parts_let x e b) = to G _ _ (let_parts f G x e b) (expr.rolls-Let x e b) (expr.outs-Let x e b) (let_parts_type f x b G (f e G))
+  by_parts_found G _ _ (parts_if c a b) = to G _ _ (if_parts G c a b) (expr.rolls-If c a b) (expr.outs-If c a b) (if_parts_type (f c G) (f a G) (f b G))
+  by_parts_found G _ _ (parts_and a b) = to G _ _ (two_parts G a b) (expr.rolls-And a b) (expr.outs-And a b) (both_parts_type (f a G) (f b G))
+  by_parts_found G _ _ (parts_or a b) = to G _ _ (two_parts G a b) (expr.rolls-Or a b) (expr.outs-Or a b) (both_parts_type (f a G) (f b G))
+  by_parts_found G _ _ (parts_unary op e) = to G _ _ (one_part G e) (expr.rolls-Unary op e) (expr.outs-Unary op e) (unary_part_type post op (f e G))
+  by_parts_found G _ _ (parts_binary op a b) = to G _ _ (two_parts G a b) (expr.rolls-Binary op a b) (expr.outs-Binary op a b) (binary_parts_type post op (f a G) (f b G))
+  by_parts_found G _ _ (parts_tuple es) = to G _ _ (each_part G es) (expr.rolls-Tuple es) (expr.outs-Tuple es) (ap (λ o. o >>= (λ Ts. Some (ty.Tuple Ts))) (types_each f G es))
+  by_parts_found G _ _ (parts_at e place) = to G _ _ (one_part G e) (expr.rolls-At e place) (expr.outs-At e place) (at_part_type place (f e G))
+  by_parts_found G _ _ (parts_list T es) = to G _ _ (each_part G es) (expr.rolls-List T es) (expr.outs-List T es) (list_parts_type f T G es _ (length-map es f))
+  by_parts_found G _ _ (parts_for cs b P p) = to G _ _ P (expr.rolls-For cs b) (expr.outs-For cs b) (for_parts_type G cs b P p)
+  by_parts_found G _ _ (parts_fold x e acc i b) = to G _ _ (fold_parts f G x e acc i b) (expr.rolls-Fold x e acc i b) (expr.outs-Fold x e acc i b) (fold_parts_type f x acc b G (f e G) (f i G))
+  by_parts_found G _ _ (parts_map k T) = to G _ _ [] (expr.rolls-Map k T) (expr.outs-Map k T) refl
+  by_parts_found G _ _ (parts_put m k e) = to G _ _ (if_parts G m k e) (expr.rolls-Put m k e) (expr.outs-Put m k e) (put_parts_type (f m G) (f k G) (f e G))
+  by_parts_found G _ _ (parts_call x es) = to G _ _ (each_part G es) (expr.rolls-Call x es) (expr.outs-Call x es) (call_parts_type f G es (operation_called items x))
+  by_parts_found G _ _ (parts_apply g es) = to G _ _ (each_part G es) (expr.rolls-Apply g es) (expr.outs-Apply g es) (applied_parts_type f post G es (signature earlier g))

@@ -5,7 +5,6 @@ pub mod Exactly
 pub mod Formed
 pub mod Forms
 pub mod Gathers
-pub mod Holding
 pub mod Ill
 pub mod Judging
 pub mod Operating

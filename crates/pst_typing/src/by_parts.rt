@@ -11,8 +11,8 @@ ghost use Rattle.pst_value.specs.declared.ty.Ty.TheVariants.{Map as map_type, Tu
 use crate::blame::{Blame, Found};
 use crate::context::Context;
 use crate::operators::{
-    binary_type, copied, int_type, kept, keys_type, kind_of, part_type, text_type,
-    unary_type, values_type, where_true,
+    binary_type, copied, int_type, kept, keys_type, kind_of, part_type, text_type, unary_type,
+    values_type, where_true,
 };
 use crate::refusal::Refusal;
 use crate::scope::{Names, find_name, function_called, operation_called};

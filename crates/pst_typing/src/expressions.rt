@@ -16,11 +16,7 @@ use pst_model::{Clause, Expr};
 use std::alloc::AllocError;
 
 /// The kind of an expression among the names of a scope, or the parts that are to blame if it has none.
-pub fn find(
-    expr: &Expr,
-    context: &Context<'_>,
-    scope: &Scope<'_>,
-) -> Result<Found, AllocError>
+pub fn find(expr: &Expr, context: &Context<'_>, scope: &Scope<'_>) -> Result<Found, AllocError>
     ensures { IfOk result (λ found. IsFound (type_in context.now) (names_of scope.now) expr.now found) }
 {
     let seen = names_seen(context.alloc, scope)?;
@@ -147,11 +143,7 @@ fn in_three(
 
 /// Expressions that see the same names.
 #[cycle(find)]
-fn in_each(
-    exprs: &[Expr],
-    context: &Context<'_>,
-    names: &Names<'_>,
-) -> Result<Gathered, AllocError>
+fn in_each(exprs: &[Expr], context: &Context<'_>, names: &Names<'_>) -> Result<Gathered, AllocError>
     ensures { IfOk result (λ all. IsGathered (type_in context.now)
         (spec.each_part (names_in names.now) exprs.now) all) }
 {

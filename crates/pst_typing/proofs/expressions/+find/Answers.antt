@@ -107,19 +107,19 @@ in_each-find_kind-requires t c =
 
 pub in_each-loop-expr-preserved : goal.in_each-loop-expr-preserved
 in_each-loop-expr-preserved t c =
-    each_more (type_in c.args.context.now) (names_in c.args.names.now) c.args.exprs.now c.loop-expr.expr-index c.expr-item.result c.loop-expr.all _ c.in_ok-found.found c.loop-expr-test.true c.expr-item.is c.loop-expr.invariant c.in_ok-found.ensures c.in_ok-with.ensures
+    each_more (type_in c.args.context.now) (names_in c.args.names.now) c.args.exprs.now c.loop-expr.expr-index c.expr-item.result c.loop-expr.all _ c.in_ok-found.found c.loop-expr-test.true c.expr-item.is c.loop-expr.invariant c.in_ok-found.ensures c.in_ok-all.ensures
 
 pub in_fold-returns-in_default : goal.in_fold-returns-in_default
 in_fold-returns-in_default t c =
-    fold_no_list (type_in c.args.context.now) c.args.name.now c.args.list.now c.args.acc.now c.args.first.now c.args.body.now (names_in c.args.names.now) _ _ _ _ _ c.new.ensures (rw c.get.ensures at c.in_ok-found.ensures) c.in_ok-all.ensures (sym c.in_default.is ∙ c.in_ok-item.ensures) (rw c.get-2.ensures at c.in_ok-found-2.ensures) c.with-2.ensures
+    fold_no_list (type_in c.args.context.now) c.args.name.now c.args.list.now c.args.acc.now c.args.first.now c.args.body.now (names_in c.args.names.now) _ _ _ _ _ c.new.ensures (rw c.get.ensures at c.in_ok-found.ensures) c.in_ok-all.ensures (sym c.in_default.is ∙ c.in_ok-item.ensures) (rw c.get-2.ensures at c.in_ok-found-2.ensures) c.with-in_default.ensures
 
 pub in_fold-returns-in-Blamed : goal.in_fold-returns-in-Blamed
 in_fold-returns-in-Blamed t c =
     fold_no_first (type_in c.args.context.now) c.args.name.now c.args.list.now c.args.acc.now c.args.first.now c.args.body.now (names_in c.args.names.now) _ _ _ c.in-Blamed.blames _ c.new.ensures (rw c.get.ensures at c.in_ok-found.ensures) c.in_ok-all.ensures (rw (c.get-2.ensures, c.in-Blamed.is) at c.in_ok-found-2.ensures) c.with-in-Blamed.ensures
 
-pub in_fold-returns-in_ok-with-in-Kind : goal.in_fold-returns-in_ok-with-in-Kind
-in_fold-returns-in_ok-with-in-Kind t c =
-    fold_goes (type_in c.args.context.now) c.args.name.now c.args.list.now c.args.acc.now c.args.first.now c.args.body.now (names_in c.args.names.now) _ _ _ _ _ _ _ c.new.ensures (rw c.get.ensures at c.in_ok-found.ensures) c.in_ok-all.ensures (sym c.in-Some.is ∙ c.in_ok-item.ensures) (rw (c.get-2.ensures, c.in-Kind.is) at c.in_ok-found-2.ensures) c.in_ok-with-in-Kind.ensures (rw c.get-in-Kind.ensures at c.in_ok-found-in-Kind.ensures) _ c.with-in-Kind-2.ensures
+pub in_fold-returns : goal.in_fold-returns
+in_fold-returns t c =
+    fold_goes (type_in c.args.context.now) c.args.name.now c.args.list.now c.args.acc.now c.args.first.now c.args.body.now (names_in c.args.names.now) _ _ _ _ _ _ _ c.new.ensures (rw c.get.ensures at c.in_ok-found.ensures) c.in_ok-all.ensures (sym c.in-Some.is ∙ c.in_ok-item.ensures) (rw (c.get-2.ensures, c.in-Kind.is) at c.in_ok-found-2.ensures) c.in_ok-with-in-Kind.ensures (rw (c.get-in-Kind.ensures, c.as_bytes.ensures, c.as_bytes-in-Kind.ensures) at c.in_ok-found-in-Kind.ensures) _ c.with-in-Kind-2.ensures
 
 pub in_items-returns-in-Some : goal.in_items-returns-in-Some
 in_items-returns-in-Some t c =
@@ -131,11 +131,11 @@ in_items-returns-in-None t c =
 
 pub in_let-returns-in-Blamed : goal.in_let-returns-in-Blamed
 in_let-returns-in-Blamed t c =
-    ok_let_ill (type_in c.args.context.now) c.args.name.now c.args.bound.now c.args.body.now (names_in c.args.names.now) c.in-Blamed.blames _ _ c.new.ensures (rw (c.get.ensures, c.in-Blamed.is) at c.in_ok-found.ensures) c.with.ensures
+    ok_let_ill (type_in c.args.context.now) c.args.name.now c.args.bound.now c.args.body.now (names_in c.args.names.now) c.in-Blamed.blames _ _ c.new-none.ensures (rw (c.get.ensures, c.in-Blamed.is) at c.in_ok-found.ensures) c.with.ensures
 
 pub in_let-returns-in_ok-with-in-Kind : goal.in_let-returns-in_ok-with-in-Kind
 in_let-returns-in_ok-with-in-Kind t c =
-    ok_let (type_in c.args.context.now) c.args.name.now c.args.bound.now c.args.body.now (names_in c.args.names.now) c.in-Kind.kind _ _ _ _ c.new.ensures (rw (c.get.ensures, c.in-Kind.is) at c.in_ok-found.ensures) (rw (c.get-in-Kind.ensures, c.as_bytes.ensures) at c.in_ok-found-in-Kind.ensures) c.in_ok-with-in-Kind.ensures c.with-in-Kind-2.ensures
+    ok_let (type_in c.args.context.now) c.args.name.now c.args.bound.now c.args.body.now (names_in c.args.names.now) c.in-Kind.kind _ _ _ _ c.new-none.ensures (rw (c.get.ensures, c.in-Kind.is) at c.in_ok-found.ensures) (rw (c.get-in-Kind.ensures, c.as_bytes.ensures) at c.in_ok-found-in-Kind.ensures) c.in_ok-with-in-Kind.ensures c.with-in-Kind-2.ensures
 
 pub in_one-returns : goal.in_one-returns
 in_one-returns t c =
