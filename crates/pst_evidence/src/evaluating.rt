@@ -1,7 +1,11 @@
 //! The evaluation of callbacks and of their parts.
 
-use crate::evaluation::Evaluation;
-use pst_meaning::{Context, Env};
+ghost use Rattle.std.specs.Prelude.{◌≡◌, IfOk, MatchOption};
+ghost use Rattle.pst_eval.specs.Callbacks.{at_names};
+ghost use Rattle.pst_evidence.specs.Outcomes.{ValueOf, GivesValue, GivesTruth};
+ghost use Rattle.pst_meaning.specs.Env.{env_of};
+
+use pst_meaning::{Context, Env, eval};
 use pst_model::{Expr, Source};
 use pst_operators::Stop;
 use pst_value::Value;
@@ -11,7 +15,10 @@ use std::alloc::{AllocError, Global};
 pub const TURNS: u32 = 1_000_000;
 
 /// What callbacks of the model may name besides their variables.
-pub fn context_of<'a>(alloc: Global, model: &'a Source) -> Context<'a> {
+pub fn context_of<'a>(alloc: Global, model: &'a Source) -> Context<'a>
+    ensures items { result.items.now ≡ model.now.items }
+    ensures earlier { result.earlier.now ≡ model.now.items }
+{
     Context {
         alloc,
         items: model.items.as_slice(),
@@ -19,52 +26,52 @@ pub fn context_of<'a>(alloc: Global, model: &'a Source) -> Context<'a> {
     }
 }
 
-/// The value of an expression over the names of a context and an environment, or why it has none.
-fn outcome_in(
-    expr: &Expr,
-    context: &Context<'_>,
-    env: &Env<'_>,
-) -> Result<Result<Value, Stop>, AllocError> {
-    let mut evaluation = Evaluation::new(context.alloc, context.earlier, expr, env, TURNS)?;
-    match evaluation.run() {
-        Ok(value) => Ok(Ok(value)),
-        Err(halt) => match halt.stop {
-            Stop::NoMemory => Err(AllocError),
-            stop => Ok(Err(stop)),
-        },
-    }
-}
-
-/// The value of an expression of the model in an environment, or why it has none, which is not want of memory.
-/// `AllocError` where memory is refused.
+/// The value of an expression of the model in an environment, or why it has none, which is never lack of memory.
+#[tactic(auto, unfolding(pst_eval::specs::Callbacks::at_names))]
 pub fn evaluate(
     alloc: Global,
     model: &Source,
     expr: &Expr,
     env: &Env<'_>,
-) -> Result<Result<Value, Stop>, AllocError> {
-    outcome_in(expr, &context_of(alloc, model), env)
-}
-
-/// The value of an expression in its environment, where it has one.
-pub fn value_in(
-    expr: &Expr,
-    context: &Context<'_>,
-    env: &Env<'_>,
-) -> Result<Option<Value>, AllocError> {
-    match outcome_in(expr, context, env)? {
-        Ok(value) => Ok(Some(value)),
-        Err(_) => Ok(None),
+) -> Result<Result<Value, Stop>, AllocError>
+    ensures { IfOk result (ValueOf (at_names model.now expr.now (env_of env.now))) }
+{
+    let mut turns = TURNS;
+    match eval(expr, &context_of(alloc, model), env, &mut turns) {
+        Ok(value) => Ok(Ok(value)),
+        Err(Stop::Fault(fault)) => Ok(Err(Stop::Fault(fault))),
+        Err(Stop::Stuck) => Ok(Err(Stop::Stuck)),
+        Err(Stop::NoMemory) => Err(AllocError),
     }
 }
 
-/// Whether an expression is true in its environment; `None` where it has no truth value.
-pub fn truth_in(
+/// The value of an expression of the model in an environment, if it has one.
+pub fn value_in(
+    alloc: Global,
+    model: &Source,
     expr: &Expr,
-    context: &Context<'_>,
     env: &Env<'_>,
-) -> Result<Option<bool>, AllocError> {
-    match value_in(expr, context, env)? {
+) -> Result<Option<Value>, AllocError>
+    ensures { IfOk result (GivesValue (at_names model.now expr.now (env_of env.now))) }
+{
+    match evaluate(alloc, model, expr, env)? {
+        Ok(value) => Ok(Some(value)),
+        Err(Stop::Fault(_)) => Ok(None),
+        Err(Stop::Stuck) => Ok(None),
+        Err(Stop::NoMemory) => Err(AllocError),
+    }
+}
+
+/// Whether an expression of the model is true in an environment; `None` if its value is no bool or it has none.
+pub fn truth_in(
+    alloc: Global,
+    model: &Source,
+    expr: &Expr,
+    env: &Env<'_>,
+) -> Result<Option<bool>, AllocError>
+    ensures { IfOk result (GivesTruth (at_names model.now expr.now (env_of env.now))) }
+{
+    match value_in(alloc, model, expr, env)? {
         Some(Value::Bool(truth)) => Ok(Some(truth)),
         _ => Ok(None),
     }

@@ -1,8 +1,13 @@
 //! The part of an expression that makes it false.
 
-use crate::evaluating::{context_of, truth_in, value_in};
+ghost use Rattle.std.specs.Prelude.{◌≡◌, IfOk, MatchOption};
+ghost use Rattle.pst_eval.specs.Callbacks.{at_names};
+ghost use Rattle.pst_evidence.specs.Outcomes.{IsFalse};
+ghost use Rattle.pst_meaning.specs.Env.{env_of};
+
+use crate::evaluating::{truth_in, value_in};
 use crate::wanted::wanted_by_part;
-use pst_meaning::{Context, Env};
+use pst_meaning::Env;
 use pst_model::{Binary, Expr, Source, Unary};
 use pst_value::Value;
 use std::alloc::{AllocError, Global};
@@ -32,7 +37,7 @@ fn is_comparison(operator: Binary) -> bool {
     )
 }
 
-/// What is negated, where the expression is a negation, and else the expression itself.
+/// What is negated if the expression is a negation, and else the expression itself.
 fn without_not(expr: &Expr) -> &Expr {
     match expr {
         Expr::Unary(Unary::Not, operand) => operand.get(),
@@ -40,16 +45,26 @@ fn without_not(expr: &Expr) -> &Expr {
     }
 }
 
-/// The values that a comparison or its negation compares, where the expression is one.
-fn compared(expr: &Expr, context: &Context<'_>, env: &Env<'_>) -> Result<Evidence, AllocError> {
+/// Whether something is known of a part.
+fn is_something(evidence: &Evidence) -> bool {
+    !matches!(evidence, Evidence::Nothing)
+}
+
+/// The values that a comparison or its negation compares, if the expression is one.
+fn compared(
+    alloc: Global,
+    model: &Source,
+    expr: &Expr,
+    env: &Env<'_>,
+) -> Result<Evidence, AllocError> {
     let Expr::Binary(operator, first, second) = without_not(expr) else {
         return Ok(Evidence::Nothing);
     };
     if !is_comparison(*operator) {
         return Ok(Evidence::Nothing);
     }
-    let first = value_in(first.get(), context, env)?;
-    let second = value_in(second.get(), context, env)?;
+    let first = value_in(alloc, model, first.get(), env)?;
+    let second = value_in(alloc, model, second.get(), env)?;
     match (first, second) {
         (Some(first), Some(second)) => Ok(Evidence::Compares(first, second)),
         _ => Ok(Evidence::Nothing),
@@ -58,13 +73,16 @@ fn compared(expr: &Expr, context: &Context<'_>, env: &Env<'_>) -> Result<Evidenc
 
 /// The expression itself, with what is known of it.
 fn whole<'a>(
+    alloc: Global,
+    model: &Source,
     expr: &'a Expr,
-    context: &Context<'_>,
     env: &Env<'_>,
-) -> Result<FalsePart<'a>, AllocError> {
-    let evidence = match wanted_by_part(expr, context, env)? {
+) -> Result<FalsePart<'a>, AllocError>
+    ensures { IfOk result (λ p. p.part.now ≡ expr.now) }
+{
+    let evidence = match wanted_by_part(alloc, model, expr, env)? {
         Some(value) => Evidence::Wants(value),
-        None => compared(expr, context, env)?,
+        None => compared(alloc, model, expr, env)?,
     };
     Ok(FalsePart {
         part: expr,
@@ -72,69 +90,68 @@ fn whole<'a>(
     })
 }
 
-/// The first of two conjuncts that is false, and the part that makes it so.
+/// The part that makes an expression false, if it is false.
 #[cycle(falsity)]
-fn of_conjuncts<'a>(
-    first: &'a Expr,
-    second: &'a Expr,
-    context: &Context<'_>,
-    env: &Env<'_>,
-) -> Result<FalsePart<'a>, AllocError> {
-    match truth_in(first, context, env)? {
-        Some(true) => part_of(second, context, env),
-        _ => part_of(first, context, env),
-    }
-}
-
-/// The part that makes the chosen one of two expressions false; `None` where nothing is known of it.
-#[cycle(falsity)]
-fn of_chosen<'a>(
-    test: &Expr,
-    then: &'a Expr,
-    other: &'a Expr,
-    context: &Context<'_>,
-    env: &Env<'_>,
-) -> Result<Option<FalsePart<'a>>, AllocError> {
-    let found = match truth_in(test, context, env)? {
-        Some(true) => part_of(then, context, env)?,
-        Some(false) => part_of(other, context, env)?,
-        None => return Ok(None),
-    };
-    match &found.evidence {
-        Evidence::Nothing => Ok(None),
-        _ => Ok(Some(found)),
-    }
-}
-
-#[cycle(falsity)]
-fn part_of<'a>(
+fn false_part_of<'a>(
+    alloc: Global,
+    model: &Source,
     expr: &'a Expr,
-    context: &Context<'_>,
     env: &Env<'_>,
-) -> Result<FalsePart<'a>, AllocError> {
+) -> Result<Option<FalsePart<'a>>, AllocError>
+    ensures { IfOk result (λ r. MatchOption r (Unit {0})
+        (λ p. IsFalse (at_names model.now p.part.now (env_of env.now)))) }
+{
+    match truth_in(alloc, model, expr, env)? {
+        Some(false) => {}
+        _ => return Ok(None),
+    }
+    match inner_part(alloc, model, expr, env)? {
+        Some(found) => Ok(Some(found)),
+        None => Ok(Some(whole(alloc, model, expr, env)?)),
+    }
+}
+
+/// The part that makes the first false conjunct false, or the chosen one of an `if` if something is known of that part.
+#[cycle(falsity)]
+fn inner_part<'a>(
+    alloc: Global,
+    model: &Source,
+    expr: &'a Expr,
+    env: &Env<'_>,
+) -> Result<Option<FalsePart<'a>>, AllocError>
+    ensures { IfOk result (λ r. MatchOption r (Unit {0})
+        (λ p. IsFalse (at_names model.now p.part.now (env_of env.now)))) }
+{
     match expr {
-        Expr::And(first, second) => of_conjuncts(first.get(), second.get(), context, env),
+        Expr::And(first, second) => match false_part_of(alloc, model, first.get(), env)? {
+            Some(found) => Ok(Some(found)),
+            None => false_part_of(alloc, model, second.get(), env),
+        },
         Expr::If(test, then, other) => {
-            match of_chosen(test.get(), then.get(), other.get(), context, env)? {
-                Some(found) => Ok(found),
-                None => whole(expr, context, env),
+            let found = match truth_in(alloc, model, test.get(), env)? {
+                Some(true) => false_part_of(alloc, model, then.get(), env)?,
+                Some(false) => false_part_of(alloc, model, other.get(), env)?,
+                None => None,
+            };
+            match found {
+                Some(part) if is_something(&part.evidence) => Ok(Some(part)),
+                _ => Ok(None),
             }
         }
-        _ => whole(expr, context, env),
+        _ => Ok(None),
     }
 }
 
-/// The part that makes a postcondition of the model false, where it is: the conjunct that is false, or that of the
-/// chosen part of an `if`, and what is known of it. `AllocError` where memory is refused.
+/// The part that makes a postcondition of the model false, if it is false: the conjunct that is, or that of the chosen part of
+/// an `if`, and what is known of it.
 pub fn false_part<'a>(
     alloc: Global,
     model: &Source,
     post: &'a Expr,
     env: &Env<'_>,
-) -> Result<Option<FalsePart<'a>>, AllocError> {
-    let context = context_of(alloc, model);
-    match truth_in(post, &context, env)? {
-        Some(false) => Ok(Some(part_of(post, &context, env)?)),
-        _ => Ok(None),
-    }
+) -> Result<Option<FalsePart<'a>>, AllocError>
+    ensures { IfOk result (λ r. MatchOption r (Unit {0})
+        (λ p. IsFalse (at_names model.now p.part.now (env_of env.now)))) }
+{
+    false_part_of(alloc, model, post, env)
 }

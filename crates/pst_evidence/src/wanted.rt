@@ -1,8 +1,8 @@
 //! The reply that a postcondition wants.
 
-use crate::evaluating::{context_of, truth_in, value_in};
+use crate::evaluating::{truth_in, value_in};
 use crate::words::mentions;
-use pst_meaning::{Context, Env};
+use pst_meaning::Env;
 use pst_model::{Binary, Expr, Source, Unary};
 use pst_value::Value;
 use std::alloc::{AllocError, Global};
@@ -58,42 +58,38 @@ pub fn wants_one_reply(alloc: Global, post: &Expr) -> Result<bool, AllocError> {
     Ok(one_reply(alloc, post)?.is_some())
 }
 
-/// The reply that alone makes a part of a postcondition true, where its form says it and it has a value.
+/// The reply that alone makes a part of a postcondition true, if its form says it and it has a value.
 pub fn wanted_by_part(
+    alloc: Global,
+    model: &Source,
     expr: &Expr,
-    context: &Context<'_>,
     env: &Env<'_>,
 ) -> Result<Option<Value>, AllocError> {
-    match one_reply(context.alloc, expr)? {
+    match one_reply(alloc, expr)? {
         Some(OneReply::Truth(truth)) => Ok(Some(Value::Bool(truth))),
-        Some(OneReply::ValueOf(other)) => value_in(other, context, env),
+        Some(OneReply::ValueOf(other)) => value_in(alloc, model, other, env),
         None => Ok(None),
     }
 }
 
-/// The reply that a postcondition wants by the first of its conjuncts that says one.
-fn wanted(expr: &Expr, context: &Context<'_>, env: &Env<'_>) -> Result<Option<Value>, AllocError> {
-    match expr {
-        Expr::And(first, second) => match wanted(first.get(), context, env)? {
-            Some(value) => Ok(Some(value)),
-            None => wanted(second.get(), context, env),
-        },
-        Expr::If(test, then, other) => match truth_in(test.get(), context, env)? {
-            Some(true) => wanted(then.get(), context, env),
-            Some(false) => wanted(other.get(), context, env),
-            None => Ok(None),
-        },
-        _ => wanted_by_part(expr, context, env),
-    }
-}
-
-/// A reply that may make a postcondition true, by one of its conjuncts, with the other names as in the environment,
-/// where a conjunct says one. `AllocError` where memory is refused.
+/// A reply that may make a postcondition true, by the first of its conjuncts that says one, with the other names as in the
+/// environment.
 pub fn wanted_reply(
     alloc: Global,
     model: &Source,
     post: &Expr,
     env: &Env<'_>,
 ) -> Result<Option<Value>, AllocError> {
-    wanted(post, &context_of(alloc, model), env)
+    match post {
+        Expr::And(first, second) => match wanted_reply(alloc, model, first.get(), env)? {
+            Some(value) => Ok(Some(value)),
+            None => wanted_reply(alloc, model, second.get(), env),
+        },
+        Expr::If(test, then, other) => match truth_in(alloc, model, test.get(), env)? {
+            Some(true) => wanted_reply(alloc, model, then.get(), env),
+            Some(false) => wanted_reply(alloc, model, other.get(), env),
+            None => Ok(None),
+        },
+        _ => wanted_by_part(alloc, model, post, env),
+    }
 }

@@ -1,6 +1,5 @@
-//! Asks random well-typed expressions of the plain evaluator, of compiled code and of the evaluation that explanations
-//! use, and prints how many of them had a value by all, how many had each fault by all, and each expression of which
-//! they answer otherwise.
+//! Asks random well-typed expressions of the plain evaluator and of compiled code, and prints how many of them had a value by
+//! both, how many had each fault by both, and each expression of which they answer otherwise.
 
 use crate::evaluated::outcome_of;
 use crate::expressions::model_text;
