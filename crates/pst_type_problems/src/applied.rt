@@ -1,16 +1,16 @@
 //! Applications of functions and calls of operations.
 
-use crate::diagnose::{Leaf, type_of};
+use crate::diagnose::Leaf;
 use crate::operands::wanted_type;
 use crate::trees::tree_in;
+use pst_kinds::Kind;
 use pst_model::{Fun, Item, Param};
 use pst_problems::{
     Judged, Problem, Signature, below, counted, in_place_of, is_of_maps, nearest_head, noted_at,
     operation, unknown_among, with_note, wrong,
 };
 use pst_sexpr::word_of;
-use pst_value::Ty;
-use std::alloc::Global;
+use std::alloc::{AllocError, Global};
 use std::fmt::Display;
 
 /// The function of a name.
@@ -26,34 +26,41 @@ fn function<'a>(items: &'a [Item], name: &str) -> Option<&'a Fun> {
 }
 
 /// Whether an argument has the type of a parameter, by their numbers from 0.
-fn fits(types: &[Ty], params: &[Param], argument: usize, parameter: usize) -> bool {
-    match (types.get(argument), params.get(parameter)) {
-        (Some(ty), Some(param)) => *ty == param.ty,
-        _ => false,
+fn fits(
+    leaf: &Leaf<'_>,
+    params: &[Param],
+    argument: usize,
+    parameter: usize,
+) -> Result<bool, AllocError> {
+    match (leaf.kinds.get(argument), params.get(parameter)) {
+        (Some(kind), Some(param)) => kind.is(leaf.context.alloc, &param.ty),
+        _ => Ok(false),
     }
 }
 
 /// The number of the first argument, from one on, of another type than its parameter.
-fn first_ill(types: &[Ty], params: &[Param], from: usize) -> Option<usize> {
+fn first_ill(leaf: &Leaf<'_>, params: &[Param], from: usize) -> Result<Option<usize>, AllocError> {
     for place in from..params.len() {
-        if !fits(types, params, place, place) {
-            return Some(place);
+        if !fits(leaf, params, place, place)? {
+            return Ok(Some(place));
         }
     }
-    None
+    Ok(None)
 }
 
 /// Whether the first argument that does not fit would fit in the other order with a second one, where the rest
 /// fits.
-fn are_swapped(types: &[Ty], params: &[Param], first: usize) -> bool {
-    match first_ill(types, params, first.saturating_add(1)) {
-        Some(second) => {
-            fits(types, params, first, second)
-                && fits(types, params, second, first)
-                && first_ill(types, params, second.saturating_add(1)).is_none()
-        }
-        None => false,
+fn are_swapped(leaf: &Leaf<'_>, params: &[Param], first: usize) -> Result<bool, AllocError> {
+    let Some(second) = first_ill(leaf, params, first.saturating_add(1))? else {
+        return Ok(false);
+    };
+    if !fits(leaf, params, first, second)? {
+        return Ok(false);
     }
+    if !fits(leaf, params, second, first)? {
+        return Ok(false);
+    }
+    Ok(first_ill(leaf, params, second.saturating_add(1))?.is_none())
 }
 
 /// The same problem with what is declared.
@@ -72,13 +79,14 @@ fn ill_argument(
     let Some(param) = declared.params.get(place) else {
         return Ok(None);
     };
-    let Some(found) = type_of(leaf, place) else {
+    let Some(found) = leaf.kinds.get(place) else {
         return Ok(None);
     };
+    let wanted = Kind::of(alloc, &param.ty)?;
     let called = param.name.as_str();
     let name = declared.name;
     let what = format_args!("the parameter {called} of `{name}`");
-    let refused = wanted_type(alloc, leaf, what, part, &param.ty, found)?;
+    let refused = wanted_type(alloc, leaf, what, part, &wanted, found)?;
     with_signature(alloc, refused, declared)
 }
 
@@ -91,7 +99,7 @@ fn ill_order(
     part: usize,
 ) -> Judged {
     let refused = ill_argument(alloc, leaf, declared, place, part)?;
-    if are_swapped(leaf.types, declared.params, place) {
+    if are_swapped(leaf, declared.params, place)? {
         let hint = "hint: in the other order the two arguments fit";
         return with_note(alloc, refused, hint);
     }
@@ -102,7 +110,7 @@ fn ill_order(
 fn ill_number(alloc: Global, leaf: &Leaf<'_>, declared: &Signature<'_>) -> Judged {
     let name = declared.name;
     let takes = counted(declared.params.len(), "argument");
-    let found = leaf.types.len();
+    let found = leaf.kinds.len();
     let refused = wrong(
         alloc,
         leaf.path,
@@ -113,10 +121,10 @@ fn ill_number(alloc: Global, leaf: &Leaf<'_>, declared: &Signature<'_>) -> Judge
 
 /// Arguments, of which the first has a number in their tree, that do not fit parameters.
 fn arguments(alloc: Global, leaf: &Leaf<'_>, declared: &Signature<'_>, first: usize) -> Judged {
-    if leaf.types.len() != declared.params.len() {
+    if leaf.kinds.len() != declared.params.len() {
         return ill_number(alloc, leaf, declared);
     }
-    match first_ill(leaf.types, declared.params, 0) {
+    match first_ill(leaf, declared.params, 0)? {
         Some(place) => ill_order(alloc, leaf, declared, place, first.saturating_add(place)),
         None => Ok(None),
     }

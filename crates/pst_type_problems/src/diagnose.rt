@@ -4,26 +4,30 @@ use crate::applied::{applied, called};
 use crate::operands::{
     ill_first, wanted_list, wanted_map, wanted_sequence, wanted_tuple, wanted_type,
 };
-use crate::trees::{clauses_of, goes_over_list, head_word, tree_in};
+use crate::spelling::spelled;
+use crate::trees::{clauses_of, goes_over_list, head_word};
 use pst_items::{Items, Text};
+use pst_kinds::{Form, Kind};
+use pst_model::Expr;
 use pst_problems::{
-    FormText, Judged, Listed, Problem, TypeText, is_of_maps, key_word, nearest, noted, noted_at,
-    with_note, wrong, wrong_at,
+    Judged, Listed, Problem, TypeText, is_of_maps, key_word, nearest, noted, with_note, wrong,
+    wrong_at,
 };
-use pst_sexpr::{Form, word_of};
-use pst_typing::{Context, holds_ref};
+use pst_sexpr::{Form as Tree, word_of};
+use pst_typing::Context;
 use pst_value::{KeyTy, Ty};
 use std::alloc::{AllocError, Global};
 use std::fmt::Display;
 
-/// The part that is to blame: what it may name, its tree, the path to it, the types of its parts, the names
+/// The part that is to blame: what it may name, the part, its tree, the path to it, the kinds of its parts, the names
 /// that it sees, and what the whole expression is called.
 #[derive(Drop)]
 pub struct Leaf<'a> {
     pub context: &'a Context<'a>,
-    pub form: &'a Form,
+    pub expr: &'a Expr,
+    pub form: &'a Tree,
     pub path: &'a [usize],
-    pub types: &'a [Ty],
+    pub kinds: &'a [Kind],
     pub names: &'a Items<Text>,
     pub called: &'a str,
     /// Whether the language of the model has maps.
@@ -73,17 +77,13 @@ fn unknown(alloc: Global, leaf: &Leaf<'_>, name: &str) -> Judged {
     }
 }
 
-/// The type that a part was found to have.
-pub fn type_of<'a>(leaf: &Leaf<'a>, part: usize) -> Option<&'a Ty> {
-    leaf.types.get(part)
-}
-
 /// The first part from one on that has another type than the wanted one.
 fn each_of(alloc: Global, leaf: &Leaf<'_>, head: &str, wanted: &Ty) -> Judged {
-    for (place, ty) in leaf.types.iter().enumerate() {
-        if *ty != *wanted {
+    let wanted = Kind::of(alloc, wanted)?;
+    for (place, kind) in leaf.kinds.iter().enumerate() {
+        if !kind.same(alloc, &wanted)? {
             let part = place.saturating_add(1);
-            return wanted_type(alloc, leaf, format_args!("`{head}`"), part, wanted, ty);
+            return wanted_type(alloc, leaf, format_args!("`{head}`"), part, &wanted, kind);
         }
     }
     Ok(None)
@@ -91,17 +91,20 @@ fn each_of(alloc: Global, leaf: &Leaf<'_>, head: &str, wanted: &Ty) -> Judged {
 
 /// A choice of two expressions.
 fn choice(alloc: Global, leaf: &Leaf<'_>) -> Judged {
-    match leaf.types {
-        [Ty::Bool, yes, no] => wanted_type(alloc, leaf, "the branches of `if` differ", 3, yes, no),
-        [test, _, _] => wanted_type(alloc, leaf, "the test of `if`", 1, &Ty::Bool, test),
-        _ => Ok(None),
+    let [test, yes, no] = leaf.kinds else {
+        return Ok(None);
+    };
+    let truth = Kind::of(alloc, &Ty::Bool)?;
+    match wanted_type(alloc, leaf, "the test of `if`", 1, &truth, test)? {
+        Some(found) => Ok(Some(found)),
+        None => wanted_type(alloc, leaf, "the branches of `if` differ", 3, yes, no),
     }
 }
 
 /// A comparison by order.
-fn order(alloc: Global, leaf: &Leaf<'_>, head: &str, first: &Ty, second: &Ty) -> Judged {
-    match first {
-        Ty::Int | Ty::Text => {
+fn order(alloc: Global, leaf: &Leaf<'_>, head: &str, first: &Kind, second: &Kind) -> Judged {
+    match first.form(alloc)? {
+        Form::Int | Form::Text => {
             wanted_type(alloc, leaf, format_args!("`{head}`"), 2, first, second)
         }
         _ => ill_first(
@@ -114,14 +117,14 @@ fn order(alloc: Global, leaf: &Leaf<'_>, head: &str, first: &Ty, second: &Ty) ->
 }
 
 /// A comparison by `=`.
-fn equality(alloc: Global, leaf: &Leaf<'_>, first: &Ty, second: &Ty) -> Judged {
-    if *first != *second {
-        return wanted_type(alloc, leaf, "`=` compares one type", 2, first, second);
+fn equality(alloc: Global, leaf: &Leaf<'_>, first: &Kind, second: &Kind) -> Judged {
+    if let Some(found) = wanted_type(alloc, leaf, "`=` compares one type", 2, first, second)? {
+        return Ok(Some(found));
     }
-    if !holds_ref(first) {
+    if !first.holds_ref(alloc)? {
         return Ok(None);
     }
-    let found = TypeText(first);
+    let found = spelled(alloc, first)?;
     noted(
         alloc,
         leaf.path,
@@ -131,18 +134,21 @@ fn equality(alloc: Global, leaf: &Leaf<'_>, first: &Ty, second: &Ty) -> Judged {
 }
 
 /// Two references.
-fn sameness(alloc: Global, leaf: &Leaf<'_>, first: &Ty, second: &Ty) -> Judged {
-    match first {
-        Ty::Ref(_) => wanted_type(alloc, leaf, "`same` compares one type", 2, first, second),
+fn sameness(alloc: Global, leaf: &Leaf<'_>, first: &Kind, second: &Kind) -> Judged {
+    match first.form(alloc)? {
+        Form::Ref(_) => wanted_type(alloc, leaf, "`same` compares one type", 2, first, second),
         _ => ill_first(alloc, leaf, "`same` compares references", first),
     }
 }
 
 /// The item of a list at a place.
-fn place_in_list(alloc: Global, leaf: &Leaf<'_>, list: &Ty, place: &Ty) -> Judged {
-    match (list, place) {
-        (Ty::List(_), _) => wanted_type(alloc, leaf, "`nth`", 2, &Ty::Int, place),
-        (Ty::Int, Ty::List(_)) => noted(
+fn place_in_list(alloc: Global, leaf: &Leaf<'_>, list: &Kind, place: &Kind) -> Judged {
+    match (list.form(alloc)?, place.form(alloc)?) {
+        (Form::List(_), _) => {
+            let int = Kind::of(alloc, &Ty::Int)?;
+            wanted_type(alloc, leaf, "`nth`", 2, &int, place)
+        }
+        (Form::Int, Form::List(_)) => noted(
             alloc,
             leaf.path,
             "`nth` takes a list and a place, found int and a list",
@@ -162,7 +168,7 @@ fn dereference(alloc: Global, leaf: &Leaf<'_>) -> Judged {
             "hint: elsewhere the value of a result is not known yet; keep the reference",
         );
     }
-    match type_of(leaf, 0) {
+    match leaf.kinds.first() {
         Some(found) => ill_first(alloc, leaf, "`deref` takes a reference", found),
         None => Ok(None),
     }
@@ -170,25 +176,27 @@ fn dereference(alloc: Global, leaf: &Leaf<'_>) -> Judged {
 
 /// A length, or two texts or lists in a row.
 fn sequence(alloc: Global, leaf: &Leaf<'_>, head: &str) -> Judged {
-    match leaf.types {
-        [first @ (Ty::Text | Ty::List(_)), second, ..] => {
+    let Some(first) = leaf.kinds.first() else {
+        return Ok(None);
+    };
+    match (first.form(alloc)?, leaf.kinds.get(1)) {
+        (Form::Text | Form::List(_), Some(second)) => {
             wanted_type(alloc, leaf, "`++` takes one type", 2, first, second)
         }
-        [first, ..] => wanted_sequence(alloc, leaf, head, first),
-        [] => Ok(None),
+        _ => wanted_sequence(alloc, leaf, head, first),
     }
 }
 
 /// The item of a tuple at a place.
 fn place_in_tuple(alloc: Global, leaf: &Leaf<'_>) -> Judged {
-    let Some(found) = type_of(leaf, 0) else {
+    let Some(found) = leaf.kinds.first() else {
         return Ok(None);
     };
-    let Ty::Tuple(items) = found else {
+    let Form::Tuple(items) = found.form(alloc)? else {
         return wanted_tuple(alloc, leaf, found);
     };
     let number = items.len();
-    let shown = TypeText(found);
+    let shown = spelled(alloc, found)?;
     let what = format_args!("the tuple has {number} items: {shown}");
     wrong_at(alloc, leaf.path, 2, what)
 }
@@ -202,27 +210,23 @@ fn key_type(keys: KeyTy) -> Ty {
     }
 }
 
-/// Whether a type is that of the keys.
-fn is_of_keys(keys: KeyTy, found: &Ty) -> bool {
-    *found == key_type(keys)
-}
-
 /// A key of another type than those of the map.
-fn ill_key(alloc: Global, leaf: &Leaf<'_>, keys: KeyTy, found: &Ty) -> Judged {
-    let wanted = key_type(keys);
+fn ill_key(alloc: Global, leaf: &Leaf<'_>, keys: KeyTy) -> Judged {
+    let Some(found) = leaf.kinds.get(1) else {
+        return Ok(None);
+    };
+    let wanted = Kind::of(alloc, &key_type(keys))?;
     let word = key_word(keys);
     let what = format_args!("the keys of the map are {word}");
     wanted_type(alloc, leaf, what, 2, &wanted, found)
 }
 
 /// A key or a value of another type than those of the map.
-fn ill_entry(alloc: Global, leaf: &Leaf<'_>, keys: KeyTy, value: &Ty) -> Judged {
-    if let Some(key) = type_of(leaf, 1) {
-        if !is_of_keys(keys, key) {
-            return ill_key(alloc, leaf, keys, key);
-        }
+fn ill_entry(alloc: Global, leaf: &Leaf<'_>, keys: KeyTy, value: &Kind) -> Judged {
+    if let Some(found) = ill_key(alloc, leaf, keys)? {
+        return Ok(Some(found));
     }
-    match type_of(leaf, 2) {
+    match leaf.kinds.get(2) {
         Some(found) => wanted_type(alloc, leaf, "the values of the map", 3, value, found),
         None => Ok(None),
     }
@@ -230,35 +234,30 @@ fn ill_entry(alloc: Global, leaf: &Leaf<'_>, keys: KeyTy, value: &Ty) -> Judged 
 
 /// A form of maps.
 fn of_map(alloc: Global, leaf: &Leaf<'_>, head: &str) -> Judged {
-    match type_of(leaf, 0) {
-        Some(Ty::Map(keys, value)) => ill_entry(alloc, leaf, *keys, value.get()),
-        Some(other) => wanted_map(alloc, leaf, head, other),
-        None => Ok(None),
+    let Some(map) = leaf.kinds.first() else {
+        return Ok(None);
+    };
+    match map.form(alloc)? {
+        Form::Map(keys, value) => ill_entry(alloc, leaf, keys, &value),
+        _ => wanted_map(alloc, leaf, head, map),
     }
 }
 
-/// Whether the tree of a type reads as a type is shown.
-fn reads_as(alloc: Global, form: &Form, ty: &Ty) -> Result<bool, AllocError> {
-    let form = FormText(form);
-    let ty = TypeText(ty);
-    let written = format!(in alloc; "{form}")?;
-    let shown = format!(in alloc; "{ty}")?;
-    Ok(written.as_str() == shown.as_str())
-}
-
-/// An item of a list, by its number in the tree, of another type than the tree of a type reads.
-fn ill_item(alloc: Global, leaf: &Leaf<'_>, part: usize, wanted: &Form, found: &Ty) -> Judged {
-    let wanted = FormText(wanted);
-    let found = TypeText(found);
+/// An item of a list, by its number in the tree, of another type than the items have.
+fn ill_item(alloc: Global, leaf: &Leaf<'_>, part: usize, wanted: &Ty, found: &Kind) -> Judged {
+    let wanted = TypeText(wanted);
+    let found = spelled(alloc, found)?;
     let what = format_args!("an item of the list: wanted {wanted}, found {found}");
     wrong_at(alloc, leaf.path, part, what)
 }
 
 /// A list with an item of another type.
 fn of_list(alloc: Global, leaf: &Leaf<'_>) -> Judged {
-    let wanted = tree_in(leaf.form, 1);
-    for (place, found) in leaf.types.iter().enumerate() {
-        if !reads_as(alloc, wanted, found)? {
+    let Expr::List(wanted, _) = leaf.expr else {
+        return Ok(None);
+    };
+    for (place, found) in leaf.kinds.iter().enumerate() {
+        if !found.is(alloc, wanted)? {
             return ill_item(alloc, leaf, place.saturating_add(2), wanted, found);
         }
     }
@@ -266,22 +265,22 @@ fn of_list(alloc: Global, leaf: &Leaf<'_>) -> Judged {
 }
 
 /// Whether a type is the one that the expression of a clause has to have.
-fn fits_clause(clause: &Form, found: &Ty) -> bool {
-    match found {
-        Ty::List(_) => goes_over_list(clause),
-        Ty::Bool => !goes_over_list(clause),
-        _ => false,
+fn fits_clause(alloc: Global, clause: &Tree, found: &Kind) -> Result<bool, AllocError> {
+    match found.form(alloc)? {
+        Form::List(_) => Ok(goes_over_list(clause)),
+        Form::Bool => Ok(!goes_over_list(clause)),
+        _ => Ok(false),
     }
 }
 
 /// A clause, by its number, of another type.
-fn ill_clause(alloc: Global, leaf: &Leaf<'_>, clause: &Form, place: usize, found: &Ty) -> Judged {
+fn ill_clause(alloc: Global, leaf: &Leaf<'_>, clause: &Tree, place: usize, found: &Kind) -> Judged {
     let mut path = Vec::from_slice(alloc, leaf.path)?;
     path.extend_from_slice(&[1, place])?;
     if goes_over_list(clause) {
         return wanted_list(alloc, path.as_slice(), "`in`", 2, found);
     }
-    let found = TypeText(found);
+    let found = spelled(alloc, found)?;
     let what = format_args!("`when`: wanted bool, found {found}");
     wrong_at(alloc, path.as_slice(), 1, what)
 }
@@ -289,10 +288,10 @@ fn ill_clause(alloc: Global, leaf: &Leaf<'_>, clause: &Form, place: usize, found
 /// A comprehension with a clause of another type.
 fn of_for(alloc: Global, leaf: &Leaf<'_>) -> Judged {
     for (place, clause) in clauses_of(leaf.form).iter().enumerate() {
-        let Some(found) = type_of(leaf, place) else {
+        let Some(found) = leaf.kinds.get(place) else {
             return Ok(None);
         };
-        if !fits_clause(clause, found) {
+        if !fits_clause(alloc, clause, found)? {
             return ill_clause(alloc, leaf, clause, place, found);
         }
     }
@@ -301,8 +300,8 @@ fn of_for(alloc: Global, leaf: &Leaf<'_>) -> Judged {
 
 /// A fold over no list, or whose body is of another type than its first value.
 fn of_fold(alloc: Global, leaf: &Leaf<'_>) -> Judged {
-    match leaf.types {
-        [Ty::List(_), first, body, ..] => wanted_type(
+    match leaf.kinds {
+        [_, first, body] => wanted_type(
             alloc,
             leaf,
             "the body of the fold has the type of its first value",
@@ -317,7 +316,7 @@ fn of_fold(alloc: Global, leaf: &Leaf<'_>) -> Judged {
 
 /// What is wrong with an operator of two parts, by its head.
 fn of_two(alloc: Global, leaf: &Leaf<'_>, head: &str) -> Judged {
-    let [first, second] = leaf.types else {
+    let [first, second] = leaf.kinds else {
         return Ok(None);
     };
     match head {

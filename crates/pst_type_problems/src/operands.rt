@@ -1,27 +1,36 @@
 //! Parts of another type than their form takes.
 
-use crate::diagnose::{Leaf, type_of};
-use pst_problems::{Judged, Problem, TypeText, below, noted, with_note, wrong, wrong_at};
-use pst_value::Ty;
+use crate::diagnose::Leaf;
+use crate::spelling::spelled;
+use pst_kinds::{Form, Kind};
+use pst_problems::{Judged, Problem, below, noted, with_note, wrong, wrong_at};
 use std::alloc::Global;
 use std::fmt::Display;
 
 /// The same problem, with a hint where a reference stands in the place of its value.
-fn with_reference_hint(alloc: Global, refused: Option<Problem>, wanted: &Ty, found: &Ty) -> Judged {
-    match found {
-        Ty::Ref(named) if *named.get() == *wanted => with_note(
-            alloc,
-            refused,
-            "hint: the value of a result is known in post alone: keep the reference in the state, and deref it there",
-        ),
-        _ => Ok(refused),
+fn with_reference_hint(
+    alloc: Global,
+    refused: Option<Problem>,
+    wanted: &Kind,
+    found: &Kind,
+) -> Judged {
+    let Form::Ref(named) = found.form(alloc)? else {
+        return Ok(refused);
+    };
+    if !named.same(alloc, wanted)? {
+        return Ok(refused);
     }
+    with_note(
+        alloc,
+        refused,
+        "hint: the value of a result is known in post alone: keep the reference in the state, and deref it there",
+    )
 }
 
 /// The same problem, with a hint where a map stands in the place of a list.
-fn with_keys_hint(alloc: Global, refused: Option<Problem>, found: &Ty) -> Judged {
-    match found {
-        Ty::Map(_, _) => with_note(
+fn with_keys_hint(alloc: Global, refused: Option<Problem>, found: &Kind) -> Judged {
+    match found.form(alloc)? {
+        Form::Map(_, _) => with_note(
             alloc,
             refused,
             "hint: `(keys m)` is the list of the keys of a map",
@@ -35,11 +44,11 @@ pub fn other_type<D: Display + Drop>(
     alloc: Global,
     path: &[usize],
     what: D,
-    wanted: &Ty,
-    found: &Ty,
+    wanted: &Kind,
+    found: &Kind,
 ) -> Judged {
-    let wants = TypeText(wanted);
-    let has = TypeText(found);
+    let wants = spelled(alloc, wanted)?;
+    let has = spelled(alloc, found)?;
     let refused = wrong(
         alloc,
         path,
@@ -54,10 +63,10 @@ pub fn wanted_type<D: Display + Drop>(
     leaf: &Leaf<'_>,
     what: D,
     part: usize,
-    wanted: &Ty,
-    found: &Ty,
+    wanted: &Kind,
+    found: &Kind,
 ) -> Judged {
-    if *wanted == *found {
+    if wanted.same(alloc, found)? {
         return Ok(None);
     }
     let path = below(leaf.path, alloc, part)?;
@@ -65,16 +74,21 @@ pub fn wanted_type<D: Display + Drop>(
 }
 
 /// The first part of another kind than its form takes.
-pub fn ill_first<D: Display + Drop>(alloc: Global, leaf: &Leaf<'_>, what: D, found: &Ty) -> Judged {
-    let found = TypeText(found);
+pub fn ill_first<D: Display + Drop>(
+    alloc: Global,
+    leaf: &Leaf<'_>,
+    what: D,
+    found: &Kind,
+) -> Judged {
+    let found = spelled(alloc, found)?;
     wrong_at(alloc, leaf.path, 1, format_args!("{what}, found {found}"))
 }
 
 /// The first part of `at` that is no tuple.
-pub fn wanted_tuple(alloc: Global, leaf: &Leaf<'_>, found: &Ty) -> Judged {
+pub fn wanted_tuple(alloc: Global, leaf: &Leaf<'_>, found: &Kind) -> Judged {
     let refused = ill_first(alloc, leaf, "`at` takes a tuple", found)?;
-    match found {
-        Ty::List(_) => with_note(
+    match found.form(alloc)? {
+        Form::List(_) => with_note(
             alloc,
             refused,
             "hint: of a list it is `(nth LIST PLACE)`, from 0 on",
@@ -84,7 +98,7 @@ pub fn wanted_tuple(alloc: Global, leaf: &Leaf<'_>, found: &Ty) -> Judged {
 }
 
 /// The first part, of a form that takes a text or a list, that is neither.
-pub fn wanted_sequence(alloc: Global, leaf: &Leaf<'_>, head: &str, found: &Ty) -> Judged {
+pub fn wanted_sequence(alloc: Global, leaf: &Leaf<'_>, head: &str, found: &Kind) -> Judged {
     let refused = ill_first(
         alloc,
         leaf,
@@ -95,8 +109,8 @@ pub fn wanted_sequence(alloc: Global, leaf: &Leaf<'_>, head: &str, found: &Ty) -
 }
 
 /// A part, by its number in the tree of a path, that is no list.
-pub fn wanted_list(alloc: Global, path: &[usize], what: &str, part: usize, found: &Ty) -> Judged {
-    let has = TypeText(found);
+pub fn wanted_list(alloc: Global, path: &[usize], what: &str, part: usize, found: &Kind) -> Judged {
+    let has = spelled(alloc, found)?;
     let refused = wrong_at(
         alloc,
         path,
@@ -107,17 +121,19 @@ pub fn wanted_list(alloc: Global, path: &[usize], what: &str, part: usize, found
 }
 
 /// The first part of a form of maps that is no map.
-pub fn wanted_map(alloc: Global, leaf: &Leaf<'_>, head: &str, found: &Ty) -> Judged {
-    match type_of(leaf, 1) {
-        Some(Ty::Map(_, _)) => {
-            let found = TypeText(found);
-            noted(
-                alloc,
-                leaf.path,
-                format_args!("`{head}` takes the map first, found {found}"),
-                "hint: in the other order the two may fit",
-            )
-        }
-        _ => ill_first(alloc, leaf, format_args!("`{head}`: wanted a map"), found),
+pub fn wanted_map(alloc: Global, leaf: &Leaf<'_>, head: &str, found: &Kind) -> Judged {
+    let is_second = match leaf.kinds.get(1) {
+        Some(second) => matches!(second.form(alloc)?, Form::Map(_, _)),
+        None => false,
+    };
+    if !is_second {
+        return ill_first(alloc, leaf, format_args!("`{head}`: wanted a map"), found);
     }
+    let found = spelled(alloc, found)?;
+    noted(
+        alloc,
+        leaf.path,
+        format_args!("`{head}` takes the map first, found {found}"),
+        "hint: in the other order the two may fit",
+    )
 }

@@ -3,12 +3,12 @@
 use crate::diagnose::{Leaf, diagnose};
 use crate::operands::other_type;
 use crate::trees::{enter_part, head_word, tree_in};
-use pst_blame::{Blame, find};
-use pst_items::{Boxed, Items};
+use crate::walk::{names_in, part_at};
+use pst_kinds::Kind;
 use pst_model::{Expr, Fun, Item, Op, Source, state_of};
 use pst_problems::{Judged, MOST_PROBLEMS, Problem, noted, tell, wrong};
 use pst_sexpr::{Form, node_of};
-use pst_typing::{Context, Scope, holds_call, holds_ref};
+use pst_typing::{Blame, Context, Found, Scope, find, holds_call, holds_ref};
 use pst_value::Ty;
 use std::alloc::{AllocError, Global};
 
@@ -18,7 +18,7 @@ pub struct Site<'a> {
     pub form: &'a Form,
     pub path: &'a [usize],
     pub called: &'a str,
-    pub wanted: &'a Ty,
+    pub wanted: &'a Kind,
     /// Whether the language of the model has maps.
     pub has_maps: bool,
 }
@@ -28,7 +28,7 @@ pub struct Site<'a> {
 #[derive(Clone, Copy, Drop)]
 pub struct Here<'a> {
     pub items: &'a [Item],
-    pub state: &'a Ty,
+    pub state: &'a Kind,
     pub form: &'a Form,
     pub number: usize,
     /// Whether the language of the model has maps.
@@ -50,35 +50,55 @@ fn enter_parts<'a>(
 }
 
 /// The problem of a part that is to blame.
-fn blamed(context: &Context<'_>, site: &Site<'_>, blame: &Blame) -> Judged {
+fn blamed(
+    expr: &Expr,
+    context: &Context<'_>,
+    scope: &Scope<'_>,
+    site: &Site<'_>,
+    blame: &Blame,
+) -> Judged {
     let alloc = context.alloc;
     let mut path = Vec::from_slice(alloc, site.path)?;
     let form = enter_parts(&mut path, site.form, blame.path.as_slice())?;
+    let mut names = names_in(alloc, scope)?;
+    let expr = part_at(alloc, &mut names, expr, blame.path.as_slice())?;
     let leaf = Leaf {
         context,
+        expr,
         form,
         path: path.as_slice(),
-        types: blame.types.as_slice(),
-        names: &blame.names,
+        kinds: blame.kinds.as_slice(),
+        names: &names,
         called: site.called,
         has_maps: site.has_maps,
     };
     diagnose(alloc, &leaf)
 }
 
-/// What is wrong with the type that an expression was found to have, if something is.
-fn of_type(alloc: Global, site: &Site<'_>, found: &Ty) -> Judged {
-    if *found == *site.wanted {
+/// What is wrong with the kind that an expression was found to have, if something is.
+fn of_kind(alloc: Global, site: &Site<'_>, found: &Kind) -> Judged {
+    if found.same(alloc, site.wanted)? {
         return Ok(None);
     }
     other_type(alloc, site.path, site.called, site.wanted, found)
 }
 
-/// What is wrong with the type of an expression, if something is.
-fn of_expression(expr: &Expr, context: &Context<'_>, scope: &Scope<'_>, site: &Site<'_>) -> Judged {
+/// Adds what is wrong with the type of an expression: one problem for each part that is to blame.
+fn tell_expression(
+    problems: &mut Vec<Problem>,
+    expr: &Expr,
+    context: &Context<'_>,
+    scope: &Scope<'_>,
+    site: &Site<'_>,
+) -> Result<(), AllocError> {
     match find(expr, context, scope)? {
-        Ok(ty) => of_type(context.alloc, site, &ty),
-        Err(blame) => blamed(context, site, &blame),
+        Found::Kind(kind) => tell(problems, of_kind(context.alloc, site, &kind)?),
+        Found::Blamed(blames) => {
+            for blame in blames.as_slice() {
+                tell(problems, blamed(expr, context, scope, site, blame)?)?;
+            }
+            Ok(())
+        }
     }
 }
 
@@ -112,17 +132,18 @@ fn callback<'a>(form: &'a Form, word: &str) -> Option<(usize, &'a Form)> {
     None
 }
 
-/// What is wrong with the callback of a word.
-fn of_callback(
+/// Adds what is wrong with the callback of a word.
+fn tell_callback(
+    problems: &mut Vec<Problem>,
     expr: &Expr,
     word: &str,
     context: &Context<'_>,
     scope: &Scope<'_>,
-    wanted: &Ty,
+    wanted: &Kind,
     here: Here<'_>,
-) -> Judged {
+) -> Result<(), AllocError> {
     let Some((place, body)) = callback(here.form, word) else {
-        return Ok(None);
+        return Ok(());
     };
     let site = Site {
         form: body,
@@ -131,34 +152,54 @@ fn of_callback(
         wanted,
         has_maps: here.has_maps,
     };
-    of_expression(expr, context, scope, &site)
+    tell_expression(problems, expr, context, scope, &site)
 }
 
-/// What is wrong with the callback `pre`, which sees the state.
-fn of_pre(alloc: Global, op: &Op, here: Here<'_>) -> Judged {
+/// Adds what is wrong with the callback `pre`, which sees the state.
+fn tell_pre(
+    problems: &mut Vec<Problem>,
+    alloc: Global,
+    op: &Op,
+    here: Here<'_>,
+) -> Result<(), AllocError> {
+    let truth = Kind::of(alloc, &Ty::Bool)?;
     let context = context_of(alloc, here.items, false);
     let params = Scope::Parameters(op.params.as_slice());
     let scope = Scope::With(b"s".as_slice(), here.state, &params);
-    of_callback(&op.pre, "pre", &context, &scope, &Ty::Bool, here)
+    tell_callback(problems, &op.pre, "pre", &context, &scope, &truth, here)
 }
 
-/// What is wrong with the callback `next`, which sees the state and a reference to the result.
-fn of_next(alloc: Global, op: &Op, here: Here<'_>) -> Judged {
-    let named = Ty::Ref(boxed_copy(alloc, &op.result)?);
+/// Adds what is wrong with the callback `next`, which sees the state and a reference to the result.
+fn tell_next(
+    problems: &mut Vec<Problem>,
+    alloc: Global,
+    op: &Op,
+    here: Here<'_>,
+) -> Result<(), AllocError> {
+    let named = Kind::of(alloc, &op.result)?.reference(alloc)?;
     let context = context_of(alloc, here.items, false);
     let params = Scope::Parameters(op.params.as_slice());
     let seen = Scope::With(b"s".as_slice(), here.state, &params);
     let scope = Scope::With(b"r".as_slice(), &named, &seen);
-    of_callback(&op.next, "next", &context, &scope, here.state, here)
+    tell_callback(
+        problems, &op.next, "next", &context, &scope, here.state, here,
+    )
 }
 
-/// What is wrong with the callback `post`, which sees the state and the result.
-fn of_post(alloc: Global, op: &Op, here: Here<'_>) -> Judged {
+/// Adds what is wrong with the callback `post`, which sees the state and the result.
+fn tell_post(
+    problems: &mut Vec<Problem>,
+    alloc: Global,
+    op: &Op,
+    here: Here<'_>,
+) -> Result<(), AllocError> {
+    let truth = Kind::of(alloc, &Ty::Bool)?;
+    let value = Kind::of(alloc, &op.result)?;
     let context = context_of(alloc, here.items, true);
     let params = Scope::Parameters(op.params.as_slice());
     let seen = Scope::With(b"s".as_slice(), here.state, &params);
-    let scope = Scope::With(b"r".as_slice(), &op.result, &seen);
-    of_callback(&op.post, "post", &context, &scope, &Ty::Bool, here)
+    let scope = Scope::With(b"r".as_slice(), &value, &seen);
+    tell_callback(problems, &op.post, "post", &context, &scope, &truth, here)
 }
 
 /// What is wrong with the types that an operation declares.
@@ -188,44 +229,20 @@ fn tell_operation(
     here: Here<'_>,
 ) -> Result<(), AllocError> {
     tell(problems, of_declared(alloc, op, here.number)?)?;
-    tell(problems, of_pre(alloc, op, here)?)?;
-    tell(problems, of_next(alloc, op, here)?)?;
-    tell(problems, of_post(alloc, op, here)?)
+    tell_pre(problems, alloc, op, here)?;
+    tell_next(problems, alloc, op, here)?;
+    tell_post(problems, alloc, op, here)
 }
 
-/// A copy of a type.
-#[cycle(copy)]
-fn copy(alloc: Global, ty: &Ty) -> Result<Ty, AllocError> {
-    match ty {
-        Ty::Int => Ok(Ty::Int),
-        Ty::Bool => Ok(Ty::Bool),
-        Ty::Text => Ok(Ty::Text),
-        Ty::Call => Ok(Ty::Call),
-        Ty::Tuple(items) => Ok(Ty::Tuple(copy_all(alloc, items.as_slice())?)),
-        Ty::List(item) => Ok(Ty::List(boxed_copy(alloc, item.get())?)),
-        Ty::Ref(named) => Ok(Ty::Ref(boxed_copy(alloc, named.get())?)),
-        Ty::Map(keys, value) => Ok(Ty::Map(*keys, boxed_copy(alloc, value.get())?)),
-    }
-}
-
-/// A copy of a type, in a `Box`.
-#[cycle(copy)]
-fn boxed_copy(alloc: Global, ty: &Ty) -> Result<Boxed<Ty>, AllocError> {
-    Boxed::new(alloc, copy(alloc, ty)?)
-}
-
-#[cycle(copy)]
-fn copy_all(alloc: Global, types: &[Ty]) -> Result<Items<Ty>, AllocError> {
-    let mut copies = Items::new(alloc);
-    for ty in types {
-        copies.push(copy(alloc, ty)?)?;
-    }
-    Ok(copies)
-}
-
-/// What is wrong with a function.
-fn of_function(alloc: Global, fun: &Fun, here: Here<'_>) -> Judged {
+/// Adds what is wrong with a function.
+fn tell_function(
+    problems: &mut Vec<Problem>,
+    alloc: Global,
+    fun: &Fun,
+    here: Here<'_>,
+) -> Result<(), AllocError> {
     let number = here.number;
+    let result = Kind::of(alloc, &fun.result)?;
     let context = Context {
         alloc,
         items: here.items,
@@ -237,14 +254,19 @@ fn of_function(alloc: Global, fun: &Fun, here: Here<'_>) -> Judged {
         form: tree_in(here.form, 4),
         path: &[0, number, 4],
         called: fun.name.as_str(),
-        wanted: &fun.result,
+        wanted: &result,
         has_maps: here.has_maps,
     };
-    of_expression(&fun.body, &context, &scope, &site)
+    tell_expression(problems, &fun.body, &context, &scope, &site)
 }
 
-/// What is wrong with the opening state.
-fn of_init(alloc: Global, expr: &Expr, here: Here<'_>) -> Judged {
+/// Adds what is wrong with the initial state.
+fn tell_init(
+    problems: &mut Vec<Problem>,
+    alloc: Global,
+    expr: &Expr,
+    here: Here<'_>,
+) -> Result<(), AllocError> {
     let context = context_of(alloc, here.items, false);
     let scope = Scope::Parameters(&[]);
     let site = Site {
@@ -254,12 +276,17 @@ fn of_init(alloc: Global, expr: &Expr, here: Here<'_>) -> Judged {
         wanted: here.state,
         has_maps: here.has_maps,
     };
-    of_expression(expr, &context, &scope, &site)
+    tell_expression(problems, expr, &context, &scope, &site)
 }
 
-/// What is wrong with the calls to pick from, which see the state.
-fn of_command(alloc: Global, expr: &Expr, here: Here<'_>) -> Judged {
-    let calls = Ty::List(Boxed::new(alloc, Ty::Call)?);
+/// Adds what is wrong with the calls to pick from, which see the state.
+fn tell_command(
+    problems: &mut Vec<Problem>,
+    alloc: Global,
+    expr: &Expr,
+    here: Here<'_>,
+) -> Result<(), AllocError> {
+    let calls = Kind::of(alloc, &Ty::Call)?.list(alloc)?;
     let context = context_of(alloc, here.items, false);
     let none = Scope::Parameters(&[]);
     let scope = Scope::With(b"s".as_slice(), here.state, &none);
@@ -270,7 +297,7 @@ fn of_command(alloc: Global, expr: &Expr, here: Here<'_>) -> Judged {
         wanted: &calls,
         has_maps: here.has_maps,
     };
-    of_expression(expr, &context, &scope, &site)
+    tell_expression(problems, expr, &context, &scope, &site)
 }
 
 /// What is wrong with the type of the state.
@@ -290,10 +317,10 @@ fn tell_item(
     here: Here<'_>,
 ) -> Result<(), AllocError> {
     match item {
-        Item::Fun(fun) => tell(problems, of_function(alloc, fun, here)?),
+        Item::Fun(fun) => tell_function(problems, alloc, fun, here),
         Item::Op(op) => tell_operation(problems, alloc, op, here),
-        Item::Init(expr) => tell(problems, of_init(alloc, expr, here)?),
-        Item::Command(expr) => tell(problems, of_command(alloc, expr, here)?),
+        Item::Init(expr) => tell_init(problems, alloc, expr, here),
+        Item::Command(expr) => tell_command(problems, alloc, expr, here),
         Item::State(state) => tell(problems, of_state(alloc, state, here)?),
     }
 }
@@ -312,13 +339,14 @@ pub fn type_problems(
     let Some(state) = state_of(items) else {
         return Ok(problems);
     };
+    let state = Kind::of(alloc, state)?;
     for (index, item) in items.iter().enumerate() {
         let place = index.saturating_add(2);
         let is_first = index.saturating_add(1) == number;
         if index.saturating_add(1) >= number && problems.len() <= MOST_PROBLEMS {
             let here = Here {
                 items,
-                state,
+                state: &state,
                 form: tree_in(model, place),
                 number: place,
                 has_maps: source.has_maps,

@@ -1,13 +1,15 @@
+pub mod Blaming
+pub mod ByForms
 pub mod Complete
 pub mod Exactly
 pub mod Formed
 pub mod Forms
-pub mod Found
-pub mod Holding
+pub mod Gathers
 pub mod Ill
 pub mod Judging
 pub mod Operating
 pub mod Seeing
+pub mod Sound
 pub mod Steps
 pub mod WellItems
 pub mod Whole

@@ -13,7 +13,7 @@ use Rattle.pst_typing.specs.Items.{well_operation, well_item, first_ill}
 use Rattle.pst_typing.specs.Least.{IsLeastIll}
 use Rattle.pst_typing.proofs.Complete.{complete}
 use Rattle.pst_typing.proofs.Exactly.{is_found, found_is, both}
-use Rattle.pst_typing.proofs.Found.{found_right}
+use Rattle.pst_typing.proofs.Sound.{found_right}
 use Rattle.pst_value.specs.Fits.{is_ty}
 use Rattle.pst_value.specs.declared.ty.Ty.{Ty}
 use Rattle.pst_value.specs.declared.ty.Ty.TheVariants as ty

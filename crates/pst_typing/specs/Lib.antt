@@ -1,6 +1,8 @@
 -- what the public contracts cite
+pub mod Blamed
 pub mod Checked
 pub mod FaultName
+pub mod Gathering
 pub mod Items
 pub mod Laws
 pub mod Operations
@@ -9,4 +11,5 @@ pub mod Scope
 pub mod Decision
 pub mod Least
 -- what the contracts within the crate cite
+pub mod ByParts
 pub mod Answers

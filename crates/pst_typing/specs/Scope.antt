@@ -13,7 +13,7 @@ use Rattle.pst_value.specs.declared.ty.Ty.{Ty}
 
 abbrev pub names_of : Scope → Context
 names_of (Parameters params) = context_of params.now
-names_of (With' name ty r outer) = (name.now, ty.now) ∷ names_of outer
+names_of (With' name kind r outer) = (name.now, kind.now) ∷ names_of outer
 
 abbrev pub name_seen : Seen → Name × Ty
 name_seen s = (s.name, s.kind)

@@ -6,11 +6,12 @@ ghost use Rattle.pst_typing.specs.Scope.{names_of, type_in};
 ghost use Rattle.pst_value.specs.Fits.{is_ty};
 ghost use Rattle.pst_value.specs.declared.ty.Ty.TheVariants.{Bool as truth, List as list, Call as call};
 
+use crate::blame::Found;
 use crate::context::Context;
-use crate::expressions::find_kind;
+use crate::expressions::find;
 use crate::scope::Scope;
-use crate::types::{copy_type, holds_call, holds_ref, parameters_hold_call};
-use pst_items::Boxed;
+use crate::types::{holds_call, holds_ref, parameters_hold_call};
+use pst_kinds::Kind;
 use pst_model::{Expr, Item, Op};
 use pst_value::Ty;
 use std::alloc::{AllocError, Global};
@@ -18,15 +19,15 @@ use std::alloc::{AllocError, Global};
 /// Whether an expression has a type.
 fn has_type(
     expr: &Expr,
-    ty: &Ty,
+    kind: &Kind,
     context: &Context<'_>,
     scope: &Scope<'_>,
 ) -> Result<bool, AllocError>
-    ensures { IfOk result (λ has. has ≡ is_ty (type_in context.now expr.now (names_of scope.now)) ty.now) }
+    ensures { IfOk result (λ has. has ≡ is_ty (type_in context.now expr.now (names_of scope.now)) kind.now) }
 {
-    match find_kind(expr, context, scope)? {
-        Some(found) => found.is(context.alloc, ty),
-        None => Ok(false),
+    match find(expr, context, scope)? {
+        Found::Kind(found) => found.same(context.alloc, kind),
+        Found::Blamed(_) => Ok(false),
     }
 }
 
@@ -40,9 +41,11 @@ fn has_pre(alloc: Global, items: &[Item], state: &Ty, op: &Op) -> Result<bool, A
         earlier: items,
         is_post: false,
     };
+    let truth = Kind::of(alloc, &Ty::Bool)?;
+    let state = Kind::of(alloc, state)?;
     let params = Scope::Parameters(op.params.as_slice());
-    let scope = Scope::With(b"s".as_slice(), state, &params);
-    has_type(&op.pre, &Ty::Bool, &context, &scope)
+    let scope = Scope::With(b"s".as_slice(), &state, &params);
+    has_type(&op.pre, &truth, &context, &scope)
 }
 
 fn has_next(alloc: Global, items: &[Item], state: &Ty, op: &Op) -> Result<bool, AllocError>
@@ -55,11 +58,12 @@ fn has_next(alloc: Global, items: &[Item], state: &Ty, op: &Op) -> Result<bool, 
         earlier: items,
         is_post: false,
     };
-    let named = Ty::Ref(Boxed::new(alloc, copy_type(alloc, &op.result)?)?);
+    let named = Kind::of(alloc, &op.result)?.reference(alloc)?;
+    let state = Kind::of(alloc, state)?;
     let params = Scope::Parameters(op.params.as_slice());
-    let outer = Scope::With(b"s".as_slice(), state, &params);
+    let outer = Scope::With(b"s".as_slice(), &state, &params);
     let scope = Scope::With(b"r".as_slice(), &named, &outer);
-    has_type(&op.next, state, &context, &scope)
+    has_type(&op.next, &state, &context, &scope)
 }
 
 fn has_post(alloc: Global, items: &[Item], state: &Ty, op: &Op) -> Result<bool, AllocError>
@@ -72,10 +76,13 @@ fn has_post(alloc: Global, items: &[Item], state: &Ty, op: &Op) -> Result<bool, 
         earlier: items,
         is_post: true,
     };
+    let truth = Kind::of(alloc, &Ty::Bool)?;
+    let state = Kind::of(alloc, state)?;
+    let value = Kind::of(alloc, &op.result)?;
     let params = Scope::Parameters(op.params.as_slice());
-    let outer = Scope::With(b"s".as_slice(), state, &params);
-    let scope = Scope::With(b"r".as_slice(), &op.result, &outer);
-    has_type(&op.post, &Ty::Bool, &context, &scope)
+    let outer = Scope::With(b"s".as_slice(), &state, &params);
+    let scope = Scope::With(b"r".as_slice(), &value, &outer);
+    has_type(&op.post, &truth, &context, &scope)
 }
 
 fn well_operation(alloc: Global, items: &[Item], state: &Ty, op: &Op) -> Result<bool, AllocError>
@@ -106,7 +113,8 @@ fn has_opening(alloc: Global, items: &[Item], state: &Ty, expr: &Expr) -> Result
         earlier: items,
         is_post: false,
     };
-    has_type(expr, state, &context, &Scope::Parameters(&[]))
+    let state = Kind::of(alloc, state)?;
+    has_type(expr, &state, &context, &Scope::Parameters(&[]))
 }
 
 fn has_calls(alloc: Global, items: &[Item], state: &Ty, expr: &Expr) -> Result<bool, AllocError>
@@ -119,9 +127,10 @@ fn has_calls(alloc: Global, items: &[Item], state: &Ty, expr: &Expr) -> Result<b
         earlier: items,
         is_post: false,
     };
+    let state = Kind::of(alloc, state)?;
+    let calls = Kind::of(alloc, &Ty::Call)?.list(alloc)?;
     let none = Scope::Parameters(&[]);
-    let scope = Scope::With(b"s".as_slice(), state, &none);
-    let calls = Ty::List(Boxed::new(alloc, Ty::Call)?);
+    let scope = Scope::With(b"s".as_slice(), &state, &none);
     has_type(expr, &calls, &context, &scope)
 }
 
@@ -146,8 +155,9 @@ pub fn well_item(
                 earlier,
                 is_post: fun.is_post,
             };
+            let result = Kind::of(alloc, &fun.result)?;
             let scope = Scope::Parameters(fun.params.as_slice());
-            has_type(&fun.body, &fun.result, &context, &scope)
+            has_type(&fun.body, &result, &context, &scope)
         }
         Item::Op(op) => well_operation(alloc, items, state, op),
     }

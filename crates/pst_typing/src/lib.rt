@@ -1,9 +1,12 @@
 //! The type checker of the model language.
 #![tactic(auto)]
 
+mod blame;
+mod by_parts;
 mod checking;
 mod context;
 mod expressions;
+mod gathered;
 mod items;
 mod laws;
 mod operators;
@@ -13,9 +16,10 @@ mod scope;
 mod type_fault;
 mod types;
 
+pub use blame::{Blame, Found};
 pub use checking::check;
 pub use context::Context;
-pub use expressions::type_of;
+pub use expressions::find;
 pub use items::{first_ill, well_item};
 pub use laws::{first_ill_is_least, ill_is_not_well, items_are_exact, one_is_ill, types_are_exact};
 pub use parts::{model_name, operation_name, operation_parameters, operation_result};

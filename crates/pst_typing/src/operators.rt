@@ -35,7 +35,7 @@ pub fn copied(kind: Option<&Kind>) -> Result<Kind, Refusal>
 }
 
 /// The kind of a type, if a test is passed.
-fn where_true(alloc: Global, test: bool, ty: &Ty) -> Result<Kind, Refusal>
+pub fn where_true(alloc: Global, test: bool, ty: &Ty) -> Result<Kind, Refusal>
     ensures { Answers (spec.where_true test (Some ty.now)) result }
 {
     if test {
@@ -46,10 +46,14 @@ fn where_true(alloc: Global, test: bool, ty: &Ty) -> Result<Kind, Refusal>
 }
 
 /// A kind, if a test is passed.
-fn kept(test: bool, kind: Kind) -> Result<Kind, Refusal>
-    ensures { Answers (spec.where_true test (Some kind)) result }
+pub fn kept(test: bool, kind: &Kind) -> Result<Kind, Refusal>
+    ensures { Answers (spec.where_true test (Some kind.now)) result }
 {
-    if test { Ok(kind) } else { Err(Refusal::Ill) }
+    if test {
+        Ok(kind.copy()?)
+    } else {
+        Err(Refusal::Ill)
+    }
 }
 
 fn is_sequence(alloc: Global, kind: &Kind) -> Result<bool, AllocError>
@@ -243,7 +247,7 @@ fn range_type(alloc: Global, first: &Kind, second: &Kind) -> Result<Kind, Refusa
 {
     let both = both_int(alloc, first, second)?;
     let ints = Kind::of(alloc, &Ty::Int)?.list(alloc)?;
-    kept(both, ints)
+    kept(both, &ints)
 }
 
 /// The kind of an operator's value, by that of its operand.
@@ -251,20 +255,20 @@ pub fn unary_type(
     alloc: Global,
     is_post: bool,
     operator: Unary,
-    operand: Kind,
+    operand: &Kind,
 ) -> Result<Kind, Refusal>
-    ensures { Answers (spec.unary_type is_post operator operand) result }
+    ensures { Answers (spec.unary_type is_post operator operand.now) result }
 {
     match operator {
         Unary::Not => where_true(alloc, operand.is(alloc, &Ty::Bool)?, &Ty::Bool),
-        Unary::Len => where_true(alloc, is_sequence(alloc, &operand)?, &Ty::Int),
+        Unary::Len => where_true(alloc, is_sequence(alloc, operand)?, &Ty::Int),
         Unary::Deref => {
             if !is_post {
                 return Err(Refusal::Ill);
             }
-            referred_type(alloc, &operand)
+            referred_type(alloc, operand)
         }
-        Unary::Keys => keys_list_type(alloc, &operand),
+        Unary::Keys => keys_list_type(alloc, operand),
     }
 }
 
@@ -273,29 +277,29 @@ pub fn binary_type(
     alloc: Global,
     is_post: bool,
     operator: Binary,
-    first: Kind,
+    first: &Kind,
     second: &Kind,
 ) -> Result<Kind, Refusal>
-    ensures { Answers (spec.binary_type is_post operator first second.now) result }
+    ensures { Answers (spec.binary_type is_post operator first.now second.now) result }
 {
     match operator {
         Binary::Add | Binary::Sub | Binary::Mul | Binary::Div | Binary::Rem => {
-            where_true(alloc, both_int(alloc, &first, second)?, &Ty::Int)
+            where_true(alloc, both_int(alloc, first, second)?, &Ty::Int)
         }
         Binary::Less | Binary::LessEqual => {
-            where_true(alloc, are_ordered(alloc, &first, second)?, &Ty::Bool)
+            where_true(alloc, are_ordered(alloc, first, second)?, &Ty::Bool)
         }
         Binary::Equal => {
-            let are = are_compared(alloc, is_post, &first, second)?;
+            let are = are_compared(alloc, is_post, first, second)?;
             where_true(alloc, are, &Ty::Bool)
         }
-        Binary::Same => where_true(alloc, are_references(alloc, &first, second)?, &Ty::Bool),
-        Binary::Append => kept(are_joined(alloc, &first, second)?, first),
-        Binary::Nth => nth_type(alloc, &first, second),
-        Binary::Get => get_type(alloc, &first, second),
-        Binary::Has => where_true(alloc, has_keys(alloc, &first, second)?, &Ty::Bool),
-        Binary::Del => kept(has_keys(alloc, &first, second)?, first),
-        Binary::Range => range_type(alloc, &first, second),
+        Binary::Same => where_true(alloc, are_references(alloc, first, second)?, &Ty::Bool),
+        Binary::Append => kept(are_joined(alloc, first, second)?, first),
+        Binary::Nth => nth_type(alloc, first, second),
+        Binary::Get => get_type(alloc, first, second),
+        Binary::Has => where_true(alloc, has_keys(alloc, first, second)?, &Ty::Bool),
+        Binary::Del => kept(has_keys(alloc, first, second)?, first),
+        Binary::Range => range_type(alloc, first, second),
     }
 }
 

@@ -11,7 +11,6 @@ use crate::refusal::Refusal;
 use pst_items::Items;
 use pst_kinds::Kind;
 use pst_model::{Fun, Item, Op, Param, number_of, operation_of};
-use pst_value::Ty;
 use std::alloc::{AllocError, Global};
 
 /// The names that an expression sees with their types, the inner ones first.
@@ -20,7 +19,7 @@ pub enum Scope<'a> {
     /// The parameters of a function or an operation.
     Parameters(&'a [Param]),
     /// One more name, and the outer ones.
-    With(&'a [u8], &'a Ty, &'a Scope<'a>),
+    With(&'a [u8], &'a Kind, &'a Scope<'a>),
 }
 
 /// A name and its kind.
@@ -58,9 +57,9 @@ pub fn names_seen(alloc: Global, scope: &Scope<'_>) -> Result<Items<Seen>, Alloc
 {
     match scope {
         Scope::Parameters(params) => seen_parameters(alloc, params),
-        Scope::With(name, ty, outer) => {
+        Scope::With(name, kind, outer) => {
             let name = Items::from_slice(alloc, name)?;
-            let kind = Kind::of(alloc, ty)?;
+            let kind = kind.copy()?;
             let mut seen = Items::new(alloc);
             seen.push(Seen { name, kind })?;
             seen.append(names_seen(alloc, outer)?)?;

@@ -1,86 +1,150 @@
-use Rattle.std.proofs.Common.{◌≤◌, length, map, reverse, sym, ap, ◌∙◌, arith}
-use Rattle.std.proofs.lemmas.List.{length-map}
-use Rattle.std.proofs.lemmas.Result.{err_from_is_err_and}
+use Rattle.std.proofs.Common.{refl, sym, ap, ◌∙◌, reverse, arith}
+use Rattle.pst_typing.specs.Blamed.{one_part, two_parts, parts_int, parts_bool, parts_text, parts_name, parts_let, parts_if, parts_and, parts_or, parts_unary, parts_binary, parts_tuple, parts_at, parts_list, parts_fold, parts_map, parts_put, parts_call, parts_apply}
 use Rattle.pst_typing.specs.Scope.{names_in, type_in}
-use Rattle.pst_typing.proofs.Forms.{built_in, type_fold, for_none, for_found, list_found}
-use Rattle.pst_typing.proofs.Steps.{all_goes, all_fails, each_apart, each_goes, each_fails, types_go, types_stop}
 use Rattle.pst_meaning.proofs.Weights.{item_weight}
+use Rattle.pst_typing.proofs.Blaming.{named_leaf, named, named_for, judged_ok, ill_parts}
+use Rattle.pst_typing.proofs.Gathers.{ok_one, ok_more, ok_let, ok_let_ill, fold_no_list, fold_no_first, fold_goes, each_more, ok_body, ok_when, ok_in, in_ends}
 use Rattle.pst_typing.proofs.expressions.+find.Goals as goal
 
-pub expect_all-expect_type-requires : goal.expect_all-expect_type-requires
-expect_all-expect_type-requires t c =
+pub gather-returns-in-Int : goal.gather-returns-in-Int
+gather-returns-in-Int t c =
+    named_leaf (type_in c.args.context.now) (names_in c.args.names.now) c.args.expr.now _ c.in-Int.is _ (parts_int _) c.new.ensures
+
+pub gather-returns-in-Bool : goal.gather-returns-in-Bool
+gather-returns-in-Bool t c =
+    named_leaf (type_in c.args.context.now) (names_in c.args.names.now) c.args.expr.now _ c.in-Bool.is _ (parts_bool _) c.new-in-Bool.ensures
+
+pub gather-returns-in-Text : goal.gather-returns-in-Text
+gather-returns-in-Text t c =
+    named_leaf (type_in c.args.context.now) (names_in c.args.names.now) c.args.expr.now _ c.in-Text.is _ (parts_text _) c.new-in-Text.ensures
+
+pub gather-returns-in-Name : goal.gather-returns-in-Name
+gather-returns-in-Name t c =
+    named_leaf (type_in c.args.context.now) (names_in c.args.names.now) c.args.expr.now _ c.in-Name.is _ (parts_name _) c.new-in-Name.ensures
+
+pub gather-returns-in-Map : goal.gather-returns-in-Map
+gather-returns-in-Map t c =
+    named_leaf (type_in c.args.context.now) (names_in c.args.names.now) c.args.expr.now _ c.in-Map.is _ (parts_map _ _) c.new-in-Map.ensures
+
+pub gather-returns-in-Let : goal.gather-returns-in-Let
+gather-returns-in-Let t c =
+    named (type_in c.args.context.now) (names_in c.args.names.now) c.args.expr.now _ c.in-Let.is _ _ (parts_let _ _ _) c.in_let.ensures
+
+pub gather-returns-in-If : goal.gather-returns-in-If
+gather-returns-in-If t c =
+    named (type_in c.args.context.now) (names_in c.args.names.now) c.args.expr.now _ c.in-If.is _ _ (parts_if _ _ _) c.in_three.ensures
+
+pub gather-returns-in-And : goal.gather-returns-in-And
+gather-returns-in-And t c =
+    named (type_in c.args.context.now) (names_in c.args.names.now) c.args.expr.now _ c.in-And.is _ _ (parts_and _ _) c.in_two.ensures
+
+pub gather-returns-in-Or : goal.gather-returns-in-Or
+gather-returns-in-Or t c =
+    named (type_in c.args.context.now) (names_in c.args.names.now) c.args.expr.now _ c.in-Or.is _ _ (parts_or _ _) c.in_two-in-Or.ensures
+
+pub gather-returns-in-Unary : goal.gather-returns-in-Unary
+gather-returns-in-Unary t c =
+    named (type_in c.args.context.now) (names_in c.args.names.now) c.args.expr.now _ c.in-Unary.is _ _ (parts_unary _ _) c.in_one.ensures
+
+pub gather-returns-in-Binary : goal.gather-returns-in-Binary
+gather-returns-in-Binary t c =
+    named (type_in c.args.context.now) (names_in c.args.names.now) c.args.expr.now _ c.in-Binary.is _ _ (parts_binary _ _ _) c.in_two-in-Binary.ensures
+
+pub gather-returns-in-Tuple : goal.gather-returns-in-Tuple
+gather-returns-in-Tuple t c =
+    named (type_in c.args.context.now) (names_in c.args.names.now) c.args.expr.now _ c.in-Tuple.is _ _ (parts_tuple _) (rw c.as_slice.ensures at c.in_each.ensures)
+
+pub gather-returns-in-At : goal.gather-returns-in-At
+gather-returns-in-At t c =
+    named (type_in c.args.context.now) (names_in c.args.names.now) c.args.expr.now _ c.in-At.is _ _ (parts_at _ _) c.in_one-in-At.ensures
+
+pub gather-returns-in-List : goal.gather-returns-in-List
+gather-returns-in-List t c =
+    named (type_in c.args.context.now) (names_in c.args.names.now) c.args.expr.now _ c.in-List.is _ _ (parts_list _ _) (rw c.as_slice-in-List.ensures at c.in_each-in-List.ensures)
+
+pub gather-returns-in-Fold : goal.gather-returns-in-Fold
+gather-returns-in-Fold t c =
+    named (type_in c.args.context.now) (names_in c.args.names.now) c.args.expr.now _ c.in-Fold.is _ _ (parts_fold _ _ _ _ _) c.in_fold.ensures
+
+pub gather-returns-in-Put : goal.gather-returns-in-Put
+gather-returns-in-Put t c =
+    named (type_in c.args.context.now) (names_in c.args.names.now) c.args.expr.now _ c.in-Put.is _ _ (parts_put _ _ _) c.in_three-in-Put.ensures
+
+pub gather-returns-in-Call : goal.gather-returns-in-Call
+gather-returns-in-Call t c =
+    named (type_in c.args.context.now) (names_in c.args.names.now) c.args.expr.now _ c.in-Call.is _ _ (parts_call _ _) (rw c.as_slice-in-Call.ensures at c.in_each-in-Call.ensures)
+
+pub gather-returns-in-Apply : goal.gather-returns-in-Apply
+gather-returns-in-Apply t c =
+    named (type_in c.args.context.now) (names_in c.args.names.now) c.args.expr.now _ c.in-Apply.is _ _ (parts_apply _ _) (rw c.as_slice-in-Apply.ensures at c.in_each-in-Apply.ensures)
+
+pub gather-returns-in-For : goal.gather-returns-in-For
+gather-returns-in-For t c =
+    named_for (type_in c.args.context.now) (names_in c.args.names.now) c.args.expr.now _ c.in-For.is _ _ _ _ refl c.new-none.ensures (rw (c.as_slice-in-For.ensures, c.get.ensures) at c.in_clauses.ensures)
+
+pub find_kind-returns-then-is_empty : goal.find_kind-returns-then-is_empty
+find_kind-returns-then-is_empty t c =
+    let d = c.args.context.now in
+    judged_ok d.items.now (reverse d.earlier.now) d.is_post (names_in c.args.names.now) c.args.expr.now c.in_ok-kinds.field-0 c.in_ok-kinds.ensures (c.is_empty.ensures.0 c.if-is_empty.true) c.judged.result c.judged.ensures
+
+pub find_kind-returns-else-is_empty : goal.find_kind-returns-else-is_empty
+find_kind-returns-else-is_empty t c =
+    let d = c.args.context.now in
+    ill_parts d.items.now (reverse d.earlier.now) d.is_post (names_in c.args.names.now) c.args.expr.now c.in_ok-kinds.field-0 c.in_ok-kinds.ensures (λ e. let g = c.is_empty.ensures.1 e in let h = c.if-is_empty.false in absurd (cc))
+
+pub in_clauses-returns-in_ok-found-in-None : goal.in_clauses-returns-in_ok-found-in-None
+in_clauses-returns-in_ok-found-in-None t c =
+    ok_body (type_in c.args.context.now) (names_in c.args.names.now) c.args.clauses.now c.args.body.now c.args.all c.in_ok-found-in-None.found c.with.result c.in-None.ensures c.in_ok-found-in-None.ensures c.with.ensures
+
+pub in_clauses-returns-in_ok-all-in-When : goal.in_clauses-returns-in_ok-all-in-When
+in_clauses-returns-in_ok-all-in-When t c =
+    ok_when (type_in c.args.context.now) (names_in c.args.names.now) c.in-When.test c.args.clauses.now c.in-Some.rest.now c.in-Some.first.now c.args.body.now c.args.all _ _ _ c.in-Some.ensures c.in-When.is c.in_ok-found-in-When.ensures c.in_ok-all-in-When.ensures c.in_clauses.ensures
+
+pub in_each-find_kind-requires : goal.in_each-find_kind-requires
+in_each-find_kind-requires t c =
     let h = rw (sym c.expr-item.is) at (item_weight c.args.exprs.now c.loop-expr.expr-index c.expr-item.result c.loop-expr-test.true) in
     (omega (arith, h), tt)
 
-pub expect_all-returns-in_err-expect_type : goal.expect_all-returns-in_err-expect_type
-expect_all-returns-in_err-expect_type t c =
-    let p = err_from_is_err_and c.from_residual.result c.from_residual.ensures.1 in
-    rw (p.1, p.2) (all_fails (type_in c.args.context.now) c.args.exprs.now c.loop-expr.expr-index c.expr-item.result (names_in c.args.names.now) c.args.kind.now c.loop-expr-test.true c.expr-item.is _ c.loop-expr.invariant c.in_err-expect_type.ensures)
+pub in_each-loop-expr-preserved : goal.in_each-loop-expr-preserved
+in_each-loop-expr-preserved t c =
+    each_more (type_in c.args.context.now) (names_in c.args.names.now) c.args.exprs.now c.loop-expr.expr-index c.expr-item.result c.loop-expr.all _ c.in_ok-found.found c.loop-expr-test.true c.expr-item.is c.loop-expr.invariant c.in_ok-found.ensures c.in_ok-all.ensures
 
-pub expect_all-loop-expr-preserved : goal.expect_all-loop-expr-preserved
-expect_all-loop-expr-preserved t c =
-    all_goes (type_in c.args.context.now) c.args.exprs.now c.loop-expr.expr-index c.expr-item.result (names_in c.args.names.now) c.args.kind.now c.loop-expr-test.true c.expr-item.is c.loop-expr.invariant c.in_ok-expect_type.ensures
+pub in_fold-returns-in_default : goal.in_fold-returns-in_default
+in_fold-returns-in_default t c =
+    fold_no_list (type_in c.args.context.now) c.args.name.now c.args.list.now c.args.acc.now c.args.first.now c.args.body.now (names_in c.args.names.now) _ _ _ _ _ c.new.ensures (rw c.get.ensures at c.in_ok-found.ensures) c.in_ok-all.ensures (sym c.in_default.is ∙ c.in_ok-item.ensures) (rw c.get-2.ensures at c.in_ok-found-2.ensures) c.with-in_default.ensures
 
-pub expect_each-returns-then-exprs-params : goal.expect_each-returns-then-exprs-params
-expect_each-returns-then-exprs-params t c =
-    each_apart (map (type_in c.args.context.now) c.args.exprs.now) (names_in c.args.names.now) c.args.params.now (λ e. c.if-exprs-params.true (sym (length-map c.args.exprs.now (type_in c.args.context.now)) ∙ e))
+pub in_fold-returns-in-Blamed : goal.in_fold-returns-in-Blamed
+in_fold-returns-in-Blamed t c =
+    fold_no_first (type_in c.args.context.now) c.args.name.now c.args.list.now c.args.acc.now c.args.first.now c.args.body.now (names_in c.args.names.now) _ _ _ c.in-Blamed.blames _ c.new.ensures (rw c.get.ensures at c.in_ok-found.ensures) c.in_ok-all.ensures (rw (c.get-2.ensures, c.in-Blamed.is) at c.in_ok-found-2.ensures) c.with-in-Blamed.ensures
 
-pub expect_each-expect_type-requires : goal.expect_each-expect_type-requires
-expect_each-expect_type-requires t c =
-    let h = rw (sym c.index-exprs-i.is) at (item_weight c.args.exprs.now c.loop-i.i c.index-exprs-i.result c.loop-i-test.true) in
-    (omega (arith, h), tt)
+pub in_fold-returns : goal.in_fold-returns
+in_fold-returns t c =
+    fold_goes (type_in c.args.context.now) c.args.name.now c.args.list.now c.args.acc.now c.args.first.now c.args.body.now (names_in c.args.names.now) _ _ _ _ _ _ _ c.new.ensures (rw c.get.ensures at c.in_ok-found.ensures) c.in_ok-all.ensures (sym c.in-Some.is ∙ c.in_ok-item.ensures) (rw (c.get-2.ensures, c.in-Kind.is) at c.in_ok-found-2.ensures) c.in_ok-with-in-Kind.ensures (rw (c.get-in-Kind.ensures, c.as_bytes.ensures, c.as_bytes-in-Kind.ensures) at c.in_ok-found-in-Kind.ensures) _ c.with-in-Kind-2.ensures
 
-pub expect_each-returns-in_err-expect_type : goal.expect_each-returns-in_err-expect_type
-expect_each-returns-in_err-expect_type t c =
-    let p = err_from_is_err_and c.from_residual-in_err-expect_type.result c.from_residual-in_err-expect_type.ensures.1 in
-    rw (p.1, p.2) (each_fails (type_in c.args.context.now) c.args.exprs.now c.args.params.now c.loop-i.i c.index-exprs-i.result c.index-params-i.result c.in_ok-kind.kind (names_in c.args.names.now) c.loop-i-test.true (omega arith) c.index-exprs-i.is c.index-params-i.is (c.in_ok-kind.ensures ∙ ap (λ q. q.ty) (sym c.index-params-i.is)) _ c.loop-i.invariant c.in_err-expect_type.ensures)
+pub in_items-returns-in-Some : goal.in_items-returns-in-Some
+in_items-returns-in-Some t c =
+    ok_in (type_in c.args.context.now) (names_in c.args.names.now) c.args.list.now c.args.rest.now c.args.body.now c.args.name.now _ c.args.all _ _ _ c.in_ok-found.ensures c.in_ok-all.ensures (sym c.in-Some.is ∙ c.in_ok-item.ensures) c.in_clauses.ensures
 
-pub expect_each-loop-i-preserved : goal.expect_each-loop-i-preserved
-expect_each-loop-i-preserved t c =
-    each_goes (type_in c.args.context.now) c.args.exprs.now c.args.params.now c.loop-i.i c.index-exprs-i.result c.index-params-i.result c.in_ok-kind.kind (names_in c.args.names.now) c.loop-i-test.true (omega arith) c.index-exprs-i.is c.index-params-i.is (c.in_ok-kind.ensures ∙ ap (λ q. q.ty) (sym c.index-params-i.is)) c.loop-i.invariant c.in_ok-expect_type.ensures
+pub in_items-returns-in-None : goal.in_items-returns-in-None
+in_items-returns-in-None t c =
+    in_ends (type_in c.args.context.now) (names_in c.args.names.now) c.args.list.now c.args.rest.now c.args.body.now c.args.all _ _ c.in_ok-found.ensures c.in_ok-all.ensures c.args.name.now (sym c.in-None.is ∙ c.in_ok-item.ensures)
 
-pub find_all-find_type-requires : goal.find_all-find_type-requires
-find_all-find_type-requires t c =
-    let h = rw (sym c.expr-item.is) at (item_weight c.args.exprs.now c.loop-expr.expr-index c.expr-item.result c.loop-expr-test.true) in
-    (omega (arith, h), tt)
+pub in_let-returns-in-Blamed : goal.in_let-returns-in-Blamed
+in_let-returns-in-Blamed t c =
+    ok_let_ill (type_in c.args.context.now) c.args.name.now c.args.bound.now c.args.body.now (names_in c.args.names.now) c.in-Blamed.blames _ _ c.new-none.ensures (rw (c.get.ensures, c.in-Blamed.is) at c.in_ok-found.ensures) c.with.ensures
 
-pub find_all-returns-in_err-find_type : goal.find_all-returns-in_err-find_type
-find_all-returns-in_err-find_type t c =
-    let p = err_from_is_err_and c.from_residual.result c.from_residual.ensures.1 in
-    rw (p.1, p.2) (types_stop (type_in c.args.context.now) c.args.exprs.now c.loop-expr.expr-index c.expr-item.result c.loop-expr.all (names_in c.args.names.now) c.loop-expr-test.true c.expr-item.is _ c.loop-expr.invariant c.in_err-find_type.ensures)
+pub in_let-returns-in_ok-with-in-Kind : goal.in_let-returns-in_ok-with-in-Kind
+in_let-returns-in_ok-with-in-Kind t c =
+    ok_let (type_in c.args.context.now) c.args.name.now c.args.bound.now c.args.body.now (names_in c.args.names.now) c.in-Kind.kind _ _ _ _ c.new-none.ensures (rw (c.get.ensures, c.in-Kind.is) at c.in_ok-found.ensures) (rw (c.get-in-Kind.ensures, c.as_bytes.ensures) at c.in_ok-found-in-Kind.ensures) c.in_ok-with-in-Kind.ensures c.with-in-Kind-2.ensures
 
-pub find_all-loop-expr-preserved : goal.find_all-loop-expr-preserved
-find_all-loop-expr-preserved t c =
-    types_go (type_in c.args.context.now) c.args.exprs.now c.loop-expr.expr-index c.expr-item.result c.loop-expr.all (names_in c.args.names.now) c.loop-expr-test.true c.expr-item.is c.push.new.self c.in_ok-find_type.field-0 c.loop-expr.invariant c.in_ok-find_type.ensures c.in_ok-push.ensures.ok
+pub in_one-returns : goal.in_one-returns
+in_one-returns t c =
+    ok_one (type_in c.args.context.now) (names_in c.args.names.now) c.args.expr.now _ _ _ c.new.ensures (rw c.get.ensures at c.in_ok-found.ensures) c.with.ensures
 
-pub find_type-returns-in_err-item-in-For : goal.find_type-returns-in_err-item-in-For
-find_type-returns-in_err-item-in-For t c =
-    let d = c.args.context.now in
-    let p = err_from_is_err_and c.from_residual-in_err-item-in-For.result c.from_residual-in_err-item-in-For.ensures.1 in
-    rw (p.1, p.2, c.in-For.is) (for_none d.items.now (reverse d.earlier.now) d.is_post c.in-For.clauses c.in-For.body (names_in c.args.names.now) _ (rw (c.as_slice-in-For.ensures, c.get-in-For.ensures) at c.in_err-item-in-For.ensures))
+pub in_two-returns : goal.in_two-returns
+in_two-returns t c =
+    ok_more (type_in c.args.context.now) _ _ (names_in c.args.names.now) c.args.second.now _ _ c.in_ok-all.ensures (rw c.get.ensures at c.in_ok-found.ensures) c.with.ensures
 
-pub find_type-returns-in_ok-expect_all-in-List : goal.find_type-returns-in_ok-expect_all-in-List
-find_type-returns-in_ok-expect_all-in-List t c =
-    let d = c.args.context.now in
-    let within : length c.in-List.exprs ≤ 65536 = omega arith in
-    let all = rw (c.as_slice-in-List.ensures, c.in_ok-item-in-List.ensures) at c.in_ok-expect_all-in-List.ensures in
-    rw (c.in-List.is, list_found d.items.now (reverse d.earlier.now) d.is_post c.in-List.ty c.in-List.exprs (names_in c.args.names.now) within all)
-    (rw c.in_ok-item-in-List.ensures at c.list_of.ensures)
-
-pub find_type-returns-in_ok-item-in-For : goal.find_type-returns-in_ok-item-in-For
-find_type-returns-in_ok-item-in-For t c =
-    let d = c.args.context.now in
-    rw (c.in-For.is, for_found d.items.now (reverse d.earlier.now) d.is_post c.in-For.clauses c.in-For.body (names_in c.args.names.now) _ (rw (c.as_slice-in-For.ensures, c.get-in-For.ensures) at c.in_ok-item-in-For.ensures))
-    c.list_of-in-For.ensures
-
-pub find_type-returns-in-Fold : goal.find_type-returns-in-Fold
-find_type-returns-in-Fold t c =
-    let d = c.args.context.now in
-    rw (c.in-Fold.is, type_fold d.items.now (reverse d.earlier.now) d.is_post c.in-Fold.name c.in-Fold.list c.in-Fold.acc c.in-Fold.first c.in-Fold.body (names_in c.args.names.now))
-    c.find_fold.ensures
-
-pub find_built-returns-in_ok-item-in-In : goal.find_built-returns-in_ok-item-in-In
-find_built-returns-in_ok-item-in-In t c =
-    let d = c.args.context.now in
-    rw (built_in d.items.now (reverse d.earlier.now) d.is_post c.args.clauses.now c.in-Some.first.now c.in-Some.rest.now c.in-In.name c.in-In.list c.args.body.now (names_in c.args.names.now) c.in_ok-list-in-In.list c.in_ok-item-in-In.item c.in-Some.ensures c.in-In.is c.in_ok-list-in-In.ensures c.in_ok-item-in-In.ensures)
-    (rw c.as_bytes.ensures at c.find_built.ensures)
+pub in_three-returns : goal.in_three-returns
+in_three-returns t c =
+    ok_more (type_in c.args.context.now) _ _ (names_in c.args.names.now) c.args.third.now _ _ c.in_ok-all.ensures (rw c.get.ensures at c.in_ok-found.ensures) c.with.ensures

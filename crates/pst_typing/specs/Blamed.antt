@@ -1,5 +1,5 @@
 -- A part of an expression that has no type, while all its own parts have one: these types.
-use Rattle.std.specs.Prelude.{◌≡◌, ◌+◌, ℤ, ℕ, Bool, List, [], ◌∷◌, map, Option, Some, None, slice_get, MatchOption}
+use Rattle.std.specs.Prelude.{◌≡◌, ℤ, ℕ, Bool, List, [], ◌∷◌, map, Option, Some, None, slice_get, MatchOption}
 use Rattle.pst_model.specs.Parts.{Name}
 use Rattle.pst_model.specs.declared.expr.Binary.{Binary}
 use Rattle.pst_model.specs.declared.expr.Clause.{Clause}
@@ -51,8 +51,8 @@ fold_parts f G x e acc i b =
     (G, e) ∷ (G, i) ∷ body_seen
     (f e G >>= item_type >>= (λ S. f i G >>= (λ T. Some ((acc, T) ∷ (x, S) ∷ G)))) b
 
--- the expressions of the clauses of a comprehension, and its body. What stands behind a clause that is no
--- test of a type and takes items of no list is left out: what it sees has no type
+-- the expressions of the clauses of a comprehension, and its body. What follows a clause that takes items of no
+-- list is left out: what it sees has no type
 pub data ForParts (f : Typing) : Context → List Clause → Expr → List Seen → Type 0 where
   for_body : (G : Context) (b : Expr) → ForParts f G [] b (one_part G b)
   for_in : (G : Context) (x : Name) (e : Expr) (cs : List Clause) (b : Expr) (S : Ty) (P : List Seen)
@@ -62,8 +62,6 @@ pub data ForParts (f : Typing) : Context → List Clause → Expr → List Seen 
       → (f e G >>= item_type) ≡ None → ForParts f G (clause.In x e ∷ cs) b (one_part G e)
   for_when : (G : Context) (e : Expr) (cs : List Clause) (b : Expr) (P : List Seen)
       → ForParts f G cs b P → ForParts f G (clause.When e ∷ cs) b ((G, e) ∷ P)
-  for_ends_when : (G : Context) (e : Expr) (cs : List Clause) (b : Expr)
-      → f e G ≡ None → ForParts f G (clause.When e ∷ cs) b (one_part G e)
 
 -- the parts of an expression from left to right, each with the names that it sees; a part that sees what has
 -- no type is left out
@@ -105,17 +103,6 @@ Leads f P types [] = AreTypes f P types
 Leads f P types (k ∷ path) =
     MatchOption (slice_get P k) ⊥
     (λ p. (f p.1 p.0 ≡ None) × ((Q : List Seen) × Parts f p.0 p.1 Q × Leads f Q types path))
-
--- the same path where there is one more part before the others
-abbrev pub behind_one : List ℕ → List ℕ
-behind_one [] = []
-behind_one (k ∷ path) = (k + 1) ∷ path
-
--- the types where there is one more part of type `T` before the others: it is a part of the one that is to blame
--- only if the path ends here
-abbrev pub types_behind : Ty → List ℕ → List Ty → List Ty
-types_behind T [] types = T ∷ types
-types_behind T (k ∷ path) types = types
 
 -- an expression has no type, and the path leads from it to the part that is to blame, whose parts have the given types
 abbrev pub IsBlamed : Typing → Context → Expr → List Ty → List ℕ → Type 0

@@ -1,0 +1,81 @@
+//! Types of expressions as they are shown.
+
+ghost use Rattle.std.specs.Prelude.{◌≤◌};
+
+use pst_kinds::{Form, Kind};
+use pst_problems::key_word;
+use std::alloc::{AllocError, Global};
+
+/// The most forms of a type that are shown: a type may have more forms than memory holds, since its equal parts are
+/// shared. `..` stands for the others.
+const MOST_FORMS: usize = 64;
+
+/// A type, as it is written.
+pub fn spelled(alloc: Global, kind: &Kind) -> Result<String, AllocError> {
+    let mut text = String::new(alloc);
+    let mut left = MOST_FORMS;
+    spell(&mut text, alloc, kind, &mut left)?;
+    Ok(text)
+}
+
+/// Adds a type. Its forms are taken off `left`.
+#[cycle(spell)]
+fn spell(text: &mut String, alloc: Global, kind: &Kind, left: &mut usize) -> Result<(), AllocError>
+    ensures { left.new ≤ left.old }
+{
+    if *left == 0 {
+        return text.push_str("..");
+    }
+    *left -= 1;
+    match kind.form(alloc)? {
+        Form::Int => text.push_str("int"),
+        Form::Bool => text.push_str("bool"),
+        Form::Text => text.push_str("text"),
+        Form::Call => text.push_str("call"),
+        Form::Tuple(kinds) => spell_all(text, alloc, kinds.as_slice(), left),
+        Form::List(item) => spell_last(text, alloc, "(list ", &item, left),
+        Form::Ref(named) => spell_last(text, alloc, "(ref ", &named, left),
+        Form::Map(keys, value) => {
+            text.push_str("(map ")?;
+            text.push_str(key_word(keys))?;
+            spell_last(text, alloc, " ", &value, left)
+        }
+    }
+}
+
+/// Adds the opening of a type, its last part and the closing bracket.
+#[cycle(spell)]
+fn spell_last(
+    text: &mut String,
+    alloc: Global,
+    opening: &str,
+    kind: &Kind,
+    left: &mut usize,
+) -> Result<(), AllocError>
+    ensures { left.new ≤ left.old }
+{
+    text.push_str(opening)?;
+    spell(text, alloc, kind, left)?;
+    text.push_str(")")
+}
+
+/// Adds the type of tuples of kinds.
+#[cycle(spell)]
+fn spell_all(
+    text: &mut String,
+    alloc: Global,
+    kinds: &[Kind],
+    left: &mut usize,
+) -> Result<(), AllocError>
+    ensures { left.new ≤ left.old }
+{
+    text.push_str("(tuple")?;
+    for kind in kinds {
+        if *left == 0 {
+            return text.push_str(" ..)");
+        }
+        text.push_str(" ")?;
+        spell(text, alloc, kind, left)?;
+    }
+    text.push_str(")")
+}

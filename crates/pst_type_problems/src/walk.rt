@@ -1,0 +1,118 @@
+//! The part of an expression that a path leads to, and the names that it sees.
+
+use pst_items::{Items, Text};
+use pst_model::{Clause, Expr};
+use pst_typing::Scope;
+use std::alloc::{AllocError, Global};
+
+/// The names of a scope, the inner ones last.
+pub fn names_in(alloc: Global, scope: &Scope<'_>) -> Result<Items<Text>, AllocError> {
+    match scope {
+        Scope::Parameters(params) => {
+            let mut names = Items::new(alloc);
+            for param in *params {
+                names.push(param.name.copy(alloc)?)?;
+            }
+            Ok(names)
+        }
+        Scope::With(name, _, outer) => {
+            let mut names = names_in(alloc, outer)?;
+            if let Ok(name) = std::str::from_utf8(name) {
+                names.push(Text::from_string(String::from_str(alloc, name)?))?;
+            }
+            Ok(names)
+        }
+    }
+}
+
+/// The expression of a number, or the whole where there is none.
+fn one_of<'a>(whole: &'a Expr, exprs: &'a Items<Expr>, part: usize) -> &'a Expr {
+    match exprs.get(part) {
+        Some(expr) => expr,
+        None => whole,
+    }
+}
+
+/// The part of a comprehension. Adds the names that it sees.
+fn part_of_for<'a>(
+    alloc: Global,
+    names: &mut Items<Text>,
+    clauses: &'a [Clause],
+    body: &'a Expr,
+    part: usize,
+) -> Result<&'a Expr, AllocError> {
+    for (number, clause) in clauses.iter().enumerate() {
+        match clause {
+            Clause::In(name, list) => {
+                if number == part {
+                    return Ok(list);
+                }
+                names.push(name.copy(alloc)?)?;
+            }
+            Clause::When(test) => {
+                if number == part {
+                    return Ok(test);
+                }
+            }
+        }
+    }
+    Ok(body)
+}
+
+/// The part of a number. Adds the names that it sees.
+fn part_of<'a>(
+    alloc: Global,
+    names: &mut Items<Text>,
+    expr: &'a Expr,
+    part: usize,
+) -> Result<&'a Expr, AllocError> {
+    match (expr, part) {
+        (Expr::Let(_, bound, _), 0) => Ok(bound.get()),
+        (Expr::Let(name, _, body), _) => {
+            names.push(name.copy(alloc)?)?;
+            Ok(body.get())
+        }
+        (Expr::Fold(_, list, _, _, _), 0) => Ok(list.get()),
+        (Expr::Fold(_, _, _, first, _), 1) => Ok(first.get()),
+        (Expr::Fold(name, _, acc, _, body), _) => {
+            names.push(name.copy(alloc)?)?;
+            names.push(acc.copy(alloc)?)?;
+            Ok(body.get())
+        }
+        (Expr::For(clauses, body), _) => {
+            part_of_for(alloc, names, clauses.as_slice(), body.get(), part)
+        }
+        (Expr::If(first, _, _) | Expr::Put(first, _, _), 0) => Ok(first.get()),
+        (Expr::If(_, second, _) | Expr::Put(_, second, _), 1) => Ok(second.get()),
+        (Expr::If(_, _, third) | Expr::Put(_, _, third), _) => Ok(third.get()),
+        (Expr::And(first, _) | Expr::Or(first, _) | Expr::Binary(_, first, _), 0) => {
+            Ok(first.get())
+        }
+        (Expr::And(_, second) | Expr::Or(_, second) | Expr::Binary(_, _, second), _) => {
+            Ok(second.get())
+        }
+        (Expr::Unary(_, operand) | Expr::At(operand, _), _) => Ok(operand.get()),
+        (
+            Expr::Tuple(exprs)
+            | Expr::List(_, exprs)
+            | Expr::Call(_, exprs)
+            | Expr::Apply(_, exprs),
+            _,
+        ) => Ok(one_of(expr, exprs, part)),
+        _ => Ok(expr),
+    }
+}
+
+/// The part of an expression that a path leads to. Adds the names that it sees.
+pub fn part_at<'a>(
+    alloc: Global,
+    names: &mut Items<Text>,
+    expr: &'a Expr,
+    path: &[usize],
+) -> Result<&'a Expr, AllocError> {
+    let mut here = expr;
+    for part in path {
+        here = part_of(alloc, names, here, *part)?;
+    }
+    Ok(here)
+}

@@ -1,0 +1,262 @@
+//! The kind of an expression by the kinds of its parts.
+
+ghost use Rattle.std.specs.Prelude.{◌≡◌, Some, reverse, IfOk};
+ghost use Rattle.pst_model.specs.Parts.{types_of};
+ghost use Rattle.pst_typing.specs.Answers.{Answers};
+ghost use Rattle.pst_typing.specs.ByParts as spec;
+ghost use Rattle.pst_typing.specs.Gathering.{IsJudged};
+ghost use Rattle.pst_typing.specs.Scope.{names_in};
+ghost use Rattle.pst_value.specs.declared.ty.Ty.TheVariants.{Map as map_type, Tuple as tuple};
+
+use crate::blame::{Blame, Found};
+use crate::context::Context;
+use crate::operators::{
+    binary_type, copied, int_type, kept, keys_type, kind_of, part_type, text_type, unary_type,
+    values_type, where_true,
+};
+use crate::refusal::Refusal;
+use crate::scope::{Names, find_name, function_called, operation_called};
+use pst_items::Items;
+use pst_kinds::Kind;
+use pst_model::{Binary, Clause, Expr, Param, Unary};
+use pst_value::{KeyTy, LIMIT, Ty};
+use std::alloc::{AllocError, Global};
+
+/// The kind of an expression by the kinds of its parts. If it has none, it is to blame itself.
+pub fn judged(
+    expr: &Expr,
+    context: &Context<'_>,
+    names: &Names<'_>,
+    kinds: Items<Kind>,
+) -> Result<Found, AllocError>
+    ensures { IfOk result (λ found. IsJudged (spec.by_parts context.now (names_in names.now) expr.now kinds) kinds found) }
+{
+    match judge(expr, context, names, kinds.as_slice()) {
+        Ok(kind) => Ok(Found::Kind(kind)),
+        Err(Refusal::Ill) => {
+            let path = Items::new(context.alloc);
+            let mut blames = Items::new(context.alloc);
+            blames.push(Blame { path, kinds })?;
+            Ok(Found::Blamed(blames))
+        }
+        Err(Refusal::NoMemory) => Err(AllocError),
+    }
+}
+
+/// The kind of an expression by the kinds of its parts.
+fn judge(
+    expr: &Expr,
+    context: &Context<'_>,
+    names: &Names<'_>,
+    kinds: &[Kind],
+) -> Result<Kind, Refusal>
+    ensures { Answers (spec.by_parts context.now (names_in names.now) expr.now kinds.now) result }
+{
+    let alloc = context.alloc;
+    match expr {
+        Expr::Int(number) => int_type(alloc, *number),
+        Expr::Bool(_) => kind_of(alloc, &Ty::Bool),
+        Expr::Text(text) => text_type(alloc, text.as_bytes()),
+        Expr::Name(name) => find_name(names, name.as_bytes()),
+        Expr::Let(_, _, _) => copied(kinds.get(1)),
+        Expr::If(_, _, _) => of_if(alloc, kinds),
+        Expr::And(_, _) => of_both(alloc, kinds),
+        Expr::Or(_, _) => of_both(alloc, kinds),
+        Expr::Unary(operator, _) => of_unary(context, *operator, kinds),
+        Expr::Binary(operator, _, _) => of_binary(context, *operator, kinds),
+        Expr::Tuple(_) => of_tuple(alloc, kinds),
+        Expr::At(_, place) => of_at(alloc, kinds, *place),
+        Expr::List(ty, exprs) => of_list(alloc, ty, exprs.len(), kinds),
+        Expr::For(clauses, _) => of_for(alloc, clauses.as_slice(), kinds),
+        Expr::Fold(_, _, _, _, _) => of_fold(alloc, kinds),
+        Expr::Map(keys, ty) => of_map(alloc, *keys, ty),
+        Expr::Put(_, _, _) => of_put(alloc, kinds),
+        Expr::Call(name, _) => of_call(context, name.as_bytes(), kinds),
+        Expr::Apply(name, _) => of_applied(context, name.as_bytes(), kinds),
+    }
+}
+
+/// The kind of two of one kind, which a test picks from.
+fn of_if(alloc: Global, kinds: &[Kind]) -> Result<Kind, Refusal>
+    ensures { Answers (spec.of_if kinds.now) result }
+{
+    let [test, yes, no] = kinds else {
+        return Err(Refusal::Ill);
+    };
+    if !test.is(alloc, &Ty::Bool)? {
+        return Err(Refusal::Ill);
+    }
+    kept(no.same(alloc, yes)?, yes)
+}
+
+/// `bool`, of two tests.
+fn of_both(alloc: Global, kinds: &[Kind]) -> Result<Kind, Refusal>
+    ensures { Answers (spec.of_both kinds.now) result }
+{
+    let [first, second] = kinds else {
+        return Err(Refusal::Ill);
+    };
+    if !first.is(alloc, &Ty::Bool)? {
+        return Err(Refusal::Ill);
+    }
+    where_true(alloc, second.is(alloc, &Ty::Bool)?, &Ty::Bool)
+}
+
+/// The kind that an operator of one operand gives.
+fn of_unary(context: &Context<'_>, operator: Unary, kinds: &[Kind]) -> Result<Kind, Refusal>
+    ensures { Answers (spec.of_unary context.now.is_post operator kinds.now) result }
+{
+    let [operand] = kinds else {
+        return Err(Refusal::Ill);
+    };
+    unary_type(context.alloc, context.is_post, operator, operand)
+}
+
+/// The kind that an operator of two operands gives.
+fn of_binary(context: &Context<'_>, operator: Binary, kinds: &[Kind]) -> Result<Kind, Refusal>
+    ensures { Answers (spec.of_binary context.now.is_post operator kinds.now) result }
+{
+    let [first, second] = kinds else {
+        return Err(Refusal::Ill);
+    };
+    binary_type(context.alloc, context.is_post, operator, first, second)
+}
+
+/// The kind of tuples of kinds.
+fn of_tuple(alloc: Global, kinds: &[Kind]) -> Result<Kind, Refusal>
+    ensures { Answers (Some (tuple kinds.now)) result }
+{
+    Ok(Kind::tuple(alloc, kinds)?)
+}
+
+/// The kind of an item of a tuple.
+fn of_at(alloc: Global, kinds: &[Kind], place: u64) -> Result<Kind, Refusal>
+    ensures { Answers (spec.of_at place kinds.now) result }
+{
+    let [tuple] = kinds else {
+        return Err(Refusal::Ill);
+    };
+    part_type(alloc, tuple, place)
+}
+
+/// The kind of lists of a type, of a number of items that all have it.
+fn of_list(alloc: Global, ty: &Ty, number: usize, kinds: &[Kind]) -> Result<Kind, Refusal>
+    ensures { Answers (spec.of_list ty.now number kinds.now) result }
+{
+    if number > LIMIT {
+        return Err(Refusal::Ill);
+    }
+    let item = Kind::of(alloc, ty)?;
+    if !all_are(alloc, kinds, &item)? {
+        return Err(Refusal::Ill);
+    }
+    Ok(item.list(alloc)?)
+}
+
+/// Whether all are one kind.
+fn all_are(alloc: Global, kinds: &[Kind], item: &Kind) -> Result<bool, AllocError>
+    ensures { IfOk result (λ are. are ≡ spec.all_are kinds.now item.now) }
+{
+    for kind in kinds {
+        if !kind.same(alloc, item)? {
+            return Ok(false);
+        }
+    }
+    Ok(true)
+}
+
+/// The kind of what a comprehension lists. A clause that takes items of no list is the last part.
+fn of_for(alloc: Global, clauses: &[Clause], kinds: &[Kind]) -> Result<Kind, Refusal>
+    ensures { Answers (spec.of_for clauses.now kinds.now) result }
+{
+    let Some((kind, others)) = kinds.split_first() else {
+        return Err(Refusal::Ill);
+    };
+    let Some((clause, rest)) = clauses.split_first() else {
+        return Ok(kind.list(alloc)?);
+    };
+    if let Clause::When(_) = clause {
+        if !kind.is(alloc, &Ty::Bool)? {
+            return Err(Refusal::Ill);
+        }
+    }
+    of_for(alloc, rest, others)
+}
+
+/// The kind of what is built of a list's items.
+fn of_fold(alloc: Global, kinds: &[Kind]) -> Result<Kind, Refusal>
+    ensures { Answers (spec.of_fold kinds.now) result }
+{
+    let [_, first, body] = kinds else {
+        return Err(Refusal::Ill);
+    };
+    kept(body.same(alloc, first)?, first)
+}
+
+/// The kind of maps of a type of keys and a type of values.
+fn of_map(alloc: Global, keys: KeyTy, ty: &Ty) -> Result<Kind, Refusal>
+    ensures { Answers (Some (map_type keys ty.now)) result }
+{
+    Ok(Kind::of(alloc, ty)?.map(alloc, keys)?)
+}
+
+/// The kind of a map with a key and its value, where both have the types that the map gives them.
+fn of_put(alloc: Global, kinds: &[Kind]) -> Result<Kind, Refusal>
+    ensures { Answers (spec.of_put kinds.now) result }
+{
+    let [map, key, value] = kinds else {
+        return Err(Refusal::Ill);
+    };
+    let keys = keys_type(alloc, map)?;
+    if !key.same(alloc, &keys)? {
+        return Err(Refusal::Ill);
+    }
+    let values = values_type(alloc, map)?;
+    kept(value.same(alloc, &values)?, map)
+}
+
+/// `call`, where the operation of the name takes such arguments.
+fn of_call(context: &Context<'_>, name: &[u8], kinds: &[Kind]) -> Result<Kind, Refusal>
+    ensures { Answers (spec.of_call context.now.items.now name.now kinds.now) result }
+{
+    let Some(operation) = operation_called(context.items, name) else {
+        return Err(Refusal::Ill);
+    };
+    if !each_is(context.alloc, kinds, operation.params.as_slice())? {
+        return Err(Refusal::Ill);
+    }
+    kind_of(context.alloc, &Ty::Call)
+}
+
+/// The kind of the result of the function of the name, where it takes such arguments.
+fn of_applied(context: &Context<'_>, name: &[u8], kinds: &[Kind]) -> Result<Kind, Refusal>
+    ensures { Answers
+        (spec.of_applied (reverse context.now.earlier.now) context.now.is_post name.now kinds.now) result }
+{
+    let Some(function) = function_called(context.earlier, name) else {
+        return Err(Refusal::Ill);
+    };
+    if function.is_post && !context.is_post {
+        return Err(Refusal::Ill);
+    }
+    if !each_is(context.alloc, kinds, function.params.as_slice())? {
+        return Err(Refusal::Ill);
+    }
+    kind_of(context.alloc, &function.result)
+}
+
+/// Whether there are as many kinds as parameters, and each is the type of its parameter.
+fn each_is(alloc: Global, kinds: &[Kind], params: &[Param]) -> Result<bool, AllocError>
+    ensures { IfOk result (λ are. are ≡ spec.each_is kinds.now (types_of params.now)) }
+{
+    let Some((kind, others)) = kinds.split_first() else {
+        return Ok(params.is_empty());
+    };
+    let Some((param, rest)) = params.split_first() else {
+        return Ok(false);
+    };
+    if !kind.is(alloc, &param.ty)? {
+        return Ok(false);
+    }
+    each_is(alloc, others, rest)
+}

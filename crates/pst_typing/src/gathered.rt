@@ -1,0 +1,104 @@
+//! What is known of the parts of an expression.
+
+ghost use Rattle.std.specs.Prelude.{◌≡◌, ◌++◌, map, take, IfOk};
+ghost use Rattle.pst_typing.specs.Gathering as spec;
+
+use crate::blame::{Blame, Found};
+use crate::operators::item_type;
+use crate::refusal::Refusal;
+use pst_items::Items;
+use pst_kinds::Kind;
+use std::alloc::{AllocError, Global};
+
+/// How many blames are kept. A message shows 20 problems, and says whether there are more.
+const MOST_BLAMES: usize = 32;
+
+/// What is known of the parts of an expression, from left to right.
+#[derive(Drop)]
+pub struct Gathered {
+    /// How many parts there are.
+    pub number: usize,
+    /// The kinds of those that have one.
+    pub kinds: Items<Kind>,
+    /// What is to blame in the others.
+    pub blames: Items<Blame>,
+}
+
+impl Gathered {
+    /// No part is known.
+    pub fn new(alloc: Global) -> Gathered
+        ensures { result ≡ spec.nothing }
+    {
+        Gathered {
+            number: 0,
+            kinds: Items::new(alloc),
+            blames: Items::new(alloc),
+        }
+    }
+
+    /// One part more is known.
+    pub fn with(self, alloc: Global, found: Found) -> Result<Gathered, AllocError>
+        ensures { IfOk result (λ all. all ≡ spec.with_found self found) }
+    {
+        let Gathered {
+            number,
+            mut kinds,
+            mut blames,
+        } = self;
+        match found {
+            Found::Kind(kind) => kinds.push(kind)?,
+            Found::Blamed(more) => blames = with_blames(alloc, blames, number, more)?,
+        }
+        match number.checked_add(1) {
+            Some(number) => Ok(Gathered {
+                number,
+                kinds,
+                blames,
+            }),
+            None => Err(AllocError),
+        }
+    }
+}
+
+/// The first of some blames and of those within the part of a number.
+fn with_blames(
+    alloc: Global,
+    blames: Items<Blame>,
+    number: usize,
+    more: Items<Blame>,
+) -> Result<Items<Blame>, AllocError>
+    ensures { IfOk result (λ all. all ≡ take spec.most_blames (blames ++ map (spec.inside number) more)) }
+{
+    let mut all = blames;
+    for blame in more.into_vec() {
+        all.push(inside(alloc, number, blame)?)?;
+    }
+    let mut all = all.into_vec();
+    all.truncate(MOST_BLAMES);
+    Ok(Items::from_vec(all))
+}
+
+/// The blame within the part of a number, as a blame within the whole.
+fn inside(alloc: Global, number: usize, blame: Blame) -> Result<Blame, AllocError>
+    ensures { IfOk result (λ outer. outer ≡ spec.inside number blame) }
+{
+    let Blame { path: inner, kinds } = blame;
+    let mut path = Items::new(alloc);
+    path.push(number)?;
+    path.append(inner)?;
+    Ok(Blame { path, kinds })
+}
+
+/// The kind of the items of what is found, if that is a list.
+pub fn item_found(alloc: Global, found: &Found) -> Result<Option<Kind>, AllocError>
+    ensures { IfOk result (λ item. item ≡ spec.item_in found.now) }
+{
+    let Found::Kind(list) = found else {
+        return Ok(None);
+    };
+    match item_type(alloc, list) {
+        Ok(item) => Ok(Some(item)),
+        Err(Refusal::Ill) => Ok(None),
+        Err(Refusal::NoMemory) => Err(AllocError),
+    }
+}
