@@ -1,15 +1,15 @@
 -- What is found of an expression, by what is known of its parts.
-use Rattle.std.proofs.Common.{◌≡◌, ℕ, zero, suc, ◌+◌, Bool, List, [], ◌∷◌, ◌++◌, length, map, Option, Some, None, Result, Ok, Err, IfOk, slice_get, refl, sym, ap, ◌∙◌, subst, append_assoc}
+use Rattle.std.proofs.Common.{◌≡◌, ℕ, zero, suc, Bool, List, [], ◌∷◌, map, Option, Some, None, Result, Ok, Err, IfOk, refl, sym, ap, ◌∙◌, subst}
 use Rattle.pst_model.specs.declared.expr.Clause.{Clause}
 use Rattle.pst_model.specs.declared.expr.Expr.{Expr, out-Expr}
 use Rattle.pst_model.specs.declared.expr.Expr.TheVariants as expr
 use Rattle.pst_model.specs.declared.model.Item.{Item}
 use Rattle.std.specs.declared.alloc.AllocError.{AllocError}
 use Rattle.pst_rules.specs.Rules.{Context}
-use Rattle.pst_typing.specs.Blamed.{Typing, Seen, type_seen, AreTypes, Leads, Parts, ForParts, parts_for, IsBlamed}
+use Rattle.pst_typing.specs.Blamed.{Typing, Seen, type_seen, Leads, Parts, parts_for, IsBlamed}
 use Rattle.pst_typing.specs.ByParts.{by_form}
 use Rattle.pst_typing.specs.Decision.{◌>>=◌, type_of}
-use Rattle.pst_typing.specs.Gathering.{kind_found, AreBlamed, IsReason, IsFound, nothing, LeadsOn, AllLeadOn, IsGathered, ArePartsOf, AreClausesOf, IsJudged}
+use Rattle.pst_typing.specs.Gathering.{AreBlamed, IsReason, IsFound, nothing, LeadsOn, AllLeadOn, IsGathered, ArePartsOf, AreClausesOf, IsJudged}
 use Rattle.pst_typing.specs.declared.blame.Blame.{Blame}
 use Rattle.pst_typing.specs.declared.blame.Found.{Found}
 use Rattle.pst_typing.specs.declared.blame.Found.TheVariants as found

@@ -1,4 +1,4 @@
-use Rattle.std.proofs.Common.{◌≡◌, ◌+◌, ◌*◌, map, take}
+use Rattle.std.proofs.Common.{◌+◌, ◌*◌, map, take}
 use Rattle.pst_typing.specs.Blamed.{each_part}
 use Rattle.pst_typing.specs.Gathering.{IsGathered}
 use Rattle.pst_typing.specs.Scope.{names_in, type_in}
