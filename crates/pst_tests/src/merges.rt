@@ -314,7 +314,7 @@ fn is_counted_to_the_end(alloc: Global, lengths: &[usize], most: usize) -> Resul
     let lit = Lamp::new([NONE, NONE, NONE, NONE], true);
     let (all, seen) = every(alloc, &lit, lengths, &true)?;
     Ok(
-        matches!(nothing, SomeAnswer::Nothing { far: 16 })
+        matches!(nothing, SomeAnswer::Nothing { far: 16, .. })
             && matches!(all, EveryAnswer::All)
             && tried <= most
             && seen <= most
