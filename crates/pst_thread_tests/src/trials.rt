@@ -4,4 +4,3 @@ mod ended;
 mod plans;
 mod resets;
 mod shrinking;
-mod working;
