@@ -13,20 +13,12 @@ use crate::output::{Output, send};
 use crate::status::Status;
 use pst_case::Run;
 use pst_compile::Compiled;
-use pst_explain::{explain_item, first_places};
+use pst_explain::{TreePlace, explain_item, explanation_text, first_places};
 use pst_judge::Judged;
 use pst_sink::Sink;
 use pst_sources::SourceFile;
 use std::alloc::{AllocError, Global};
 use std::thread::Threads;
-
-/// The place of an index; none where there are fewer.
-fn place_at(places: &[String], index: usize) -> &str {
-    match places.get(index) {
-        Some(place) => place.as_str(),
-        None => "",
-    }
-}
 
 /// The explanations of the chosen items, numbered from 1, with an empty line between them: `places` says where the items
 /// begin, and `width` is the width of the lines that are written.
@@ -34,7 +26,7 @@ fn explanations(
     alloc: Global,
     compiled: &Compiled,
     chosen: Chosen,
-    places: &[String],
+    places: &[TreePlace<'_>],
     width: usize,
     runs: &[Run],
     all: &[Judged],
@@ -51,13 +43,14 @@ fn explanations(
         let Some((judged, others)) = left.split_first() else {
             return Ok(text);
         };
-        let place = place_at(places, number);
+        let place = places.get(number).copied();
         number = number.saturating_add(1);
         if chosen.includes(number, judged) {
             if !text.is_empty() {
                 text.push(b'\n')?;
             }
-            let item = explain_item(compiled, alloc, typed, run, judged, number, place, width)?;
+            let explanation = explain_item(compiled, alloc, typed, run, judged, number, place)?;
+            let item = explanation_text(alloc, &explanation, width)?;
             text.extend_from_slice(item.as_slice())?;
         }
         rest = later;
@@ -72,7 +65,7 @@ fn chosen_output(
     alloc: Global,
     compiled: &Compiled,
     chosen: Chosen,
-    places: &[String],
+    places: &[TreePlace<'_>],
     width: usize,
     runs: &[Run],
     all: &[Judged],

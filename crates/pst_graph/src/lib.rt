@@ -8,7 +8,6 @@
 mod drawing;
 mod graph;
 mod labels;
-mod outcome;
 mod path;
 mod position;
 mod search;

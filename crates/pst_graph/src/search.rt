@@ -1,8 +1,7 @@
 //! The search of an item: positions, and the commands that are tried there.
 
-use crate::outcome::{Outcome, outcome_of};
 use crate::position::Position;
-use pst_scene::{Call, Scene, initial_state};
+use pst_scene::{Call, DeadEnd, Outcome, Scene, initial_state, outcome_of};
 use std::alloc::{AllocError, Global};
 
 /// Only so many positions are gone on from, beside those along the interleaving that is shown.
@@ -10,11 +9,11 @@ const MOST_POSITIONS: usize = 300;
 
 /// Where a command leads.
 #[derive(Drop)]
-pub enum Target {
+pub enum Target<'a> {
     /// The position of this number.
     Position(usize),
-    /// The command cannot come next there, for a reason that stands in words.
-    DeadEnd(Vec<u8>),
+    /// The command cannot come next there.
+    DeadEnd(DeadEnd<'a>),
 }
 
 /// A command that is tried at a position.
@@ -25,7 +24,7 @@ pub struct Move<'a> {
     /// The command.
     pub call: Call<'a>,
     /// Where it leads.
-    pub target: Target,
+    pub target: Target<'a>,
 }
 
 /// A search, or the beginning of one.
@@ -78,7 +77,7 @@ impl<'a> Search<'a> {
     fn try_call(
         &mut self,
         alloc: Global,
-        scene: &Scene<'_>,
+        scene: &Scene<'a>,
         from: usize,
         position: &Position,
         call: Call<'a>,
