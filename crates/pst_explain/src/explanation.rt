@@ -43,6 +43,34 @@ pub enum Reason<'a> {
     Nothing,
 }
 
+impl<'a> Reason<'a> {
+    /// The answers that cannot all be right, if no interleaving explains the item.
+    pub fn core(&self) -> Option<&Core<'a>> {
+        match self {
+            Reason::Unexplained { core, .. } | Reason::Faulted { core, .. } => Some(core),
+            _ => None,
+        }
+    }
+
+    /// The callback that fails, if one does.
+    pub fn failure(&self) -> Option<&Failure<'a>> {
+        match self {
+            Reason::Faulted { failure, .. } | Reason::Invalid(failure) => Some(failure),
+            _ => None,
+        }
+    }
+
+    /// The interleaving of the verdict, if there is one.
+    pub fn walk(&self) -> Option<&Walk<'a>> {
+        match self {
+            Reason::Explained(walk) => Some(walk),
+            Reason::Unexplained { furthest, .. } => Some(furthest),
+            Reason::Faulted { failure, .. } | Reason::Invalid(failure) => Some(&failure.walk),
+            _ => None,
+        }
+    }
+}
+
 /// The explanation of an item: its judgement and why it is so.
 #[derive(Drop)]
 pub struct Explanation<'a> {

@@ -131,6 +131,24 @@ impl<'a> Search<'a> {
         self.moves.iter().any(|step| step.from == number)
     }
 
+    /// Goes on from each position until there are more than `most`; whether there are not.
+    fn go_on_within(
+        &mut self,
+        alloc: Global,
+        scene: &Scene<'a>,
+        most: usize,
+    ) -> Result<bool, AllocError> {
+        for number in 0..most {
+            if self.positions.len() > most {
+                return Ok(false);
+            }
+            if !self.is_tried(number) {
+                self.go_on(alloc, scene, number)?;
+            }
+        }
+        Ok(self.positions.len() <= most)
+    }
+
     /// Goes on from the first positions at which no command was tried.
     fn go_on_from_rest(&mut self, alloc: Global, scene: &Scene<'a>) -> Result<(), AllocError> {
         for number in 0..MOST_POSITIONS {
@@ -142,9 +160,8 @@ impl<'a> Search<'a> {
     }
 }
 
-/// The search of an item from its initial state on. It goes along the commands of the interleaving that is
-/// shown, and then from the other positions in the order in which it met them, as far as the limit allows.
-pub fn search_of<'a>(
+/// The search of an item along the commands of the interleaving that is shown.
+fn begun<'a>(
     alloc: Global,
     scene: &Scene<'a>,
     shown: &[Call<'_>],
@@ -160,6 +177,33 @@ pub fn search_of<'a>(
     let first = Position::first(alloc, scene, state)?;
     search.positions.push(first)?;
     search.go_along(alloc, scene, shown)?;
+    Ok(search)
+}
+
+/// The search of an item from its initial state on. It goes along the commands of the interleaving that is
+/// shown, and then from the other positions in the order in which it met them, as far as the limit allows.
+pub fn search_of<'a>(
+    alloc: Global,
+    scene: &Scene<'a>,
+    shown: &[Call<'_>],
+) -> Result<Search<'a>, AllocError> {
+    let mut search = begun(alloc, scene, shown)?;
     search.go_on_from_rest(alloc, scene)?;
     Ok(search)
+}
+
+/// The whole search of an item, if it has at most `most` positions. It goes along the commands of the interleaving that is
+/// shown first. It has no positions if the initial state faults.
+pub fn whole_search<'a>(
+    alloc: Global,
+    scene: &Scene<'a>,
+    shown: &[Call<'_>],
+    most: usize,
+) -> Result<Option<Search<'a>>, AllocError> {
+    let mut search = begun(alloc, scene, shown)?;
+    if search.go_on_within(alloc, scene, most)? {
+        Ok(Some(search))
+    } else {
+        Ok(None)
+    }
 }

@@ -23,7 +23,7 @@ pub use calls::{Call, Calls, Part};
 pub use cutting::cut;
 pub use falsity::{Falsity, falsity_of, falsity_text};
 pub use forms::{add_form, add_quoted};
-pub use letters::{add_word, letter};
+pub use letters::add_word;
 pub use order::{call_numbered, count_before, first_calls, in_order, next_calls};
 pub use outcome::{DeadEnd, Outcome, dead_end_text, outcome_of};
 pub use page::Page;
