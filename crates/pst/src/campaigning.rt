@@ -7,7 +7,7 @@ use crate::progress::Progress;
 use crate::{least, words};
 use clap::ArgMatches;
 use pst_campaign::Unwatched;
-use pst_cli::{Absence, Status, campaign_text, refuse_text};
+use pst_cli::{Absence, CampaignNotes, Status, campaign_noting, campaign_text, refuse_text};
 use pst_sink::{Out, Sink, put_all};
 use pst_system::BoxedSystem;
 use pst_trial::Settings;
@@ -24,6 +24,7 @@ fn watched<W: Sink, R: Threads + Wait + Sync + Eprint + Clock>(
     systems: Vec<BoxedSystem>,
     is_terminal: bool,
     input: &[u8],
+    notes: &mut CampaignNotes,
     out: &mut W,
 ) -> Status
     requires ranges { AreInRange settings }
@@ -31,10 +32,10 @@ fn watched<W: Sink, R: Threads + Wait + Sync + Eprint + Clock>(
 {
     if is_terminal {
         if let Ok(progress) = Progress::new(rt) {
-            return campaign_text(rt, alloc, input, settings, systems, &progress, out);
+            return campaign_noting(rt, alloc, input, settings, systems, &progress, notes, out);
         }
     }
-    campaign_text(rt, alloc, input, settings, systems, &Unwatched, out)
+    campaign_noting(rt, alloc, input, settings, systems, &Unwatched, notes, out)
 }
 
 /// Runs a campaign whose report is written once it stands whole. Explanations of its least failure and of its first trial
@@ -51,6 +52,7 @@ fn explained<W: Sink, R: Threads + Wait + Sync + Eprint + Clock>(
     requires ranges { AreInRange settings }
     requires stands { W.broken out.old ≡ false }
 {
+    let mut notes = CampaignNotes::new();
     let mut report = Out::new(Vec::new(alloc));
     let status = watched(
         rt,
@@ -59,6 +61,7 @@ fn explained<W: Sink, R: Threads + Wait + Sync + Eprint + Clock>(
         systems,
         is_terminal,
         input,
+        &mut notes,
         &mut report,
     );
     let report = report.into_inner();
@@ -69,7 +72,7 @@ fn explained<W: Sink, R: Threads + Wait + Sync + Eprint + Clock>(
     if put_all(report.as_slice(), out).is_err() {
         return Status::Lost;
     }
-    least::explain(rt, alloc, settings, input, report.as_slice());
+    least::explain(rt, alloc, settings, input, notes);
     status
 }
 

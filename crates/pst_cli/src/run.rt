@@ -14,9 +14,9 @@ ghost use Rattle.pst_write.specs.Lines.{line_of};
 ghost use Rattle.pst_write.specs.Written.{run_form};
 
 use crate::compiled::load_compiled;
-use crate::counts::Counts;
 use crate::judge::{is_good, refused_run, runs_in};
 use crate::lines::item_line;
+use crate::notes::RunNotes;
 use crate::output::{Output, send};
 use crate::refusal::refusal_output;
 use crate::status::Status;
@@ -74,7 +74,7 @@ fn run_report(
     number: usize,
     shaped: Shaped,
     history: History,
-    counts: &mut Counts,
+    notes: &mut RunNotes,
 ) -> Result<Output, AllocError>
     requires model { shaped.model ≡ compiled.now }
     requires matches { matches compiled.now shaped.case history ≡ true }
@@ -87,10 +87,10 @@ fn run_report(
     };
     let mut text = tree_line(alloc, compiled.typed(), &run)?;
     let judged = judge_one(compiled, alloc, &run)?;
-    counts.add(&judged);
     let line = item_line(alloc, number, &judged)?;
     text.extend_from_slice(line.as_bytes())?;
     let status = status_of_one(&judged);
+    notes.add(number, run, &judged);
     Ok(Output { text, status })
 }
 
@@ -123,7 +123,7 @@ fn valid_report<R: Threads + Wait>(
     system: &mut BoxedSystem,
     number: usize,
     valid: Valid,
-    counts: &mut Counts,
+    notes: &mut RunNotes,
 ) -> Result<Output, AllocError>
     requires model { valid.model ≡ compiled.now }
     ensures reported { IfOk result (λ output.
@@ -134,18 +134,9 @@ fn valid_report<R: Threads + Wait>(
 {
     let _shaped = valid.shaped();
     match pst_driver::run(rt, alloc, compiled.typed(), system, &valid) {
-        Ok(history) => {
-            run_report(
-                alloc,
-                compiled,
-                number,
-                valid.into_shaped(),
-                history,
-                counts,
-            )
-        }
+        Ok(history) => { run_report(alloc, compiled, number, valid.into_shaped(), history, notes) }
         Err(fault) => {
-            counts.add_lost();
+            notes.counts.add_lost();
             let line = lost_line(alloc, number, fault)?;
             Ok(Output::new(line, Status::Lost))
         }
@@ -160,7 +151,7 @@ fn item_report<R: Threads + Wait>(
     system: &mut BoxedSystem,
     number: usize,
     shaped: &Shaped,
-    counts: &mut Counts,
+    notes: &mut RunNotes,
 ) -> Result<Output, AllocError>
     requires model { shaped.now.model ≡ compiled.now }
     ensures reported { IfOk result (λ output.
@@ -171,9 +162,9 @@ fn item_report<R: Threads + Wait>(
 {
     let copy = shaped.copy(alloc, compiled.typed().source())?;
     match valid(compiled, alloc, copy) {
-        Ok(valid) => valid_report(rt, alloc, compiled, system, number, valid, counts),
+        Ok(valid) => valid_report(rt, alloc, compiled, system, number, valid, notes),
         Err(refused) => {
-            counts.add_invalid(&refused.1);
+            notes.counts.add_invalid(&refused.1);
             let line = why_line(alloc, number, refused.1)?;
             Ok(Output::new(line, Status::Failed))
         }
@@ -187,7 +178,7 @@ fn item_reports<R: Threads + Wait>(
     compiled: &Compiled,
     system: &mut BoxedSystem,
     runs: &[Run],
-    counts: &mut Counts,
+    notes: &mut RunNotes,
 ) -> Result<Output, AllocError>
     requires { AreLawful compiled.now runs.now }
     ensures reported { IfOk result (λ output.
@@ -199,7 +190,7 @@ fn item_reports<R: Threads + Wait>(
     let mut text = Vec::new(alloc);
     let mut status = Status::Accepted;
     for (index, run) in runs.iter().enumerate() {
-        let output = item_report(rt, alloc, compiled, system, index + 1, &run.shaped, counts)?;
+        let output = item_report(rt, alloc, compiled, system, index + 1, &run.shaped, notes)?;
         text.extend_from_slice(output.text.as_slice())?;
         status = status.or_worse(output.status);
     }
@@ -212,7 +203,7 @@ fn run_output<R: Threads + Wait>(
     alloc: Global,
     input: &[u8],
     system: &mut BoxedSystem,
-    counts: &mut Counts,
+    notes: &mut RunNotes,
 ) -> Result<Output, AllocError>
     ensures output { IfOk result (λ output.
         IsRunOutput (answers system.old) (fails system.old) (reset_fails system.old)
@@ -226,7 +217,7 @@ fn run_output<R: Threads + Wait>(
     };
     let items = items_of(file.trees.as_slice());
     match runs_in(alloc, file.compiled.typed(), items)? {
-        Ok(runs) => item_reports(rt, alloc, &file.compiled, system, runs.as_slice(), counts),
+        Ok(runs) => item_reports(rt, alloc, &file.compiled, system, runs.as_slice(), notes),
         Err(fault) => refused_run(alloc, &fault),
     }
 }
@@ -252,17 +243,17 @@ pub fn run_text<W: Sink, R: Threads + Wait>(
     ensures kept { AreKept (answers system.new) (answers system.old) (fails system.new) (fails system.old)
         (reset_fails system.new) (reset_fails system.old) }
 {
-    run_counting(rt, alloc, input, system, &mut Counts::new(), sink)
+    run_noting(rt, alloc, input, system, &mut RunNotes::new(), sink)
 }
 
-/// Does what [`run_text`] does, and adds to the counts what each item that was reported came to. Where memory is refused
-/// outside the driver nothing is counted.
-pub fn run_counting<W: Sink, R: Threads + Wait>(
+/// Does what [`run_text`] does, and notes what each item that was reported came to, and the first run that is broken. If
+/// memory is refused outside the driver nothing is noted.
+pub fn run_noting<W: Sink, R: Threads + Wait>(
     rt: &R,
     alloc: Global,
     input: &[u8],
     system: &mut BoxedSystem,
-    counts: &mut Counts,
+    notes: &mut RunNotes,
     sink: &mut W,
 ) -> Status
     requires { W.broken sink.old ≡ false }
@@ -272,10 +263,10 @@ pub fn run_counting<W: Sink, R: Threads + Wait>(
     ensures kept { AreKept (answers system.new) (answers system.old) (fails system.new) (fails system.old)
         (reset_fails system.new) (reset_fails system.old) }
 {
-    match run_output(rt, alloc, input, system, counts) {
+    match run_output(rt, alloc, input, system, notes) {
         Ok(output) => send(output.text.as_slice(), output.status, sink),
         Err(AllocError) => {
-            *counts = Counts::new();
+            *notes = RunNotes::new();
             send(b"refused memory\n", Status::Lost, sink)
         }
     }

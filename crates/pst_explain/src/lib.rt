@@ -29,5 +29,5 @@ pub use explanation::{Explanation, Reason, explain_item};
 pub use failures::{Evaluated, Expression, FailingPart, Failure};
 pub use places::{TreePlace, first_places};
 pub use scripts::explain_script;
-pub use text::explanation_text;
+pub use text::{explanation_text, reason_text};
 pub use walks::{Step, Stopped, Walk};

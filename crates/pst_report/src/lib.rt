@@ -15,5 +15,6 @@ mod writer;
 
 pub use fault::ReportFault;
 pub use kind::EntryKind;
+pub use least::{least_failure, least_fault};
 pub use status::{CampaignStatus, campaign_status};
 pub use writer::report;
