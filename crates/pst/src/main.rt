@@ -18,6 +18,7 @@ mod least;
 mod overheard;
 mod progress;
 mod refused;
+mod streaming;
 mod summary;
 mod systems;
 mod warned;
@@ -93,7 +94,7 @@ fn with_systems<W: Sink, R: Threads + Wait + Sync + Eprint + Clock + AllocGlobal
 }
 
 /// Does what the words say of an input, on standard output, and counts what its items came to.
-fn answer<W: Sink, R: Threads + Wait + Sync + Eprint + Clock + AllocGlobal>(
+fn answer<W: Sink, R: Threads + Wait + Sync + Eprint + Clock + io::Input + AllocGlobal>(
     rt: &R,
     matches: &ArgMatches<'_>,
     systems: Systems,
@@ -113,6 +114,7 @@ fn answer<W: Sink, R: Threads + Wait + Sync + Eprint + Clock + AllocGlobal>(
     match word {
         "check" => check_text(alloc, bytes, out),
         "list" => list_text(alloc, bytes, out),
+        "judge" if words.get_flag("stream") => streaming::judge(rt, bytes, counts, out),
         "judge" => judge(rt, alloc, words, files, bytes, counts, out),
         "explain" => explaining::explain(rt, alloc, words, files, bytes, out),
         _ => with_systems(
@@ -177,6 +179,9 @@ fn read<'a, R: Runtime + AllocGlobal>(
     let is_quiet = is_quiet(matches);
     if let Some(name) = systems::unknown(matches) {
         return Err(systems::refuse(rt, name, names(matches), is_quiet, &mut out));
+    }
+    if streaming::is_stream(matches) && !streaming::leaves_input(names(matches)) {
+        return Err(streaming::refuse(rt, is_quiet, &mut out));
     }
     let reading = Reading {
         is_quiet,

@@ -80,6 +80,15 @@ fn all_messages<'a>(alloc: Global) -> Arg<'a> {
         )
 }
 
+/// The option that judges the lines of standard input.
+fn stream<'a>(alloc: Global) -> Result<Arg<'a>, AllocError> {
+    Arg::new(alloc, "stream")
+        .long("stream")
+        .action(ArgAction::SetTrue)
+        .help("Judges the items on the lines of standard input as they come, one on each line")
+        .conflicts_with_all(&["keep-going", "failures", "all-messages"])
+}
+
 /// The option that leaves out the items that are explained or valid.
 pub fn failures<'a>(alloc: Global) -> Arg<'a> {
     Arg::new(alloc, "failures")
@@ -97,6 +106,7 @@ fn judge_command<'a>(alloc: Global) -> Result<Command<'a>, AllocError> {
         .arg(keep_going(alloc))?
         .arg(all_messages(alloc))?
         .arg(failures(alloc))?
+        .arg(stream(alloc)?)?
         .arg(output(alloc))?
         .arg(quiet(alloc))
 }

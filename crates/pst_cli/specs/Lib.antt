@@ -12,8 +12,10 @@ pub mod Output
 pub mod RunOutput
 pub mod Sending
 pub mod Status
+pub mod StreamOutput
 -- what these are made of
 pub mod Head
 -- what the contracts within the crate cite
 pub mod Kept
 pub mod Rows
+pub mod Streaming

@@ -24,6 +24,7 @@ mod run;
 mod sharing;
 mod shown;
 mod status;
+mod stream;
 
 pub use absent::{Absence, refuse_text};
 pub use campaign::campaign_text;
@@ -42,3 +43,4 @@ pub use list::list_text;
 pub use run::{run_counting, run_text};
 pub use shown::Shown;
 pub use status::Status;
+pub use stream::judge_stream;
