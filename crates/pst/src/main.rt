@@ -10,6 +10,7 @@ mod driving;
 mod explained;
 mod explaining;
 mod formatting;
+mod generating;
 mod hangs;
 mod help;
 mod input;
@@ -114,6 +115,7 @@ fn answer<W: Sink, R: Threads + Wait + Sync + Eprint + Clock + io::Input + Alloc
     match word {
         "check" => check_text(alloc, bytes, out),
         "list" => list_text(alloc, bytes, out),
+        "generate" => generating::generate(rt, words, bytes, out),
         "judge" if words.get_flag("stream") => streaming::judge(rt, bytes, counts, out),
         "judge" => judge(rt, alloc, words, files, bytes, counts, out),
         "explain" => explaining::explain(rt, alloc, words, files, bytes, out),

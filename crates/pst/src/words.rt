@@ -191,6 +191,24 @@ const PLAN_NUMBERS: [PlanNumber; 8] = [
     },
 ];
 
+/// The numbers of `generate` that a campaign does not have: which trials there are.
+const TRIAL_NUMBERS: [PlanNumber; 2] = [
+    PlanNumber {
+        name: "first",
+        least: 0,
+        most: u64::MAX,
+        default: "0",
+        help: "The number of the first trial whose case is printed",
+    },
+    PlanNumber {
+        name: "trials",
+        least: 0,
+        most: u64::MAX,
+        default: "100",
+        help: "How many cases are printed",
+    },
+];
+
 /// The option that gives a number of a campaign's plan.
 fn plan_option<'a>(alloc: Global, number: &PlanNumber) -> Arg<'a> {
     Arg::new(alloc, number.name)
@@ -235,11 +253,34 @@ fn campaign_command<'a>(alloc: Global) -> Result<Command<'a>, AllocError> {
     command.arg(output(alloc))?.arg(quiet(alloc))
 }
 
+/// Whether a number of a campaign's plan chooses the cases of its trials.
+fn chooses_cases(number: &PlanNumber) -> bool {
+    matches!(number.name, "seed" | "commands" | "branches" | "suffix")
+}
+
+/// `generate`, with the numbers that choose cases.
+fn generate_command<'a>(alloc: Global) -> Result<Command<'a>, AllocError> {
+    let mut command = Command::new(alloc, "generate")
+        .about("Generates the cases of a campaign: prints one on each line")
+        .after_help(help::GENERATE)
+        .arg(file(alloc))?;
+    for number in &TRIAL_NUMBERS {
+        command = command.arg(plan_option(alloc, number))?;
+    }
+    for number in &PLAN_NUMBERS {
+        if chooses_cases(number) {
+            command = command.arg(plan_option(alloc, number))?;
+        }
+    }
+    command.arg(output(alloc))?.arg(quiet(alloc))
+}
+
 /// Adds the commands whose input is a model.
 fn with_models<'a>(alloc: Global, command: Command<'a>) -> Result<Command<'a>, AllocError> {
     command
         .subcommand(check_command(alloc)?)?
-        .subcommand(list_command(alloc)?)
+        .subcommand(list_command(alloc)?)?
+        .subcommand(generate_command(alloc)?)
 }
 
 /// Adds the commands whose input is a model and items.
@@ -281,6 +322,25 @@ pub fn command<'a>(alloc: Global) -> Result<Command<'a>, AllocError> {
 /// The number of an option.
 fn small_number(words: &ArgMatches<'_>, name: &str) -> Option<u32> {
     words.get_one(name)
+}
+
+/// The settings that the arguments of `generate` give, with the defaults of a campaign for what chooses no case. Each was found to
+/// be in its range.
+pub fn case_settings(words: &ArgMatches<'_>) -> Option<Settings>
+    ensures { IfSome result AreInRange }
+{
+    let settings = Settings {
+        seed: words.get_one("seed")?,
+        commands: small_number(words, "commands")?,
+        branches: small_number(words, "branches")?,
+        suffix: small_number(words, "suffix")?,
+        ..Settings::default()
+    };
+    if settings.are_in_range() {
+        Some(settings)
+    } else {
+        None
+    }
 }
 
 /// The settings that the arguments of `campaign` give. Each has a default and was found to be in its range.
