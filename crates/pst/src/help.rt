@@ -47,6 +47,7 @@ pub const RUN: &str = "\
 Examples:
   pst run counter counter.model cases.runs
   pst run --client ./client.py cache.model cases.runs
+  pst run --client ./client.py --repeats 20 cache.model failures/*.runs
 
 `--client COMMAND` stands in place of SYSTEM; with `--shared` one process has all branches.
 
@@ -58,6 +59,7 @@ pub const CAMPAIGN: &str = "\
 Examples:
   pst campaign --client ./client.py cache.model --trials 200
   pst campaign racy counter.model --seed 1
+  pst campaign --client ./client.py cache.model --save failures
 
 `--client COMMAND` stands in place of SYSTEM; with `--shared` one process has all branches.
 

@@ -19,6 +19,7 @@ mod least;
 mod overheard;
 mod progress;
 mod refused;
+mod saving;
 mod streaming;
 mod summary;
 mod systems;
@@ -40,7 +41,7 @@ use std::alloc::Global;
 use std::io;
 use std::io::{IsTerminal, Write};
 use std::process::ExitCode;
-use std::rt::Runtime;
+use std::rt::{Files, Runtime};
 use std::sync::Wait;
 use std::thread::{Builder, Threads};
 use std::time::Clock;
@@ -67,7 +68,7 @@ fn and_one(systems: Systems, system: Result<BoxedSystem, Unmade>) -> Systems {
 }
 
 /// Does what the word says that takes a system.
-fn with_systems<W: Sink, R: Threads + Wait + Sync + Eprint + Clock + AllocGlobal>(
+fn with_systems<W: Sink, R: Threads + Wait + Sync + Eprint + Files + Clock + AllocGlobal>(
     rt: &R,
     matches: &ArgMatches<'_>,
     systems: Systems,
@@ -86,7 +87,7 @@ fn with_systems<W: Sink, R: Threads + Wait + Sync + Eprint + Clock + AllocGlobal
     let name = words.get_str("SYSTEM").unwrap_or("");
     match systems {
         Ok(systems) if word == "run" => {
-            drive(rt, alloc, name, systems, misfits, input, counts, out)
+            drive(rt, alloc, words, name, systems, misfits, input, counts, out)
         }
         Ok(systems) => campaign(rt, alloc, words, name, systems, is_terminal, input, out),
         Err(Unmade::NoMemory) => refuse_text(Absence::NoMemory, out),
@@ -95,7 +96,10 @@ fn with_systems<W: Sink, R: Threads + Wait + Sync + Eprint + Clock + AllocGlobal
 }
 
 /// Does what the words say of an input, on standard output, and counts what its items came to.
-fn answer<W: Sink, R: Threads + Wait + Sync + Eprint + Clock + io::Input + AllocGlobal>(
+fn answer<
+    W: Sink,
+    R: Threads + Wait + Sync + Eprint + Files + Clock + io::Input + AllocGlobal,
+>(
     rt: &R,
     matches: &ArgMatches<'_>,
     systems: Systems,

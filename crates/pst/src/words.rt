@@ -11,6 +11,9 @@ use pst_trial::{
 };
 use std::alloc::{AllocError, Global};
 
+/// The most drives of a case of `run`.
+const MOST_REPEATS: u64 = 1_000_000;
+
 /// The file of a model.
 fn file<'a>(alloc: Global) -> Arg<'a> {
     Arg::new(alloc, "FILE").help("The model; standard input if it is absent or `-`")
@@ -111,6 +114,24 @@ fn judge_command<'a>(alloc: Global) -> Result<Command<'a>, AllocError> {
         .arg(quiet(alloc))
 }
 
+/// The option that drives each case several times.
+fn repeats<'a>(alloc: Global) -> Arg<'a> {
+    Arg::new(alloc, "repeats")
+        .long("repeats")
+        .value_name("N")
+        .value_parser(ValueParser::Unsigned(1, MOST_REPEATS))
+        .allow_negative_numbers(true)
+        .help("Drives each case N times, and prints how many of the drives failed")
+}
+
+/// The option that saves failures.
+fn save<'a>(alloc: Global) -> Arg<'a> {
+    Arg::new(alloc, "save")
+        .long("save")
+        .value_name("FOLDER")
+        .help("Saves each failure, shrunk, as a file in FOLDER that `run` and `judge` read")
+}
+
 /// `run`, with the name of a system.
 fn run_command<'a>(alloc: Global) -> Result<Command<'a>, AllocError> {
     Command::new(alloc, "run")
@@ -118,6 +139,7 @@ fn run_command<'a>(alloc: Global) -> Result<Command<'a>, AllocError> {
         .after_help(help::RUN)
         .arg(system(alloc))?
         .arg(files(alloc))?
+        .arg(repeats(alloc))?
         .arg(output(alloc))?
         .arg(quiet(alloc))
 }
@@ -250,7 +272,10 @@ fn campaign_command<'a>(alloc: Global) -> Result<Command<'a>, AllocError> {
     for number in &PLAN_NUMBERS {
         command = command.arg(plan_option(alloc, number))?;
     }
-    command.arg(output(alloc))?.arg(quiet(alloc))
+    command
+        .arg(save(alloc))?
+        .arg(output(alloc))?
+        .arg(quiet(alloc))
 }
 
 /// Whether a number of a campaign's plan chooses the cases of its trials.
