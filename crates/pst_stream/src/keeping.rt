@@ -31,6 +31,27 @@ pub(crate) fn end_line(
     Ok(())
 }
 
+/// Adds a byte to the line that is kept, or ends it.
+fn add_byte(
+    alloc: Global,
+    limit: usize,
+    lines: &mut Vec<Vec<u8>>,
+    kept: &mut Vec<u8>,
+    byte: u8,
+) -> Result<(), AllocError>
+    ensures kept { OnOk result ((line : List ℕ) → kept.old.items ≡ take limit line
+        → kept.new.items ≡ take limit (begun line (byte ∷ []))) }
+    ensures lines { OnOk result ((line : List ℕ) → kept.old.items ≡ take limit line
+        → map (λ l. l.items) lines.new.items
+        ≡ map (λ l. l.items) lines.old.items ++ map (take limit) (ended line (byte ∷ []))) }
+{
+    if byte == b'\n' {
+        end_line(alloc, lines, kept)
+    } else {
+        keep_byte(limit, kept, byte)
+    }
+}
+
 /// Splits bytes into lines: adds those that end to the lines, and keeps the one that has begun. Of each line at most as many
 /// bytes are kept as the limit.
 pub(crate) fn keep_bytes(
@@ -47,11 +68,7 @@ pub(crate) fn keep_bytes(
         ≡ map (λ l. l.items) lines.old.items ++ map (take limit) (ended line bytes.now)) }
 {
     for byte in bytes {
-        if *byte == b'\n' {
-            end_line(alloc, lines, kept)?;
-        } else {
-            keep_byte(limit, kept, *byte)?;
-        }
+        add_byte(alloc, limit, lines, kept, *byte)?;
     }
     Ok(())
 }
