@@ -55,7 +55,7 @@ fn explain_broken<R: Threads + Sync + Eprint>(rt: &R, alloc: Global, input: &[u8
 }
 
 /// Drives the items of the input once each, or as often as is asked for.
-fn run_items<W: Sink, R: Threads + Wait>(
+fn run_items<W: Sink, R: Threads + Wait + Sync>(
     rt: &R,
     alloc: Global,
     system: &mut BoxedSystem,
