@@ -2,8 +2,9 @@
 ghost use Rattle.std.specs.Prelude.{◌≡◌, false};
 
 use crate::{explained, overheard};
+use clap::ArgMatches;
 use pst_case::Run;
-use pst_cli::{Absence, Counts, RunNotes, Status, refuse_text, run_noting};
+use pst_cli::{Absence, Counts, Status, refuse_text, run_counting, run_repeatedly};
 use pst_misfits::Misfits;
 use pst_sink::{Out, Sink, put_all};
 use pst_system::BoxedSystem;
@@ -12,14 +13,8 @@ use std::sync::Wait;
 use std::thread::Threads;
 
 /// Writes to standard error why the first broken run is broken, and how many others are.
-fn explain_broken<R: Eprint>(
-    rt: &R,
-    alloc: Global,
-    input: &[u8],
-    first: Option<(usize, Run)>,
-    count: usize,
-) {
-    let Some((item, run)) = first else {
+fn explain_broken<R: Eprint>(rt: &R, alloc: Global, input: &[u8], counts: &mut Counts) {
+    let Some((item, run)) = counts.first_broken.take() else {
         return;
     };
     let Run { shaped, history } = run;
@@ -37,10 +32,30 @@ fn explain_broken<R: Eprint>(
         shaped.into_case(),
         history,
     );
-    let others = count.saturating_sub(1);
+    let others = counts.broken.saturating_sub(1);
     if others > 0 {
         let items = if others == 1 { "item is" } else { "items are" };
         let _ = eprintln!(rt; "{others} more {items} broken");
+    }
+}
+
+/// Drives the items of the input once each, or as often as is asked for.
+fn run_items<W: Sink, R: Threads + Wait + Sync>(
+    rt: &R,
+    alloc: Global,
+    system: &mut BoxedSystem,
+    repeats: Option<u32>,
+    input: &[u8],
+    counts: &mut Counts,
+    out: &mut W,
+) -> Status
+    requires { W.broken out.old ≡ false }
+{
+    match repeats {
+        Some(repeats) if repeats >= 1 => {
+            run_repeatedly(rt, alloc, input, system, repeats, counts, out)
+        }
+        _ => run_counting(rt, alloc, input, system, counts, out),
     }
 }
 
@@ -50,6 +65,7 @@ fn drive_and_explain<W: Sink, R: Threads + Wait + Sync + Eprint>(
     rt: &R,
     alloc: Global,
     system: &mut BoxedSystem,
+    repeats: Option<u32>,
     misfits: &Misfits,
     input: &[u8],
     counts: &mut Counts,
@@ -59,13 +75,7 @@ fn drive_and_explain<W: Sink, R: Threads + Wait + Sync + Eprint>(
 {
     overheard::begin(alloc, misfits, input);
     let mut report = Out::new(Vec::new(alloc));
-    let mut notes = RunNotes::new();
-    let status = run_noting(rt, alloc, input, system, &mut notes, &mut report);
-    let RunNotes {
-        counts: noted,
-        first_broken,
-    } = notes;
-    *counts = noted;
+    let status = run_items(rt, alloc, system, repeats, input, counts, &mut report);
     let report = report.into_inner();
     // Each status but `Accepted` has a line: there is none only if the buffer was refused memory.
     if report.is_empty() && status != Status::Accepted {
@@ -75,7 +85,7 @@ fn drive_and_explain<W: Sink, R: Threads + Wait + Sync + Eprint>(
         return Status::Lost;
     }
     overheard::report(rt, alloc, misfits);
-    explain_broken(rt, alloc, input, first_broken, counts.broken);
+    explain_broken(rt, alloc, input, counts);
     status
 }
 
@@ -84,6 +94,7 @@ fn drive_and_explain<W: Sink, R: Threads + Wait + Sync + Eprint>(
 pub fn drive<W: Sink, R: Threads + Wait + Sync + Eprint>(
     rt: &R,
     alloc: Global,
+    words: &ArgMatches<'_>,
     name: &str,
     mut systems: Vec<BoxedSystem>,
     misfits: Option<&Misfits>,
@@ -96,13 +107,11 @@ pub fn drive<W: Sink, R: Threads + Wait + Sync + Eprint>(
     let Some(mut system) = systems.pop() else {
         return refuse_text(Absence::NoSystem(name), out);
     };
+    let repeats = words.get_one("repeats");
     match misfits {
-        Some(misfits) => drive_and_explain(rt, alloc, &mut system, misfits, input, counts, out),
-        None => {
-            let mut notes = RunNotes::new();
-            let status = run_noting(rt, alloc, input, &mut system, &mut notes, out);
-            *counts = notes.counts;
-            status
+        Some(misfits) => {
+            drive_and_explain(rt, alloc, &mut system, repeats, misfits, input, counts, out)
         }
+        None => run_items(rt, alloc, &mut system, repeats, input, counts, out),
     }
 }

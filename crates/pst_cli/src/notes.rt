@@ -1,43 +1,12 @@
-//! What a command keeps beside its output, for people to read.
+//! What a campaign keeps beside its report, for people to read.
 
 ghost use Rattle.pst_report.specs.InOrder.{AreOf};
 
-use crate::counts::Counts;
-use pst_case::{Case, History, Run};
-use pst_judge::{Judged, Verdict};
+use pst_case::{Case, History};
 use pst_ledger::Entry;
 use pst_report::{least_failure, least_fault};
 use pst_trial::{Plan, Record};
 use std::alloc::{AllocError, Global};
-
-/// What `pst run` keeps beside its output.
-#[derive(Drop)]
-pub struct RunNotes {
-    /// What the items came to.
-    pub counts: Counts,
-    /// The first run with a reply that is no value, and the number of its item, from 1.
-    pub first_broken: Option<(usize, Run)>,
-}
-
-impl RunNotes {
-    /// The notes before the first item.
-    pub fn new() -> RunNotes {
-        RunNotes {
-            counts: Counts::new(),
-            first_broken: None,
-        }
-    }
-
-    /// Notes a run that was judged.
-    pub(crate) fn add(&mut self, number: usize, run: Run, judged: &Judged) {
-        self.counts.add(judged);
-        if let Judged::Verdict(Verdict::Broken(_)) = judged {
-            if self.first_broken.is_none() {
-                self.first_broken = Some((number, run));
-            }
-        }
-    }
-}
 
 /// What `pst campaign` keeps beside its report.
 #[derive(Drop)]

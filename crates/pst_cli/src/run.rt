@@ -14,9 +14,9 @@ ghost use Rattle.pst_write.specs.Lines.{line_of};
 ghost use Rattle.pst_write.specs.Written.{run_form};
 
 use crate::compiled::load_compiled;
+use crate::counts::Counts;
 use crate::judge::{is_good, refused_run, runs_in};
 use crate::lines::item_line;
-use crate::notes::RunNotes;
 use crate::output::{Output, send};
 use crate::refusal::refusal_output;
 use crate::status::Status;
@@ -44,7 +44,7 @@ fn write_line<W: Sink>(tree: &Tree, sink: &mut W) -> Result<(), WriteFailed>
 }
 
 /// The tree of a run in its one spelling, and a line end.
-fn tree_line(alloc: Global, typed: &Typed, run: &Run) -> Result<Vec<u8>, AllocError>
+pub(crate) fn tree_line(alloc: Global, typed: &Typed, run: &Run) -> Result<Vec<u8>, AllocError>
     requires { IsLawful typed.now run.now }
     ensures { IfOk result (λ line. line.items ≡ line_of (run_form typed.now run.now)) }
 {
@@ -74,7 +74,7 @@ fn run_report(
     number: usize,
     shaped: Shaped,
     history: History,
-    notes: &mut RunNotes,
+    counts: &mut Counts,
 ) -> Result<Output, AllocError>
     requires model { shaped.model ≡ compiled.now }
     requires matches { matches compiled.now shaped.case history ≡ true }
@@ -87,10 +87,11 @@ fn run_report(
     };
     let mut text = tree_line(alloc, compiled.typed(), &run)?;
     let judged = judge_one(compiled, alloc, &run)?;
+    counts.add(&judged);
     let line = item_line(alloc, number, &judged)?;
     text.extend_from_slice(line.as_bytes())?;
     let status = status_of_one(&judged);
-    notes.add(number, run, &judged);
+    counts.keep_broken(number, run, &judged);
     Ok(Output { text, status })
 }
 
@@ -105,7 +106,7 @@ fn lost_line(alloc: Global, number: usize, fault: DriveFault) -> Result<String, 
 }
 
 /// `NUMBER` and the reason why the case is not valid.
-fn why_line(alloc: Global, number: usize, why: Why) -> Result<String, AllocError>
+pub(crate) fn why_line(alloc: Global, number: usize, why: Why) -> Result<String, AllocError>
     ensures reason { OnOk result (why ≡ reasons.NoMemory → ⊥) }
     ensures line { IfOk result (λ line. string_bytes line ≡ item_line number (kind.Invalid why)) }
 {
@@ -116,14 +117,14 @@ fn why_line(alloc: Global, number: usize, why: Why) -> Result<String, AllocError
 }
 
 /// The report of an item whose case is valid: it is driven once.
-fn valid_report<R: Threads + Wait>(
+pub(crate) fn valid_report<R: Threads + Wait + Sync>(
     rt: &R,
     alloc: Global,
     compiled: &Compiled,
     system: &mut BoxedSystem,
     number: usize,
     valid: Valid,
-    notes: &mut RunNotes,
+    counts: &mut Counts,
 ) -> Result<Output, AllocError>
     requires model { valid.model ≡ compiled.now }
     ensures reported { IfOk result (λ output.
@@ -134,9 +135,18 @@ fn valid_report<R: Threads + Wait>(
 {
     let _shaped = valid.shaped();
     match pst_driver::run(rt, alloc, compiled.typed(), system, &valid) {
-        Ok(history) => { run_report(alloc, compiled, number, valid.into_shaped(), history, notes) }
+        Ok(history) => {
+            run_report(
+                alloc,
+                compiled,
+                number,
+                valid.into_shaped(),
+                history,
+                counts,
+            )
+        }
         Err(fault) => {
-            notes.counts.add_lost();
+            counts.add_lost();
             let line = lost_line(alloc, number, fault)?;
             Ok(Output::new(line, Status::Lost))
         }
@@ -144,14 +154,14 @@ fn valid_report<R: Threads + Wait>(
 }
 
 /// The report of an item.
-fn item_report<R: Threads + Wait>(
+fn item_report<R: Threads + Wait + Sync>(
     rt: &R,
     alloc: Global,
     compiled: &Compiled,
     system: &mut BoxedSystem,
     number: usize,
     shaped: &Shaped,
-    notes: &mut RunNotes,
+    counts: &mut Counts,
 ) -> Result<Output, AllocError>
     requires model { shaped.now.model ≡ compiled.now }
     ensures reported { IfOk result (λ output.
@@ -162,9 +172,9 @@ fn item_report<R: Threads + Wait>(
 {
     let copy = shaped.copy(alloc, compiled.typed().source())?;
     match valid(compiled, alloc, copy) {
-        Ok(valid) => valid_report(rt, alloc, compiled, system, number, valid, notes),
+        Ok(valid) => valid_report(rt, alloc, compiled, system, number, valid, counts),
         Err(refused) => {
-            notes.counts.add_invalid(&refused.1);
+            counts.add_invalid(&refused.1);
             let line = why_line(alloc, number, refused.1)?;
             Ok(Output::new(line, Status::Failed))
         }
@@ -172,13 +182,13 @@ fn item_report<R: Threads + Wait>(
 }
 
 /// The reports of all items, numbered from 1, and the worst of their statuses.
-fn item_reports<R: Threads + Wait>(
+fn item_reports<R: Threads + Wait + Sync>(
     rt: &R,
     alloc: Global,
     compiled: &Compiled,
     system: &mut BoxedSystem,
     runs: &[Run],
-    notes: &mut RunNotes,
+    counts: &mut Counts,
 ) -> Result<Output, AllocError>
     requires { AreLawful compiled.now runs.now }
     ensures reported { IfOk result (λ output.
@@ -190,7 +200,7 @@ fn item_reports<R: Threads + Wait>(
     let mut text = Vec::new(alloc);
     let mut status = Status::Accepted;
     for (index, run) in runs.iter().enumerate() {
-        let output = item_report(rt, alloc, compiled, system, index + 1, &run.shaped, notes)?;
+        let output = item_report(rt, alloc, compiled, system, index + 1, &run.shaped, counts)?;
         text.extend_from_slice(output.text.as_slice())?;
         status = status.or_worse(output.status);
     }
@@ -198,12 +208,12 @@ fn item_reports<R: Threads + Wait>(
 }
 
 /// The reports of the items behind the model, or the first refusal.
-fn run_output<R: Threads + Wait>(
+fn run_output<R: Threads + Wait + Sync>(
     rt: &R,
     alloc: Global,
     input: &[u8],
     system: &mut BoxedSystem,
-    notes: &mut RunNotes,
+    counts: &mut Counts,
 ) -> Result<Output, AllocError>
     ensures output { IfOk result (λ output.
         IsRunOutput (answers system.old) (fails system.old) (reset_fails system.old)
@@ -217,7 +227,7 @@ fn run_output<R: Threads + Wait>(
     };
     let items = items_of(file.trees.as_slice());
     match runs_in(alloc, file.compiled.typed(), items)? {
-        Ok(runs) => item_reports(rt, alloc, &file.compiled, system, runs.as_slice(), notes),
+        Ok(runs) => item_reports(rt, alloc, &file.compiled, system, runs.as_slice(), counts),
         Err(fault) => refused_run(alloc, &fault),
     }
 }
@@ -229,7 +239,7 @@ fn run_output<R: Threads + Wait>(
 ///
 /// The status is `Lost` where an item was lost, else `Failed` where one is not explained or not valid, else `Accepted`;
 /// `Refused` where the input is refused; `Lost` where memory was refused or the writer failed. The relations of the system stay.
-pub fn run_text<W: Sink, R: Threads + Wait>(
+pub fn run_text<W: Sink, R: Threads + Wait + Sync>(
     rt: &R,
     alloc: Global,
     input: &[u8],
@@ -243,17 +253,17 @@ pub fn run_text<W: Sink, R: Threads + Wait>(
     ensures kept { AreKept (answers system.new) (answers system.old) (fails system.new) (fails system.old)
         (reset_fails system.new) (reset_fails system.old) }
 {
-    run_noting(rt, alloc, input, system, &mut RunNotes::new(), sink)
+    run_counting(rt, alloc, input, system, &mut Counts::new(), sink)
 }
 
-/// Does what [`run_text`] does, and notes what each item that was reported came to, and the first run that is broken. If
-/// memory is refused outside the driver nothing is noted.
-pub fn run_noting<W: Sink, R: Threads + Wait>(
+/// Does what [`run_text`] does, and adds to the counts what each item that was reported came to. Where memory is refused
+/// outside the driver nothing is counted.
+pub fn run_counting<W: Sink, R: Threads + Wait + Sync>(
     rt: &R,
     alloc: Global,
     input: &[u8],
     system: &mut BoxedSystem,
-    notes: &mut RunNotes,
+    counts: &mut Counts,
     sink: &mut W,
 ) -> Status
     requires { W.broken sink.old ≡ false }
@@ -263,10 +273,10 @@ pub fn run_noting<W: Sink, R: Threads + Wait>(
     ensures kept { AreKept (answers system.new) (answers system.old) (fails system.new) (fails system.old)
         (reset_fails system.new) (reset_fails system.old) }
 {
-    match run_output(rt, alloc, input, system, notes) {
+    match run_output(rt, alloc, input, system, counts) {
         Ok(output) => send(output.text.as_slice(), output.status, sink),
         Err(AllocError) => {
-            *notes = RunNotes::new();
+            *counts = Counts::new();
             send(b"refused memory\n", Status::Lost, sink)
         }
     }
