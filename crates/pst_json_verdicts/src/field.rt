@@ -1,0 +1,62 @@
+//! Members of JSON objects.
+ghost use Rattle.std.specs.Prelude.{◌≡◌};
+ghost use Rattle.pst_json_verdicts.specs.Objects.{name_text};
+
+use pst_items::Text;
+
+/// The name of a member.
+#[derive(Clone, Copy, Debug, PartialEq, Eq, Drop)]
+pub enum Name {
+    /// The number of an item, from 1.
+    Item,
+    /// The verdict on an item or on a model.
+    Verdict,
+    /// An interleaving, spelled by the letters of its branches.
+    Merge,
+    /// How many events an interleaving has true before its first false one.
+    Far,
+    /// The number of a command in its case, from 1; 0 stands for the case itself.
+    Command,
+    /// The callback that faults.
+    Callback,
+    /// The kind of a fault.
+    Fault,
+    /// The part of the program that refuses an input: `read`, `model`, `type`, `item` or `memory`.
+    Stage,
+    /// A place in the input: how many bytes are before it.
+    Place,
+    /// The number of an item of a model, from 1; 0 stands for the model itself.
+    ModelItem,
+    /// The name of a model.
+    Model,
+}
+
+impl Name {
+    /// The name as it is written.
+    pub fn text(&self) -> &'static str
+        ensures { result.now ≡ name_text self.now }
+    {
+        match self {
+            Name::Item => "item",
+            Name::Verdict => "verdict",
+            Name::Merge => "merge",
+            Name::Far => "far",
+            Name::Command => "command",
+            Name::Callback => "callback",
+            Name::Fault => "fault",
+            Name::Stage => "stage",
+            Name::Place => "place",
+            Name::ModelItem => "model_item",
+            Name::Model => "model",
+        }
+    }
+}
+
+/// A member of an object.
+#[derive(Debug, Drop)]
+pub enum Field {
+    /// A member that is a number.
+    Number(Name, usize),
+    /// A member that is a text.
+    Words(Name, Text),
+}
