@@ -28,7 +28,9 @@ use clap::ArgMatches;
 use driving::drive;
 use input::Reading;
 use judging::judge;
-use pst_cli::{Absence, Counts, KnownSystem, Status, check_text, list_text, refuse_text};
+use pst_cli::{
+    Absence, Counts, KnownSystem, Status, check_json, check_text, list_text, refuse_text,
+};
 use pst_misfits::{Misfits, Overheard};
 use pst_samples::{Counter, Meet, Queue, Racy, Registry, Stuck};
 use pst_sink::{Out, Sink};
@@ -43,6 +45,7 @@ use std::sync::Wait;
 use std::thread::{Builder, Threads};
 use std::time::Clock;
 use systems::{Unmade, Wanted};
+use words::is_json;
 
 /// Which streams of the program are terminals.
 #[derive(Clone, Copy, Drop)]
@@ -111,6 +114,7 @@ fn answer<W: Sink, R: Threads + Wait + Sync + Eprint + Clock + AllocGlobal>(
     let alloc = rt.alloc();
     let Input { files, bytes } = input;
     match word {
+        "check" if is_json(words) => check_json(alloc, bytes, out),
         "check" => check_text(alloc, bytes, out),
         "list" => list_text(alloc, bytes, out),
         "judge" => judge(rt, alloc, words, files, bytes, counts, out),

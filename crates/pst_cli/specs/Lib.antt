@@ -4,6 +4,7 @@ pub mod CampaignOutput
 pub mod ChosenItem
 pub mod ExplainOutput
 pub mod GraphOutput
+pub mod JsonOutput
 pub mod KeepingOn
 pub mod Known
 pub mod ListOutput

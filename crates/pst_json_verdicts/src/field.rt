@@ -29,6 +29,22 @@ pub enum Name {
     ModelItem,
     /// The name of a model.
     Model,
+    /// How serious a message is: `error` or `warning`.
+    Severity,
+    /// The name of a file.
+    File,
+    /// The number of a line, from 1.
+    Line,
+    /// The number of a byte in its line, from 1.
+    Column,
+    /// How many bytes of the file are before what a message is about.
+    Start,
+    /// How many bytes of the file are before the end of what a message is about.
+    End,
+    /// What is wrong.
+    Message,
+    /// What was expected, what was found, and hints.
+    Notes,
 }
 
 impl Name {
@@ -48,6 +64,14 @@ impl Name {
             Name::Place => "place",
             Name::ModelItem => "model_item",
             Name::Model => "model",
+            Name::Severity => "severity",
+            Name::File => "file",
+            Name::Line => "line",
+            Name::Column => "column",
+            Name::Start => "start",
+            Name::End => "end",
+            Name::Message => "message",
+            Name::Notes => "notes",
         }
     }
 }
@@ -59,4 +83,6 @@ pub enum Field {
     Number(Name, usize),
     /// A member that is a text.
     Words(Name, Text),
+    /// A member that is an array of texts.
+    Lines(Name, Vec<Text>),
 }

@@ -2,12 +2,24 @@
 ghost use Rattle.std.specs.Prelude.{◌≡◌, [], ◌∷◌, ◌++◌, Some, IfOk, OnOk};
 ghost use Rattle.json.specs.Json.{document};
 ghost use Rattle.json.specs.Token.{key};
-ghost use Rattle.json.specs.Tree.{json_tokens, members_tokens};
-ghost use Rattle.pst_json_verdicts.specs.Objects.{field_json, field_name, members_of, object_line, object_of, object_text};
+ghost use Rattle.json.specs.Tree.{items_tokens, json_tokens, members_tokens};
+ghost use Rattle.pst_json_verdicts.specs.Objects.{field_json, field_name, members_of, object_line, object_of, object_text, texts_of};
 
 use crate::field::Field;
 use json::Writer;
+use pst_items::Text;
 use std::alloc::{AllocError, Global};
+
+/// Writes texts, and the end of their array.
+fn put_texts(writer: &mut Writer<Global>, texts: &[Text]) -> Result<(), AllocError>
+    ensures ok { OnOk result (writer.new.tokens ≡ writer.old.tokens ++ items_tokens (texts_of texts.now)) }
+    ensures before { writer.new.before ≡ writer.old.before }
+{
+    for text in texts {
+        writer.string(text.as_str())?;
+    }
+    writer.end_array()
+}
 
 /// Writes a member.
 fn put_field(writer: &mut Writer<Global>, field: &Field) -> Result<(), AllocError>
@@ -23,6 +35,11 @@ fn put_field(writer: &mut Writer<Global>, field: &Field) -> Result<(), AllocErro
         Field::Words(name, words) => {
             writer.key(name.text())?;
             writer.string(words.as_str())
+        }
+        Field::Lines(name, lines) => {
+            writer.key(name.text())?;
+            writer.begin_array()?;
+            put_texts(writer, lines.as_slice())
         }
     }
 }
