@@ -3,6 +3,7 @@ pub mod Absent
 pub mod CampaignOutput
 pub mod ChosenItem
 pub mod ExplainOutput
+pub mod GenerateOutput
 pub mod GraphOutput
 pub mod JsonOutput
 pub mod KeepingOn
@@ -10,11 +11,16 @@ pub mod Known
 pub mod ListOutput
 pub mod OneOutput
 pub mod Output
+pub mod RepeatOutput
 pub mod RunOutput
 pub mod Sending
 pub mod Status
+pub mod StreamOutput
 -- what these are made of
 pub mod Head
 -- what the contracts within the crate cite
+pub mod Generating
 pub mod Kept
+pub mod Outputs
 pub mod Rows
+pub mod Streaming

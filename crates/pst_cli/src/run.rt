@@ -44,7 +44,7 @@ fn write_line<W: Sink>(tree: &Tree, sink: &mut W) -> Result<(), WriteFailed>
 }
 
 /// The tree of a run in its one spelling, and a line end.
-fn tree_line(alloc: Global, typed: &Typed, run: &Run) -> Result<Vec<u8>, AllocError>
+pub(crate) fn tree_line(alloc: Global, typed: &Typed, run: &Run) -> Result<Vec<u8>, AllocError>
     requires { IsLawful typed.now run.now }
     ensures { IfOk result (λ line. line.items ≡ line_of (run_form typed.now run.now)) }
 {
@@ -105,7 +105,7 @@ fn lost_line(alloc: Global, number: usize, fault: DriveFault) -> Result<String, 
 }
 
 /// `NUMBER` and the reason why the case is not valid.
-fn why_line(alloc: Global, number: usize, why: Why) -> Result<String, AllocError>
+pub(crate) fn why_line(alloc: Global, number: usize, why: Why) -> Result<String, AllocError>
     ensures reason { OnOk result (why ≡ reasons.NoMemory → ⊥) }
     ensures line { IfOk result (λ line. string_bytes line ≡ item_line number (kind.Invalid why)) }
 {
@@ -116,7 +116,7 @@ fn why_line(alloc: Global, number: usize, why: Why) -> Result<String, AllocError
 }
 
 /// The report of an item whose case is valid: it is driven once.
-fn valid_report<R: Threads + Wait>(
+pub(crate) fn valid_report<R: Threads + Wait + Sync>(
     rt: &R,
     alloc: Global,
     compiled: &Compiled,
@@ -153,7 +153,7 @@ fn valid_report<R: Threads + Wait>(
 }
 
 /// The report of an item.
-fn item_report<R: Threads + Wait>(
+fn item_report<R: Threads + Wait + Sync>(
     rt: &R,
     alloc: Global,
     compiled: &Compiled,
@@ -181,7 +181,7 @@ fn item_report<R: Threads + Wait>(
 }
 
 /// The reports of all items, numbered from 1, and the worst of their statuses.
-fn item_reports<R: Threads + Wait>(
+fn item_reports<R: Threads + Wait + Sync>(
     rt: &R,
     alloc: Global,
     compiled: &Compiled,
@@ -207,7 +207,7 @@ fn item_reports<R: Threads + Wait>(
 }
 
 /// The reports of the items behind the model, or the first refusal.
-fn run_output<R: Threads + Wait>(
+fn run_output<R: Threads + Wait + Sync>(
     rt: &R,
     alloc: Global,
     input: &[u8],
@@ -238,7 +238,7 @@ fn run_output<R: Threads + Wait>(
 ///
 /// The status is `Lost` where an item was lost, else `Failed` where one is not explained or not valid, else `Accepted`;
 /// `Refused` where the input is refused; `Lost` where memory was refused or the writer failed. The relations of the system stay.
-pub fn run_text<W: Sink, R: Threads + Wait>(
+pub fn run_text<W: Sink, R: Threads + Wait + Sync>(
     rt: &R,
     alloc: Global,
     input: &[u8],
@@ -257,7 +257,7 @@ pub fn run_text<W: Sink, R: Threads + Wait>(
 
 /// Does what [`run_text`] does, and adds to the counts what each item that was reported came to. Where memory is refused
 /// outside the driver nothing is counted.
-pub fn run_counting<W: Sink, R: Threads + Wait>(
+pub fn run_counting<W: Sink, R: Threads + Wait + Sync>(
     rt: &R,
     alloc: Global,
     input: &[u8],

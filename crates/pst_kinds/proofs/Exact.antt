@@ -1,9 +1,10 @@
 -- `==` of nodes holds of equal ones alone.
-use Rattle.std.proofs.Common.{◌≡◌, Bool, true, false, ◌&&◌, refl, sym, ap, ◌∙◌}
+use Rattle.std.proofs.Common.{◌≡◌, Bool, true, false, ◌&&◌, List, [], ◌∷◌, refl, sym, ap, ◌∙◌}
+use Rattle.std.specs.List.{AllByRecursion}
 use Rattle.std.specs.Prelude.{nat_eq}
 use Rattle.std.specs.Cmp.Lexicographic.{pointwise, bytes_decides}
 use Rattle.std.proofs.lemmas.Bool.Decides.{Decides-eqb}
-use Rattle.pst_items.proofs.Exact.{IsExactChoice, by_exact, both_first, both_second}
+use Rattle.pst_items.proofs.Exact.{IsExactAt, IsExactChoice, by_exact, both_first, both_second, lists_exact}
 use Rattle.pst_kinds.specs.declared.node.Node.{Node}
 use Rattle.pst_kinds.specs.declared.node.Node.TheVariants as node
 use Rattle.pst_kinds.specs.contracts.node.Node as enum
@@ -43,3 +44,10 @@ compared a b = refl
 pub node_exact : (a b : Node) → same_node a b ≡ true → a ≡ b
 node_exact a b e =
     sym (enum.the_eta a) ∙ ap enum.the_make (by_exact enum.the_parts each (enum.as_values a) (enum.as_values b) (fields a) (sym (compared a b) ∙ e)) ∙ enum.the_eta b
+
+nodes_exact : (xs : List Node) → AllByRecursion (IsExactAt same_node) xs
+nodes_exact [] = tt
+nodes_exact (x ∷ xs) = (node_exact x, nodes_exact xs)
+
+pub same_nodes : (xs ys : List Node) → pointwise same_node xs ys ≡ true → xs ≡ ys
+same_nodes xs = lists_exact same_node xs (nodes_exact xs)

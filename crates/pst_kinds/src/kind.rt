@@ -1,6 +1,6 @@
 //! Types whose equal parts are shared.
 
-ghost use Rattle.std.specs.Prelude.{◌≡◌, ◌<◌, length, IfOk, IfSome};
+ghost use Rattle.std.specs.Prelude.{◌≡◌, ◌<◌, length, IfOk};
 ghost use Rattle.pst_kinds.specs.Adding.{AreAdded, IsAdded};
 ghost use Rattle.pst_kinds.specs.Forms.{formed};
 ghost use Rattle.pst_kinds.specs.Nodes.{type_at};
@@ -11,7 +11,6 @@ ghost use Rattle.pst_value.specs.declared.ty.Ty.TheVariants as ty;
 use crate::form::{Form, form_of, node_holds_ref};
 use crate::node::Node;
 use crate::nodes::Nodes;
-use crate::tree::tree_of;
 use pst_items::Items;
 use pst_value::{KeyTy, Ty};
 use std::alloc::{AllocError, Global};
@@ -133,6 +132,9 @@ impl Kind {
     pub fn same(&self, alloc: Global, other: &Kind) -> Result<bool, AllocError>
         ensures { IfOk result (λ same. same ≡ same_ty self.now other.now) }
     {
+        if self.root == other.root && self.nodes.as_ref().equals(other.nodes.as_ref()) {
+            return Ok(true);
+        }
         let mut nodes = Nodes::new(alloc);
         let first = self.add_to(alloc, &mut nodes)?;
         let second = other.add_to(alloc, &mut nodes)?;
@@ -151,14 +153,6 @@ impl Kind {
         ensures { IfOk result (λ held. held ≡ kinds.holds_ref self.now) }
     {
         node_holds_ref(alloc, self.nodes.as_ref(), self.root)
-    }
-
-    /// The type as a tree, or `None` where the tree has more than `most` forms.
-    pub fn tree(&self, alloc: Global, most: usize) -> Result<Option<Ty>, AllocError>
-        ensures { IfOk result (λ found. IfSome found (λ tree. tree ≡ self.now)) }
-    {
-        let mut left = most;
-        tree_of(alloc, self.nodes.as_ref(), self.root, &mut left)
     }
 
     /// Whether this is the kind of a type.

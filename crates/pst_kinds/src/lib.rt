@@ -8,7 +8,6 @@ mod form;
 mod kind;
 mod node;
 mod nodes;
-mod tree;
 
 pub use form::Form;
 pub use kind::Kind;

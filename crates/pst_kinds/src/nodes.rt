@@ -1,6 +1,6 @@
 //! A list of nodes, each of them once.
 
-ghost use Rattle.std.specs.Prelude.{◌≡◌, [], ◌<◌, length, map, slice_index, IfOk};
+ghost use Rattle.std.specs.Prelude.{◌≡◌, true, [], ◌<◌, length, map, slice_index, IfOk};
 ghost use Rattle.pst_kinds.specs.Adding as spec;
 ghost use Rattle.pst_kinds.specs.Adding.{IsAdded};
 ghost use Rattle.pst_kinds.specs.Nodes.{node_type, type_at, AreBelow, IsBelow};
@@ -80,6 +80,13 @@ impl Nodes {
     {
         let _count = self.nodes.len();
         first == second
+    }
+
+    /// Whether these are the same nodes in the same order, and so the same types.
+    pub fn equals(&self, others: &Nodes) -> bool
+        ensures { result ≡ true → self.now ≡ others.now }
+    {
+        self.nodes.as_slice() == others.nodes.as_slice()
     }
 
     /// The number of the type that a node of others has. What it needs is added.

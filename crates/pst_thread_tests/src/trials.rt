@@ -4,3 +4,4 @@ mod ended;
 mod plans;
 mod resets;
 mod shrinking;
+mod working;

@@ -1,0 +1,97 @@
+//! One worker at a ledger.
+ghost use Rattle.std.specs.Prelude.{◌≡◌, None};
+ghost use Rattle.std.specs.Arc.{arc_value};
+
+use crate::trials::plans::{ONE, plan_of};
+use crate::trials::resets::Resets;
+use pst_campaign::work;
+use pst_ledger::{Cause, Closed, Entry, Ledger};
+use pst_samples::Stuck;
+use pst_system::BoxedSystem;
+use pst_trial::{Plan, Record, Settings, trial};
+use std::alloc::Global;
+use std::sync::{Arc, Wait};
+use std::test::Fail;
+use std::thread::Threads;
+
+/// A plan of twelve trials, each of which is driven once.
+fn twelve(alloc: Global) -> Option<Arc<Plan>> {
+    let settings = Settings {
+        trials: 12,
+        commands: 3,
+        repeats: 1,
+        ..Settings::default()
+    };
+    plan_of(alloc, ONE, settings)
+}
+
+/// What became of the trials of a plan when one worker has done them all on a system.
+fn closed_by_one<R: Threads + Wait + Sync>(
+    rt: &R,
+    alloc: Global,
+    plan: &Arc<Plan>,
+    mut system: BoxedSystem,
+) -> Option<Closed<Record>> {
+    let trials = plan.settings().trials as u64;
+    let (ledger, mut seats) = Ledger::<Record>::open(alloc, trials, 1).ok()?;
+    let mut seat = seats.pop()?;
+    work(rt, alloc, plan, &ledger, &mut seat, &mut system);
+    seats.push(seat).ok()?;
+    ledger.close(seats).ok()
+}
+
+/// Whether an entry is the record of the number, with the outcome of its trial alone on the system that answers 0.
+fn is_record_on_stuck<R: Threads + Wait + Sync>(
+    rt: &R,
+    alloc: Global,
+    plan: &Arc<Plan>,
+    number: u64,
+    entry: &Entry<Record>,
+) -> Option<bool> {
+    let Entry::Done(record) = entry else {
+        return Some(false);
+    };
+    let mut stuck: BoxedSystem = Box::new(alloc, Stuck).ok()?;
+    let alone = trial(rt, alloc, plan, number, &mut stuck).ok()?;
+    let wanted = format!(in alloc; "{:?}", alone.outcome()).ok()?;
+    let outcome = format!(in alloc; "{:?}", record.outcome()).ok()?;
+    Some(record.number() == number && outcome.as_str() == wanted.as_str())
+}
+
+/// How many of the twelve entries are such records, when the worker has the system that answers 0.
+fn records_on_stuck<R: Threads + Wait + Sync>(rt: &R, alloc: Global) -> Option<usize> {
+    let plan = twelve(alloc)?;
+    let stuck: BoxedSystem = Box::new(alloc, Stuck).ok()?;
+    let closed = closed_by_one(rt, alloc, &plan, stuck)?;
+    let mut count: usize = 0;
+    for (number, entry) in closed.entries().iter().enumerate() {
+        if is_record_on_stuck(rt, alloc, &plan, number as u64, entry)? {
+            count = count.saturating_add(1);
+        }
+    }
+    Some(count)
+}
+
+#[test]
+fn a_worker_deposits_each_record(rt: HostRuntime) -> Result<(), Fail> {
+    assert_eq!(rt; records_on_stuck(&rt, rt.alloc()), Some(12));
+    Ok(())
+}
+
+/// How many of the twelve entries are lost for a refused reset, when the worker has a system that refuses every reset.
+fn lost_without_resets<R: Threads + Wait + Sync>(rt: &R, alloc: Global) -> Option<usize> {
+    let plan = twelve(alloc)?;
+    let closed = closed_by_one(rt, alloc, &plan, Box::new(alloc, Resets::new(0)).ok()?)?;
+    let entries = closed.entries().iter();
+    Some(
+        entries
+            .filter(|entry| matches!(entry, Entry::Lost(Cause::ResetFailed)))
+            .count(),
+    )
+}
+
+#[test]
+fn a_worker_gives_up_each_number(rt: HostRuntime) -> Result<(), Fail> {
+    assert_eq!(rt; lost_without_resets(&rt, rt.alloc()), Some(12));
+    Ok(())
+}
