@@ -111,8 +111,8 @@ fn count_and_warn<R: Eprint>(
     warn_on_answers(rt, alloc, files, input, answered);
 }
 
-/// Judges the items of the input, up to the first that is refused, or all of them where the words ask for it. Behind
-/// the lines on standard output messages may stand on standard error, unless the words forbid it. Then the items are
+/// Judges the items of the input, up to the first that is refused, or all of them if the words ask for it or ask for JSON.
+/// After the lines on standard output messages may be on standard error, unless the words forbid it. Then the items are
 /// counted as well.
 pub fn judge<W: Sink, R: Threads + Sync + Eprint>(
     rt: &R,

@@ -16,6 +16,7 @@ mod help;
 mod input;
 mod judging;
 mod least;
+mod noticed;
 mod overheard;
 mod progress;
 mod refused;
@@ -48,7 +49,6 @@ use std::sync::Wait;
 use std::thread::{Builder, Threads};
 use std::time::Clock;
 use systems::{Unmade, Wanted};
-use words::is_json;
 
 /// Which streams of the program are terminals.
 #[derive(Clone, Copy, Drop)]
@@ -99,10 +99,7 @@ fn with_systems<W: Sink, R: Threads + Wait + Sync + Eprint + Files + Clock + All
 }
 
 /// Does what the words say of an input, on standard output, and counts what its items came to.
-fn answer<
-    W: Sink,
-    R: Threads + Wait + Sync + Eprint + Files + Clock + io::Input + AllocGlobal,
->(
+fn answer<W: Sink, R: Threads + Wait + Sync + Eprint + Files + Clock + io::Input + AllocGlobal>(
     rt: &R,
     matches: &ArgMatches<'_>,
     systems: Systems,
@@ -120,7 +117,10 @@ fn answer<
     let alloc = rt.alloc();
     let Input { files, bytes } = input;
     match word {
-        "check" if is_json(words) => check_json(alloc, bytes, out),
+        "check" if noticed::are_written(word, words) => {
+            let notices = noticed::lines(alloc, words, &input);
+            check_json(alloc, bytes, notices.as_slice(), out)
+        }
         "check" => check_text(alloc, bytes, out),
         "list" => list_text(alloc, bytes, out),
         "generate" => generating::generate(rt, words, bytes, out),
@@ -151,7 +151,7 @@ fn say<R: Eprint + AllocGlobal>(
     let Some((word, words)) = matches.subcommand() else {
         return;
     };
-    if words.get_flag("quiet") {
+    if words.get_flag("quiet") || noticed::are_written(word, words) {
         return;
     }
     let Input { files, bytes } = input;

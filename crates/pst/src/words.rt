@@ -109,7 +109,7 @@ fn stream<'a>(alloc: Global) -> Result<Arg<'a>, AllocError> {
         .long("stream")
         .action(ArgAction::SetTrue)
         .help("Judges the items on the lines of standard input as they come, one on each line")
-        .conflicts_with_all(&["keep-going", "failures", "all-messages"])
+        .conflicts_with_all(&["keep-going", "failures", "all-messages", "format"])
 }
 
 /// The option that leaves out the items that are explained or valid.

@@ -1,5 +1,5 @@
 //! `pst judge` and `pst check` with `--format json`.
-ghost use Rattle.std.specs.Prelude.{◌≡◌, ◌++◌, false, IfOk, IfSome, OnOk};
+ghost use Rattle.std.specs.Prelude.{◌≡◌, [], ◌++◌, false, IfOk, IfSome, OnOk};
 ghost use Rattle.pst_cli.specs.JsonOutput.{
   IsCheckJson,
   IsJudgeJson,
@@ -136,8 +136,8 @@ pub fn judge_json<W: Sink, R: Threads + Sync>(
 const MEMORY_OBJECT: &[u8] = b"{\"verdict\":\"refused\",\"stage\":\"memory\"}\n";
 
 /// The object of a well-typed model, or of its first refusal.
-fn check_output(alloc: Global, input: &[u8]) -> Result<Output, AllocError>
-    ensures { IfOk result (λ output. IsCheckJson input.now output.text.items output.status) }
+fn check_object(alloc: Global, input: &[u8]) -> Result<Output, AllocError>
+    ensures { IfOk result (λ output. IsCheckJson input.now [] output.text.items output.status) }
 {
     match load(alloc, input)? {
         Ok(file) => {
@@ -151,14 +151,24 @@ fn check_output(alloc: Global, input: &[u8]) -> Result<Output, AllocError>
     }
 }
 
+/// The object of a well-typed model, or of its first refusal, and the notices.
+fn check_output(alloc: Global, input: &[u8], notices: &[u8]) -> Result<Output, AllocError>
+    ensures { IfOk result (λ output. IsCheckJson input.now notices.now output.text.items output.status) }
+{
+    let Output { mut text, status } = check_object(alloc, input)?;
+    text.extend_from_slice(notices)?;
+    Ok(Output { text, status })
+}
+
 /// Writes the object of the well-typed model that the input begins with, or else that of its first refusal, on a line, and
-/// returns the status. If an allocation fails, the object of that is written alone.
-pub fn check_json<W: Sink>(alloc: Global, input: &[u8], sink: &mut W) -> Status
+/// after it the notices, which are lines of objects. Returns the status. If an allocation fails, the object of that is
+/// written alone.
+pub fn check_json<W: Sink>(alloc: Global, input: &[u8], notices: &[u8], sink: &mut W) -> Status
     requires { W.broken sink.old ≡ false }
-    ensures { PrintsElse memory_object (IsCheckJson input.now)
+    ensures { PrintsElse memory_object (IsCheckJson input.now notices.now)
         (W.taken sink.old) (W.taken sink.new) (W.broken sink.new) result }
 {
-    match check_output(alloc, input) {
+    match check_output(alloc, input, notices) {
         Ok(output) => send(output.text.as_slice(), output.status, sink),
         Err(AllocError) => send(MEMORY_OBJECT, Status::Lost, sink),
     }

@@ -28,6 +28,7 @@ name_text name.Start = codes "start"
 name_text name.End = codes "end"
 name_text name.Message = codes "message"
 name_text name.Notes = codes "notes"
+name_text name.Explanation = codes "explanation"
 
 -- the name of a member, and its value
 abbrev pub field_name : Field → List ℕ

@@ -45,6 +45,8 @@ pub enum Name {
     Message,
     /// What was expected, what was found, and hints.
     Notes,
+    /// Why it is wrong, in lines.
+    Explanation,
 }
 
 impl Name {
@@ -72,6 +74,7 @@ impl Name {
             Name::End => "end",
             Name::Message => "message",
             Name::Notes => "notes",
+            Name::Explanation => "explanation",
         }
     }
 }

@@ -10,6 +10,6 @@ mod object;
 mod refusal;
 
 pub use field::{Field, Name};
-pub use judgement::{judged_fields, refused_fields};
+pub use judgement::{add_number, add_words, judged_fields, refused_fields};
 pub use object::object_line;
 pub use refusal::{accepted_fields, refusal_fields};
