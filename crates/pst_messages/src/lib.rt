@@ -7,4 +7,4 @@
 mod bytes;
 mod message;
 
-pub use message::{Asked, message_of};
+pub use message::{Asked, errors_of, message_of};
