@@ -3,25 +3,29 @@
 ghost use Rattle.std.specs.Prelude.{◌≡◌, false};
 ghost use Rattle.pst_trial.specs.Settings.{AreInRange};
 
+use crate::input::STANDARD_INPUT;
 use crate::progress::Progress;
+use crate::saving::{Both, Folder};
 use crate::{least, words};
 use clap::ArgMatches;
-use pst_campaign::Unwatched;
+use pst_campaign::{Unwatched, Watch};
 use pst_cli::{Absence, Status, campaign_text, refuse_text};
 use pst_sink::{Out, Sink, put_all};
 use pst_system::BoxedSystem;
 use pst_trial::Settings;
-use std::alloc::Global;
+use std::alloc::{AllocError, Global};
+use std::rt::Files;
 use std::sync::Wait;
 use std::thread::Threads;
 use std::time::Clock;
 
-/// Runs a campaign. Where standard error is a terminal a line on it says how far the campaign is.
-fn watched<W: Sink, R: Threads + Wait + Sync + Eprint + Clock>(
+/// Runs a campaign. If standard error is a terminal, a line on it says how far the campaign is.
+fn watched<W: Sink, K: Watch + Sync, R: Threads + Wait + Sync + Eprint + Clock>(
     rt: &R,
     alloc: Global,
     settings: Settings,
     systems: Vec<BoxedSystem>,
+    watch: &K,
     is_terminal: bool,
     input: &[u8],
     out: &mut W,
@@ -31,19 +35,24 @@ fn watched<W: Sink, R: Threads + Wait + Sync + Eprint + Clock>(
 {
     if is_terminal {
         if let Ok(progress) = Progress::new(rt) {
-            return campaign_text(rt, alloc, input, settings, systems, &progress, out);
+            let both = Both {
+                first: &progress,
+                second: watch,
+            };
+            return campaign_text(rt, alloc, input, settings, systems, &both, out);
         }
     }
-    campaign_text(rt, alloc, input, settings, systems, &Unwatched, out)
+    campaign_text(rt, alloc, input, settings, systems, watch, out)
 }
 
-/// Runs a campaign whose report is written once it stands whole. Explanations of its least failure and of its first trial
-/// without a case stand on standard error in the end.
-fn explained<W: Sink, R: Threads + Wait + Sync + Eprint + Clock>(
+/// Runs a campaign whose report is written once it is whole. Explanations of its least failure and of its first trial without a
+/// case are on standard error in the end.
+fn explained<W: Sink, K: Watch + Sync, R: Threads + Wait + Sync + Eprint + Clock>(
     rt: &R,
     alloc: Global,
     settings: Settings,
     systems: Vec<BoxedSystem>,
+    watch: &K,
     is_terminal: bool,
     input: &[u8],
     out: &mut W,
@@ -57,12 +66,13 @@ fn explained<W: Sink, R: Threads + Wait + Sync + Eprint + Clock>(
         alloc,
         settings,
         systems,
+        watch,
         is_terminal,
         input,
         &mut report,
     );
     let report = report.into_inner();
-    // A report has lines: there are none only where the buffer was refused memory.
+    // A report has lines: there are none only if an allocation of the buffer failed.
     if report.is_empty() {
         return refuse_text(Absence::NoMemory, out);
     }
@@ -73,10 +83,95 @@ fn explained<W: Sink, R: Threads + Wait + Sync + Eprint + Clock>(
     status
 }
 
-/// Runs a campaign with a worker for each of the systems, if there are some. Unless the words forbid it, a line on
-/// standard error, where that is a terminal, says how far the campaign is, and explanations of the least failure and of the
-/// first trial without a case stand there in the end.
-pub fn campaign<W: Sink, R: Threads + Wait + Sync + Eprint + Clock>(
+/// Runs a campaign that is watched, with messages on standard error unless the words forbid it.
+fn told<W: Sink, K: Watch + Sync, R: Threads + Wait + Sync + Eprint + Clock>(
+    rt: &R,
+    alloc: Global,
+    words: &ArgMatches<'_>,
+    systems: Vec<BoxedSystem>,
+    watch: &K,
+    is_terminal: bool,
+    input: &[u8],
+    out: &mut W,
+) -> Status
+    requires { W.broken out.old ≡ false }
+{
+    let Some(settings) = words::settings(words) else {
+        return Status::Refused;
+    };
+    if words.get_flag("quiet") {
+        return campaign_text(rt, alloc, input, settings, systems, watch, out);
+    }
+    explained(
+        rt,
+        alloc,
+        settings,
+        systems,
+        watch,
+        is_terminal,
+        input,
+        out,
+    )
+}
+
+/// The words of a command before the file of a case that it drives on the same system.
+fn command(alloc: Global, words: &ArgMatches<'_>, name: &str) -> Result<String, AllocError> {
+    let mut command = String::from_str(alloc, "pst run ")?;
+    if name.contains(':') {
+        command.push_str("--client COMMAND")?;
+    } else {
+        command.push_str(name)?;
+    }
+    command.push_str(" --repeats 20 ")?;
+    let model = match words.get_strs("FILE") {
+        Some(&[model]) if model != STANDARD_INPUT => model,
+        _ => "MODEL",
+    };
+    command.push_str(model)?;
+    Ok(command)
+}
+
+/// Runs a campaign whose failures are saved in a folder. The status is `Lost` as well if one could not be saved.
+fn saving<W: Sink, R: Threads + Wait + Sync + Eprint + Files + Clock>(
+    rt: &R,
+    alloc: Global,
+    words: &ArgMatches<'_>,
+    name: &str,
+    systems: Vec<BoxedSystem>,
+    folder: &str,
+    is_terminal: bool,
+    input: &[u8],
+    out: &mut W,
+) -> Status
+    requires { W.broken out.old ≡ false }
+{
+    let Ok(command) = command(alloc, words, name) else {
+        return refuse_text(Absence::NoMemory, out);
+    };
+    let folder = match Folder::made(rt, alloc, folder, command) {
+        Ok(folder) => folder,
+        Err(error) => {
+            let _ = eprintln!(rt; "pst: cannot make {folder}: {error}");
+            return Status::Lost;
+        }
+    };
+    let status = told(
+        rt,
+        alloc,
+        words,
+        systems,
+        &folder,
+        is_terminal,
+        input,
+        out,
+    );
+    status.or_worse(folder.report(words.get_flag("quiet")))
+}
+
+/// Runs a campaign with a worker for each of the systems, if there are some, and saves its failures if the words ask for it.
+/// Unless the words forbid it, a line on standard error, if that is a terminal, says how far the campaign is, and explanations of
+/// the least failure and of the first trial without a case are there in the end.
+pub fn campaign<W: Sink, R: Threads + Wait + Sync + Eprint + Files + Clock>(
     rt: &R,
     alloc: Global,
     words: &ArgMatches<'_>,
@@ -91,11 +186,31 @@ pub fn campaign<W: Sink, R: Threads + Wait + Sync + Eprint + Clock>(
     if systems.is_empty() {
         return refuse_text(Absence::NoSystem(name), out);
     }
-    let Some(settings) = words::settings(words) else {
-        return Status::Refused;
-    };
-    if words.get_flag("quiet") {
-        return campaign_text(rt, alloc, input, settings, systems, &Unwatched, out);
+    match words.get_str("save") {
+        Some(folder) => {
+            saving(
+                rt,
+                alloc,
+                words,
+                name,
+                systems,
+                folder,
+                is_terminal,
+                input,
+                out,
+            )
+        }
+        None => {
+            told(
+                rt,
+                alloc,
+                words,
+                systems,
+                &Unwatched,
+                is_terminal,
+                input,
+                out,
+            )
+        }
     }
-    explained(rt, alloc, settings, systems, is_terminal, input, out)
 }

@@ -3,7 +3,8 @@ ghost use Rattle.std.specs.Prelude.{◌≡◌, false};
 
 use crate::explained::explain_run;
 use crate::overheard;
-use pst_cli::{Absence, Counts, Status, refuse_text, run_counting};
+use clap::ArgMatches;
+use pst_cli::{Absence, Counts, Status, refuse_text, run_counting, run_repeatedly};
 use pst_misfits::Misfits;
 use pst_sink::{Out, Sink, put_all};
 use pst_system::BoxedSystem;
@@ -53,12 +54,33 @@ fn explain_broken<R: Threads + Sync + Eprint>(rt: &R, alloc: Global, input: &[u8
     }
 }
 
+/// Drives the items of the input once each, or as often as is asked for.
+fn run_items<W: Sink, R: Threads + Wait + Sync>(
+    rt: &R,
+    alloc: Global,
+    system: &mut BoxedSystem,
+    repeats: Option<u32>,
+    input: &[u8],
+    counts: &mut Counts,
+    out: &mut W,
+) -> Status
+    requires { W.broken out.old ≡ false }
+{
+    match repeats {
+        Some(repeats) if repeats >= 1 => {
+            run_repeatedly(rt, alloc, input, system, repeats, counts, out)
+        }
+        _ => run_counting(rt, alloc, input, system, counts, out),
+    }
+}
+
 /// Drives the items of the input, and writes the report once it is whole. Then lines on standard error say what was answered
 /// where a reply is `misfit`, and why a run is broken.
 fn drive_and_explain<W: Sink, R: Threads + Wait + Sync + Eprint>(
     rt: &R,
     alloc: Global,
     system: &mut BoxedSystem,
+    repeats: Option<u32>,
     misfits: &Misfits,
     input: &[u8],
     counts: &mut Counts,
@@ -68,7 +90,7 @@ fn drive_and_explain<W: Sink, R: Threads + Wait + Sync + Eprint>(
 {
     overheard::begin(alloc, misfits, input);
     let mut report = Out::new(Vec::new(alloc));
-    let status = run_counting(rt, alloc, input, system, counts, &mut report);
+    let status = run_items(rt, alloc, system, repeats, input, counts, &mut report);
     let report = report.into_inner();
     // Each status but `Accepted` has a line: there is none only if the buffer was refused memory.
     if report.is_empty() && status != Status::Accepted {
@@ -87,6 +109,7 @@ fn drive_and_explain<W: Sink, R: Threads + Wait + Sync + Eprint>(
 pub fn drive<W: Sink, R: Threads + Wait + Sync + Eprint>(
     rt: &R,
     alloc: Global,
+    words: &ArgMatches<'_>,
     name: &str,
     mut systems: Vec<BoxedSystem>,
     misfits: Option<&Misfits>,
@@ -99,8 +122,20 @@ pub fn drive<W: Sink, R: Threads + Wait + Sync + Eprint>(
     let Some(mut system) = systems.pop() else {
         return refuse_text(Absence::NoSystem(name), out);
     };
+    let repeats = words.get_one("repeats");
     match misfits {
-        Some(misfits) => drive_and_explain(rt, alloc, &mut system, misfits, input, counts, out),
-        None => run_counting(rt, alloc, input, &mut system, counts, out),
+        Some(misfits) => {
+            drive_and_explain(
+                rt,
+                alloc,
+                &mut system,
+                repeats,
+                misfits,
+                input,
+                counts,
+                out,
+            )
+        }
+        None => run_items(rt, alloc, &mut system, repeats, input, counts, out),
     }
 }

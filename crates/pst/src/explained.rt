@@ -1,6 +1,6 @@
 //! Explanations of runs that a command printed, on standard error.
 
-use pst_cli::{Chosen, Status, explain_text};
+use pst_cli::{Chosen, Explaining, ExplanationForm, Status, explain_text};
 use pst_places::span_of;
 use pst_sink::Out;
 use std::alloc::{AllocError, Global};
@@ -28,15 +28,13 @@ fn explanation<R: Threads + Sync>(
 ) -> Result<Option<Vec<u8>>, AllocError> {
     let file = file_of(alloc, input, run)?;
     let mut out = Out::new(Vec::new(alloc));
-    let status = explain_text(
-        rt,
-        alloc,
-        file.as_slice(),
-        &[],
-        Chosen::All,
-        WIDTH,
-        &mut out,
-    );
+    let asked = Explaining {
+        files: &[],
+        chosen: Chosen::All,
+        most: usize::MAX,
+        form: ExplanationForm::Text(WIDTH),
+    };
+    let status = explain_text(rt, alloc, file.as_slice(), asked, &mut out);
     if status != Status::Failed {
         return Ok(None);
     }

@@ -5,7 +5,7 @@ ghost use Rattle.std.specs.Prelude.{◌≡◌, false};
 use crate::help;
 use clap::builder::ValueParser;
 use clap::{Arg, ArgAction, ArgMatches, Command};
-use pst_cli::{Chosen, Status, explain_text, graph_text};
+use pst_cli::{Chosen, Explaining, ExplanationForm, Status, explain_text, graph_text};
 use pst_sexpr::MAX_BYTES;
 use pst_sink::Sink;
 use pst_sources::SourceFile;
@@ -25,13 +25,38 @@ fn width_option<'a>(alloc: Global) -> Arg<'a> {
         .help("The width of lines, from 20 to 1000")
 }
 
+/// The forms of explanations.
+const FORMS: [&str; 4] = ["text", "json", "html", "dot"];
+
+/// The option that names the form of the explanations.
+fn format_option<'a>(alloc: Global) -> Arg<'a> {
+    Arg::new(alloc, "format")
+        .long("format")
+        .value_name("FORM")
+        .value_parser(ValueParser::Names(&FORMS))
+        .default_value("text")
+        .help(
+            "text, json, a page for a browser (html), or the search of one item as a graph for Graphviz (dot)",
+        )
+        .hide_possible_values(true)
+}
+
 /// The option that asks for a graph.
 fn dot_option<'a>(alloc: Global) -> Result<Arg<'a>, AllocError> {
     Arg::new(alloc, "dot")
         .long("dot")
         .action(ArgAction::SetTrue)
-        .help("Writes the search of one item as a graph for Graphviz, and no explanations")
-        .conflicts_with("failures")
+        .help("Short for --format dot")
+        .conflicts_with("format")
+}
+
+/// The option that limits how many items are explained.
+fn max_option<'a>(alloc: Global) -> Arg<'a> {
+    Arg::new(alloc, "max")
+        .long("max")
+        .value_name("N")
+        .value_parser(ValueParser::Unsigned(1, MAX_BYTES as u64))
+        .help("Explains at most N items: the first of those that are chosen")
 }
 
 /// The option that names the item that is explained or drawn.
@@ -41,26 +66,28 @@ fn item_option<'a>(alloc: Global) -> Result<Arg<'a>, AllocError> {
         .value_name("N")
         .value_parser(ValueParser::Unsigned(1, MAX_BYTES as u64))
         .help(
-            "The one item that is explained; with --dot the one that is drawn, else the first that is not explained",
+            "The one item that is explained; as dot the one that is drawn, else the first that is not explained",
         )
         .conflicts_with("failures")
 }
 
-/// `explain`, with files and the width of lines.
+/// `explain`, with files, the form of explanations and the width of lines.
 fn with_files<'a>(alloc: Global) -> Result<Command<'a>, AllocError> {
     Command::new(alloc, "explain")
         .about("Explains the verdicts on cases and recorded runs")
         .after_help(help::EXPLAIN)
         .arg(crate::words::files(alloc))?
+        .arg(format_option(alloc))?
+        .arg(dot_option(alloc)?)?
         .arg(width_option(alloc))
 }
 
-/// `explain`, with files, the width of lines, and the items that are explained or drawn.
+/// `explain`, with files, the form of explanations, and the items that are explained.
 pub fn command<'a>(alloc: Global) -> Result<Command<'a>, AllocError> {
     with_files(alloc)?
         .arg(crate::words::failures(alloc))?
-        .arg(dot_option(alloc)?)?
         .arg(item_option(alloc)?)?
+        .arg(max_option(alloc))?
         .arg(crate::words::output(alloc))
 }
 
@@ -91,6 +118,28 @@ fn chosen(words: &ArgMatches<'_>) -> Chosen {
     }
 }
 
+/// The most items that the words allow.
+fn most(words: &ArgMatches<'_>) -> usize {
+    let most: Option<u64> = words.get_one("max");
+    match most {
+        Some(most) => most as usize,
+        None => usize::MAX,
+    }
+}
+
+/// The form of explanations that the words ask for; `None`: a graph.
+fn form(words: &ArgMatches<'_>) -> Option<ExplanationForm> {
+    if words.get_flag("dot") {
+        return None;
+    }
+    match words.get_str("format") {
+        Some("json") => Some(ExplanationForm::Json),
+        Some("html") => Some(ExplanationForm::Html),
+        Some("dot") => None,
+        _ => Some(ExplanationForm::Text(width(words))),
+    }
+}
+
 /// Explains the chosen items of the input, which is the text of the files, or draws the search of one of them if the words
 /// ask for it.
 pub fn explain<W: Sink, R: Threads + Sync>(
@@ -103,9 +152,14 @@ pub fn explain<W: Sink, R: Threads + Sync>(
 ) -> Status
     requires { W.broken out.old ≡ false }
 {
-    if words.get_flag("dot") {
-        graph_text(rt, alloc, input, item(words), out)
-    } else {
-        explain_text(rt, alloc, input, files, chosen(words), width(words), out)
-    }
+    let Some(form) = form(words) else {
+        return graph_text(rt, alloc, input, item(words), out);
+    };
+    let asked = Explaining {
+        files,
+        chosen: chosen(words),
+        most: most(words),
+        form,
+    };
+    explain_text(rt, alloc, input, asked, out)
 }

@@ -26,6 +26,10 @@ pub const JUDGE: &str = "\
 Examples:
   pst judge cache.model monday.runs tuesday.runs
   pst judge --keep-going --failures cache.runs
+  tail -f cache.runs | pst judge --stream cache.model
+
+With --stream standard input has one item on each line, and the line of its verdict is printed before more is read. A line with
+no item, or longer than 1 MiB, is refused as BadForm.
 
 Exit status: 0 if all items are explained or valid, 1 if some item is not, 2 if the input is refused
 (with --keep-going: if some item is), 3 if an allocation failed or the output cannot be written.";
@@ -43,6 +47,7 @@ pub const RUN: &str = "\
 Examples:
   pst run counter counter.model cases.runs
   pst run --client ./client.py cache.model cases.runs
+  pst run --client ./client.py --repeats 20 cache.model failures/*.runs
 
 `--client COMMAND` stands in place of SYSTEM; with `--shared` one process has all branches.
 
@@ -54,11 +59,24 @@ pub const CAMPAIGN: &str = "\
 Examples:
   pst campaign --client ./client.py cache.model --trials 200
   pst campaign racy counter.model --seed 1
+  pst campaign --client ./client.py cache.model --save failures
 
 `--client COMMAND` stands in place of SYSTEM; with `--shared` one process has all branches.
 
 Exit status: 0 if all trials passed, 1 if some trial did not, 2 if the input is refused, 3 if a trial was lost,
 an allocation failed or the output cannot be written.";
+
+/// After the help of `generate`.
+pub const GENERATE: &str = "\
+Examples:
+  pst generate cache.model --trials 1000 --seed 7 > cases.runs
+  pst generate cache.model --trials 1000 --first 1000
+
+Line K, from `--first` on, is the case of trial K of a campaign with the same seed, commands, branches and suffix; or
+`genfault K COMMAND CALLBACK KIND` if the model faults there.
+
+Exit status: 0 if each trial has a case, 1 if some has none, 2 if the input is refused, 3 if an allocation failed or the output
+cannot be written.";
 
 /// After the help of `fmt`.
 pub const FMT: &str = "\

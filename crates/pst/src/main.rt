@@ -10,6 +10,7 @@ mod driving;
 mod explained;
 mod explaining;
 mod formatting;
+mod generating;
 mod hangs;
 mod help;
 mod input;
@@ -18,6 +19,8 @@ mod least;
 mod overheard;
 mod progress;
 mod refused;
+mod saving;
+mod streaming;
 mod summary;
 mod systems;
 mod warned;
@@ -38,7 +41,7 @@ use std::alloc::Global;
 use std::io;
 use std::io::{IsTerminal, Write};
 use std::process::ExitCode;
-use std::rt::Runtime;
+use std::rt::{Files, Runtime};
 use std::sync::Wait;
 use std::thread::{Builder, Threads};
 use std::time::Clock;
@@ -65,7 +68,7 @@ fn and_one(systems: Systems, system: Result<BoxedSystem, Unmade>) -> Systems {
 }
 
 /// Does what the word says that takes a system.
-fn with_systems<W: Sink, R: Threads + Wait + Sync + Eprint + Clock + AllocGlobal>(
+fn with_systems<W: Sink, R: Threads + Wait + Sync + Eprint + Files + Clock + AllocGlobal>(
     rt: &R,
     matches: &ArgMatches<'_>,
     systems: Systems,
@@ -84,7 +87,7 @@ fn with_systems<W: Sink, R: Threads + Wait + Sync + Eprint + Clock + AllocGlobal
     let name = words.get_str("SYSTEM").unwrap_or("");
     match systems {
         Ok(systems) if word == "run" => {
-            drive(rt, alloc, name, systems, misfits, input, counts, out)
+            drive(rt, alloc, words, name, systems, misfits, input, counts, out)
         }
         Ok(systems) => campaign(rt, alloc, words, name, systems, is_terminal, input, out),
         Err(Unmade::NoMemory) => refuse_text(Absence::NoMemory, out),
@@ -93,7 +96,10 @@ fn with_systems<W: Sink, R: Threads + Wait + Sync + Eprint + Clock + AllocGlobal
 }
 
 /// Does what the words say of an input, on standard output, and counts what its items came to.
-fn answer<W: Sink, R: Threads + Wait + Sync + Eprint + Clock + AllocGlobal>(
+fn answer<
+    W: Sink,
+    R: Threads + Wait + Sync + Eprint + Files + Clock + io::Input + AllocGlobal,
+>(
     rt: &R,
     matches: &ArgMatches<'_>,
     systems: Systems,
@@ -113,6 +119,8 @@ fn answer<W: Sink, R: Threads + Wait + Sync + Eprint + Clock + AllocGlobal>(
     match word {
         "check" => check_text(alloc, bytes, out),
         "list" => list_text(alloc, bytes, out),
+        "generate" => generating::generate(rt, words, bytes, out),
+        "judge" if words.get_flag("stream") => streaming::judge(rt, bytes, counts, out),
         "judge" => judge(rt, alloc, words, files, bytes, counts, out),
         "explain" => explaining::explain(rt, alloc, words, files, bytes, out),
         _ => with_systems(
@@ -177,6 +185,9 @@ fn read<'a, R: Runtime + AllocGlobal>(
     let is_quiet = is_quiet(matches);
     if let Some(name) = systems::unknown(matches) {
         return Err(systems::refuse(rt, name, names(matches), is_quiet, &mut out));
+    }
+    if streaming::is_stream(matches) && !streaming::leaves_input(names(matches)) {
+        return Err(streaming::refuse(rt, is_quiet, &mut out));
     }
     let reading = Reading {
         is_quiet,

@@ -11,6 +11,9 @@ use pst_trial::{
 };
 use std::alloc::{AllocError, Global};
 
+/// The most drives of a case of `run`.
+const MOST_REPEATS: u64 = 1_000_000;
+
 /// The file of a model.
 fn file<'a>(alloc: Global) -> Arg<'a> {
     Arg::new(alloc, "FILE").help("The model; standard input if it is absent or `-`")
@@ -80,6 +83,15 @@ fn all_messages<'a>(alloc: Global) -> Arg<'a> {
         )
 }
 
+/// The option that judges the lines of standard input.
+fn stream<'a>(alloc: Global) -> Result<Arg<'a>, AllocError> {
+    Arg::new(alloc, "stream")
+        .long("stream")
+        .action(ArgAction::SetTrue)
+        .help("Judges the items on the lines of standard input as they come, one on each line")
+        .conflicts_with_all(&["keep-going", "failures", "all-messages"])
+}
+
 /// The option that leaves out the items that are explained or valid.
 pub fn failures<'a>(alloc: Global) -> Arg<'a> {
     Arg::new(alloc, "failures")
@@ -97,8 +109,27 @@ fn judge_command<'a>(alloc: Global) -> Result<Command<'a>, AllocError> {
         .arg(keep_going(alloc))?
         .arg(all_messages(alloc))?
         .arg(failures(alloc))?
+        .arg(stream(alloc)?)?
         .arg(output(alloc))?
         .arg(quiet(alloc))
+}
+
+/// The option that drives each case several times.
+fn repeats<'a>(alloc: Global) -> Arg<'a> {
+    Arg::new(alloc, "repeats")
+        .long("repeats")
+        .value_name("N")
+        .value_parser(ValueParser::Unsigned(1, MOST_REPEATS))
+        .allow_negative_numbers(true)
+        .help("Drives each case N times, and prints how many of the drives failed")
+}
+
+/// The option that saves failures.
+fn save<'a>(alloc: Global) -> Arg<'a> {
+    Arg::new(alloc, "save")
+        .long("save")
+        .value_name("FOLDER")
+        .help("Saves each failure, shrunk, as a file in FOLDER that `run` and `judge` read")
 }
 
 /// `run`, with the name of a system.
@@ -108,6 +139,7 @@ fn run_command<'a>(alloc: Global) -> Result<Command<'a>, AllocError> {
         .after_help(help::RUN)
         .arg(system(alloc))?
         .arg(files(alloc))?
+        .arg(repeats(alloc))?
         .arg(output(alloc))?
         .arg(quiet(alloc))
 }
@@ -181,6 +213,24 @@ const PLAN_NUMBERS: [PlanNumber; 8] = [
     },
 ];
 
+/// The numbers of `generate` that a campaign does not have: which trials there are.
+const TRIAL_NUMBERS: [PlanNumber; 2] = [
+    PlanNumber {
+        name: "first",
+        least: 0,
+        most: u64::MAX,
+        default: "0",
+        help: "The number of the first trial whose case is printed",
+    },
+    PlanNumber {
+        name: "trials",
+        least: 0,
+        most: u64::MAX,
+        default: "100",
+        help: "How many cases are printed",
+    },
+];
+
 /// The option that gives a number of a campaign's plan.
 fn plan_option<'a>(alloc: Global, number: &PlanNumber) -> Arg<'a> {
     Arg::new(alloc, number.name)
@@ -222,6 +272,31 @@ fn campaign_command<'a>(alloc: Global) -> Result<Command<'a>, AllocError> {
     for number in &PLAN_NUMBERS {
         command = command.arg(plan_option(alloc, number))?;
     }
+    command
+        .arg(save(alloc))?
+        .arg(output(alloc))?
+        .arg(quiet(alloc))
+}
+
+/// Whether a number of a campaign's plan chooses the cases of its trials.
+fn chooses_cases(number: &PlanNumber) -> bool {
+    matches!(number.name, "seed" | "commands" | "branches" | "suffix")
+}
+
+/// `generate`, with the numbers that choose cases.
+fn generate_command<'a>(alloc: Global) -> Result<Command<'a>, AllocError> {
+    let mut command = Command::new(alloc, "generate")
+        .about("Generates the cases of a campaign: prints one on each line")
+        .after_help(help::GENERATE)
+        .arg(file(alloc))?;
+    for number in &TRIAL_NUMBERS {
+        command = command.arg(plan_option(alloc, number))?;
+    }
+    for number in &PLAN_NUMBERS {
+        if chooses_cases(number) {
+            command = command.arg(plan_option(alloc, number))?;
+        }
+    }
     command.arg(output(alloc))?.arg(quiet(alloc))
 }
 
@@ -229,7 +304,8 @@ fn campaign_command<'a>(alloc: Global) -> Result<Command<'a>, AllocError> {
 fn with_models<'a>(alloc: Global, command: Command<'a>) -> Result<Command<'a>, AllocError> {
     command
         .subcommand(check_command(alloc)?)?
-        .subcommand(list_command(alloc)?)
+        .subcommand(list_command(alloc)?)?
+        .subcommand(generate_command(alloc)?)
 }
 
 /// Adds the commands whose input is a model and items.
@@ -271,6 +347,25 @@ pub fn command<'a>(alloc: Global) -> Result<Command<'a>, AllocError> {
 /// The number of an option.
 fn small_number(words: &ArgMatches<'_>, name: &str) -> Option<u32> {
     words.get_one(name)
+}
+
+/// The settings that the arguments of `generate` give, with the defaults of a campaign for what chooses no case. Each was found to
+/// be in its range.
+pub fn case_settings(words: &ArgMatches<'_>) -> Option<Settings>
+    ensures { IfSome result AreInRange }
+{
+    let settings = Settings {
+        seed: words.get_one("seed")?,
+        commands: small_number(words, "commands")?,
+        branches: small_number(words, "branches")?,
+        suffix: small_number(words, "suffix")?,
+        ..Settings::default()
+    };
+    if settings.are_in_range() {
+        Some(settings)
+    } else {
+        None
+    }
 }
 
 /// The settings that the arguments of `campaign` give. Each has a default and was found to be in its range.

@@ -3,17 +3,23 @@ pub mod Absent
 pub mod CampaignOutput
 pub mod ChosenItem
 pub mod ExplainOutput
+pub mod GenerateOutput
 pub mod GraphOutput
 pub mod KeepingOn
 pub mod Known
 pub mod ListOutput
 pub mod OneOutput
 pub mod Output
+pub mod RepeatOutput
 pub mod RunOutput
 pub mod Sending
 pub mod Status
+pub mod StreamOutput
 -- what these are made of
 pub mod Head
 -- what the contracts within the crate cite
+pub mod Generating
 pub mod Kept
+pub mod Outputs
 pub mod Rows
+pub mod Streaming

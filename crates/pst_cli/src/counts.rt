@@ -85,6 +85,19 @@ impl Counts {
         }
     }
 
+    /// Adds other counts.
+    pub(crate) fn add_counts(&mut self, other: &Counts) {
+        self.explained = self.explained.saturating_add(other.explained);
+        self.unexplained = self.unexplained.saturating_add(other.unexplained);
+        self.fault = self.fault.saturating_add(other.fault);
+        self.broken = self.broken.saturating_add(other.broken);
+        self.valid = self.valid.saturating_add(other.valid);
+        self.prefalse = self.prefalse.saturating_add(other.prefalse);
+        self.casefault = self.casefault.saturating_add(other.casefault);
+        self.refused = self.refused.saturating_add(other.refused);
+        self.lost = self.lost.saturating_add(other.lost);
+    }
+
     /// Counts an item that could not be driven.
     pub(crate) fn add_lost(&mut self) {
         add_one(&mut self.lost);

@@ -33,7 +33,7 @@ use std::alloc::{AllocError, Global};
 use std::thread::Threads;
 
 /// Adds the line `NUMBER VERDICT`, or `refused run NUMBER command C KIND`, to a text.
-fn add_answer_line(
+pub(crate) fn add_answer_line(
     alloc: Global,
     text: &mut String,
     number: usize,
@@ -114,7 +114,7 @@ fn shown_lines(alloc: Global, shown: Shown, answers: &[Answer]) -> Result<String
 }
 
 /// Refused where the item is, and else as the judgement on it says.
-fn answer_status(answer: &Answer) -> Status
+pub(crate) fn answer_status(answer: &Answer) -> Status
     ensures { result ≡ answer_status answer.now }
 {
     match answer {

@@ -1,9 +1,11 @@
 //! What is written, and how the program ends then.
-ghost use Rattle.std.specs.Prelude.{◌≡◌, false, string_bytes};
+ghost use Rattle.std.specs.Prelude.{◌≡◌, false, IfOk, string_bytes};
+ghost use Rattle.pst_cli.specs.Outputs.{joined, worst_of};
 ghost use Rattle.pst_cli.specs.Sending.{Sends};
 
 use crate::status::Status;
 use pst_sink::{Sink, put_all};
+use std::alloc::{AllocError, Global};
 
 /// A text to be written, and how the program ends.
 #[derive(Debug, Drop)]
@@ -32,4 +34,22 @@ pub fn send<W: Sink>(text: &[u8], status: Status, sink: &mut W) -> Status
         Ok(()) => status,
         Err(_) => Status::Lost,
     }
+}
+
+/// The texts of outputs, one after another, and the worst of a status and theirs.
+pub(crate) fn joined(
+    alloc: Global,
+    so_far: Status,
+    outputs: &[Output],
+) -> Result<Output, AllocError>
+    ensures text { IfOk result (λ output. output.text.items ≡ joined outputs.now) }
+    ensures status { IfOk result (λ output. output.status ≡ worst_of so_far outputs.now) }
+{
+    let mut text = Vec::new(alloc);
+    let mut status = so_far;
+    for output in outputs {
+        text.extend_from_slice(output.text.as_slice())?;
+        status = status.or_worse(output.status);
+    }
+    Ok(Output { text, status })
 }

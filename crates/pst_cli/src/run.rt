@@ -44,7 +44,7 @@ fn write_line<W: Sink>(tree: &Tree, sink: &mut W) -> Result<(), WriteFailed>
 }
 
 /// The tree of a run in its one spelling, and a line end.
-fn tree_line(alloc: Global, typed: &Typed, run: &Run) -> Result<Vec<u8>, AllocError>
+pub(crate) fn tree_line(alloc: Global, typed: &Typed, run: &Run) -> Result<Vec<u8>, AllocError>
     requires { IsLawful typed.now run.now }
     ensures { IfOk result (λ line. line.items ≡ line_of (run_form typed.now run.now)) }
 {
@@ -105,7 +105,7 @@ fn lost_line(alloc: Global, number: usize, fault: DriveFault) -> Result<String, 
 }
 
 /// `NUMBER` and the reason why the case is not valid.
-fn why_line(alloc: Global, number: usize, why: Why) -> Result<String, AllocError>
+pub(crate) fn why_line(alloc: Global, number: usize, why: Why) -> Result<String, AllocError>
     ensures reason { OnOk result (why ≡ reasons.NoMemory → ⊥) }
     ensures line { IfOk result (λ line. string_bytes line ≡ item_line number (kind.Invalid why)) }
 {
@@ -116,7 +116,7 @@ fn why_line(alloc: Global, number: usize, why: Why) -> Result<String, AllocError
 }
 
 /// The report of an item whose case is valid: it is driven once.
-fn valid_report<R: Threads + Wait + Sync>(
+pub(crate) fn valid_report<R: Threads + Wait + Sync>(
     rt: &R,
     alloc: Global,
     compiled: &Compiled,

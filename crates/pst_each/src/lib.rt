@@ -14,7 +14,7 @@ mod sharing;
 mod taking;
 
 use crate::reading::read_one;
-use crate::sharing::may_share_models;
+pub use crate::sharing::may_share_models;
 pub use judging::{JudgedParts, judge_in_parts};
 pub use parts::head_and_rest;
 use pst_eval::Callbacks;
@@ -41,7 +41,7 @@ pub enum Answer {
 }
 
 /// What is answered of the item that a tree spells. `AllocError`: memory was refused.
-fn answer_of<C: Callbacks>(
+pub fn answer_of<C: Callbacks>(
     callbacks: &C,
     alloc: Global,
     typed: &Typed,

@@ -7,18 +7,25 @@ ghost use Rattle.pst_judge.specs.Verdict.{first_broken};
 use pst_allowed::{AllowedValues, Candidates, allowed, merge_beyond};
 use pst_case::{History, Reply};
 use pst_eval::Callbacks;
-use pst_evidence::{wanted_reply, wants_one_reply};
+use pst_evidence::wanted_reply;
 use pst_meaning::Env;
 use pst_reasons::without;
-use pst_scene::{
-    Call, Scene, add, add_value, add_word, arguments, falsity_text, joined, operation,
-    state_before, text_of, value_text,
-};
+use pst_scene::{Call, Falsity, Scene, arguments, falsity_of, operation, state_before};
 use pst_value::Value;
 use std::alloc::{AllocError, Global};
 
-/// The most allowed values that are shown.
+/// The most allowed values that are found.
 const MOST: u32 = 8;
+
+/// Why an answer is wrong in an interleaving in which the rest of the core is right.
+#[derive(Drop)]
+pub struct WrongIn<'a> {
+    /// The branches, from 0, of the letters that name the interleaving.
+    pub word: Vec<usize>,
+    /// The state before the command.
+    pub state: Value,
+    pub falsity: Falsity<'a>,
+}
 
 /// Proposes, for an interleaving, the reply that the postcondition of a command wants there.
 #[derive(Drop)]
@@ -63,71 +70,34 @@ impl<'s, 'a> Candidates for Wanted<'s, 'a> {
     }
 }
 
-/// The allowed values in one text, and `..` where there may be others.
-fn values_text(
+/// Why the postcondition of a command is not true in an interleaving. `None`: a callback faults before the command.
+fn wrong_by<'a>(
     alloc: Global,
-    scene: &Scene<'_>,
-    found: &AllowedValues,
-) -> Result<Vec<u8>, AllocError> {
-    let mut text = text_of(alloc, "allowed: ")?;
-    for (index, value) in found.values.as_slice().iter().enumerate() {
-        if index > 0 {
-            add(&mut text, ", ")?;
-        }
-        add_value(&mut text, alloc, scene.model, value)?;
-    }
-    if !found.all {
-        add(&mut text, " ..")?;
-    }
-    Ok(text)
+    scene: &Scene<'a>,
+    call: &Call<'_>,
+    word: Vec<usize>,
+) -> Result<Option<WrongIn<'a>>, AllocError> {
+    let Some(state) = state_before(alloc, scene, word.as_slice(), call)? else {
+        return Ok(None);
+    };
+    let falsity = falsity_of(alloc, scene, call, &state)?;
+    Ok(Some(WrongIn {
+        word,
+        state,
+        falsity,
+    }))
 }
 
-/// Adds a cell for each allowed value, and one of `..` where there may be others.
-fn add_each_value(
-    row: &mut Vec<Vec<u8>>,
-    alloc: Global,
-    scene: &Scene<'_>,
-    found: &AllowedValues,
-) -> Result<(), AllocError> {
-    for value in found.values.as_slice() {
-        let value = value_text(alloc, scene.model, value)?;
-        row.push(joined(alloc, &[b"allowed: ", value.as_slice()])?)?;
-    }
-    if !found.all {
-        row.push(text_of(alloc, "..")?)?;
-    }
-    Ok(())
-}
-
-/// Adds a cell of the allowed values, where there are some, or a cell for each where one has more bytes than a line.
-fn add_values(
-    row: &mut Vec<Vec<u8>>,
-    alloc: Global,
-    scene: &Scene<'_>,
-    found: &AllowedValues,
-    line: usize,
-) -> Result<(), AllocError> {
-    if found.values.is_empty() {
-        return Ok(());
-    }
-    let text = values_text(alloc, scene, found)?;
-    if text.len() > line {
-        return add_each_value(row, alloc, scene, found);
-    }
-    row.push(text)?;
-    Ok(())
-}
-
-/// Why the postcondition of a command is false in the least interleaving in which the rest of the core is right, and
-/// which that is.
-fn falsity_without<C: Callbacks>(
+/// Why the postcondition of a command is not true in the least interleaving in which the rest of the core is right and it is
+/// not, if there is one.
+pub fn wrong_without<'a, C: Callbacks>(
     callbacks: &C,
     alloc: Global,
-    scene: &Scene<'_>,
+    scene: &Scene<'a>,
     history: &History,
     core: &[u32],
     call: &Call<'_>,
-) -> Result<Vec<u8>, AllocError>
+) -> Result<Option<WrongIn<'a>>, AllocError>
     requires model { scene.now.model.now ≡ C.model callbacks.now }
     requires shaped { scene.now.run.now.shaped.model ≡ C.model callbacks.now }
     requires matches { matches (C.model callbacks.now) scene.now.run.now.shaped.case history.now ≡ true }
@@ -148,51 +118,21 @@ fn falsity_without<C: Callbacks>(
         &[],
     )?;
     match merge {
-        Some(word) => falsity_by(alloc, scene, call, word.as_slice()),
-        None => Ok(Vec::new(alloc)),
+        Some(word) => wrong_by(alloc, scene, call, word),
+        None => Ok(None),
     }
 }
 
-/// Why the postcondition of a command is false in an interleaving, and which that is.
-fn falsity_by(
-    alloc: Global,
-    scene: &Scene<'_>,
-    call: &Call<'_>,
-    word: &[usize],
-) -> Result<Vec<u8>, AllocError> {
-    let Some(state) = state_before(alloc, scene, word, call)? else {
-        return Ok(Vec::new(alloc));
-    };
-    let mut text = falsity_text(alloc, scene, call, &state)?;
-    if !word.is_empty() {
-        add(&mut text, ", as by ")?;
-        add_word(&mut text, word)?;
-    }
-    Ok(text)
-}
-
-/// Whether the postcondition of a command is that it gives one reply.
-fn has_one_reply(alloc: Global, scene: &Scene<'_>, call: &Call<'_>) -> Result<bool, AllocError> {
-    match operation(scene, call) {
-        Some(operation) => wants_one_reply(alloc, &operation.post),
-        None => Ok(false),
-    }
-}
-
-/// Adds to the row of a command of a core what the model allows in place of its answer, in the interleavings in
-/// which the rest of the core is right, and for a postcondition that gives no single reply the part of it that
-/// is false. `line` is how many bytes a line has room for. The postcondition is evaluated by recursion: the deepest valid
-/// model takes some tens of MiB of stack.
-pub fn add_allowed<C: Callbacks>(
-    row: &mut Vec<Vec<u8>>,
+/// What the model allows in place of the answer of a command of a core, in the interleavings in which the rest of the core is
+/// right. The postcondition is evaluated by recursion: the deepest valid model takes some tens of MiB of stack.
+pub fn allowed_of<C: Callbacks>(
     callbacks: &C,
     alloc: Global,
     scene: &Scene<'_>,
     history: &History,
     core: &[u32],
     call: &Call<'_>,
-    line: usize,
-) -> Result<(), AllocError>
+) -> Result<AllowedValues, AllocError>
     requires model { scene.now.model.now ≡ C.model callbacks.now }
     requires shaped { scene.now.run.now.shaped.model ≡ C.model callbacks.now }
     requires matches { matches (C.model callbacks.now) scene.now.run.now.shaped.case history.now ≡ true }
@@ -200,20 +140,15 @@ pub fn add_allowed<C: Callbacks>(
 {
     let wanted = Wanted { scene, call };
     let shaped = &scene.run.shaped;
-    let number = call.number;
-    let found = allowed(
+    allowed(
         callbacks,
         alloc,
         scene.model,
         shaped,
         history,
         core,
-        number,
+        call.number,
         &wanted,
         MOST,
-    )?;
-    if found.values.is_empty() || !has_one_reply(alloc, scene, call)? {
-        row.push(falsity_without(callbacks, alloc, scene, history, core, call)?)?;
-    }
-    add_values(row, alloc, scene, &found, line)
+    )
 }

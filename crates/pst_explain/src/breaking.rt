@@ -1,11 +1,40 @@
-//! Items with a reply that is no value.
+//! Replies that are no value.
 
-use crate::parts::add_parts;
 use pst_case::{Reply, Run};
+use pst_model::Source;
 use pst_print::ty_form;
 use pst_rules::Typed;
-use pst_scene::{Call, Page, Scene, add, add_form, call_numbered, operation, scene_of};
+use pst_scene::{Call, Scene, add, add_form, call_numbered, operation, scene_of};
+use pst_value::Ty;
 use std::alloc::{AllocError, Global};
+
+/// A reply that is no value.
+#[derive(Drop)]
+pub struct BrokenReply<'a> {
+    /// The number of the command.
+    pub number: u32,
+    /// The command, if there is one of the number.
+    pub call: Option<Call<'a>>,
+    /// The type that was wanted.
+    pub wanted: Option<&'a Ty>,
+}
+
+/// The reply of the command of a number, which is no value.
+pub fn broken_reply<'a>(scene: &Scene<'a>, number: u32) -> BrokenReply<'a> {
+    let call = call_numbered(scene.all.as_slice(), number);
+    let wanted = match &call {
+        Some(call) => match operation(scene, call) {
+            Some(operation) => Some(&operation.result),
+            None => None,
+        },
+        None => None,
+    };
+    BrokenReply {
+        number,
+        call,
+        wanted,
+    }
+}
 
 /// What the reply says of a command.
 fn meaning(reply: &Reply) -> &'static str {
@@ -17,26 +46,31 @@ fn meaning(reply: &Reply) -> &'static str {
     }
 }
 
-/// Which reply a command has, and the type that was wanted.
-fn broken_sentence(
+/// Which reply a command has, and the type that was wanted. `None`: there is no reply.
+pub fn broken_sentence(
     alloc: Global,
-    scene: &Scene<'_>,
-    call: &Call<'_>,
-    reply: &Reply,
-) -> Result<Vec<u8>, AllocError> {
-    let mut text = call.text(alloc, scene.model)?;
+    model: &Source,
+    broken: &BrokenReply<'_>,
+) -> Result<Option<Vec<u8>>, AllocError> {
+    let Some(call) = &broken.call else {
+        return Ok(None);
+    };
+    let Some(reply) = call.reply else {
+        return Ok(None);
+    };
+    let mut text = call.text(alloc, model)?;
     add(&mut text, " ")?;
     add(&mut text, meaning(reply))?;
-    if let Some(operation) = operation(scene, call) {
+    if let Some(wanted) = broken.wanted {
         add(&mut text, " a value of type ")?;
-        add_form(&mut text, &ty_form(alloc, &operation.result)?)?;
+        add_form(&mut text, &ty_form(alloc, wanted)?)?;
     }
-    Ok(text)
+    Ok(Some(text))
 }
 
 /// Which reply of a recorded run makes it broken, and the type that was wanted, as
 /// `P1 (inc) has the reply failed: the call was refused, and did not answer a value of type int`. `number` is that of the
-/// command. `None`: the run has no such reply. `AllocError`: memory was refused.
+/// command. `None`: the run has no such reply.
 pub fn broken_text(
     alloc: Global,
     typed: &Typed,
@@ -44,29 +78,5 @@ pub fn broken_text(
     number: u32,
 ) -> Result<Option<Vec<u8>>, AllocError> {
     let scene = scene_of(alloc, typed, run)?;
-    let Some(call) = call_numbered(scene.all.as_slice(), number) else {
-        return Ok(None);
-    };
-    match call.reply {
-        Some(reply) => Ok(Some(broken_sentence(alloc, &scene, &call, reply)?)),
-        None => Ok(None),
-    }
-}
-
-/// Adds which reply is no value, and the run.
-pub fn add_broken(
-    page: &mut Page,
-    alloc: Global,
-    scene: &Scene<'_>,
-    number: u32,
-) -> Result<(), AllocError> {
-    if let Some(call) = call_numbered(scene.all.as_slice(), number) {
-        if let Some(reply) = call.reply {
-            let mut sentence = broken_sentence(alloc, scene, &call, reply)?;
-            add(&mut sentence, ".")?;
-            page.add_sentence(alloc, 2, sentence.as_slice())?;
-        }
-    }
-    page.add_sentence(alloc, 2, b"The run, with * before this command:")?;
-    add_parts(page, alloc, scene, &[number])
+    broken_sentence(alloc, scene.model, &broken_reply(&scene, number))
 }

@@ -5,130 +5,125 @@ ghost use Rattle.pst_case.specs.Recorded.{recorded};
 ghost use Rattle.pst_judge.specs.Verdict.{first_broken};
 ghost use Rattle.pst_reasons.specs.Reasons.{IsUnexplained};
 
-use crate::allowing::add_allowed;
-use crate::parts::add_parts;
+use crate::allowing::{WrongIn, allowed_of, wrong_without};
+use pst_allowed::AllowedValues;
 use pst_case::History;
 use pst_eval::Callbacks;
+use pst_evidence::wants_one_reply;
 use pst_reasons::core;
-use pst_scene::{
-    Call, Page, Scene, Table, add, add_reply, call_numbered, expression_text, operation, text_of,
-    two,
-};
+use pst_scene::{Call, Part, Scene, call_numbered, operation};
 use std::alloc::{AllocError, Global};
 
-/// The place and the spelling of a command, and what it answered.
-fn answered(alloc: Global, scene: &Scene<'_>, call: &Call<'_>) -> Result<Vec<u8>, AllocError> {
-    let mut text = call.text(alloc, scene.model)?;
-    if let Some(reply) = call.reply {
-        add(&mut text, " answered ")?;
-        add_reply(&mut text, alloc, scene.model, reply)?;
-    }
-    Ok(text)
+/// An answer of a core.
+#[derive(Drop)]
+pub struct CoreAnswer<'a> {
+    /// The command that answered it.
+    pub call: Call<'a>,
+    /// What the model allows in its place if the rest of the core is right; at most eight values.
+    pub allowed: AllowedValues,
+    /// Whether the form of its postcondition is that one answer alone is right on a state.
+    pub has_one_reply: bool,
+    /// Why it is wrong in the least interleaving in which the rest of the core is right, if it has no single reply or none
+    /// is known to be allowed.
+    pub wrong: Option<WrongIn<'a>>,
 }
 
-/// The postcondition of a command.
-fn postcondition_text(
-    alloc: Global,
-    scene: &Scene<'_>,
-    call: &Call<'_>,
-) -> Result<Vec<u8>, AllocError> {
-    let mut text = text_of(alloc, "postcondition ")?;
-    if let Some(operation) = operation(scene, call) {
-        let expression = expression_text(alloc, &operation.post)?;
-        text.extend_from_slice(expression.as_slice())?;
-    }
-    Ok(text)
+/// The answers of an item that cannot all be right, while without any one of them the others can. There are none if the model
+/// faults in every interleaving, whatever is answered.
+#[derive(Drop)]
+pub struct Core<'a> {
+    pub answers: Vec<CoreAnswer<'a>>,
 }
 
-/// The row of a command of a core: what it answered, its postcondition, and what the model allows.
-fn answer_row<C: Callbacks>(
+impl<'a> CoreAnswer<'a> {
+    /// Whether it is asked why the answer is wrong.
+    pub fn asks_why(&self) -> bool {
+        self.allowed.values.is_empty() || !self.has_one_reply
+    }
+
+    /// Whether each answer that the model allows is known.
+    pub fn has_all(&self) -> bool {
+        self.allowed.all && self.has_one_reply
+    }
+}
+
+impl<'a> Core<'a> {
+    /// The numbers of the commands.
+    pub fn numbers(&self, alloc: Global) -> Result<Vec<u32>, AllocError> {
+        let mut numbers = Vec::new(alloc);
+        for answer in &self.answers {
+            numbers.push(answer.call.number)?;
+        }
+        Ok(numbers)
+    }
+
+    /// Whether there are answers and all are in the prefix, so that no race is needed.
+    pub fn is_in_prefix(&self) -> bool {
+        for answer in &self.answers {
+            if answer.call.part != Part::Prefix {
+                return false;
+            }
+        }
+        !self.answers.is_empty()
+    }
+}
+
+/// Whether the postcondition of a command is that it gives one reply.
+fn has_one_reply(alloc: Global, scene: &Scene<'_>, call: &Call<'_>) -> Result<bool, AllocError> {
+    match operation(scene, call) {
+        Some(operation) => wants_one_reply(alloc, &operation.post),
+        None => Ok(false),
+    }
+}
+
+/// The answer of a command of a core.
+fn answer_of<'a, C: Callbacks>(
     callbacks: &C,
     alloc: Global,
-    scene: &Scene<'_>,
+    scene: &Scene<'a>,
     history: &History,
     core: &[u32],
-    call: &Call<'_>,
-    line: usize,
-) -> Result<Vec<Vec<u8>>, AllocError>
+    call: Call<'a>,
+) -> Result<CoreAnswer<'a>, AllocError>
     requires model { scene.now.model.now ≡ C.model callbacks.now }
     requires shaped { scene.now.run.now.shaped.model ≡ C.model callbacks.now }
     requires matches { matches (C.model callbacks.now) scene.now.run.now.shaped.case history.now ≡ true }
     requires answered { first_broken 1 (recorded history.now) ≡ None }
 {
-    let left = answered(alloc, scene, call)?;
-    let mut row = two(alloc, left, postcondition_text(alloc, scene, call)?)?;
-    add_allowed(&mut row, callbacks, alloc, scene, history, core, call, line)?;
-    Ok(row)
+    let allowed = allowed_of(callbacks, alloc, scene, history, core, &call)?;
+    let mut answer = CoreAnswer {
+        call,
+        allowed,
+        has_one_reply: has_one_reply(alloc, scene, &call)?,
+        wrong: None,
+    };
+    if answer.asks_why() {
+        let wrong = wrong_without(callbacks, alloc, scene, history, core, &call)?;
+        answer.wrong = wrong;
+    }
+    Ok(answer)
 }
 
-/// Adds the commands of the core, what they answered, their postconditions, and what the model allows.
-fn add_answers<C: Callbacks>(
-    page: &mut Page,
+/// A core of the item, with what the model allows in place of each answer.
+pub fn core_of<'a, C: Callbacks>(
     callbacks: &C,
     alloc: Global,
-    scene: &Scene<'_>,
+    scene: &Scene<'a>,
     history: &History,
-    core: &[u32],
-) -> Result<(), AllocError>
-    requires model { scene.now.model.now ≡ C.model callbacks.now }
-    requires shaped { scene.now.run.now.shaped.model ≡ C.model callbacks.now }
-    requires matches { matches (C.model callbacks.now) scene.now.run.now.shaped.case history.now ≡ true }
-    requires answered { first_broken 1 (recorded history.now) ≡ None }
-{
-    let mut table = Table::new(alloc);
-    let line = page.width.saturating_sub(6);
-    for number in core {
-        if let Some(call) = call_numbered(scene.all.as_slice(), *number) {
-            table.add_row(answer_row(callbacks, alloc, scene, history, core, &call, line)?)?;
-        }
-    }
-    table.write_or_stack(page, alloc, 4)
-}
-
-/// Whether all of the numbers are those of commands of the prefix.
-fn are_in_prefix(scene: &Scene<'_>, core: &[u32]) -> bool {
-    for number in core {
-        if call_numbered(scene.calls.prefix.as_slice(), *number).is_none() {
-            return false;
-        }
-    }
-    true
-}
-
-/// The sentence before the commands of a core.
-fn opening_sentence(count: usize) -> &'static str {
-    match count {
-        0 => "No answer is to blame: the model faults in every interleaving, whatever is answered.",
-        1 => "This answer cannot be right, whatever the others are:",
-        _ => "These answers cannot all be right; without any one of them the others can:",
-    }
-}
-
-/// Adds a core of the item, and the run with the commands of the core marked.
-pub fn add_core<C: Callbacks>(
-    page: &mut Page,
-    callbacks: &C,
-    alloc: Global,
-    scene: &Scene<'_>,
-    history: &History,
-) -> Result<(), AllocError>
+) -> Result<Core<'a>, AllocError>
     requires model { scene.now.model.now ≡ C.model callbacks.now }
     requires shaped { scene.now.run.now.shaped.model ≡ C.model callbacks.now }
     requires matches { matches (C.model callbacks.now) scene.now.run.now.shaped.case history.now ≡ true }
     requires answered { first_broken 1 (recorded history.now) ≡ None }
     requires unexplained { IsUnexplained (C.model callbacks.now) scene.now.run.now.shaped.case history.now }
 {
-    let core = core(callbacks, alloc, &scene.run.shaped, history)?;
-    let core = core.as_slice();
-    page.add_sentence(alloc, 2, opening_sentence(core.len()).as_bytes())?;
-    add_answers(page, callbacks, alloc, scene, history, core)?;
-    if core.is_empty() {
-        page.add_sentence(alloc, 2, b"The run:")?;
-    } else {
-        if are_in_prefix(scene, core) {
-            page.add_sentence(alloc, 2, b"The prefix alone shows it: no race is needed.")?;
+    let numbers = core(callbacks, alloc, &scene.run.shaped, history)?;
+    let numbers = numbers.as_slice();
+    let mut answers = Vec::new(alloc);
+    for number in numbers {
+        if let Some(call) = call_numbered(scene.all.as_slice(), *number) {
+            answers.push(answer_of(callbacks, alloc, scene, history, numbers, call)?)?;
         }
-        page.add_sentence(alloc, 2, b"The run, with * before what is reported above:")?;
     }
-    add_parts(page, alloc, scene, core)
+    Ok(Core { answers })
 }

@@ -4,6 +4,28 @@ use crate::lines::first_lines;
 use pst_sources::SourceFile;
 use std::alloc::{AllocError, Global};
 
+/// Where a tree begins in an input.
+#[derive(Clone, Copy, Debug, Drop)]
+pub struct TreePlace<'a> {
+    /// The name of its file; `None` if the input is not from files.
+    pub file: Option<&'a str>,
+    /// Whether the input has other files.
+    pub has_others: bool,
+    /// The line, from 1.
+    pub line: usize,
+}
+
+impl<'a> TreePlace<'a> {
+    /// The place in words: `line 3`, or `FILE line 3` if the input has several files.
+    pub fn text(&self, alloc: Global) -> Result<String, AllocError> {
+        let line = self.line;
+        match self.file {
+            Some(name) if self.has_others => format!(in alloc; "{name} line {line}"),
+            _ => format!(in alloc; "line {line}"),
+        }
+    }
+}
+
 /// How many lines of the text of an input are lines of the file.
 fn line_count(file: &SourceFile<'_>) -> usize {
     let mut count = 1usize;
@@ -24,39 +46,39 @@ fn line_counts(alloc: Global, files: &[SourceFile<'_>]) -> Result<Vec<usize>, Al
     Ok(counts)
 }
 
-/// A line of the text of an input as a place, by its file and the line there; by the line alone where there
-/// are no files.
-fn place_of(
-    alloc: Global,
-    files: &[SourceFile<'_>],
-    counts: &[usize],
-    line: usize,
-) -> Result<String, AllocError> {
+/// The place of a line of the text of an input.
+fn place_of<'a>(files: &[SourceFile<'a>], counts: &[usize], line: usize) -> TreePlace<'a> {
+    let has_others = files.len() > 1;
     let mut rest = line;
     for (file, count) in files.iter().zip(counts) {
         if rest <= *count {
-            let name = file.name;
-            return format!(in alloc; "{name} line {rest}");
+            return TreePlace {
+                file: Some(file.name),
+                has_others,
+                line: rest,
+            };
         }
         rest = rest.saturating_sub(*count);
     }
-    format!(in alloc; "line {line}")
+    TreePlace {
+        file: None,
+        has_others,
+        line,
+    }
 }
 
-/// For each node that stands in no other, in an input that is read without a fault, where it begins: `line
-/// 3`, or `FILE line 3` where the input has several files. `text` is their text. `AllocError`: memory was
-/// refused.
-pub fn first_places(
+/// Where each tree of an input begins. The input is read without a fault; `text` is the text of its files, of which there may
+/// be none.
+pub fn first_places<'a>(
     alloc: Global,
-    files: &[SourceFile<'_>],
+    files: &[SourceFile<'a>],
     text: &[u8],
-) -> Result<Vec<String>, AllocError> {
-    let files = if files.len() > 1 { files } else { &[] };
+) -> Result<Vec<TreePlace<'a>>, AllocError> {
     let counts = line_counts(alloc, files)?;
     let lines = first_lines(alloc, text)?;
     let mut places = Vec::new(alloc);
     for line in &lines {
-        places.push(place_of(alloc, files, counts.as_slice(), *line)?)?;
+        places.push(place_of(files, counts.as_slice(), *line))?;
     }
     Ok(places)
 }

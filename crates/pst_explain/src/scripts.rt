@@ -1,11 +1,12 @@
 //! Scripts in which a callback faults.
 
-use crate::faulting::{add_command_fault, add_fault};
+use crate::failure_text::add_failure;
+use crate::failures::{failure_in, script_failure};
 use pst_case::{Case, CaseFaultKind, Command, Run, shape};
 use pst_eval::{Callback, Place};
 use pst_items::Items;
 use pst_rules::Typed;
-use pst_scene::{Page, Scene, scene_of};
+use pst_scene::{Page, scene_of};
 use std::alloc::{AllocError, Global};
 
 /// The case whose prefix are the commands, with two empty branches, if it has the shape of the model.
@@ -34,19 +35,6 @@ fn run_of(
     }
 }
 
-/// Adds why a script faults.
-fn add_script(
-    page: &mut Page,
-    alloc: Global,
-    scene: &Scene<'_>,
-    place: Place,
-) -> Result<(), AllocError> {
-    match place.callback {
-        Callback::Command => add_command_fault(page, alloc, scene, place.fault),
-        _ => add_fault(page, alloc, scene, &[], place),
-    }
-}
-
 /// Why no case can be generated, in lines of at most `width` bytes as far as sentences allow: the callback that faults, its
 /// expression with the values of its names, the part of it that faults, and the states before. `commands` are those of the
 /// script so far; where `pre` or `next` faults its command is the last of them. `None`: they are no script of the model.
@@ -61,9 +49,13 @@ pub fn explain_script(
     let Some(run) = run_of(alloc, typed, commands)? else {
         return Ok(None);
     };
-    let mut page = Page::new(alloc, width);
     let scene = scene_of(alloc, typed, &run)?;
-    add_script(&mut page, alloc, &scene, place)?;
+    let failure = match place.callback {
+        Callback::Command => script_failure(alloc, &scene, place.fault)?,
+        _ => failure_in(alloc, &scene, &[], place)?,
+    };
+    let mut page = Page::new(alloc, width);
+    add_failure(&mut page, alloc, &scene, &failure)?;
     let Page { text, width: _ } = page;
     Ok(Some(text))
 }

@@ -3,7 +3,7 @@
 use crate::labels::{add_label, add_name, add_quoted};
 use crate::position::Position;
 use crate::search::{Move, Search, Target};
-use pst_scene::{Scene, add, text_of, value_text};
+use pst_scene::{Scene, add, dead_end_text, text_of, value_text};
 use std::alloc::{AllocError, Global};
 
 /// What all nodes and edges have.
@@ -154,7 +154,8 @@ fn add_move(
         Target::Position(to) => {
             add_edge(out, alloc, scene, step, "p", *to, style_of(search, number))
         }
-        Target::DeadEnd(why) => {
+        Target::DeadEnd(dead_end) => {
+            let why = dead_end_text(alloc, scene.model, dead_end)?;
             add_dead_end(out, alloc, number, why.as_slice(), RED)?;
             add_edge(out, alloc, scene, step, "d", number, RED)
         }

@@ -47,6 +47,11 @@ impl Position {
         self.counts.as_slice() == other.counts.as_slice() && self.state == other.state
     }
 
+    /// How many commands of the prefix, of each branch and of the suffix are before the position.
+    pub fn counts(&self) -> &[usize] {
+        self.counts.as_slice()
+    }
+
     /// How many commands stand before the position.
     pub fn level(&self) -> usize {
         let mut level = 0usize;

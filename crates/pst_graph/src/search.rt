@@ -1,8 +1,7 @@
 //! The search of an item: positions, and the commands that are tried there.
 
-use crate::outcome::{Outcome, outcome_of};
 use crate::position::Position;
-use pst_scene::{Call, Scene, initial_state};
+use pst_scene::{Call, DeadEnd, Outcome, Scene, initial_state, outcome_of};
 use std::alloc::{AllocError, Global};
 
 /// Only so many positions are gone on from, beside those along the interleaving that is shown.
@@ -10,11 +9,11 @@ const MOST_POSITIONS: usize = 300;
 
 /// Where a command leads.
 #[derive(Drop)]
-pub enum Target {
+pub enum Target<'a> {
     /// The position of this number.
     Position(usize),
-    /// The command cannot come next there, for a reason that stands in words.
-    DeadEnd(Vec<u8>),
+    /// The command cannot come next there.
+    DeadEnd(DeadEnd<'a>),
 }
 
 /// A command that is tried at a position.
@@ -25,7 +24,7 @@ pub struct Move<'a> {
     /// The command.
     pub call: Call<'a>,
     /// Where it leads.
-    pub target: Target,
+    pub target: Target<'a>,
 }
 
 /// A search, or the beginning of one.
@@ -78,7 +77,7 @@ impl<'a> Search<'a> {
     fn try_call(
         &mut self,
         alloc: Global,
-        scene: &Scene<'_>,
+        scene: &Scene<'a>,
         from: usize,
         position: &Position,
         call: Call<'a>,
@@ -132,6 +131,24 @@ impl<'a> Search<'a> {
         self.moves.iter().any(|step| step.from == number)
     }
 
+    /// Goes on from each position until there are more than `most`; whether there are not.
+    fn go_on_within(
+        &mut self,
+        alloc: Global,
+        scene: &Scene<'a>,
+        most: usize,
+    ) -> Result<bool, AllocError> {
+        for number in 0..most {
+            if self.positions.len() > most {
+                return Ok(false);
+            }
+            if !self.is_tried(number) {
+                self.go_on(alloc, scene, number)?;
+            }
+        }
+        Ok(self.positions.len() <= most)
+    }
+
     /// Goes on from the first positions at which no command was tried.
     fn go_on_from_rest(&mut self, alloc: Global, scene: &Scene<'a>) -> Result<(), AllocError> {
         for number in 0..MOST_POSITIONS {
@@ -143,9 +160,8 @@ impl<'a> Search<'a> {
     }
 }
 
-/// The search of an item from its initial state on. It goes along the commands of the interleaving that is
-/// shown, and then from the other positions in the order in which it met them, as far as the limit allows.
-pub fn search_of<'a>(
+/// The search of an item along the commands of the interleaving that is shown.
+fn begun<'a>(
     alloc: Global,
     scene: &Scene<'a>,
     shown: &[Call<'_>],
@@ -161,6 +177,33 @@ pub fn search_of<'a>(
     let first = Position::first(alloc, scene, state)?;
     search.positions.push(first)?;
     search.go_along(alloc, scene, shown)?;
+    Ok(search)
+}
+
+/// The search of an item from its initial state on. It goes along the commands of the interleaving that is
+/// shown, and then from the other positions in the order in which it met them, as far as the limit allows.
+pub fn search_of<'a>(
+    alloc: Global,
+    scene: &Scene<'a>,
+    shown: &[Call<'_>],
+) -> Result<Search<'a>, AllocError> {
+    let mut search = begun(alloc, scene, shown)?;
     search.go_on_from_rest(alloc, scene)?;
     Ok(search)
+}
+
+/// The whole search of an item, if it has at most `most` positions. It goes along the commands of the interleaving that is
+/// shown first. It has no positions if the initial state faults.
+pub fn whole_search<'a>(
+    alloc: Global,
+    scene: &Scene<'a>,
+    shown: &[Call<'_>],
+    most: usize,
+) -> Result<Option<Search<'a>>, AllocError> {
+    let mut search = begun(alloc, scene, shown)?;
+    if search.go_on_within(alloc, scene, most)? {
+        Ok(Some(search))
+    } else {
+        Ok(None)
+    }
 }

@@ -4,7 +4,8 @@ ghost use Rattle.std.specs.Prelude.{◌≡◌, false};
 use crate::short::Short;
 use pst_campaign::Unwatched;
 use pst_cli::{
-    Chosen, Status, campaign_text, check_text, explain_text, judge_text, list_text, run_text,
+    Chosen, Explaining, ExplanationForm, Status, campaign_text, check_text, explain_text,
+    judge_text, list_text, run_text,
 };
 use pst_samples::Stuck;
 use pst_system::BoxedSystem;
@@ -109,7 +110,15 @@ pub fn answer_of<R: Threads + Wait + Sync>(
         Command::Check => check_text(alloc, input, &mut short),
         Command::List => list_text(alloc, input, &mut short),
         Command::Judge => judge_text(rt, alloc, input, &mut short),
-        Command::Explain => explain_text(rt, alloc, input, &[], Chosen::All, 80, &mut short),
+        Command::Explain => {
+            let asked = Explaining {
+                files: &[],
+                chosen: Chosen::All,
+                most: usize::MAX,
+                form: ExplanationForm::Text(80),
+            };
+            explain_text(rt, alloc, input, asked, &mut short)
+        }
         Command::Run => write_runs(rt, alloc, input, &mut short)?,
         Command::Campaign => write_campaign(rt, alloc, input, &mut short)?,
     };

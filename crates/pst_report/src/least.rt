@@ -20,7 +20,7 @@ fn fault_of(done: &Record) -> Option<Place>
 }
 
 /// How the case of a trial was shrunk, if the trial failed.
-fn failure_of(done: &Record) -> Option<&Shrunk<JudgedRun>>
+pub(crate) fn failure_of(done: &Record) -> Option<&Shrunk<JudgedRun>>
     ensures failure { MatchOption result (spec.failure_in done.now.outcome ≡ None)
         (λ s. spec.failure_in done.now.outcome ≡ Some s.now) }
     ensures matching { IfSome result (λ s. AreMatching done.now.plan.model s.now) }

@@ -5,6 +5,7 @@
 
 mod counterexample;
 mod counts;
+mod failures;
 mod fault;
 mod head;
 mod kind;
@@ -13,6 +14,7 @@ mod losses;
 mod status;
 mod writer;
 
+pub use failures::{ShrunkFailure, shrunk_failure};
 pub use fault::ReportFault;
 pub use kind::EntryKind;
 pub use status::{CampaignStatus, campaign_status};

@@ -2,7 +2,7 @@
 //! is derived in the comments of its file in `data/explained`, and so are the positions and dead ends of the graphs of
 //! `counter.runs`.
 
-use pst_cli::{Chosen, Status, explain_text, graph_text};
+use pst_cli::{Chosen, Explaining, ExplanationForm, Status, explain_text, graph_text};
 use pst_sink::Out;
 use pst_sources::{SourceFile, joined};
 use std::alloc::{AllocError, Global};
@@ -92,7 +92,13 @@ fn explained<R: Threads + Sync>(
 ) -> Result<String, AllocError> {
     let input = joined(alloc, files)?;
     let mut out = Out::new(Vec::new(alloc));
-    let status = explain_text(rt, alloc, input.as_slice(), files, chosen, width, &mut out);
+    let asked = Explaining {
+        files,
+        chosen,
+        most: usize::MAX,
+        form: ExplanationForm::Text(width),
+    };
+    let status = explain_text(rt, alloc, input.as_slice(), asked, &mut out);
     with_status(alloc, out.into_inner().as_slice(), status)
 }
 

@@ -18,6 +18,17 @@ pub enum Part {
     Suffix,
 }
 
+impl Part {
+    /// The letter of the part: `P`, that of the branch, or `X`.
+    pub fn letter(self) -> u8 {
+        match self {
+            Part::Prefix => b'P',
+            Part::Branch(branch) => letter(branch),
+            Part::Suffix => b'X',
+        }
+    }
+}
+
 /// A command of a case.
 #[derive(Clone, Copy, Drop)]
 pub struct Call<'a> {
@@ -138,11 +149,7 @@ pub fn calls_of<'a>(
 impl<'a> Call<'a> {
     /// Adds the place of the command, as `P1`, `L2` or `X1`.
     pub fn add_place(&self, out: &mut Vec<u8>, alloc: Global) -> Result<(), AllocError> {
-        out.push(match self.part {
-            Part::Prefix => b'P',
-            Part::Branch(branch) => letter(branch),
-            Part::Suffix => b'X',
-        })?;
+        out.push(self.part.letter())?;
         add_number(out, alloc, self.place)
     }
 

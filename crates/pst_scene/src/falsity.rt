@@ -1,4 +1,4 @@
-//! Why the postcondition of a command is false on a state.
+//! Why the postcondition of a command is not true on a state.
 
 use crate::calls::Call;
 use crate::scene::Scene;
@@ -7,18 +7,18 @@ use crate::walk::arguments;
 use pst_case::Reply;
 use pst_evidence::{Evidence, FalsePart, false_part};
 use pst_meaning::Env;
-use pst_model::Expr;
+use pst_model::Source;
 use pst_value::Value;
 use std::alloc::{AllocError, Global};
 
 /// The reply that the model wants.
 fn wanted_text(
     alloc: Global,
-    scene: &Scene<'_>,
+    model: &Source,
     part: Option<&[u8]>,
     value: &Value,
 ) -> Result<Vec<u8>, AllocError> {
-    let value = value_text(alloc, scene.model, value)?;
+    let value = value_text(alloc, model, value)?;
     let value = value.as_slice();
     match part {
         None => joined(alloc, &[b"the model says ", value]),
@@ -29,13 +29,13 @@ fn wanted_text(
 /// A comparison that is false.
 fn compared_text(
     alloc: Global,
-    scene: &Scene<'_>,
+    model: &Source,
     part: &[u8],
     first: &Value,
     second: &Value,
 ) -> Result<Vec<u8>, AllocError> {
-    let first = value_text(alloc, scene.model, first)?;
-    let second = value_text(alloc, scene.model, second)?;
+    let first = value_text(alloc, model, first)?;
+    let second = value_text(alloc, model, second)?;
     joined(
         alloc,
         &[
@@ -51,47 +51,74 @@ fn compared_text(
 /// The part of a postcondition that is false, and what is known of it.
 fn part_text(
     alloc: Global,
-    scene: &Scene<'_>,
-    post: &Expr,
+    model: &Source,
     found: &FalsePart<'_>,
+    is_whole: bool,
 ) -> Result<Vec<u8>, AllocError> {
     let part = expression_text(alloc, found.part)?;
     let part = part.as_slice();
     match &found.evidence {
         Evidence::Wants(value) => {
-            let shown = if *found.part == *post {
-                None
-            } else {
-                Some(part)
-            };
-            wanted_text(alloc, scene, shown, value)
+            let shown = if is_whole { None } else { Some(part) };
+            wanted_text(alloc, model, shown, value)
         }
-        Evidence::Compares(first, second) => compared_text(alloc, scene, part, first, second),
+        Evidence::Compares(first, second) => compared_text(alloc, model, part, first, second),
         Evidence::Nothing => joined(alloc, &[part, b" is false"]),
     }
 }
 
-/// Why the postcondition of a command is false on the state before it: what the model says in place of the reply, or
-/// the part that is false; or that it faults. Empty where the command has no value as its reply.
-pub fn falsity_text(
+/// Why the postcondition of a command is not true on the state before it.
+#[derive(Drop)]
+pub enum Falsity<'a> {
+    /// The command has no value as its reply.
+    Unknown,
+    /// The postcondition has no value.
+    Faults,
+    /// A part of it is false.
+    Part {
+        /// The part, and what is known of it.
+        found: FalsePart<'a>,
+        /// Whether it is the whole postcondition.
+        is_whole: bool,
+    },
+}
+
+/// Why the postcondition of a command is not true on the state before it.
+pub fn falsity_of<'a>(
     alloc: Global,
-    scene: &Scene<'_>,
+    scene: &Scene<'a>,
     call: &Call<'_>,
     state: &Value,
-) -> Result<Vec<u8>, AllocError> {
+) -> Result<Falsity<'a>, AllocError> {
     let Some(operation) = operation(scene, call) else {
-        return Ok(Vec::new(alloc));
+        return Ok(Falsity::Unknown);
     };
     let Some(Reply::Value(reply)) = call.reply else {
-        return Ok(Vec::new(alloc));
+        return Ok(Falsity::Unknown);
     };
     let args = arguments(alloc, scene, call)?;
     let frame = Env::Frame(operation.params.as_slice(), args.as_slice());
     let outer = Env::With(b"s", &*state, &frame);
     let inner = Env::With(b"r", reply, &outer);
-    let post = &operation.post;
-    match false_part(alloc, scene.model, post, &inner)? {
-        Some(found) => part_text(alloc, scene, post, &found),
-        None => text_of(alloc, "it faults"),
+    match false_part(alloc, scene.model, &operation.post, &inner)? {
+        Some(found) => {
+            let is_whole = *found.part == operation.post;
+            Ok(Falsity::Part { found, is_whole })
+        }
+        None => Ok(Falsity::Faults),
+    }
+}
+
+/// Why the postcondition of a command is not true, in words: what the model says in place of the reply, or the part that is
+/// false; or that it faults. Empty if the command has no value as its reply.
+pub fn falsity_text(
+    alloc: Global,
+    model: &Source,
+    falsity: &Falsity<'_>,
+) -> Result<Vec<u8>, AllocError> {
+    match falsity {
+        Falsity::Unknown => Ok(Vec::new(alloc)),
+        Falsity::Faults => text_of(alloc, "it faults"),
+        Falsity::Part { found, is_whole } => part_text(alloc, model, found, *is_whole),
     }
 }

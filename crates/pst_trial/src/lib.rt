@@ -7,6 +7,7 @@
 #![tactic(auto)]
 
 mod attempts;
+mod cases;
 mod driver;
 mod outcome;
 mod plan;
@@ -17,6 +18,7 @@ mod sharing;
 mod threads;
 mod trials;
 
+pub use cases::trial_case;
 pub use driver::Driver;
 pub use outcome::TrialOutcome;
 pub use plan::Plan;

@@ -8,6 +8,7 @@ ghost use Rattle.pst_trial.specs.Sound.{IsSoundBy, IsTried};
 
 use crate::TrialFault;
 use crate::attempts::{Attempts, drive_repeatedly};
+use crate::cases::trial_case;
 use crate::driver::Driver;
 use crate::outcome::TrialOutcome;
 use crate::plan::Plan;
@@ -15,11 +16,9 @@ use crate::record::Record;
 use crate::run::JudgedRun;
 use pst_case::Case;
 use pst_driver::DriveFault;
-use pst_gen::generate;
 use pst_items::Items;
 use pst_judge::Valid;
 use pst_shrink::{Outcome, ShrinkFault, shrink};
-use rand_pcg::Pcg64;
 use std::alloc::Global;
 use std::sync::Arc;
 
@@ -90,18 +89,7 @@ fn outcome_of<D: Driver>(
     ensures fault { IfErr result (MayFail (D.may_fail driver.old)) }
     ensures keeps { D.keeps driver.old driver.new }
 {
-    let settings = plan.settings();
-    let mut words = Pcg64::new(settings.seed as u128, number as u128);
-    let generated = generate(
-        plan.compiled(),
-        alloc,
-        plan.typed(),
-        &mut words,
-        settings.commands,
-        settings.branches,
-        settings.suffix,
-    )?;
-    match generated {
+    match trial_case(alloc, plan, number)? {
         Ok(valid) => tried_case(alloc, plan, driver, valid),
         Err(place) => Ok(TrialOutcome::GenFaulted(place)),
     }

@@ -1,0 +1,28 @@
+//! `pst generate`.
+ghost use Rattle.std.specs.Prelude.{◌≡◌, false};
+
+use crate::words;
+use clap::ArgMatches;
+use pst_cli::{Status, generate_text};
+use pst_sink::Sink;
+use std::thread::Threads;
+
+/// Writes the cases of the trials that the words ask for. Trials whose numbers do not fit 64 bits are left out.
+pub fn generate<W: Sink, R: Threads + Sync + AllocGlobal>(
+    rt: &R,
+    words: &ArgMatches<'_>,
+    input: &[u8],
+    out: &mut W,
+) -> Status
+    requires { W.broken out.old ≡ false }
+{
+    let (Some(settings), Some(first), Some(trials)) = (
+        words::case_settings(words),
+        words.get_one::<u64>("first"),
+        words.get_one::<u64>("trials"),
+    ) else {
+        return Status::Refused;
+    };
+    let count = trials.min(u64::MAX - first);
+    generate_text(rt, rt.alloc(), input, settings, first, count, out)
+}

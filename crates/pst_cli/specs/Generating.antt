@@ -1,0 +1,38 @@
+-- What is written of cases, block by block.
+use Rattle.std.specs.Prelude.{◌≡◌, ℕ, ◌≤◌, Bool, List, Option, Result, MatchResult}
+use Rattle.pst_cli.specs.GenerateOutput.{IsCaseLine, AreCaseLines}
+use Rattle.pst_cli.specs.Streaming.{IsUnwritten, IsWrittenTo}
+use Rattle.pst_cli.specs.declared.output.Output.{Output}
+use Rattle.pst_cli.specs.declared.status.Status.{Status}
+use Rattle.pst_cli.specs.declared.status.Status.TheVariants.{Accepted}
+use Rattle.pst_cli.specs.declared.stream.Cut.{Cut}
+use Rattle.pst_sink.specs.Writing.{WritesAll}
+use Rattle.pst_trial.specs.PlanView.{PlanView}
+
+-- the output is the line of a number
+abbrev pub IsLineOf : PlanView → ℕ → Output → Type 0
+IsLineOf p number output = IsCaseLine p number output.text.items output.status
+
+module _ (p : PlanView) (first count : ℕ) (so_far : Status) (before after : Option (List ℕ)) (broken : Bool) where
+  -- all lines were written
+  pub record AreWritten (status : Status) : Type 0 where
+    pub text : List ℕ
+    pub lines : AreCaseLines p first count so_far text status
+    pub written : WritesAll before after broken text
+
+  -- the lines of the first numbers were written, or a beginning of them
+  pub record AreCutShort (cut : Cut) : Type 0 where
+    pub some : ℕ
+    pub within : some ≤ count
+    pub text : List ℕ
+    pub worst : Status
+    pub lines : AreCaseLines p first some so_far text worst
+    pub written : IsWrittenTo before after broken text cut
+
+  -- one of these
+  abbrev pub EndsLines : Result Status Cut → Type 0
+  EndsLines result = MatchResult result AreWritten AreCutShort
+
+-- the same from no line on
+abbrev pub EndsCases : PlanView → (first count : ℕ) → (before after : Option (List ℕ)) → Bool → Result Status Cut → Type 0
+EndsCases p first count before after broken result = EndsLines p first count Accepted before after broken result

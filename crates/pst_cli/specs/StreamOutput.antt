@@ -1,0 +1,37 @@
+-- The output of `pst judge --stream`: a text and a status, for the input with the model and the bytes of the stream.
+use Rattle.std.specs.Prelude.{◌≡◌, ◌⊎◌, ℕ, List, ◌++◌, codes}
+use Rattle.std.specs.List.{AllZip}
+use Rattle.pst_cli.specs.Head.{refusal_line, line_end}
+use Rattle.pst_cli.specs.KeepingOn.{answer_lines, worst_status}
+use Rattle.pst_cli.specs.Sending.{memory_line}
+use Rattle.pst_cli.specs.declared.status.Status.{Status}
+use Rattle.pst_cli.specs.declared.status.Status.TheVariants.{Accepted, Refused, Lost}
+use Rattle.pst_each.specs.declared.Answer.{Answer}
+use Rattle.pst_load.specs.Loading.{Holds, IsRefusal}
+use Rattle.pst_load.specs.declared.refusal.Refusal.{Refusal}
+use Rattle.pst_model.specs.declared.model.Source.{Source}
+use Rattle.pst_sexpr.specs.declared.form.Form.{Form}
+use Rattle.pst_stream.specs.Answers.{IsLineAnswer}
+use Rattle.pst_stream.specs.Lines.{lines_of}
+
+-- the line after the last one where the reader fails
+abbrev pub unread_line : List ℕ
+unread_line = codes "refused file" ++ line_end
+
+-- why the lines end before the stream does: the reader failed, or an allocation
+abbrev pub IsCutLine : List ℕ → Status → Type 0
+IsCutLine line status = ((line ≡ unread_line) × (status ≡ Refused)) ⊎ ((line ≡ memory_line) × (status ≡ Lost))
+
+-- a line for each line of the stream, from 1: the verdict on its item, or its refusal; the same of the first lines alone, and
+-- why the others were not judged; or the refusal of the model
+pub data IsStreamOutput (input bytes text : List ℕ) (status : Status) : Type 0 where
+  whole : (m : Source) (trees : List Form) (answers : List Answer) → Holds input m trees
+      → AllZip (IsLineAnswer m) (lines_of bytes) answers
+      → text ≡ answer_lines 1 answers → status ≡ worst_status Accepted answers
+      → IsStreamOutput input bytes text status
+  cut : (m : Source) (trees : List Form) (first rest : List (List ℕ)) (answers : List Answer) (line : List ℕ)
+      → Holds input m trees → lines_of bytes ≡ first ++ rest → AllZip (IsLineAnswer m) first answers
+      → IsCutLine line status → text ≡ answer_lines 1 answers ++ line
+      → IsStreamOutput input bytes text status
+  refused : (refusal : Refusal) → IsRefusal input refusal → text ≡ refusal_line refusal → status ≡ Refused
+      → IsStreamOutput input bytes text status

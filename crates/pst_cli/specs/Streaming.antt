@@ -1,0 +1,61 @@
+-- What is written of a stream, block by block.
+use Rattle.std.specs.Prelude.{◌≡◌, ℕ, ◌+◌, Bool, true, false, List, ◌++◌, length, Option, Some, Result, MatchResult}
+use Rattle.std.specs.List.{AllZip}
+use Rattle.pst_cli.specs.KeepingOn.{answer_lines, worst_status}
+use Rattle.pst_cli.specs.declared.status.Status.{Status}
+use Rattle.pst_cli.specs.declared.status.Status.TheVariants.{Accepted}
+use Rattle.pst_cli.specs.declared.stream.Cut.{Cut}
+use Rattle.pst_cli.specs.declared.stream.Cut.TheVariants.{Unread, NoMemory, Unwritten}
+use Rattle.pst_cli.specs.declared.stream.Written.{Written}
+use Rattle.pst_each.specs.declared.Answer.{Answer}
+use Rattle.pst_model.specs.declared.model.Source.{Source}
+use Rattle.pst_sink.specs.Writing.{WritesAll, WritesPart}
+use Rattle.pst_stream.specs.Answers.{IsLineAnswer}
+use Rattle.pst_stream.specs.Lines.{lines_of}
+
+module _ (before after : Option (List ℕ)) (broken : Bool) (text : List ℕ) where
+  -- the sink took nothing; or it failed, and took a beginning of the text
+  abbrev pub IsUnwritten : Cut → Type 0
+  IsUnwritten Unread = ⊥
+  IsUnwritten NoMemory = (after ≡ before) × (broken ≡ false)
+  IsUnwritten Unwritten = WritesPart before after text × (broken ≡ true)
+
+  -- all of the text was written; or, where the sink failed, a beginning of it
+  abbrev pub IsWrittenTo : Cut → Type 0
+  IsWrittenTo Unread = WritesAll before after broken text
+  IsWrittenTo NoMemory = WritesAll before after broken text
+  IsWrittenTo Unwritten = WritesPart before after text × (broken ≡ true)
+
+-- the answers were counted behind those before
+pub record AreCounted (old : Written) (answers : List Answer) (new : Written) : Type 0 where
+  pub count : new.count ≡ old.count + length answers
+  pub status : new.status ≡ worst_status old.status answers
+
+-- the lines of these answers were written behind those before, and counted; or they were not
+abbrev pub EndsBlock : Written → List Answer → (before after : Option (List ℕ)) → Bool → Result Written Cut → Type 0
+EndsBlock old answers before after broken result =
+    MatchResult result
+    (λ new. AreCounted old answers new × WritesAll before after broken (answer_lines (old.count + 1) answers))
+    (IsUnwritten before after broken (answer_lines (old.count + 1) answers))
+
+module _ (m : Source) (stream before after : Option (List ℕ)) (broken : Bool) where
+  -- all lines of the stream are answered, and the lines of the answers were written
+  pub record IsWhole (status : Status) : Type 0 where
+    pub lines : List (List ℕ)
+    pub whole : (bytes : List ℕ) → stream ≡ Some bytes → lines_of bytes ≡ lines
+    pub answers : List Answer
+    pub answered : AllZip (IsLineAnswer m) lines answers
+    pub written : WritesAll before after broken (answer_lines 1 answers)
+    pub worst : status ≡ worst_status Accepted answers
+
+  -- the first lines of the stream are answered, and the lines of the answers were written, or a beginning of them
+  pub record IsCutShort (cut : Cut) : Type 0 where
+    pub first : List (List ℕ)
+    pub front : (bytes : List ℕ) → stream ≡ Some bytes → (rest : List (List ℕ)) × (lines_of bytes ≡ first ++ rest)
+    pub answers : List Answer
+    pub answered : AllZip (IsLineAnswer m) first answers
+    pub written : IsWrittenTo before after broken (answer_lines 1 answers) cut
+
+  -- one of these
+  abbrev pub EndsStream : Result Status Cut → Type 0
+  EndsStream result = MatchResult result IsWhole IsCutShort

@@ -1,0 +1,252 @@
+//! `pst run --repeats`.
+ghost use Rattle.std.specs.Prelude.{◌≡◌, ◌≤◌, ◌++◌, ◌+◌, false, if◌then◌else◌, IfOk, string_bytes};
+ghost use Rattle.pst_cli.specs.RepeatOutput.{AreRepeated, IsRepeatOutput, IsRepeated, drives_line, is_accepted, shown_after};
+ghost use Rattle.pst_cli.specs.Sending.{Prints};
+ghost use Rattle.pst_runs.specs.Lawful.{AreLawful};
+ghost use Rattle.pst_system.specs.Kept.{AreKept};
+
+use crate::compiled::load_compiled;
+use crate::counts::Counts;
+use crate::judge::{refused_run, runs_in};
+use crate::output::{Output, joined, send};
+use crate::refusal::refusal_output;
+use crate::run::{valid_report, why_line};
+use crate::status::Status;
+use pst_case::{Run, Shaped};
+use pst_compile::Compiled;
+use pst_judge::{Valid, valid};
+use pst_load::items_of;
+use pst_sink::Sink;
+use pst_system::{BoxedSystem, System};
+use std::alloc::{AllocError, Global};
+use std::sync::Wait;
+use std::thread::Threads;
+
+/// Whether a drive is explained.
+fn is_accepted(status: Status) -> bool
+    ensures { result ≡ is_accepted status }
+{
+    match status {
+        Status::Accepted => true,
+        Status::Failed | Status::Refused | Status::Lost => false,
+    }
+}
+
+/// The report that is shown of a case after one more drive: the first that is not accepted, or else the last.
+fn shown_after(shown: Option<Output>, output: Output) -> Option<Output>
+    ensures { result ≡ shown_after shown output }
+{
+    match shown {
+        None => Some(output),
+        Some(shown) => {
+            if is_accepted(shown.status) {
+                Some(output)
+            } else {
+                Some(shown)
+            }
+        }
+    }
+}
+
+/// The report that is shown of a case, and behind it the line `NUMBER drives N failed K`.
+fn with_drives(
+    alloc: Global,
+    number: usize,
+    shown: Output,
+    drives: u32,
+    failed: u32,
+) -> Result<Output, AllocError>
+    ensures text { IfOk result
+        (λ output. output.text.items ≡ shown.text.items ++ drives_line number drives failed) }
+    ensures status { IfOk result (λ output. output.status ≡ shown.status) }
+{
+    let Output { mut text, status } = shown;
+    let line = format!(in alloc; "{number} drives {drives} failed {failed}\n")?;
+    text.extend_from_slice(line.as_bytes())?;
+    Ok(Output { text, status })
+}
+
+/// The report of an item whose case is valid: it is driven several times, unless a drive is lost.
+fn repeated_report<R: Threads + Wait + Sync>(
+    rt: &R,
+    alloc: Global,
+    compiled: &Compiled,
+    system: &mut BoxedSystem,
+    number: usize,
+    valid: &Valid,
+    repeats: u32,
+    counts: &mut Counts,
+) -> Result<Output, AllocError>
+    requires model { valid.now.model ≡ compiled.now }
+    requires some { 1 ≤ repeats }
+    ensures reported { IfOk result (λ output.
+        IsRepeated compiled.now (answers system.old) (fails system.old) (reset_fails system.old)
+        repeats number valid.now.case output.text.items output.status) }
+    ensures kept { AreKept (answers system.new) (answers system.old) (fails system.new) (fails system.old)
+        (reset_fails system.new) (reset_fails system.old) }
+{
+    let _shaped = valid.shaped();
+    let mut shown: Option<Output> = None;
+    let mut own = Counts::new();
+    let mut failed = 0;
+    for _drive in 0..repeats {
+        let copy = valid.copy(alloc, compiled.typed().source())?;
+        let mut drive = Counts::new();
+        let output = valid_report(rt, alloc, compiled, system, number, copy, &mut drive)?;
+        if output.status == Status::Lost {
+            counts.add_counts(&drive);
+            return Ok(output);
+        }
+        if failed == 0 {
+            own = drive;
+        }
+        if !is_accepted(output.status) {
+            failed += 1;
+        }
+        shown = shown_after(shown, output);
+    }
+    counts.add_counts(&own);
+    match shown {
+        Some(shown) => with_drives(alloc, number, shown, repeats, failed),
+        None => unreachable!(),
+    }
+}
+
+/// The report of an item.
+fn item_report<R: Threads + Wait + Sync>(
+    rt: &R,
+    alloc: Global,
+    compiled: &Compiled,
+    system: &mut BoxedSystem,
+    number: usize,
+    shaped: &Shaped,
+    repeats: u32,
+    counts: &mut Counts,
+) -> Result<Output, AllocError>
+    requires model { shaped.now.model ≡ compiled.now }
+    requires some { 1 ≤ repeats }
+    ensures reported { IfOk result (λ output.
+        IsRepeated compiled.now (answers system.old) (fails system.old) (reset_fails system.old)
+        repeats number shaped.now.case output.text.items output.status) }
+    ensures kept { AreKept (answers system.new) (answers system.old) (fails system.new) (fails system.old)
+        (reset_fails system.new) (reset_fails system.old) }
+{
+    let copy = shaped.copy(alloc, compiled.typed().source())?;
+    match valid(compiled, alloc, copy) {
+        Ok(valid) => {
+            repeated_report(
+                rt, alloc, compiled, system, number, &valid, repeats, counts,
+            )
+        }
+        Err(refused) => {
+            counts.add_invalid(&refused.1);
+            let line = why_line(alloc, number, refused.1)?;
+            Ok(Output::new(line, Status::Failed))
+        }
+    }
+}
+
+/// The reports of all items, numbered from 1.
+fn item_reports<R: Threads + Wait + Sync>(
+    rt: &R,
+    alloc: Global,
+    compiled: &Compiled,
+    system: &mut BoxedSystem,
+    runs: &[Run],
+    repeats: u32,
+    counts: &mut Counts,
+) -> Result<Vec<Output>, AllocError>
+    requires lawful { AreLawful compiled.now runs.now }
+    requires some { 1 ≤ repeats }
+    ensures reported { IfOk result (λ reports.
+        AreRepeated compiled.now (answers system.old) (fails system.old) (reset_fails system.old)
+        repeats 1 runs.now reports.items) }
+    ensures kept { AreKept (answers system.new) (answers system.old) (fails system.new) (fails system.old)
+        (reset_fails system.new) (reset_fails system.old) }
+{
+    let mut reports = Vec::new(alloc);
+    for (index, run) in runs.iter().enumerate() {
+        let report = item_report(
+            rt,
+            alloc,
+            compiled,
+            system,
+            index + 1,
+            &run.shaped,
+            repeats,
+            counts,
+        )?;
+        reports.push(report)?;
+    }
+    Ok(reports)
+}
+
+/// The reports of the items behind the model, or the first refusal.
+fn repeat_output<R: Threads + Wait + Sync>(
+    rt: &R,
+    alloc: Global,
+    input: &[u8],
+    system: &mut BoxedSystem,
+    repeats: u32,
+    counts: &mut Counts,
+) -> Result<Output, AllocError>
+    requires { 1 ≤ repeats }
+    ensures output { IfOk result (λ output.
+        IsRepeatOutput (answers system.old) (fails system.old) (reset_fails system.old)
+        repeats input.now output.text.items output.status) }
+    ensures kept { AreKept (answers system.new) (answers system.old) (fails system.new) (fails system.old)
+        (reset_fails system.new) (reset_fails system.old) }
+{
+    let file = match load_compiled(alloc, input)? {
+        Ok(file) => file,
+        Err(refusal) => return refusal_output(alloc, &refusal),
+    };
+    let items = items_of(file.trees.as_slice());
+    let runs = match runs_in(alloc, file.compiled.typed(), items)? {
+        Ok(runs) => runs,
+        Err(fault) => return refused_run(alloc, &fault),
+    };
+    let reports = item_reports(
+        rt,
+        alloc,
+        &file.compiled,
+        system,
+        runs.as_slice(),
+        repeats,
+        counts,
+    )?;
+    joined(alloc, Status::Accepted, reports.as_slice())
+}
+
+/// Drives the case of each item behind the model that the input begins with on the system, `repeats` times, and answers the status.
+/// For each item, from 1, it writes the run of the first drive that is not explained, or else of the last drive, as one tree, a
+/// line `NUMBER VERDICT`, and a line `NUMBER drives N failed K`, where `K` of the `N` drives are not explained. Of a case that is
+/// not valid it writes a line with the reason alone, and if a drive is lost a line `NUMBER lost KIND` alone, and the case is driven
+/// no more. Refusals and the status are those of `run_text`.
+///
+/// Each item is counted once, by what is shown of it.
+pub fn run_repeatedly<W: Sink, R: Threads + Wait + Sync>(
+    rt: &R,
+    alloc: Global,
+    input: &[u8],
+    system: &mut BoxedSystem,
+    repeats: u32,
+    counts: &mut Counts,
+    sink: &mut W,
+) -> Status
+    requires some { 1 ≤ repeats }
+    requires stands { W.broken sink.old ≡ false }
+    ensures prints { Prints
+        (IsRepeatOutput (answers system.old) (fails system.old) (reset_fails system.old) repeats input.now)
+        (W.taken sink.old) (W.taken sink.new) (W.broken sink.new) result }
+    ensures kept { AreKept (answers system.new) (answers system.old) (fails system.new) (fails system.old)
+        (reset_fails system.new) (reset_fails system.old) }
+{
+    match repeat_output(rt, alloc, input, system, repeats, counts) {
+        Ok(output) => send(output.text.as_slice(), output.status, sink),
+        Err(AllocError) => {
+            *counts = Counts::new();
+            send(b"refused memory\n", Status::Lost, sink)
+        }
+    }
+}

@@ -1,0 +1,190 @@
+//! `pst judge --stream`.
+ghost use Rattle.std.specs.Prelude.{◌≡◌, ◌+◌, ◌++◌, ℕ, List, Some, false, length, IfOk, MatchResult, OnOk, string_bytes};
+ghost use Rattle.pst_cli.specs.KeepingOn.{answer_lines, worst_status};
+ghost use Rattle.pst_cli.specs.Sending.{Prints};
+ghost use Rattle.pst_cli.specs.Streaming.{EndsBlock, EndsStream};
+ghost use Rattle.pst_cli.specs.StreamOutput.{IsStreamOutput};
+
+use crate::compiled::load_compiled;
+use crate::counts::Counts;
+use crate::keep::{add_answer_line, answer_status};
+use crate::output::send;
+use crate::refusal::refusal_output;
+use crate::sharing::may_share_compiled;
+use crate::status::Status;
+use pst_compile::Compiled;
+use pst_each::Answer;
+use pst_sink::{Sink, WriteFailed, put_all};
+use pst_stream::{StreamFault, next_block};
+use std::alloc::{AllocError, Global};
+use std::io::Read;
+use std::thread::Threads;
+
+/// How many bytes are read at once.
+const BUFFER: usize = 262_144;
+
+/// Why the lines end before the stream does.
+#[derive(Clone, Copy, Debug, PartialEq, Eq, Drop)]
+pub(crate) enum Cut {
+    /// The reader failed.
+    Unread,
+    /// An allocation failed.
+    NoMemory,
+    /// The writer failed.
+    Unwritten,
+}
+
+/// The lines that were written: how many, and the worst of their statuses.
+#[derive(Clone, Copy, Debug, PartialEq, Eq, Drop)]
+pub(crate) struct Written {
+    pub count: usize,
+    pub status: Status,
+}
+
+/// The lines of answers, of which the first has the number after `count`.
+fn lines_after(alloc: Global, count: usize, answers: &[Answer]) -> Result<String, AllocError>
+    ensures { IfOk result (λ text. string_bytes text ≡ answer_lines (count + 1) answers.now) }
+{
+    let mut text = String::new(alloc);
+    let mut number = count;
+    for answer in answers {
+        number = match number.checked_add(1) {
+            Some(number) => number,
+            None => return Err(AllocError),
+        };
+        add_answer_line(alloc, &mut text, number, answer)?;
+    }
+    Ok(text)
+}
+
+/// The worst of a status and those of answers.
+fn worst_after(so_far: Status, answers: &[Answer]) -> Status
+    ensures { result ≡ worst_status so_far answers.now }
+{
+    let mut status = so_far;
+    for answer in answers {
+        status = status.or_worse(answer_status(answer));
+    }
+    status
+}
+
+/// Writes the lines of the answers to a block, after those that were written.
+fn write_block<W: Sink>(
+    alloc: Global,
+    written: Written,
+    answers: &[Answer],
+    sink: &mut W,
+) -> Result<Written, Cut>
+    requires { W.broken sink.old ≡ false }
+    ensures { EndsBlock written answers.now (W.taken sink.old) (W.taken sink.new) (W.broken sink.new) result }
+{
+    let text = match lines_after(alloc, written.count, answers) {
+        Ok(text) => text,
+        Err(AllocError) => return Err(Cut::NoMemory),
+    };
+    let Some(count) = written.count.checked_add(answers.len()) else {
+        return Err(Cut::NoMemory);
+    };
+    match put_all(text.as_bytes(), sink) {
+        Ok(()) => Ok(Written {
+            count,
+            status: worst_after(written.status, answers),
+        }),
+        Err(WriteFailed) => Err(Cut::Unwritten),
+    }
+}
+
+/// Why the lines end where a block cannot be had.
+fn cut_by(fault: StreamFault) -> Cut {
+    match fault {
+        StreamFault::Unread => Cut::Unread,
+        StreamFault::NoMemory => Cut::NoMemory,
+    }
+}
+
+/// Writes the line of each item of a reader, as they come, and gives the worst of their statuses; or why the lines end before
+/// the reader does.
+fn write_stream<I: Read, W: Sink, R: Threads + Sync>(
+    rt: &R,
+    alloc: Global,
+    compiled: &Compiled,
+    reader: &mut I,
+    counts: &mut Counts,
+    sink: &mut W,
+) -> Result<Status, Cut>
+    requires { W.broken sink.old ≡ false }
+    ensures { EndsStream compiled.now (I.remaining reader.old) (W.taken sink.old) (W.taken sink.new)
+        (W.broken sink.new) result }
+{
+    let Ok(mut buffer) = vec![in alloc; 0u8; BUFFER] else {
+        return Err(Cut::NoMemory);
+    };
+    may_share_compiled();
+    let mut kept = Vec::new(alloc);
+    let mut written = Written {
+        count: 0,
+        status: Status::Accepted,
+    };
+    for _turn in 0..u64::MAX {
+        let block = match next_block(
+            rt,
+            compiled,
+            alloc,
+            compiled.typed(),
+            reader,
+            buffer.as_mut_slice(),
+            &mut kept,
+        ) {
+            Ok(block) => block,
+            Err(fault) => return Err(cut_by(fault)),
+        };
+        let answers = block.answers.as_slice();
+        counts.add_answers(answers);
+        written = match write_block(alloc, written, answers, sink) {
+            Ok(written) => written,
+            Err(cut) => return Err(cut),
+        };
+        if block.is_last {
+            return Ok(written.status);
+        }
+    }
+    Err(Cut::NoMemory)
+}
+
+/// Judges the items of a reader, one on each line, over the model that the input begins with. For each line, from 1, it writes
+/// `NUMBER VERDICT`, or `refused run NUMBER command C KIND`; a line that spells no item, or more than one, or that is longer than
+/// a file may be, is refused as `BadForm`. All lines that end in what one read of the reader gives are judged and written before
+/// the next read, several at once, and no more of the reader is kept in memory. Items behind the model are not judged.
+///
+/// The status is that of `judge_text_keeping_on`: the worst of all lines. Where the model is refused, its refusal is written
+/// alone. Where the reader fails, `refused file` is written after the lines so far, with the status `Refused`; where an
+/// allocation fails, `refused memory`, with the status `Lost`. `Lost` as well where the writer fails.
+pub fn judge_stream<I: Read, W: Sink, R: Threads + Sync>(
+    rt: &R,
+    alloc: Global,
+    input: &[u8],
+    reader: &mut I,
+    counts: &mut Counts,
+    sink: &mut W,
+) -> Status
+    requires { W.broken sink.old ≡ false }
+    ensures { (bytes : List ℕ) → I.remaining reader.old ≡ Some bytes → Prints (IsStreamOutput input.now bytes)
+        (W.taken sink.old) (W.taken sink.new) (W.broken sink.new) result }
+{
+    let file = match load_compiled(alloc, input) {
+        Ok(Ok(file)) => file,
+        Ok(Err(refusal)) => {
+            return match refusal_output(alloc, &refusal) {
+                Ok(output) => send(output.text.as_slice(), output.status, sink),
+                Err(AllocError) => send(b"refused memory\n", Status::Lost, sink),
+            };
+        }
+        Err(AllocError) => return send(b"refused memory\n", Status::Lost, sink),
+    };
+    match write_stream(rt, alloc, &file.compiled, reader, counts, sink) {
+        Ok(status) => status,
+        Err(Cut::Unread) => send(b"refused file\n", Status::Refused, sink),
+        Err(Cut::NoMemory) => send(b"refused memory\n", Status::Lost, sink),
+        Err(Cut::Unwritten) => Status::Lost,
+    }
+}

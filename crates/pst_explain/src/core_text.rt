@@ -1,0 +1,157 @@
+//! The text of cores.
+
+use crate::allowing::WrongIn;
+use crate::cores::{Core, CoreAnswer};
+use crate::parts::add_parts;
+use pst_allowed::AllowedValues;
+use pst_model::Source;
+use pst_scene::{
+    Call, Page, Scene, Table, add, add_reply, add_value, add_word, expression_text, falsity_text,
+    joined, operation, text_of, two, value_text,
+};
+use std::alloc::{AllocError, Global};
+
+/// The place and the spelling of a command, and what it answered.
+fn answered(alloc: Global, model: &Source, call: &Call<'_>) -> Result<Vec<u8>, AllocError> {
+    let mut text = call.text(alloc, model)?;
+    if let Some(reply) = call.reply {
+        add(&mut text, " answered ")?;
+        add_reply(&mut text, alloc, model, reply)?;
+    }
+    Ok(text)
+}
+
+/// The postcondition of a command.
+fn postcondition_text(
+    alloc: Global,
+    scene: &Scene<'_>,
+    call: &Call<'_>,
+) -> Result<Vec<u8>, AllocError> {
+    let mut text = text_of(alloc, "postcondition ")?;
+    if let Some(operation) = operation(scene, call) {
+        let expression = expression_text(alloc, &operation.post)?;
+        text.extend_from_slice(expression.as_slice())?;
+    }
+    Ok(text)
+}
+
+/// The allowed values in one text, and `..` if there may be others.
+fn values_text(
+    alloc: Global,
+    model: &Source,
+    found: &AllowedValues,
+) -> Result<Vec<u8>, AllocError> {
+    let mut text = text_of(alloc, "allowed: ")?;
+    for (index, value) in found.values.as_slice().iter().enumerate() {
+        if index > 0 {
+            add(&mut text, ", ")?;
+        }
+        add_value(&mut text, alloc, model, value)?;
+    }
+    if !found.all {
+        add(&mut text, " ..")?;
+    }
+    Ok(text)
+}
+
+/// Adds a cell for each allowed value, and one of `..` if there may be others.
+fn add_each_value(
+    row: &mut Vec<Vec<u8>>,
+    alloc: Global,
+    model: &Source,
+    found: &AllowedValues,
+) -> Result<(), AllocError> {
+    for value in found.values.as_slice() {
+        let value = value_text(alloc, model, value)?;
+        row.push(joined(alloc, &[b"allowed: ", value.as_slice()])?)?;
+    }
+    if !found.all {
+        row.push(text_of(alloc, "..")?)?;
+    }
+    Ok(())
+}
+
+/// Adds a cell of the allowed values, if there are some, or a cell for each if one has more bytes than a line.
+fn add_values(
+    row: &mut Vec<Vec<u8>>,
+    alloc: Global,
+    model: &Source,
+    found: &AllowedValues,
+    line: usize,
+) -> Result<(), AllocError> {
+    if found.values.is_empty() {
+        return Ok(());
+    }
+    let text = values_text(alloc, model, found)?;
+    if text.len() > line {
+        return add_each_value(row, alloc, model, found);
+    }
+    row.push(text)?;
+    Ok(())
+}
+
+/// Why an answer is wrong in an interleaving, and which that is.
+fn wrong_text(alloc: Global, model: &Source, wrong: &WrongIn<'_>) -> Result<Vec<u8>, AllocError> {
+    let mut text = falsity_text(alloc, model, &wrong.falsity)?;
+    if !wrong.word.is_empty() {
+        add(&mut text, ", as by ")?;
+        add_word(&mut text, wrong.word.as_slice())?;
+    }
+    Ok(text)
+}
+
+/// The row of an answer: what it is, its postcondition, for one that gives no single reply the part of it that is false, and
+/// what the model allows in its place. `line` is how many bytes a line has room for.
+fn answer_row(
+    alloc: Global,
+    scene: &Scene<'_>,
+    answer: &CoreAnswer<'_>,
+    line: usize,
+) -> Result<Vec<Vec<u8>>, AllocError> {
+    let model = scene.model;
+    let left = answered(alloc, model, &answer.call)?;
+    let mut row = two(alloc, left, postcondition_text(alloc, scene, &answer.call)?)?;
+    if answer.asks_why() {
+        row.push(match &answer.wrong {
+            Some(wrong) => wrong_text(alloc, model, wrong)?,
+            None => Vec::new(alloc),
+        })?;
+    }
+    add_values(&mut row, alloc, model, &answer.allowed, line)?;
+    Ok(row)
+}
+
+/// The sentence before the commands of a core.
+fn opening_sentence(count: usize) -> &'static str {
+    match count {
+        0 => "No answer is to blame: the model faults in every interleaving, whatever is answered.",
+        1 => "This answer cannot be right, whatever the others are:",
+        _ => "These answers cannot all be right; without any one of them the others can:",
+    }
+}
+
+/// Adds a core, and the run with the commands of the core marked.
+pub fn add_core(
+    page: &mut Page,
+    alloc: Global,
+    scene: &Scene<'_>,
+    core: &Core<'_>,
+) -> Result<(), AllocError> {
+    page.add_sentence(alloc, 2, opening_sentence(core.answers.len()).as_bytes())?;
+    let mut table = Table::new(alloc);
+    let line = page.width.saturating_sub(6);
+    for answer in &core.answers {
+        table.add_row(answer_row(alloc, scene, answer, line)?)?;
+    }
+    table.write_or_stack(page, alloc, 4)?;
+    if core.answers.is_empty() {
+        page.add_sentence(alloc, 2, b"The run:")?;
+    } else {
+        if core.is_in_prefix() {
+            page.add_sentence(alloc, 2, b"The prefix alone shows it: no race is needed.")?;
+        }
+        page.add_sentence(alloc, 2, b"The run, with * before what is reported above:")?;
+    }
+    let numbers = core.numbers(alloc)?;
+    add_parts(page, alloc, scene, numbers.as_slice())
+}

@@ -1,0 +1,210 @@
+//! The explanation of an item.
+ghost use Rattle.std.specs.Prelude.{◌≡◌, true};
+ghost use Rattle.pst_case.specs.Matches.{matches};
+ghost use Rattle.pst_judge.specs.Judgement.{HistoryMatches, IsJudgement};
+ghost use Rattle.pst_judge.specs.Verdict.{IsVerdict};
+ghost use Rattle.pst_judge.specs.declared.verdicts.Verdict.TheVariants as verdict;
+
+use crate::breaking::{BrokenReply, broken_reply};
+use crate::cores::{Core, core_of};
+use crate::failures::{Failure, failure_at, failure_in};
+use crate::places::TreePlace;
+use crate::walks::{Walk, explaining_walk, furthest_walk};
+use pst_case::{History, Run};
+use pst_eval::{Callback, Callbacks, Place};
+use pst_judge::{Judged, Verdict, Why, verdict_with_interleaving};
+use pst_rules::Typed;
+use pst_scene::{Part, Scene, call_numbered, scene_of};
+use std::alloc::{AllocError, Global};
+
+/// Why the judgement of an item is as it is.
+#[derive(Drop)]
+pub enum Reason<'a> {
+    /// The interleaving explains it.
+    Explained(Walk<'a>),
+    /// No interleaving explains it, and none faults.
+    Unexplained {
+        /// How many commands are right, in the interleaving that comes furthest, before a wrong one.
+        far: usize,
+        core: Core<'a>,
+        /// The interleaving that comes furthest.
+        furthest: Walk<'a>,
+    },
+    /// No interleaving explains it, and a callback faults in one.
+    Faulted {
+        failure: Failure<'a>,
+        core: Core<'a>,
+    },
+    /// A reply is no value.
+    Broken(BrokenReply<'a>),
+    /// A case is not valid.
+    Invalid(Failure<'a>),
+    /// There is nothing to explain, as for a valid case.
+    Nothing,
+}
+
+impl<'a> Reason<'a> {
+    /// The answers that cannot all be right, if no interleaving explains the item.
+    pub fn core(&self) -> Option<&Core<'a>> {
+        match self {
+            Reason::Unexplained { core, .. } | Reason::Faulted { core, .. } => Some(core),
+            _ => None,
+        }
+    }
+
+    /// The callback that fails, if one does.
+    pub fn failure(&self) -> Option<&Failure<'a>> {
+        match self {
+            Reason::Faulted { failure, .. } | Reason::Invalid(failure) => Some(failure),
+            _ => None,
+        }
+    }
+
+    /// The interleaving of the verdict, if there is one.
+    pub fn walk(&self) -> Option<&Walk<'a>> {
+        match self {
+            Reason::Explained(walk) => Some(walk),
+            Reason::Unexplained { furthest, .. } => Some(furthest),
+            Reason::Faulted { failure, .. } | Reason::Invalid(failure) => Some(&failure.walk),
+            _ => None,
+        }
+    }
+}
+
+/// The explanation of an item: its judgement and why it is so.
+#[derive(Drop)]
+pub struct Explanation<'a> {
+    /// The number of the item, from 1.
+    pub number: usize,
+    /// Where the item begins in the input, if that is known.
+    pub place: Option<TreePlace<'a>>,
+    pub judged: &'a Judged,
+    /// The item and its model.
+    pub scene: Scene<'a>,
+    pub reason: Reason<'a>,
+}
+
+/// The first fault of an item that no interleaving explains, and a core.
+fn faulted<'a, C: Callbacks>(
+    callbacks: &C,
+    alloc: Global,
+    scene: &Scene<'a>,
+    history: &History,
+    place: Place,
+) -> Result<Reason<'a>, AllocError>
+    requires model { scene.now.model.now ≡ C.model callbacks.now }
+    requires shaped { scene.now.run.now.shaped.model ≡ C.model callbacks.now }
+    requires matches { matches (C.model callbacks.now) scene.now.run.now.shaped.case history.now ≡ true }
+    requires verdict { IsVerdict (C.model callbacks.now) scene.now.run.now.shaped.case history.now
+        (verdict.Faulted place) }
+{
+    let (_, mut word) = verdict_with_interleaving(callbacks, alloc, &scene.run.shaped, history)?;
+    if let Some(call) = call_numbered(scene.all.as_slice(), place.command) {
+        if let Part::Branch(branch) = call.part {
+            word.push(branch)?;
+        }
+    }
+    let failure = failure_in(alloc, scene, word.as_slice(), place)?;
+    let core = core_of(callbacks, alloc, scene, history)?;
+    Ok(Reason::Faulted { failure, core })
+}
+
+/// A core of an item that no interleaving explains, and the interleaving that comes furthest.
+fn unexplained<'a, C: Callbacks>(
+    callbacks: &C,
+    alloc: Global,
+    scene: &Scene<'a>,
+    history: &History,
+    far: usize,
+) -> Result<Reason<'a>, AllocError>
+    requires model { scene.now.model.now ≡ C.model callbacks.now }
+    requires shaped { scene.now.run.now.shaped.model ≡ C.model callbacks.now }
+    requires matches { matches (C.model callbacks.now) scene.now.run.now.shaped.case history.now ≡ true }
+    requires verdict { IsVerdict (C.model callbacks.now) scene.now.run.now.shaped.case history.now
+        (verdict.Unexplained far) }
+{
+    let core = core_of(callbacks, alloc, scene, history)?;
+    let furthest = furthest_walk(callbacks, alloc, scene, history, far)?;
+    Ok(Reason::Unexplained {
+        far,
+        core,
+        furthest,
+    })
+}
+
+/// Why the verdict on a history is as it is.
+fn of_verdict<'a, C: Callbacks>(
+    callbacks: &C,
+    alloc: Global,
+    scene: &Scene<'a>,
+    history: &History,
+    verdict: &Verdict,
+) -> Result<Reason<'a>, AllocError>
+    requires model { scene.now.model.now ≡ C.model callbacks.now }
+    requires shaped { scene.now.run.now.shaped.model ≡ C.model callbacks.now }
+    requires matches { matches (C.model callbacks.now) scene.now.run.now.shaped.case history.now ≡ true }
+    requires verdict { IsVerdict (C.model callbacks.now) scene.now.run.now.shaped.case history.now
+        verdict.now }
+{
+    match verdict {
+        Verdict::Explained(word) => {
+            let walk = explaining_walk(callbacks, alloc, scene, history, word.as_slice())?;
+            Ok(Reason::Explained(walk))
+        }
+        Verdict::Faulted(place) => faulted(callbacks, alloc, scene, history, *place),
+        Verdict::Unexplained(far) => unexplained(callbacks, alloc, scene, history, *far),
+        Verdict::Broken(number) => Ok(Reason::Broken(broken_reply(scene, *number))),
+    }
+}
+
+/// Why a case is not valid.
+fn of_invalid<'a>(alloc: Global, scene: &Scene<'a>, why: &Why) -> Result<Reason<'a>, AllocError> {
+    match why {
+        Why::PreFalse { command, merge } => {
+            let Some(call) = call_numbered(scene.all.as_slice(), *command) else {
+                return Ok(Reason::Nothing);
+            };
+            let word = merge.as_slice();
+            let failure = failure_at(alloc, scene, word, Callback::Pre, call, None)?;
+            Ok(Reason::Invalid(failure))
+        }
+        Why::CallbackFault { place, merge } => {
+            let failure = failure_in(alloc, scene, merge.as_slice(), *place)?;
+            Ok(Reason::Invalid(failure))
+        }
+        Why::NoMemory => Ok(Reason::Nothing),
+    }
+}
+
+/// Explains an item of a model: `judged` is its judgement, `number` its number, and `place` where it begins in the input.
+pub fn explain_item<'a, C: Callbacks>(
+    callbacks: &C,
+    alloc: Global,
+    typed: &'a Typed,
+    run: &'a Run,
+    judged: &'a Judged,
+    number: usize,
+    place: Option<TreePlace<'a>>,
+) -> Result<Explanation<'a>, AllocError>
+    requires model { typed.now ≡ C.model callbacks.now }
+    requires shaped { run.now.shaped.model ≡ C.model callbacks.now }
+    requires matches { HistoryMatches (C.model callbacks.now) run.now }
+    requires judged { IsJudgement (C.model callbacks.now) run.now judged.now }
+{
+    let scene = scene_of(alloc, typed, run)?;
+    let reason = match judged {
+        Judged::Verdict(verdict) => match &run.history {
+            Some(history) => of_verdict(callbacks, alloc, &scene, history, verdict)?,
+            None => Reason::Nothing,
+        },
+        Judged::Valid => Reason::Nothing,
+        Judged::Invalid(why) => of_invalid(alloc, &scene, why)?,
+    };
+    Ok(Explanation {
+        number,
+        place,
+        judged,
+        scene,
+        reason,
+    })
+}

@@ -1,0 +1,181 @@
+//! The text of callbacks that fault, and of preconditions that are false.
+
+use crate::failures::{Evaluated, Expression, FailingPart, Failure};
+use crate::walk_text::add_states;
+use pst_eval::Callback;
+use pst_model::Source;
+use pst_scene::{
+    Call, Page, Part, Scene, Table, add, add_word, expression_text, joined, text_of, two,
+    value_text,
+};
+use pst_value::Fault;
+use std::alloc::{AllocError, Global};
+
+/// Adds an expression, and the names in it with their values.
+fn add_evaluated(
+    page: &mut Page,
+    alloc: Global,
+    model: &Source,
+    evaluated: &Evaluated<'_>,
+) -> Result<(), AllocError> {
+    let text = expression_text(alloc, evaluated.expr)?;
+    page.add_line(alloc, 4, text.as_slice())?;
+    let mut table = Table::new(alloc);
+    for binding in &evaluated.names {
+        let name = Vec::from_slice(alloc, binding.name.as_slice())?;
+        table.add_row(two(alloc, name, value_text(alloc, model, &binding.value)?)?)?;
+    }
+    table.write(page, alloc, 6)
+}
+
+/// Adds the part of an expression that faults.
+fn add_part(
+    page: &mut Page,
+    alloc: Global,
+    model: &Source,
+    part: &FailingPart<'_>,
+) -> Result<(), AllocError> {
+    match part.function {
+        None => page.add_sentence(alloc, 2, b"It faults in this part:")?,
+        Some(name) => {
+            let parts: [&[u8]; 3] = [
+                b"It faults in this part of the function ",
+                name.as_bytes(),
+                b":",
+            ];
+            let sentence = joined(alloc, &parts)?;
+            page.add_sentence(alloc, 2, sentence.as_slice())?;
+        }
+    }
+    add_evaluated(page, alloc, model, &part.evaluated)
+}
+
+/// Adds an expression, and the part of it that faults.
+fn add_expression(
+    page: &mut Page,
+    alloc: Global,
+    model: &Source,
+    expression: &Expression<'_>,
+) -> Result<(), AllocError> {
+    add_evaluated(page, alloc, model, &expression.whole)?;
+    match &expression.part {
+        Some(part) => add_part(page, alloc, model, part),
+        None => Ok(()),
+    }
+}
+
+/// The place and the spelling of a command, and its reply if there is one.
+fn add_call(
+    out: &mut Vec<u8>,
+    alloc: Global,
+    model: &Source,
+    call: &Call<'_>,
+) -> Result<(), AllocError> {
+    let text = match call.reply {
+        Some(_) => call.with_reply(alloc, model)?,
+        None => call.text(alloc, model)?,
+    };
+    out.extend_from_slice(text.as_slice())
+}
+
+/// Whether the word has a letter for each command of the branches.
+fn is_whole(scene: &Scene<'_>, word: &[usize]) -> bool {
+    let mut count = 0usize;
+    for branch in &scene.calls.branches {
+        count = count.saturating_add(branch.len());
+    }
+    word.len() == count
+}
+
+/// Which callback of a command faults, and in which interleaving.
+fn call_sentence(
+    alloc: Global,
+    scene: &Scene<'_>,
+    failure: &Failure<'_>,
+    call: &Call<'_>,
+    fault: Fault,
+) -> Result<Vec<u8>, AllocError> {
+    let word = failure.walk.word.as_slice();
+    let mut text = text_of(alloc, "The callback ")?;
+    add(&mut text, failure.callback.name())?;
+    add(&mut text, " of ")?;
+    add_call(&mut text, alloc, scene.model, call)?;
+    add(&mut text, " faults with ")?;
+    add(&mut text, fault.name())?;
+    if call.part != Part::Prefix {
+        add(
+            &mut text,
+            if is_whole(scene, word) {
+                " in the interleaving "
+            } else {
+                " in an interleaving that begins with "
+            },
+        )?;
+        add_word(&mut text, word)?;
+    }
+    add(&mut text, ":")?;
+    Ok(text)
+}
+
+/// That a callback of no command faults.
+fn model_sentence(alloc: Global, callback: Callback, fault: Fault) -> Result<Vec<u8>, AllocError> {
+    let mut text = text_of(
+        alloc,
+        match callback {
+            Callback::Command => "The callback command faults with ",
+            _ => "The initial state faults with ",
+        },
+    )?;
+    add(&mut text, fault.name())?;
+    add(&mut text, ":")?;
+    Ok(text)
+}
+
+/// That the precondition of a command is false in an interleaving.
+fn false_sentence(
+    alloc: Global,
+    model: &Source,
+    failure: &Failure<'_>,
+) -> Result<Vec<u8>, AllocError> {
+    let mut text = text_of(alloc, "In the interleaving ")?;
+    add_word(&mut text, failure.walk.word.as_slice())?;
+    add(&mut text, " the precondition of ")?;
+    if let Some(call) = &failure.call {
+        let command = call.text(alloc, model)?;
+        text.extend_from_slice(command.as_slice())?;
+    }
+    add(&mut text, " is false:")?;
+    Ok(text)
+}
+
+/// What fails.
+fn failure_sentence(
+    alloc: Global,
+    scene: &Scene<'_>,
+    failure: &Failure<'_>,
+) -> Result<Vec<u8>, AllocError> {
+    match (failure.fault, &failure.call) {
+        (Some(fault), Some(call)) => call_sentence(alloc, scene, failure, call, fault),
+        (Some(fault), None) => model_sentence(alloc, failure.callback, fault),
+        (None, _) => false_sentence(alloc, scene.model, failure),
+    }
+}
+
+/// Adds what fails: the callback's expression, the part of it that faults, and the states before.
+pub fn add_failure(
+    page: &mut Page,
+    alloc: Global,
+    scene: &Scene<'_>,
+    failure: &Failure<'_>,
+) -> Result<(), AllocError> {
+    let sentence = failure_sentence(alloc, scene, failure)?;
+    page.add_sentence(alloc, 2, sentence.as_slice())?;
+    if let Some(expression) = &failure.expression {
+        add_expression(page, alloc, scene.model, expression)?;
+    }
+    if failure.callback == Callback::Init {
+        return Ok(());
+    }
+    page.add_sentence(alloc, 2, b"The states before it:")?;
+    add_states(page, alloc, scene.model, &failure.walk)
+}

@@ -1,0 +1,237 @@
+//! Callbacks that fault, and preconditions that are false.
+
+use crate::walks::{Walk, stopped_after, walk_along};
+use pst_case::Reply;
+use pst_eval::{Callback, Place};
+use pst_evidence::{Binding, FaultyPart, bindings_of, faulty_part, words_of};
+use pst_items::Items;
+use pst_meaning::Env;
+use pst_model::{Expr, calls_of, opening_of};
+use pst_scene::{
+    Call, Scene, arguments, call_numbered, calls_before, operation, reference, states_along,
+};
+use pst_value::{Fault, Value};
+use std::alloc::{AllocError, Global};
+
+/// An expression with the values of its names.
+#[derive(Drop)]
+pub struct Evaluated<'a> {
+    pub expr: &'a Expr,
+    /// The names in it that have a value, in the order in which it has them.
+    pub names: Vec<Binding>,
+}
+
+/// The part of an expression that faults.
+#[derive(Drop)]
+pub struct FailingPart<'a> {
+    /// The name of the function in whose body it is, if it is in one.
+    pub function: Option<&'a str>,
+    pub evaluated: Evaluated<'a>,
+}
+
+/// An expression of a callback, and the part of it that faults, if it is not the whole.
+#[derive(Drop)]
+pub struct Expression<'a> {
+    pub whole: Evaluated<'a>,
+    pub part: Option<FailingPart<'a>>,
+}
+
+/// A callback that faults, or a precondition that is false.
+#[derive(Drop)]
+pub struct Failure<'a> {
+    pub callback: Callback,
+    /// The command whose callback it is; `None` for `init` and `command`.
+    pub call: Option<Call<'a>>,
+    /// With what it faults; `None` if it is a precondition that is false.
+    pub fault: Option<Fault>,
+    /// Its expression. `None` if the model has none, or there is no state before the command.
+    pub expression: Option<Expression<'a>>,
+    /// The interleaving up to there.
+    pub walk: Walk<'a>,
+}
+
+/// The value of a name, the inner one if it has several.
+fn value_of<'a>(bindings: &'a [Binding], name: &[u8]) -> Option<&'a Value> {
+    for binding in bindings {
+        if binding.name.as_slice() == name {
+            return Some(&binding.value);
+        }
+    }
+    None
+}
+
+/// An expression, and the names in it with their values.
+fn evaluated<'a>(
+    alloc: Global,
+    expr: &'a Expr,
+    bindings: &[Binding],
+) -> Result<Evaluated<'a>, AllocError> {
+    let mut names = Vec::new(alloc);
+    let words = words_of(alloc, expr)?;
+    for word in &words {
+        if let Some(value) = value_of(bindings, word.as_slice()) {
+            names.push(Binding {
+                name: Items::from_slice(alloc, word.as_slice())?,
+                value: value.copy(alloc)?,
+            })?;
+        }
+    }
+    Ok(Evaluated { expr, names })
+}
+
+/// The part of an expression that faults, if it is not the whole.
+fn failing_part<'a>(
+    alloc: Global,
+    whole: &Expr,
+    found: &FaultyPart<'a>,
+) -> Result<Option<FailingPart<'a>>, AllocError> {
+    if found.function.is_none() && *found.part == *whole {
+        return Ok(None);
+    }
+    Ok(Some(FailingPart {
+        function: found.function,
+        evaluated: evaluated(alloc, found.part, found.names.as_slice())?,
+    }))
+}
+
+/// An expression of the model in an environment, and the part of it that faults.
+fn expression_in<'a>(
+    alloc: Global,
+    scene: &Scene<'a>,
+    expr: &'a Expr,
+    env: &Env<'_>,
+) -> Result<Option<Expression<'a>>, AllocError> {
+    let names = bindings_of(alloc, env)?;
+    let whole = evaluated(alloc, expr, names.as_slice())?;
+    let part = match faulty_part(alloc, scene.model, expr, env)? {
+        Some(found) => failing_part(alloc, expr, &found)?,
+        None => None,
+    };
+    Ok(Some(Expression { whole, part }))
+}
+
+/// The expression of the initial state.
+fn of_init<'a>(alloc: Global, scene: &Scene<'a>) -> Result<Option<Expression<'a>>, AllocError> {
+    match opening_of(scene.model.items.as_slice()) {
+        Some(expr) => expression_in(alloc, scene, expr, &Env::Frame(&[], &[])),
+        None => Ok(None),
+    }
+}
+
+/// The expression of the calls to pick from in a state.
+fn of_command<'a>(
+    alloc: Global,
+    scene: &Scene<'a>,
+    state: &Value,
+) -> Result<Option<Expression<'a>>, AllocError> {
+    match calls_of(scene.model.items.as_slice()) {
+        Some(expr) => {
+            let frame = Env::Frame(&[], &[]);
+            expression_in(alloc, scene, expr, &Env::With(b"s", &*state, &frame))
+        }
+        None => Ok(None),
+    }
+}
+
+/// The expression of a callback of a command on the state before it.
+fn of_callback<'a>(
+    alloc: Global,
+    scene: &Scene<'a>,
+    callback: Callback,
+    call: &Call<'_>,
+    state: &Value,
+) -> Result<Option<Expression<'a>>, AllocError> {
+    let Some(operation) = operation(scene, call) else {
+        return Ok(None);
+    };
+    let args = arguments(alloc, scene, call)?;
+    let frame = Env::Frame(operation.params.as_slice(), args.as_slice());
+    let env = Env::With(b"s", &*state, &frame);
+    match callback {
+        Callback::Init | Callback::Command => Ok(None),
+        Callback::Pre => expression_in(alloc, scene, &operation.pre, &env),
+        Callback::Next => {
+            let result = reference(alloc, call)?;
+            let inner = Env::With(b"r", &result, &env);
+            expression_in(alloc, scene, &operation.next, &inner)
+        }
+        Callback::Post => match call.reply {
+            Some(Reply::Value(value)) => {
+                let inner = Env::With(b"r", value, &env);
+                expression_in(alloc, scene, &operation.post, &inner)
+            }
+            _ => Ok(None),
+        },
+    }
+}
+
+/// The failure of a callback of a command in the interleaving of the word. `fault` is with what it faults; `None`: it is a
+/// precondition that is false.
+pub fn failure_at<'a>(
+    alloc: Global,
+    scene: &Scene<'a>,
+    word: &[usize],
+    callback: Callback,
+    call: Call<'a>,
+    fault: Option<Fault>,
+) -> Result<Failure<'a>, AllocError> {
+    let before = calls_before(alloc, scene, word, &call)?;
+    let before = before.as_slice();
+    let states = states_along(alloc, scene, before)?;
+    let states = states.as_slice();
+    let mut walk = walk_along(alloc, scene, word, before, states)?;
+    let mut expression = None;
+    if let Some(state) = states.get(before.len()) {
+        expression = of_callback(alloc, scene, callback, &call, state)?;
+        walk.stopped = stopped_after(alloc, scene, before, state)?;
+    }
+    Ok(Failure {
+        callback,
+        call: Some(call),
+        fault,
+        expression,
+        walk,
+    })
+}
+
+/// The failure at a place in the interleaving of the word.
+pub fn failure_in<'a>(
+    alloc: Global,
+    scene: &Scene<'a>,
+    word: &[usize],
+    place: Place,
+) -> Result<Failure<'a>, AllocError> {
+    let fault = Some(place.fault);
+    if let Some(call) = call_numbered(scene.all.as_slice(), place.command) {
+        return failure_at(alloc, scene, word, place.callback, call, fault);
+    }
+    Ok(Failure {
+        callback: Callback::Init,
+        call: None,
+        fault,
+        expression: of_init(alloc, scene)?,
+        walk: walk_along(alloc, scene, word, &[], &[])?,
+    })
+}
+
+/// The failure of the calls to pick from after the commands of a script, which are all of the item.
+pub fn script_failure<'a>(
+    alloc: Global,
+    scene: &Scene<'a>,
+    fault: Fault,
+) -> Result<Failure<'a>, AllocError> {
+    let calls = scene.all.as_slice();
+    let states = states_along(alloc, scene, calls)?;
+    let states = states.as_slice();
+    let expression = match states.get(calls.len()) {
+        Some(state) => of_command(alloc, scene, state)?,
+        None => None,
+    };
+    Ok(Failure {
+        callback: Callback::Command,
+        call: None,
+        fault: Some(fault),
+        expression,
+        walk: walk_along(alloc, scene, &[], calls, states)?,
+    })
+}

@@ -1,0 +1,107 @@
+//! The text of interleavings.
+
+use crate::walks::{Stopped, Walk};
+use pst_model::Source;
+use pst_scene::{Call, Page, PreAnswer, Table, add_value, dead_end_text, joined, text_of, two};
+use pst_value::Value;
+use std::alloc::{AllocError, Global};
+
+fn state_text(alloc: Global, model: &Source, state: &Value) -> Result<Vec<u8>, AllocError> {
+    let mut text = text_of(alloc, "state ")?;
+    add_value(&mut text, alloc, model, state)?;
+    Ok(text)
+}
+
+/// Adds the initial state, and the commands as rows with the state after each.
+pub fn add_states(
+    page: &mut Page,
+    alloc: Global,
+    model: &Source,
+    walk: &Walk<'_>,
+) -> Result<(), AllocError> {
+    let Some(start) = &walk.start else {
+        return Ok(());
+    };
+    let mut table = Table::new(alloc);
+    let start = state_text(alloc, model, start)?;
+    table.add_row(two(alloc, text_of(alloc, "at first")?, start)?)?;
+    for step in &walk.steps {
+        let text = step.call.with_reply(alloc, model)?;
+        table.add_row(two(alloc, text, state_text(alloc, model, &step.state)?)?)?;
+    }
+    table.write_or_stack(page, alloc, 4)
+}
+
+/// The sentence on a precondition that is not true.
+fn precondition_sentence(
+    alloc: Global,
+    model: &Source,
+    call: &Call<'_>,
+    answer: PreAnswer,
+) -> Result<Option<Vec<u8>>, AllocError> {
+    let text = call.text(alloc, model)?;
+    let text = text.as_slice();
+    match answer {
+        PreAnswer::Holds => Ok(None),
+        PreAnswer::Fails => {
+            let parts: [&[u8]; 3] = [
+                b"The precondition of ",
+                text,
+                b" is false there; the verdict on a recorded run does not ask it.",
+            ];
+            Ok(Some(joined(alloc, &parts)?))
+        }
+        PreAnswer::Faults(fault) => {
+            let parts: [&[u8]; 5] = [
+                b"The precondition of ",
+                text,
+                b" faults with ",
+                fault.name().as_bytes(),
+                b" there; the verdict on a recorded run does not ask it.",
+            ];
+            Ok(Some(joined(alloc, &parts)?))
+        }
+    }
+}
+
+/// Adds the interleaving that explains an item, and the preconditions that are not true along it.
+pub fn add_explained(
+    page: &mut Page,
+    alloc: Global,
+    model: &Source,
+    walk: &Walk<'_>,
+) -> Result<(), AllocError> {
+    add_states(page, alloc, model, walk)?;
+    for step in &walk.steps {
+        let sentence = precondition_sentence(alloc, model, &step.call, step.precondition)?;
+        if let Some(sentence) = sentence {
+            page.add_sentence(alloc, 2, sentence.as_slice())?;
+        }
+    }
+    Ok(())
+}
+
+/// Adds each command that cannot come next, with its reply and the reason.
+pub fn add_stopped(
+    page: &mut Page,
+    alloc: Global,
+    model: &Source,
+    stopped: &[Stopped<'_>],
+) -> Result<(), AllocError> {
+    page.add_sentence(
+        alloc,
+        2,
+        if stopped.len() == 1 {
+            b"There the postcondition of the next command is false:"
+        } else {
+            b"There the postcondition of each next command is false:"
+        },
+    )?;
+    let mut table = Table::new(alloc);
+    for stop in stopped {
+        let text = stop.call.with_reply(alloc, model)?;
+        let why = dead_end_text(alloc, model, &stop.why)?;
+        table.add_row(two(alloc, text, why)?)?;
+    }
+    table.write_or_stack(page, alloc, 4)
+}

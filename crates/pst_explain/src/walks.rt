@@ -1,0 +1,175 @@
+//! Interleavings with their states.
+ghost use Rattle.std.specs.Prelude.{◌≡◌, true, None};
+ghost use Rattle.pst_case.specs.Matches.{matches};
+ghost use Rattle.pst_case.specs.Recorded.{recorded};
+ghost use Rattle.pst_judge.specs.Verdict.{first_broken};
+
+use pst_case::History;
+use pst_eval::Callbacks;
+use pst_judge::{Postconditions, verdict_with_interleaving};
+use pst_paths::states;
+use pst_scene::{
+    Call, DeadEnd, Outcome, Part, PreAnswer, Scene, falsity_of, in_order, next_calls, outcome_of,
+    precondition,
+};
+use pst_value::Value;
+use std::alloc::{AllocError, Global};
+
+/// A command of an interleaving.
+#[derive(Drop)]
+pub struct Step<'a> {
+    pub call: Call<'a>,
+    /// What its precondition is on the state before it.
+    pub precondition: PreAnswer,
+    /// The state after it.
+    pub state: Value,
+}
+
+/// A command that cannot come next.
+#[derive(Drop)]
+pub struct Stopped<'a> {
+    pub call: Call<'a>,
+    pub why: DeadEnd<'a>,
+}
+
+/// An interleaving as far as it goes.
+#[derive(Drop)]
+pub struct Walk<'a> {
+    /// The branches, from 0, of the letters that name the interleaving.
+    pub word: Vec<usize>,
+    /// The initial state; `None` if `init` faults.
+    pub start: Option<Value>,
+    /// The commands in their order.
+    pub steps: Vec<Step<'a>>,
+    /// Each command that may come after the last step and cannot.
+    pub stopped: Vec<Stopped<'a>>,
+}
+
+impl<'a> Walk<'a> {
+    /// The state after the last step.
+    fn last_state(&self) -> Option<&Value> {
+        match self.steps.as_slice().last() {
+            Some(step) => Some(&step.state),
+            None => match &self.start {
+                Some(state) => Some(state),
+                None => None,
+            },
+        }
+    }
+}
+
+/// The walk along the commands, as far as there are states: the initial one, and one after each command in turn.
+pub fn walk_along<'a>(
+    alloc: Global,
+    scene: &Scene<'_>,
+    word: &[usize],
+    calls: &[Call<'a>],
+    states: &[Value],
+) -> Result<Walk<'a>, AllocError> {
+    let mut walk = Walk {
+        word: Vec::from_slice(alloc, word)?,
+        start: None,
+        steps: Vec::new(alloc),
+        stopped: Vec::new(alloc),
+    };
+    let Some((first, others)) = states.split_first() else {
+        return Ok(walk);
+    };
+    walk.start = Some(first.copy(alloc)?);
+    let mut before = first;
+    for (call, state) in calls.iter().zip(others) {
+        walk.steps.push(Step {
+            call: *call,
+            precondition: precondition(alloc, scene, before, call)?,
+            state: state.copy(alloc)?,
+        })?;
+        before = state;
+    }
+    Ok(walk)
+}
+
+/// The branches of the commands that are in branches.
+fn word_of(alloc: Global, calls: &[Call<'_>]) -> Result<Vec<usize>, AllocError> {
+    let mut word = Vec::new(alloc);
+    for call in calls {
+        if let Part::Branch(branch) = call.part {
+            word.push(branch)?;
+        }
+    }
+    Ok(word)
+}
+
+/// Each command that may come after these and cannot. `state` is the state after them.
+pub fn stopped_after<'a>(
+    alloc: Global,
+    scene: &Scene<'a>,
+    calls: &[Call<'_>],
+    state: &Value,
+) -> Result<Vec<Stopped<'a>>, AllocError> {
+    let word = word_of(alloc, calls)?;
+    let next = next_calls(alloc, &scene.calls, word.as_slice(), calls.len())?;
+    let mut stopped = Vec::new(alloc);
+    for call in &next {
+        if let Outcome::Refused(why) = outcome_of(alloc, scene, state, call)? {
+            stopped.push(Stopped { call: *call, why })?;
+        }
+    }
+    Ok(stopped)
+}
+
+/// The interleaving of the word, which explains the item.
+pub fn explaining_walk<'a, C: Callbacks>(
+    callbacks: &C,
+    alloc: Global,
+    scene: &Scene<'a>,
+    history: &History,
+    word: &[usize],
+) -> Result<Walk<'a>, AllocError>
+    requires shaped { scene.now.run.now.shaped.model ≡ C.model callbacks.now }
+    requires matches { matches (C.model callbacks.now) scene.now.run.now.shaped.case history.now ≡ true }
+    requires answered { first_broken 1 (recorded history.now) ≡ None }
+{
+    let order = in_order(alloc, &scene.calls, word)?;
+    let shaped = &scene.run.shaped;
+    let states = states(callbacks, &Postconditions, alloc, shaped, history, word)?;
+    walk_along(alloc, scene, word, order.as_slice(), states.as_slice())
+}
+
+/// Each of the commands, with why its postcondition is not true on the state.
+fn all_stopped<'a>(
+    alloc: Global,
+    scene: &Scene<'a>,
+    next: &[Call<'a>],
+    state: &Value,
+) -> Result<Vec<Stopped<'a>>, AllocError> {
+    let mut stopped = Vec::new(alloc);
+    for call in next {
+        let why = DeadEnd::PostFails(falsity_of(alloc, scene, call, state)?);
+        stopped.push(Stopped { call: *call, why })?;
+    }
+    Ok(stopped)
+}
+
+/// The interleaving that comes furthest: `far` commands are right in it before a wrong one.
+pub fn furthest_walk<'a, C: Callbacks>(
+    callbacks: &C,
+    alloc: Global,
+    scene: &Scene<'a>,
+    history: &History,
+    far: usize,
+) -> Result<Walk<'a>, AllocError>
+    requires shaped { scene.now.run.now.shaped.model ≡ C.model callbacks.now }
+    requires matches { matches (C.model callbacks.now) scene.now.run.now.shaped.case history.now ≡ true }
+    requires answered { first_broken 1 (recorded history.now) ≡ None }
+{
+    let shaped = &scene.run.shaped;
+    let (_, word) = verdict_with_interleaving(callbacks, alloc, shaped, history)?;
+    let mut walk = explaining_walk(callbacks, alloc, scene, history, word.as_slice())?;
+    let next = next_calls(alloc, &scene.calls, word.as_slice(), far)?;
+    let stopped = match walk.last_state() {
+        Some(state) => all_stopped(alloc, scene, next.as_slice(), state)?,
+        None => Vec::new(alloc),
+    };
+    walk.stopped = stopped;
+    Ok(walk)
+}

@@ -1,0 +1,67 @@
+//! JSON in ASCII.
+
+use std::alloc::{AllocError, Global};
+
+/// The digit of a number below 16.
+fn digit(number: u32) -> u8 {
+    match number {
+        0 => b'0',
+        1 => b'1',
+        2 => b'2',
+        3 => b'3',
+        4 => b'4',
+        5 => b'5',
+        6 => b'6',
+        7 => b'7',
+        8 => b'8',
+        9 => b'9',
+        10 => b'a',
+        11 => b'b',
+        12 => b'c',
+        13 => b'd',
+        14 => b'e',
+        _ => b'f',
+    }
+}
+
+/// Adds the escape of a number of 16 bits, as `\u003c`.
+fn add_escape(out: &mut Vec<u8>, number: u32) -> Result<(), AllocError> {
+    out.extend_from_slice(b"\\u")?;
+    out.push(digit(number / 4096 % 16))?;
+    out.push(digit(number / 256 % 16))?;
+    out.push(digit(number / 16 % 16))?;
+    out.push(digit(number % 16))?;
+    Ok(())
+}
+
+/// Adds the escape of a character: that of its number, or of the two halves of one that is beyond 16 bits.
+fn add_escaped(out: &mut Vec<u8>, character: char) -> Result<(), AllocError> {
+    let number = u32::from(character);
+    match number.checked_sub(0x10000) {
+        None => add_escape(out, number),
+        Some(beyond) => {
+            add_escape(out, 0xd800 + beyond / 1024 % 1024)?;
+            add_escape(out, 0xdc00 + beyond % 1024)
+        }
+    }
+}
+
+/// The byte of a character that may be in a page: one of ASCII, but `<`, `>`, `&` and DEL.
+fn plain_byte(character: char) -> Option<u8> {
+    match u8::try_from(u32::from(character)) {
+        Ok(byte) if byte < 127 && byte != b'<' && byte != b'>' && byte != b'&' => Some(byte),
+        _ => None,
+    }
+}
+
+/// JSON with each other character than those of `plain_byte` as an escape, which it can be since it is in a text.
+pub fn ascii(alloc: Global, json: &str) -> Result<Vec<u8>, AllocError> {
+    let mut out = Vec::new(alloc);
+    for character in json.chars() {
+        match plain_byte(character) {
+            Some(byte) => out.push(byte)?,
+            None => add_escaped(&mut out, character)?,
+        }
+    }
+    Ok(out)
+}

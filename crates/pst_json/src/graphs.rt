@@ -1,0 +1,163 @@
+//! Searches of items.
+
+use crate::calls::put_call_member;
+use crate::reasons::put_why;
+use crate::values::put_state_member;
+use crate::writing::{put_bool_member, put_number_member};
+use json::Writer;
+use pst_explain::{Explanation, Reason};
+use pst_graph::{Move, Position, Search, Target, whole_search};
+use pst_model::Source;
+use pst_scene::{Call, Scene};
+use std::alloc::{AllocError, Global};
+
+/// A search is written if it has at most so many positions.
+const MOST_POSITIONS: usize = 150;
+
+/// How many words of branches there are of a word of `together` letters and more letters of one branch, where `orders` words
+/// have the first letters alone.
+fn with_branch(orders: u64, together: u64, more: usize) -> u64 {
+    let mut orders = orders;
+    for count in 1..=more as u64 {
+        let choices = orders.saturating_mul(together.saturating_add(count));
+        orders = choices.checked_div(count).unwrap_or(orders);
+    }
+    orders
+}
+
+/// How many interleavings the branches have.
+fn orders_of(scene: &Scene<'_>) -> u64 {
+    let mut orders = 1;
+    let mut together: u64 = 0;
+    for branch in &scene.calls.branches {
+        orders = with_branch(orders, together, branch.len());
+        together = together.saturating_add(branch.len() as u64);
+    }
+    orders
+}
+
+/// Whether the search of an item is written: one that is neither explained nor valid nor broken.
+fn has_graph(reason: &Reason<'_>) -> bool {
+    matches!(
+        reason,
+        Reason::Unexplained { .. } | Reason::Faulted { .. } | Reason::Invalid(_)
+    )
+}
+
+/// The commands of the interleaving of the verdict.
+fn shown_calls<'a>(
+    alloc: Global,
+    explanation: &Explanation<'a>,
+) -> Result<Vec<Call<'a>>, AllocError> {
+    let mut calls = Vec::new(alloc);
+    if let Some(walk) = explanation.reason.walk() {
+        for step in &walk.steps {
+            calls.push(step.call)?;
+        }
+    }
+    Ok(calls)
+}
+
+/// The search of an item that is written, if it has one that is small and an initial state.
+fn search_of<'a>(
+    alloc: Global,
+    explanation: &Explanation<'a>,
+) -> Result<Option<Search<'a>>, AllocError> {
+    if !has_graph(&explanation.reason) {
+        return Ok(None);
+    }
+    let shown = shown_calls(alloc, explanation)?;
+    let scene = &explanation.scene;
+    match whole_search(alloc, scene, shown.as_slice(), MOST_POSITIONS)? {
+        Some(search) if !search.positions.is_empty() => Ok(Some(search)),
+        _ => Ok(None),
+    }
+}
+
+/// Writes a position: how many calls of each part are before it, and its state.
+fn put_position(
+    writer: &mut Writer<Global>,
+    alloc: Global,
+    model: &Source,
+    position: &Position,
+) -> Result<(), AllocError> {
+    writer.begin_object()?;
+    writer.key("at")?;
+    writer.begin_array()?;
+    for count in position.counts() {
+        writer.u64(*count as u64)?;
+    }
+    writer.end_array()?;
+    put_state_member(writer, alloc, "state", model, &position.state)?;
+    writer.end_object()
+}
+
+/// Writes a move: the position it is from, its call, and where it leads or why it does not.
+fn put_move(
+    writer: &mut Writer<Global>,
+    alloc: Global,
+    model: &Source,
+    step: &Move<'_>,
+    is_shown: bool,
+) -> Result<(), AllocError> {
+    writer.begin_object()?;
+    put_number_member(writer, "from", step.from)?;
+    put_call_member(writer, alloc, &step.call)?;
+    match &step.target {
+        Target::Position(to) => {
+            put_number_member(writer, "to", *to)?;
+            if is_shown {
+                put_bool_member(writer, "on", true)?;
+            }
+        }
+        Target::DeadEnd(why) => put_why(writer, alloc, model, why)?,
+    }
+    writer.end_object()
+}
+
+/// Writes the member `graph`.
+fn put_graph(
+    writer: &mut Writer<Global>,
+    alloc: Global,
+    model: &Source,
+    search: &Search<'_>,
+) -> Result<(), AllocError> {
+    writer.key("graph")?;
+    writer.begin_object()?;
+    writer.key("nodes")?;
+    writer.begin_array()?;
+    for position in &search.positions {
+        put_position(writer, alloc, model, position)?;
+    }
+    writer.end_array()?;
+    writer.key("edges")?;
+    writer.begin_array()?;
+    for (number, step) in search.moves.iter().enumerate() {
+        let is_shown = search.shown.iter().any(|shown| *shown == number);
+        put_move(writer, alloc, model, step, is_shown)?;
+    }
+    writer.end_array()?;
+    writer.end_object()
+}
+
+/// Writes the member `search`, and `graph` if the search of the item is small and the item fails.
+pub fn put_search(
+    writer: &mut Writer<Global>,
+    alloc: Global,
+    explanation: &Explanation<'_>,
+) -> Result<(), AllocError> {
+    let search = search_of(alloc, explanation)?;
+    writer.key("search")?;
+    writer.begin_object()?;
+    writer.key("orders")?;
+    writer.u64(orders_of(&explanation.scene))?;
+    if let Some(search) = &search {
+        put_number_member(writer, "positions", search.positions.len())?;
+        put_number_member(writer, "moves", search.moves.len())?;
+    }
+    writer.end_object()?;
+    match &search {
+        Some(search) => put_graph(writer, alloc, explanation.scene.model, search),
+        None => Ok(()),
+    }
+}

@@ -1,0 +1,89 @@
+//! Items.
+
+use crate::calls::put_calls;
+use crate::cores::put_core;
+use crate::failures::{put_broken, put_failure};
+use crate::graphs::put_search;
+use crate::walks::put_walk;
+use crate::writing::{put_number_member, put_text_member, written};
+use json::Writer;
+use pst_explain::{Explanation, Reason, TreePlace};
+use pst_judge::{Judged, Verdict, Why};
+use std::alloc::{AllocError, Global};
+
+/// The first word of a judgement.
+fn verdict_word(judged: &Judged) -> &'static str {
+    match judged {
+        Judged::Verdict(Verdict::Explained(_)) => "explained",
+        Judged::Verdict(Verdict::Faulted(_)) => "fault",
+        Judged::Verdict(Verdict::Unexplained(_)) => "unexplained",
+        Judged::Verdict(Verdict::Broken(_)) => "broken",
+        Judged::Valid => "valid",
+        Judged::Invalid(Why::PreFalse { .. }) => "prefalse",
+        Judged::Invalid(Why::CallbackFault { .. }) => "casefault",
+        Judged::Invalid(Why::NoMemory) => "refused",
+    }
+}
+
+/// Writes the member `at`: the file and the line on which an item begins.
+fn put_place(writer: &mut Writer<Global>, place: &TreePlace<'_>) -> Result<(), AllocError> {
+    writer.key("at")?;
+    writer.begin_object()?;
+    if let Some(name) = place.file {
+        put_text_member(writer, "file", name)?;
+    }
+    put_number_member(writer, "line", place.line)?;
+    writer.end_object()
+}
+
+/// Writes what is known of an item without its reasons.
+fn put_head(
+    writer: &mut Writer<Global>,
+    alloc: Global,
+    explanation: &Explanation<'_>,
+) -> Result<(), AllocError> {
+    let is_run = explanation.scene.run.history.is_some();
+    let line = explanation.judged.text(alloc)?;
+    put_number_member(writer, "item", explanation.number)?;
+    put_text_member(writer, "kind", if is_run { "run" } else { "case" })?;
+    put_text_member(writer, "verdict", verdict_word(explanation.judged))?;
+    put_text_member(writer, "line", line.as_str())?;
+    if let Some(place) = &explanation.place {
+        put_place(writer, place)?;
+    }
+    put_calls(writer, alloc, &explanation.scene)
+}
+
+/// Writes why the judgement is as it is.
+fn put_reason(
+    writer: &mut Writer<Global>,
+    alloc: Global,
+    explanation: &Explanation<'_>,
+) -> Result<(), AllocError> {
+    let model = explanation.scene.model;
+    let reason = &explanation.reason;
+    if let Some(core) = reason.core() {
+        put_core(writer, alloc, model, core)?;
+    }
+    if let Some(walk) = reason.walk() {
+        put_walk(writer, alloc, explanation, walk)?;
+    }
+    if let Some(failure) = reason.failure() {
+        put_failure(writer, alloc, model, failure)?;
+    }
+    if let Reason::Broken(broken) = reason {
+        put_broken(writer, alloc, broken)?;
+    }
+    Ok(())
+}
+
+/// The explanation of an item as a JSON object, without a line end.
+pub fn item_json(alloc: Global, explanation: &Explanation<'_>) -> Result<Vec<u8>, AllocError> {
+    let mut writer = Writer::new(Vec::new(alloc));
+    writer.begin_object()?;
+    put_head(&mut writer, alloc, explanation)?;
+    put_reason(&mut writer, alloc, explanation)?;
+    put_search(&mut writer, alloc, explanation)?;
+    writer.end_object()?;
+    written(alloc, writer)
+}

@@ -1,0 +1,190 @@
+//! Values of models.
+
+use crate::writing::{MOST_BYTES, put_number_member, put_spelling_member, put_text_member};
+use json::Writer;
+use pst_items::Text;
+use pst_model::{Source, operation_of};
+use pst_scene::value_text;
+use pst_value::{Key, Value};
+use std::alloc::{AllocError, Global};
+
+/// The greatest integer that each reader of JSON holds exactly, 2^53 - 1.
+const MOST_EXACT: i64 = 9_007_199_254_740_991;
+
+/// Writes an integer: a number, or an object with its digits if it is too large to be read exactly.
+fn put_integer(writer: &mut Writer<Global>, number: i64) -> Result<(), AllocError> {
+    if -MOST_EXACT <= number && number <= MOST_EXACT {
+        return writer.i64(number);
+    }
+    writer.begin_object()?;
+    writer.key("int")?;
+    writer.quoted_i64(number)?;
+    writer.end_object()
+}
+
+/// Writes a key of a map.
+fn put_key(writer: &mut Writer<Global>, key: &Key) -> Result<(), AllocError> {
+    match key {
+        Key::Int(number) => put_integer(writer, *number),
+        Key::Bool(holds) => writer.boolean(*holds),
+        Key::Text(text) => writer.string(text.as_str()),
+    }
+}
+
+/// Writes an object with the number of a variable.
+fn put_variable(writer: &mut Writer<Global>, number: u32) -> Result<(), AllocError> {
+    writer.begin_object()?;
+    put_number_member(writer, "var", number as usize)?;
+    writer.end_object()
+}
+
+/// Writes the name of an operation.
+fn put_operation(
+    writer: &mut Writer<Global>,
+    model: &Source,
+    number: u32,
+) -> Result<(), AllocError> {
+    let name: Option<&Text> = match operation_of(model.items.as_slice(), number as usize) {
+        Some(operation) => Some(&operation.name),
+        None => None,
+    };
+    match name {
+        Some(name) => writer.string(name.as_str()),
+        None => writer.null(),
+    }
+}
+
+/// Writes a value as JSON.
+#[cycle(value)]
+fn put_json(writer: &mut Writer<Global>, model: &Source, value: &Value) -> Result<(), AllocError> {
+    match value {
+        Value::Int(number) => put_integer(writer, *number),
+        Value::Bool(holds) => writer.boolean(*holds),
+        Value::Text(text) => writer.string(text.as_str()),
+        Value::List(items) => {
+            writer.begin_array()?;
+            put_items(writer, model, items.as_slice())
+        }
+        Value::Tuple(parts) => {
+            writer.begin_object()?;
+            writer.key("tuple")?;
+            writer.begin_array()?;
+            put_items(writer, model, parts.as_slice())?;
+            writer.end_object()
+        }
+        Value::Map(keys, values) => {
+            writer.begin_object()?;
+            writer.key("map")?;
+            writer.begin_array()?;
+            put_entries(
+                writer,
+                model,
+                keys.get().as_slice(),
+                values.get().as_slice(),
+            )?;
+            writer.end_object()
+        }
+        Value::Var(number) => put_variable(writer, *number),
+        Value::Ref(number, value) => {
+            writer.begin_object()?;
+            put_number_member(writer, "ref", *number as usize)?;
+            writer.key("value")?;
+            put_json(writer, model, value.get())?;
+            writer.end_object()
+        }
+        Value::Call(operation, args) => {
+            writer.begin_object()?;
+            writer.key("call")?;
+            writer.begin_array()?;
+            put_operation(writer, model, *operation)?;
+            put_items(writer, model, args.as_slice())?;
+            writer.end_object()
+        }
+    }
+}
+
+/// Writes the items of an array, and its end.
+#[cycle(value)]
+fn put_items(
+    writer: &mut Writer<Global>,
+    model: &Source,
+    items: &[Value],
+) -> Result<(), AllocError> {
+    for item in items {
+        put_json(writer, model, item)?;
+    }
+    writer.end_array()
+}
+
+/// Writes the entries of a map, as many as there are both keys and values, and the end of their array.
+#[cycle(value)]
+fn put_entries(
+    writer: &mut Writer<Global>,
+    model: &Source,
+    keys: &[Key],
+    values: &[Value],
+) -> Result<(), AllocError> {
+    let mut rest = keys;
+    for value in values {
+        let Some((key, others)) = rest.split_first() else {
+            return writer.end_array();
+        };
+        writer.begin_array()?;
+        put_key(writer, key)?;
+        put_json(writer, model, value)?;
+        writer.end_array()?;
+        rest = others;
+    }
+    writer.end_array()
+}
+
+/// Writes an object with the spelling of a value and the value as JSON; if the spelling is long, with its length in place of
+/// the value.
+pub fn put_value(
+    writer: &mut Writer<Global>,
+    alloc: Global,
+    model: &Source,
+    value: &Value,
+) -> Result<(), AllocError> {
+    let text = value_text(alloc, model, value)?;
+    writer.begin_object()?;
+    put_spelling_member(writer, alloc, "text", text.as_slice())?;
+    if text.len() > MOST_BYTES {
+        put_number_member(writer, "bytes", text.len())?;
+    } else {
+        writer.key("value")?;
+        put_json(writer, model, value)?;
+    }
+    writer.end_object()
+}
+
+/// Writes a member whose value is a value.
+pub fn put_value_member(
+    writer: &mut Writer<Global>,
+    alloc: Global,
+    key: &str,
+    model: &Source,
+    value: &Value,
+) -> Result<(), AllocError> {
+    writer.key(key)?;
+    put_value(writer, alloc, model, value)
+}
+
+/// Writes a member whose value is the spelling of a value, as states are written.
+pub fn put_state_member(
+    writer: &mut Writer<Global>,
+    alloc: Global,
+    key: &str,
+    model: &Source,
+    state: &Value,
+) -> Result<(), AllocError> {
+    let text = value_text(alloc, model, state)?;
+    put_spelling_member(writer, alloc, key, text.as_slice())
+}
+
+/// Writes an object of a word in place of a value.
+pub fn put_word(writer: &mut Writer<Global>, word: &str) -> Result<(), AllocError> {
+    writer.begin_object()?;
+    put_text_member(writer, "text", word)?;
+    writer.end_object()
+}

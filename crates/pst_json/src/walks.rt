@@ -1,0 +1,108 @@
+//! Interleavings.
+
+use crate::calls::put_call_member;
+use crate::reasons::put_why;
+use crate::values::put_state_member;
+use crate::writing::{put_bytes, put_text_member};
+use json::Writer;
+use pst_explain::{Explanation, Reason, Step, Stopped, Walk};
+use pst_model::Source;
+use pst_scene::{PreAnswer, add_word};
+use std::alloc::{AllocError, Global};
+
+/// Writes a member whose value is a word of branches.
+pub fn put_word_member(
+    writer: &mut Writer<Global>,
+    alloc: Global,
+    key: &str,
+    word: &[usize],
+) -> Result<(), AllocError> {
+    let mut text = Vec::new(alloc);
+    add_word(&mut text, word)?;
+    writer.key(key)?;
+    put_bytes(writer, alloc, text.as_slice())
+}
+
+/// Writes the call of a step, the state after it, and its precondition if that is not true.
+fn put_step(
+    writer: &mut Writer<Global>,
+    alloc: Global,
+    model: &Source,
+    step: &Step<'_>,
+) -> Result<(), AllocError> {
+    writer.begin_object()?;
+    put_call_member(writer, alloc, &step.call)?;
+    put_state_member(writer, alloc, "state", model, &step.state)?;
+    match step.precondition {
+        PreAnswer::Holds => {}
+        PreAnswer::Fails => put_text_member(writer, "pre", "false")?,
+        PreAnswer::Faults(fault) => put_text_member(writer, "pre", fault.name())?,
+    }
+    writer.end_object()
+}
+
+/// Writes a call that cannot come next, and why.
+fn put_stopped(
+    writer: &mut Writer<Global>,
+    alloc: Global,
+    model: &Source,
+    stopped: &Stopped<'_>,
+) -> Result<(), AllocError> {
+    writer.begin_object()?;
+    put_call_member(writer, alloc, &stopped.call)?;
+    put_why(writer, alloc, model, &stopped.why)?;
+    writer.end_object()
+}
+
+/// What the interleaving of a reason shows.
+fn kind_of(reason: &Reason<'_>) -> &'static str {
+    match reason {
+        Reason::Explained(_) => "explains",
+        Reason::Unexplained { .. } => "furthest",
+        Reason::Invalid(_) => "breaks",
+        _ => "faults",
+    }
+}
+
+/// Writes the calls that cannot come next, if there are some.
+fn put_next(
+    writer: &mut Writer<Global>,
+    alloc: Global,
+    model: &Source,
+    all: &[Stopped<'_>],
+) -> Result<(), AllocError> {
+    if all.is_empty() {
+        return Ok(());
+    }
+    writer.key("next")?;
+    writer.begin_array()?;
+    for stopped in all {
+        put_stopped(writer, alloc, model, stopped)?;
+    }
+    writer.end_array()
+}
+
+/// Writes the member `walk` of an explanation.
+pub fn put_walk(
+    writer: &mut Writer<Global>,
+    alloc: Global,
+    explanation: &Explanation<'_>,
+    walk: &Walk<'_>,
+) -> Result<(), AllocError> {
+    let model = explanation.scene.model;
+    writer.key("walk")?;
+    writer.begin_object()?;
+    put_text_member(writer, "kind", kind_of(&explanation.reason))?;
+    put_word_member(writer, alloc, "word", walk.word.as_slice())?;
+    if let Some(start) = &walk.start {
+        put_state_member(writer, alloc, "start", model, start)?;
+    }
+    writer.key("steps")?;
+    writer.begin_array()?;
+    for step in &walk.steps {
+        put_step(writer, alloc, model, step)?;
+    }
+    writer.end_array()?;
+    put_next(writer, alloc, model, walk.stopped.as_slice())?;
+    writer.end_object()
+}

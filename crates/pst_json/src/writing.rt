@@ -1,0 +1,120 @@
+//! Members of objects.
+
+use crate::ascii::ascii;
+use json::Writer;
+use pst_model::Expr;
+use pst_print::ty_form;
+use pst_scene::{add_form, cut, expression_text};
+use pst_value::Ty;
+use std::alloc::{AllocError, Global};
+
+/// A spelling has at most so many bytes. One that is longer is cut in the middle.
+pub const MOST_BYTES: usize = 4000;
+
+/// The bytes as a text: each is the character of its number if they are no UTF-8.
+fn text_of(alloc: Global, bytes: &[u8]) -> Result<String, AllocError> {
+    if let Ok(text) = std::str::from_utf8(bytes) {
+        return String::from_str(alloc, text);
+    }
+    let mut text = String::new(alloc);
+    for byte in bytes {
+        text.push(char::from(*byte))?;
+    }
+    Ok(text)
+}
+
+/// The JSON that was written, in ASCII.
+pub fn written(alloc: Global, writer: Writer<Global>) -> Result<Vec<u8>, AllocError> {
+    let json = writer.into_inner();
+    let json = text_of(alloc, json.as_slice())?;
+    ascii(alloc, json.as_str())
+}
+
+/// Writes a text that is spelled in bytes.
+pub fn put_bytes(
+    writer: &mut Writer<Global>,
+    alloc: Global,
+    bytes: &[u8],
+) -> Result<(), AllocError> {
+    let text = text_of(alloc, bytes)?;
+    writer.string(text.as_str())
+}
+
+/// Writes a spelling, which is cut in the middle if it is long.
+pub fn put_spelling(
+    writer: &mut Writer<Global>,
+    alloc: Global,
+    spelling: &[u8],
+) -> Result<(), AllocError> {
+    let text = cut(alloc, spelling, MOST_BYTES)?;
+    put_bytes(writer, alloc, text.as_slice())
+}
+
+/// Writes an expression as a text.
+pub fn put_expression(
+    writer: &mut Writer<Global>,
+    alloc: Global,
+    expr: &Expr,
+) -> Result<(), AllocError> {
+    let text = expression_text(alloc, expr)?;
+    put_spelling(writer, alloc, text.as_slice())
+}
+
+/// Writes a type as a text.
+pub fn put_type(writer: &mut Writer<Global>, alloc: Global, ty: &Ty) -> Result<(), AllocError> {
+    let mut text = Vec::new(alloc);
+    add_form(&mut text, &ty_form(alloc, ty)?)?;
+    put_spelling(writer, alloc, text.as_slice())
+}
+
+/// Writes a member whose value is a text.
+pub fn put_text_member(
+    writer: &mut Writer<Global>,
+    key: &str,
+    text: &str,
+) -> Result<(), AllocError> {
+    writer.key(key)?;
+    writer.string(text)
+}
+
+/// Writes a member whose value is a spelling.
+pub fn put_spelling_member(
+    writer: &mut Writer<Global>,
+    alloc: Global,
+    key: &str,
+    spelling: &[u8],
+) -> Result<(), AllocError> {
+    writer.key(key)?;
+    put_spelling(writer, alloc, spelling)
+}
+
+/// Writes a member whose value is an expression as a text.
+pub fn put_expression_member(
+    writer: &mut Writer<Global>,
+    alloc: Global,
+    key: &str,
+    expr: &Expr,
+) -> Result<(), AllocError> {
+    writer.key(key)?;
+    put_expression(writer, alloc, expr)
+}
+
+/// Writes a member whose value is a number.
+pub fn put_number_member(
+    writer: &mut Writer<Global>,
+    key: &str,
+    number: usize,
+) -> Result<(), AllocError> {
+    writer.key(key)?;
+    writer.u64(number as u64)
+}
+
+/// Writes a member whose value is `true` or `false`.
+pub fn put_bool_member(
+    writer: &mut Writer<Global>,
+    key: &str,
+    holds: bool,
+) -> Result<(), AllocError> {
+    writer.key(key)?;
+    writer.boolean(holds)
+}

@@ -1,0 +1,71 @@
+//! Failures of trials as text.
+ghost use Rattle.std.specs.Prelude.{◌≡◌, IfOk};
+ghost use Rattle.pst_report.specs.Failures.{IsFailureOf, IsLastFailure, case_line};
+ghost use Rattle.pst_report.specs.Matching.{IsMatching};
+
+use crate::counterexample::{run_line, run_of};
+use crate::least::failure_of;
+use pst_case::Run;
+use pst_rules::Typed;
+use pst_shrink::Taken;
+use pst_sink::Out;
+use pst_trial::{JudgedRun, Record};
+use pst_write::write_runs;
+use std::alloc::{AllocError, Global};
+
+/// The failure that the case of a trial was shrunk to, as text.
+#[derive(Debug, Drop)]
+pub struct ShrunkFailure {
+    /// The case as a tree, and a line end. Failures with the same case are told apart by their replies alone.
+    pub case: Vec<u8>,
+    /// The case with its replies as a tree, and a line end.
+    pub run: Vec<u8>,
+    /// The verdict on the run.
+    pub verdict: String,
+}
+
+/// The case as a tree, and a line end.
+fn case_line(alloc: Global, typed: &Typed, taken: &Taken<JudgedRun>) -> Result<Vec<u8>, AllocError>
+    ensures { IfOk result (λ line. line.items ≡ case_line typed.now taken.now) }
+{
+    let Run { shaped, history: _ } = run_of(alloc, typed, taken)?;
+    let cases = [Run {
+        shaped,
+        history: None,
+    }];
+    let mut out = Out::new(Vec::new(alloc));
+    match write_runs(alloc, typed, &cases, &mut out) {
+        Ok(()) => Ok(out.into_inner()),
+        Err(_) => Err(AllocError),
+    }
+}
+
+/// A case with the history that it broke with, as text.
+fn failure_text(
+    alloc: Global,
+    typed: &Typed,
+    taken: &Taken<JudgedRun>,
+) -> Result<ShrunkFailure, AllocError>
+    requires { IsMatching typed.now taken.now }
+    ensures { IfOk result (IsFailureOf typed.now taken.now) }
+{
+    let verdict = &taken.history.verdict;
+    Ok(ShrunkFailure {
+        case: case_line(alloc, typed, taken)?,
+        run: run_line(alloc, typed, taken)?,
+        verdict: format!(in alloc; "{verdict}")?,
+    })
+}
+
+/// The failure that the case of a trial was shrunk to, if the trial failed.
+pub fn shrunk_failure(alloc: Global, record: &Record) -> Result<Option<ShrunkFailure>, AllocError>
+    ensures { IfOk result (IsLastFailure record.now) }
+{
+    match failure_of(record) {
+        Some(shrunk) => {
+            let failure = failure_text(alloc, record.plan().typed(), &shrunk.last)?;
+            Ok(Some(failure))
+        }
+        None => Ok(None),
+    }
+}

@@ -1,0 +1,129 @@
+//! What comes of a command on a state.
+
+use crate::calls::Call;
+use crate::falsity::{Falsity, falsity_of, falsity_text};
+use crate::scene::Scene;
+use crate::texts::{joined, operation, text_of};
+use crate::walk::{PreAnswer, arguments, precondition, state_behind};
+use pst_case::Reply;
+use pst_evidence::evaluate;
+use pst_meaning::Env;
+use pst_model::Source;
+use pst_value::{Fault, Value};
+use std::alloc::{AllocError, Global};
+
+/// Why a command cannot come next on a state.
+#[derive(Drop)]
+pub enum DeadEnd<'a> {
+    /// Its precondition is false.
+    PreFalse,
+    /// Its precondition faults.
+    PreFaults(Fault),
+    /// Its postcondition is not true.
+    PostFails(Falsity<'a>),
+    /// Its reply is no value.
+    NoValue,
+    /// Its `next` faults.
+    NextFaults,
+}
+
+/// What comes of a command on a state.
+#[derive(Drop)]
+pub enum Outcome<'a> {
+    /// The command leads to a state.
+    Leads(Value),
+    /// The command cannot come next there.
+    Refused(DeadEnd<'a>),
+}
+
+/// Whether the postcondition of a command is true of the value that it answered.
+fn is_right(
+    alloc: Global,
+    scene: &Scene<'_>,
+    state: &Value,
+    call: &Call<'_>,
+    answer: &Value,
+) -> Result<bool, AllocError> {
+    let Some(operation) = operation(scene, call) else {
+        return Ok(false);
+    };
+    let args = arguments(alloc, scene, call)?;
+    let frame = Env::Frame(operation.params.as_slice(), args.as_slice());
+    let outer = Env::With(b"s", &*state, &frame);
+    let inner = Env::With(b"r", answer, &outer);
+    let outcome = evaluate(alloc, scene.model, &operation.post, &inner)?;
+    Ok(matches!(outcome, Ok(Value::Bool(true))))
+}
+
+/// The state after a command that may come next.
+fn next_state<'a>(
+    alloc: Global,
+    scene: &Scene<'a>,
+    state: &Value,
+    call: &Call<'_>,
+) -> Result<Outcome<'a>, AllocError> {
+    match state_behind(alloc, scene, state, call)? {
+        Some(next) => Ok(Outcome::Leads(next)),
+        None => Ok(Outcome::Refused(DeadEnd::NextFaults)),
+    }
+}
+
+/// What comes of a command of a case that was not run, by its precondition.
+fn of_case<'a>(
+    alloc: Global,
+    scene: &Scene<'a>,
+    state: &Value,
+    call: &Call<'_>,
+) -> Result<Outcome<'a>, AllocError> {
+    match precondition(alloc, scene, state, call)? {
+        PreAnswer::Holds => next_state(alloc, scene, state, call),
+        PreAnswer::Fails => Ok(Outcome::Refused(DeadEnd::PreFalse)),
+        PreAnswer::Faults(fault) => Ok(Outcome::Refused(DeadEnd::PreFaults(fault))),
+    }
+}
+
+/// What comes of a command that answered a value, by its postcondition.
+fn of_answer<'a>(
+    alloc: Global,
+    scene: &Scene<'a>,
+    state: &Value,
+    call: &Call<'_>,
+    answer: &Value,
+) -> Result<Outcome<'a>, AllocError> {
+    if is_right(alloc, scene, state, call, answer)? {
+        return next_state(alloc, scene, state, call);
+    }
+    let falsity = falsity_of(alloc, scene, call, state)?;
+    Ok(Outcome::Refused(DeadEnd::PostFails(falsity)))
+}
+
+/// What comes of a command on a state: by its postcondition in a recorded run, by its precondition in a case.
+pub fn outcome_of<'a>(
+    alloc: Global,
+    scene: &Scene<'a>,
+    state: &Value,
+    call: &Call<'_>,
+) -> Result<Outcome<'a>, AllocError> {
+    match call.reply {
+        None => of_case(alloc, scene, state, call),
+        Some(Reply::Value(answer)) => of_answer(alloc, scene, state, call, answer),
+        Some(_) => Ok(Outcome::Refused(DeadEnd::NoValue)),
+    }
+}
+
+/// Why a command cannot come next on a state, in words.
+pub fn dead_end_text(
+    alloc: Global,
+    model: &Source,
+    dead_end: &DeadEnd<'_>,
+) -> Result<Vec<u8>, AllocError> {
+    match dead_end {
+        DeadEnd::PreFalse => text_of(alloc, "pre is false"),
+        DeadEnd::PreFaults(fault) => {
+            joined(alloc, &[b"pre faults with ", fault.name().as_bytes()])
+        }
+        DeadEnd::PostFails(falsity) => falsity_text(alloc, model, falsity),
+        DeadEnd::NoValue => text_of(alloc, "it answered no value"),
+        DeadEnd::NextFaults => text_of(alloc, "next faults"),
+    }
+}

@@ -1,0 +1,74 @@
+//! The lines of a stream, of each of which a beginning is kept.
+ghost use Rattle.std.specs.Prelude.{◌≡◌, ℕ, List, [], ◌∷◌, ◌++◌, map, take, OnOk};
+ghost use Rattle.pst_stream.specs.Lines.{begun, ended};
+
+use std::alloc::{AllocError, Global};
+use std::mem::replace;
+
+/// Adds a byte to the beginning of a line that is kept, unless the limit is reached.
+fn keep_byte(limit: usize, kept: &mut Vec<u8>, byte: u8) -> Result<(), AllocError>
+    ensures { OnOk result ((line : List ℕ) → kept.old.items ≡ take limit line
+        → kept.new.items ≡ take limit (line ++ byte ∷ [])) }
+{
+    if kept.len() < limit {
+        kept.push(byte)?;
+    }
+    Ok(())
+}
+
+/// Ends the line that is kept: adds it to the lines, and begins another.
+pub(crate) fn end_line(
+    alloc: Global,
+    lines: &mut Vec<Vec<u8>>,
+    kept: &mut Vec<u8>,
+) -> Result<(), AllocError>
+    ensures kept { kept.new.items ≡ [] }
+    ensures lines { OnOk result (map (λ line. line.items) lines.new.items
+        ≡ map (λ line. line.items) lines.old.items ++ kept.old.items ∷ []) }
+{
+    let line = replace(kept, Vec::new(alloc));
+    lines.push(line)?;
+    Ok(())
+}
+
+/// Adds a byte to the line that is kept, or ends it.
+fn add_byte(
+    alloc: Global,
+    limit: usize,
+    lines: &mut Vec<Vec<u8>>,
+    kept: &mut Vec<u8>,
+    byte: u8,
+) -> Result<(), AllocError>
+    ensures kept { OnOk result ((line : List ℕ) → kept.old.items ≡ take limit line
+        → kept.new.items ≡ take limit (begun line (byte ∷ []))) }
+    ensures lines { OnOk result ((line : List ℕ) → kept.old.items ≡ take limit line
+        → map (λ l. l.items) lines.new.items
+        ≡ map (λ l. l.items) lines.old.items ++ map (take limit) (ended line (byte ∷ []))) }
+{
+    if byte == b'\n' {
+        end_line(alloc, lines, kept)
+    } else {
+        keep_byte(limit, kept, byte)
+    }
+}
+
+/// Splits bytes into lines: adds those that end to the lines, and keeps the one that has begun. Of each line at most as many
+/// bytes are kept as the limit.
+pub(crate) fn keep_bytes(
+    alloc: Global,
+    limit: usize,
+    lines: &mut Vec<Vec<u8>>,
+    kept: &mut Vec<u8>,
+    bytes: &[u8],
+) -> Result<(), AllocError>
+    ensures kept { OnOk result ((line : List ℕ) → kept.old.items ≡ take limit line
+        → kept.new.items ≡ take limit (begun line bytes.now)) }
+    ensures lines { OnOk result ((line : List ℕ) → kept.old.items ≡ take limit line
+        → map (λ l. l.items) lines.new.items
+        ≡ map (λ l. l.items) lines.old.items ++ map (take limit) (ended line bytes.now)) }
+{
+    for byte in bytes {
+        add_byte(alloc, limit, lines, kept, *byte)?;
+    }
+    Ok(())
+}

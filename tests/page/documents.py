@@ -1,0 +1,76 @@
+"""The pages that the checks open: the program's own for files of runs, and those with a changed template or changed data."""
+import importlib.machinery
+import importlib.util
+import json
+import os
+import re
+import subprocess
+
+TOP = os.path.dirname(os.path.dirname(os.path.dirname(os.path.realpath(__file__))))
+HERE = os.path.join(TOP, "tests/page")
+EXPLAINED = "crates/pst_rows/data/explained/"
+RUNS = {
+    "bank": EXPLAINED + "bank.runs", "cache": EXPLAINED + "cache.runs", "counter": EXPLAINED + "counter.runs", "deep": EXPLAINED + "deep.runs",
+    "faults": EXPLAINED + "faults.runs", "four": "tests/page/four.runs", "hostile": "tests/page/hostile.runs", "init": EXPLAINED + "init.runs",
+    "lost": "examples/lost.runs", "queue": EXPLAINED + "queue.runs", "reads": "examples/reads.runs", "registry": "examples/registry.runs",
+    "silent": "examples/silent.runs", "store": "examples/store.runs", "wide": EXPLAINED + "wide.runs",
+}
+
+
+def tool():
+    """Returns tools/page as a module."""
+    loader = importlib.machinery.SourceFileLoader("page", os.path.join(TOP, "tools/page"))
+    module = importlib.util.module_from_spec(importlib.util.spec_from_loader("page", loader))
+    loader.exec_module(module)
+    return module
+
+
+PAGE = tool()
+
+
+def template():
+    """Returns the text of assets/page.html."""
+    with open(PAGE.PAGE, encoding="utf-8") as file:
+        return file.read()
+
+
+def filled(page, data):
+    """Returns a page with this JSON as its data, and the hashes of its style and its script in its policy."""
+    return PAGE.DATA.sub(lambda _: data, PAGE.with_hashes(page), count=1)
+
+
+def without_policy(page):
+    """Returns a page to which the browser allows everything."""
+    return re.sub(r'<meta http-equiv="Content-Security-Policy"[^>]*>\n', "", page)
+
+
+def of_program(program, runs):
+    """Returns the page that the program writes for a file of runs."""
+    ran = subprocess.run([program, "explain", "--quiet", "--format", "html", runs], cwd=TOP, capture_output=True, timeout=60)
+    if ran.returncode not in (0, 1):
+        raise RuntimeError("pst explain --format html %s ends with %d: %s" % (runs, ran.returncode, ran.stderr.decode()))
+    return ran.stdout.decode()
+
+
+def long_reply(document):
+    """Returns a document in which a reply and a state have 65,536 letters."""
+    text = json.dumps("</script>" + "x" * 65527)
+    changed = json.loads(document)
+    item = changed["items"][0]
+    item["calls"][0]["reply"] = {"text": text}
+    item["walk"]["steps"][-1]["state"] = text
+    item.pop("graph", None)
+    return escaped(changed)
+
+
+def many(document, count):
+    """Returns a document with the items repeated, so that there are `count`."""
+    changed = json.loads(document)
+    items = changed["items"]
+    changed["items"] = [{**items[i % len(items)], "item": i + 1} for i in range(count)]
+    return escaped(changed)
+
+
+def escaped(document):
+    """Returns JSON that may be part of a page."""
+    return re.sub("[<>&]", lambda found: "\\u%04x" % ord(found[0]), json.dumps(document))
