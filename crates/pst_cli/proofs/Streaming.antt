@@ -13,7 +13,7 @@ use Rattle.pst_cli.specs.declared.status.Status.TheVariants.{Accepted}
 use Rattle.pst_cli.specs.declared.stream.Cut.{Cut}
 use Rattle.pst_cli.specs.declared.stream.Cut.TheVariants as cut
 use Rattle.pst_cli.specs.declared.stream.Written.{Written}
-use Rattle.pst_each.specs.declared.Answer.{Answer}
+use Rattle.pst_rejudge.specs.declared.each.Answer.{Answer}
 use Rattle.pst_model.specs.declared.model.Source.{Source}
 use Rattle.pst_sexpr.specs.Reading.{max_bytes}
 use Rattle.pst_sink.specs.Writing.{WritesAll, WritesPart}

@@ -6,7 +6,7 @@ use Rattle.pst_cli.specs.KeepingOn.{answer_lines, worst_status}
 use Rattle.pst_cli.specs.Sending.{memory_line}
 use Rattle.pst_cli.specs.declared.status.Status.{Status}
 use Rattle.pst_cli.specs.declared.status.Status.TheVariants.{Accepted, Refused, Lost}
-use Rattle.pst_each.specs.declared.Answer.{Answer}
+use Rattle.pst_rejudge.specs.declared.each.Answer.{Answer}
 use Rattle.pst_load.specs.Loading.{Holds, IsRefusal}
 use Rattle.pst_load.specs.declared.refusal.Refusal.{Refusal}
 use Rattle.pst_model.specs.declared.model.Source.{Source}

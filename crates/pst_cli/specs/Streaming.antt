@@ -7,7 +7,7 @@ use Rattle.pst_cli.specs.declared.status.Status.TheVariants.{Accepted}
 use Rattle.pst_cli.specs.declared.stream.Cut.{Cut}
 use Rattle.pst_cli.specs.declared.stream.Cut.TheVariants.{Unread, NoMemory, Unwritten}
 use Rattle.pst_cli.specs.declared.stream.Written.{Written}
-use Rattle.pst_each.specs.declared.Answer.{Answer}
+use Rattle.pst_rejudge.specs.declared.each.Answer.{Answer}
 use Rattle.pst_model.specs.declared.model.Source.{Source}
 use Rattle.pst_sink.specs.Writing.{WritesAll, WritesPart}
 use Rattle.pst_stream.specs.Answers.{IsLineAnswer}

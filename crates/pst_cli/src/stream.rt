@@ -13,7 +13,7 @@ use crate::refusal::refusal_output;
 use crate::sharing::may_share_compiled;
 use crate::status::Status;
 use pst_compile::Compiled;
-use pst_each::Answer;
+use pst_rejudge::Answer;
 use pst_sink::{Sink, WriteFailed, put_all};
 use pst_stream::{StreamFault, next_block};
 use std::alloc::{AllocError, Global};

@@ -4,9 +4,9 @@ use Rattle.std.proofs.lemmas.List.{take_all}
 use Rattle.std.specs.Io.KnownBytes.{Consumes, IsAtEnd}
 use Rattle.std.specs.List.{AllZip}
 use Rattle.std.specs.Prelude.{slice_index_or}
-use Rattle.pst_each.specs.Answers.{IsAnswer}
-use Rattle.pst_each.specs.declared.Answer.{Answer}
 use Rattle.pst_model.specs.declared.model.Source.{Source}
+use Rattle.pst_rejudge.specs.Answers.{IsAnswer}
+use Rattle.pst_rejudge.specs.declared.each.Answer.{Answer}
 use Rattle.pst_sexpr.specs.Reading.{max_bytes, Spells}
 use Rattle.pst_sexpr.specs.declared.form.Form.{Form}
 use Rattle.pst_stream.specs.Answers.{IsLineAnswer, item, no_item, SpellsItem}

@@ -1,9 +1,9 @@
 //! Why recorded runs are broken.
 
-use pst_each::Answer;
 use pst_explain::broken_text;
 use pst_judge::{Judged, Verdict};
 use pst_places::span_of;
+use pst_rejudge::Answer;
 use pst_rules::Typed;
 use pst_run_problems::{commands_of, place_of};
 use pst_runs::read_runs;

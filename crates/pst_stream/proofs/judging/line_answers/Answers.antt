@@ -1,7 +1,7 @@
 use Rattle.std.proofs.Common.{ap, ◌∙◌, ℕ, Vec, Global, subst, IfOk}
 use Rattle.std.specs.List.{AllZip}
 use Rattle.rayon.proofs.ToStd.{slice-AllZip}
-use Rattle.pst_each.specs.declared.Answer.{Answer}
+use Rattle.pst_rejudge.specs.declared.each.Answer.{Answer}
 use Rattle.pst_rejudge.proofs.Collected.{collected}
 use Rattle.pst_stream.specs.Answers.{IsLineAnswer}
 use Rattle.pst_stream.proofs.judging.line_answers.Goals as goal
