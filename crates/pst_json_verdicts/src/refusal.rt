@@ -4,7 +4,7 @@ ghost use Rattle.pst_json_verdicts.specs.Verdicts as spec;
 
 use crate::field::{Field, Name};
 use crate::judgement::{add_number, add_words};
-use pst_load::Refusal;
+use pst_typing::Refusal;
 use std::alloc::{AllocError, Global};
 
 /// The members of the object of a model that is accepted: its verdict and its name.

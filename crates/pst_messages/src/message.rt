@@ -2,7 +2,6 @@
 
 use crate::bytes::{Wrong, unread};
 use pst_form_problems::form_problems;
-use pst_load::{ModelFile, Refusal, items_of, load};
 use pst_notices::{Notice, Notices, text_of};
 use pst_places::{Span, first_item, span_in, span_of, tree_at};
 use pst_problems::{MOST_PROBLEMS, Problem};
@@ -13,6 +12,7 @@ use pst_sexpr::{Tree, read};
 use pst_sources::{Input, SourceFile};
 use pst_syntax::{SyntaxFault, read_model};
 use pst_type_problems::type_problems;
+use pst_typing::{ModelFile, Refusal, items_of, load};
 use std::alloc::{AllocError, Global};
 use std::slice;
 
