@@ -7,9 +7,9 @@ use denote.RattleType.{RattleType}
 use mir.Raw.{raw}
 use Rattle.pst_items.proofs.items.Items.TheSendSync as lists
 use Rattle.pst_items.proofs.text.Text.TheSendSync as texts
-use Rattle.pst_misfits.specs.contracts.misfits.Misfit as misfit
-use Rattle.pst_misfits.specs.contracts.misfits.Misfits as misfits
-use Rattle.pst_misfits.specs.contracts.overheard.Overheard as overheard
+use Rattle.pst_driver.specs.contracts.misfits.Misfit as misfit
+use Rattle.pst_driver.specs.contracts.misfits.Misfits as misfits
+use Rattle.pst_driver.specs.contracts.overheard.Overheard as overheard
 use Rattle.pst_model.proofs.expr.Clause.TheLaws.TheKnot as clauses
 use Rattle.pst_model.specs.contracts.expr.Expr as expr
 use Rattle.pst_model.specs.contracts.model.Fun as fun

@@ -1,4 +1,8 @@
-//! The answers that are kept.
+//! What a system answers that is not of the result type of the operation that was called.
+//!
+//! A driver replies `misfit` to such an answer and does not keep it. A system that is overheard (`Overheard`) answers
+//! as before, and the first of these answers are kept beside it (`Misfits`), for lines that people read
+//! (`misfits_text`).
 ghost use Rattle.std.specs.Prelude.{◌≡◌, [], IfOk};
 ghost use Rattle.pst_case.specs.Shape.{result_type};
 ghost use Rattle.pst_rules.specs.Fitting.{fits_in};
