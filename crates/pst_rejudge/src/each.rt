@@ -5,6 +5,7 @@ ghost use Rattle.std.specs.List.{AllZip};
 ghost use Rattle.pst_rejudge.specs.Answers.{IsAnswer};
 
 use crate::reading::read_one;
+use crate::sharing::may_share_models;
 use pst_eval::Callbacks;
 use pst_judge::{Judged, judge_one};
 use pst_rules::Typed;
