@@ -5,7 +5,7 @@ use crate::{explained, overheard};
 use clap::ArgMatches;
 use pst_case::Run;
 use pst_cli::{Absence, Counts, Status, refuse_text, run_counting, run_repeatedly};
-use pst_misfits::Misfits;
+use pst_driver::Misfits;
 use pst_sink::{Out, Sink, put_all};
 use pst_system::BoxedSystem;
 use std::alloc::Global;

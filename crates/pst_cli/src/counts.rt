@@ -1,8 +1,8 @@
 //! How many items came to what.
 
 use pst_case::Run;
-use pst_each::Answer;
 use pst_judge::{Judged, Verdict, Why};
+use pst_rejudge::Answer;
 
 /// How many items came to what. The names are those of the lines that are written.
 #[derive(Drop)]
