@@ -1,6 +1,6 @@
 //! Callbacks that fault, and preconditions that are false.
 
-use crate::walks::{Walk, stopped_after, walk_along};
+use crate::walks::{Walk, empty_walk, stopped_after, walk_along};
 use pst_case::Reply;
 use pst_eval::{Callback, Place};
 use pst_evidence::{Binding, FaultyPart, bindings_of, faulty_part, words_of};
@@ -210,7 +210,7 @@ pub fn failure_in<'a>(
         call: None,
         fault,
         expression: of_init(alloc, scene)?,
-        walk: walk_along(alloc, scene, word, &[], &[])?,
+        walk: empty_walk(alloc, word)?,
     })
 }
 
