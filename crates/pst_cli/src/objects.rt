@@ -20,10 +20,9 @@ use crate::sharing::may_share_compiled;
 use crate::shown::Shown;
 use crate::status::Status;
 use pst_each::{Answer, judge_each};
-use pst_json_verdicts::{
-    accepted_fields, judged_fields, object_line, refusal_fields, refused_fields,
-};
+use pst_json_verdicts::{accepted_fields, judged_fields, refusal_fields, refused_fields};
 use pst_load::{Refusal, items_of, load};
+use pst_objects::object_line;
 use pst_sink::Sink;
 use pst_typing::model_name;
 use std::alloc::{AllocError, Global};
