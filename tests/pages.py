@@ -1,27 +1,33 @@
 #!/usr/bin/env python3
-"""Runs what pages show: pages.py PST PAGE.., where PST is the launcher. For each page there is a new empty folder.
+"""Runs what pages show: pages.py PST PAGE.., where PST is the launcher. For each page there is a new folder with links to what is at the top of the repository.
 
-A fenced block whose first line has a language and a file's name, as ```python names.py, is written to that file. In a block ```console a
-line `$ COMMAND` is run by bash, and the lines after it are what it prints: a line `..` stands for any lines, and a line `? N` is the exit
-status, 0 if there is none. In a block ```console varies the output is one of many, and the first word of each line is compared. A block with
-the word redis is run only if a server listens on Redis's port.
+The words after the fence of a block say what it is:
+  LANGUAGE FILE         a file, which is written to the folder
+  LANGUAGE shows FILE   lines of a file of the repository; a line `..` stands for any lines
+  console WORD..        commands: bash runs each line `$ COMMAND`, and the lines after it are what it prints, where a line `..` stands for any lines; a line
+                        `? N` is the exit status, 0 if there is none. With `varies` the output is one of many, and the first word of each line is compared.
+                        With `needs=NAME` it is run only if there is a program NAME, a Python module NAME or, for redis, also a server on Redis's port
+  lisp items            items of a model, which has to be accepted
+  LANGUAGE not-run      what no test runs; it is listed
+  text                  no command and no output
+In a table a last cell "`EXPRESSION` is VALUE" is evaluated. Each named file of the repository has to be there.
 """
-import os, socket, subprocess, sys, tempfile
+import importlib.util, os, re, shutil, socket, subprocess, sys, tempfile
 from commands import TOP, fits
 
+CRATES = os.path.join(TOP, "crates")
 
-def blocks(path):
-    """Returns the words behind the fence of each block, the number of its first line, and its lines."""
+
+def blocks(lines):
+    """Returns the words after the fence of each block, the number of its first line, and its lines."""
     found, inside = [], False
-    with open(path, encoding="utf-8") as page:
-        for number, line in enumerate(page, 1):
-            line = line.rstrip("\n")
-            if line.startswith("```"):
-                inside = not inside
-                if inside:
-                    found.append((line[3:].split(), number + 1, []))
-            elif inside:
-                found[-1][2].append(line)
+    for number, line in enumerate(lines, 1):
+        if line.startswith("```"):
+            inside = not inside
+            if inside:
+                found.append((line[3:].split(), number + 1, []))
+        elif inside:
+            found[-1][2].append(line)
     return found
 
 
@@ -42,45 +48,114 @@ def first_words(lines):
     return [line if line == ".." else (line.split() or [""])[0] for line in lines]
 
 
-def has_redis():
-    try:
-        socket.create_connection(("127.0.0.1", 6379), 1).close()
-        return True
-    except OSError:
-        return False
+def is_there(name):
+    if name == "redis":
+        try:
+            socket.create_connection(("127.0.0.1", 6379), 1).close()
+        except OSError:
+            return False
+        return importlib.util.find_spec("redis") is not None
+    return shutil.which(name) is not None or importlib.util.find_spec(name) is not None
 
 
-def run(page, words, number, lines, folder, env):
-    """Runs a block of commands. Returns how many passed, and how many failed."""
-    passed = failed = 0
-    for command, wanted, status in commands(lines):
-        done = subprocess.run(["bash", "-c", command], cwd=folder, env=env, stdin=subprocess.DEVNULL, stdout=subprocess.PIPE, stderr=subprocess.STDOUT, timeout=300)
-        got = done.stdout.decode(errors="replace").splitlines()
-        as_seen = first_words if "varies" in words else list
-        if fits(as_seen(wanted), as_seen(got)) and done.returncode == status:
-            passed += 1
-            continue
-        failed += 1
-        print(f"{page}:{number}: $ {command}")
-        for line in got:
+class Page:
+    """A page with the folder in which its blocks are run."""
+
+    def __init__(self, path, folder, env):
+        self.path, self.folder, self.env = path, folder, env
+        self.passed = self.failed = 0
+        with open(path, encoding="utf-8") as file:
+            self.lines = file.read().splitlines()
+
+    def count(self, is_right, number, *told):
+        if is_right:
+            self.passed += 1
+            return
+        self.failed += 1
+        print(f"{self.path}:{number}: {told[0]}")
+        for line in told[1:]:
             print(f"  {line}")
-        print(f"  ? {done.returncode}")
-    return passed, failed
+
+    def ran(self, command):
+        done = subprocess.run(["bash", "-c", command], cwd=self.folder, env=self.env, stdin=subprocess.DEVNULL, stdout=subprocess.PIPE, stderr=subprocess.STDOUT, timeout=300)
+        return done.stdout.decode(errors="replace").splitlines(), done.returncode
+
+    def run(self, words, number, lines):
+        missing = [word for word in words if word.startswith("needs=") and not is_there(word[6:])]
+        if missing:
+            print(f"{self.path}:{number}: skipped: {' '.join(missing)}")
+            return
+        as_seen = first_words if "varies" in words else list
+        for command, wanted, status in commands(lines):
+            got, ended = self.ran(command)
+            self.count(fits(as_seen(wanted), as_seen(got)) and ended == status, number, f"$ {command}", *got, f"? {ended}")
+
+    def write(self, name, lines):
+        with open(os.path.join(self.folder, name), "w", encoding="utf-8") as file:
+            file.write("\n".join(lines) + "\n")
+
+    def accepts(self, items, state, init):
+        """Whether a model with this state and these items is accepted."""
+        self.write("shown.model", [f"(model2 shown (state {state}) (init {init}) (command (list call))", *items, ")"])
+        return self.ran("pst check --quiet shown.model") == (["ok shown"], 0)
+
+    def block(self, words, number, lines):
+        if words[:1] == ["console"]:
+            self.run(words[1:], number, lines)
+        elif words[1:2] == ["shows"]:
+            with open(os.path.join(TOP, words[2]), encoding="utf-8") as file:
+                shown = file.read().splitlines()
+            self.count(fits(["..", *lines, ".."], shown), number, f"this is not what {words[2]} has")
+        elif words == ["lisp", "items"]:
+            self.count(self.accepts(lines, "int", "0") or self.accepts(lines, "(map text int)", "(map text int)"), number, "these items are refused")
+        elif words[1:] == ["not-run"]:
+            print(f"{self.path}:{number}: not run: {lines[0]}")
+        elif len(words) == 2:
+            self.write(words[1], lines)
+        else:
+            self.count(words == ["text"], number, "no words say what this block is")
+
+    def examples(self):
+        """Evaluates the last cell of each row of a table that says what an expression is."""
+        for number, line in enumerate(self.lines, 1):
+            for text, value in re.findall(r"`(\([^`]*\)|\d+)` is ([^,|]+)", line if line.startswith("|") else ""):
+                value = value.strip().strip("`")
+                helper = "(fun f ((x int)) int (+ x 1)) " if text.startswith("(f ") else ""
+                if value == "empty":
+                    right = f"(= 0 (len {text}))"
+                elif " and " in value:
+                    right = f"(= {text} (list int {value.replace(' and ', ' ')}))"
+                else:
+                    right = f"(= {text} {value})"
+                post, after = (right, "s") if text != "(same r r)" else ("true", f"(if {right} s (div 1 0))")
+                call = f"(op shown () int (pre true) (next {after}) (post {post}))"
+                model = f"(model2 shown (state int) (init 0) (command (list call (call shown))) {helper}{call})"
+                self.write("shown.runs", [model, "(run (prefix (shown)) (left) (right) (replies (0) () ()))"])
+                got, status = self.ran("pst judge --quiet shown.runs")
+                self.count(got == ["1 explained -"], number, f"{text} is not {value}", *got)
+
+    def files(self):
+        """Looks for each file of the repository that the page names."""
+        for number, line in enumerate(self.lines, 1):
+            for name in re.findall(r"`((?:crates|docs|bench|tests|examples|mutants|tools|stress|assets)/[\w./-]+|pst_\w+/(?:specs|src)/[\w./-]+)`", line) + re.findall(r"\]\(([\w./-]+)\)", line):
+                at = os.path.join(os.path.dirname(self.path), name)
+                self.count(any(os.path.exists(os.path.join(top, name)) for top in (TOP, CRATES)) or os.path.exists(at), number, f"there is no {name}")
 
 
 def main(program, *pages):
     passed = failed = 0
-    for page in pages:
+    for path in pages:
         with tempfile.TemporaryDirectory() as folder, tempfile.TemporaryDirectory() as room:
             os.symlink(os.path.abspath(program), f"{room}/pst")
+            for name in os.listdir(TOP):
+                os.symlink(os.path.join(TOP, name), os.path.join(folder, name))
             env = {**os.environ, "PST_HOME": TOP, "PATH": f"{room}:{os.environ['PATH']}"}
-            for words, number, lines in blocks(page):
-                if words[:1] == ["console"] and ("redis" not in words or has_redis()):
-                    counts = run(page, words, number, lines, folder, env)
-                    passed, failed = passed + counts[0], failed + counts[1]
-                elif len(words) == 2 and words[0] != "console":
-                    with open(os.path.join(folder, words[1]), "w", encoding="utf-8") as file:
-                        file.write("\n".join(lines) + "\n")
+            page = Page(path, folder, env)
+            for words, number, lines in blocks(page.lines):
+                page.block(words, number, lines)
+            page.examples()
+            page.files()
+            passed, failed = passed + page.passed, failed + page.failed
     print(f"{passed} passed, {failed} failed")
     return 1 if failed else 0
 

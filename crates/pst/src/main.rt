@@ -35,7 +35,7 @@ use judging::judge;
 use pst_cli::{
     Absence, Counts, KnownSystem, Status, check_json, check_text, list_text, refuse_text,
 };
-use pst_misfits::{Misfits, Overheard};
+use pst_driver::{Misfits, Overheard};
 use pst_samples::{Counter, Meet, Queue, Racy, Registry, Stuck};
 use pst_sink::{Out, Sink};
 use pst_sources::{Input, SourceFile, joined};

@@ -25,10 +25,10 @@ use crate::run::status_of_one;
 use crate::sharing::may_share_compiled;
 use crate::shown::Shown;
 use crate::status::Status;
-use pst_each::{Answer, judge_each};
-use pst_load::items_of;
+use pst_rejudge::{Answer, judge_each};
 use pst_runs::RunFault;
 use pst_sink::Sink;
+use pst_typing::items_of;
 use std::alloc::{AllocError, Global};
 use std::thread::Threads;
 

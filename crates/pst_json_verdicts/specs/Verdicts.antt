@@ -10,12 +10,12 @@ use Rattle.pst_judge.specs.declared.judgement.Judged.{Judged}
 use Rattle.pst_judge.specs.declared.judgement.Judged.TheVariants as judged
 use Rattle.pst_judge.specs.declared.verdicts.Verdict.TheVariants.{Explained, Faulted, Unexplained, Broken}
 use Rattle.pst_judge.specs.declared.why.Why.TheVariants.{PreFalse, CallbackFault, NoMemory}
-use Rattle.pst_load.specs.declared.refusal.Refusal.{Refusal}
-use Rattle.pst_load.specs.declared.refusal.Refusal.TheVariants.{Unread, NoModel, IllTyped}
 use Rattle.pst_runs.specs.FaultName as runs
 use Rattle.pst_runs.specs.declared.fault.RunFaultKind.{RunFaultKind}
 use Rattle.pst_sexpr.specs.Fault as sexpr
 use Rattle.pst_syntax.specs.FaultName as syntax
+use Rattle.pst_typing.specs.declared.load_refusal.Refusal.{Refusal}
+use Rattle.pst_typing.specs.declared.load_refusal.Refusal.TheVariants.{Unread, NoModel, IllTyped}
 use Rattle.pst_value.specs.FaultName.{fault_name}
 
 -- ---- verdicts

@@ -2,8 +2,8 @@
 ghost use Rattle.std.specs.Prelude.{◌≡◌, IfOk};
 ghost use Rattle.pst_json_verdicts.specs.Verdicts as spec;
 
-use pst_load::Refusal;
 use pst_objects::{Field, Name, add_number, add_words};
+use pst_typing::Refusal;
 use std::alloc::{AllocError, Global};
 
 /// The members of the object of a model that is accepted: its verdict and its name.

@@ -2,17 +2,16 @@
 
 use crate::bytes::{Wrong, unread};
 use pst_form_problems::form_problems;
-use pst_load::{ModelFile, Refusal, items_of, load};
 use pst_notices::{Notice, Notices, text_of};
-use pst_places::{Span, first_item, span_in, span_of, tree_at};
 use pst_problems::{MOST_PROBLEMS, Problem};
 use pst_rules::Typed;
 use pst_run_problems::run_problem;
 use pst_runs::{RunFault, read_runs};
 use pst_sexpr::{Tree, read};
-use pst_sources::{Input, SourceFile};
+use pst_sources::{Input, SourceFile, Span, first_item, span_in, span_of, tree_at};
 use pst_syntax::{SyntaxFault, read_model};
 use pst_type_problems::type_problems;
+use pst_typing::{ModelFile, Refusal, items_of, load};
 use std::alloc::{AllocError, Global};
 use std::slice;
 

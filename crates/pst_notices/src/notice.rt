@@ -1,7 +1,6 @@
 //! What is said of an input.
 
-use pst_places::{Span, place_of};
-use pst_sources::{Input, LastLine};
+use pst_sources::{Input, LastLine, Span, place_of};
 use std::alloc::{AllocError, Global};
 
 /// An error or a warning.

@@ -7,11 +7,11 @@ use pst_case::Command;
 use pst_compile::{Compiled, compile};
 use pst_eval::{Callback, Place};
 use pst_explain::explain_script;
-use pst_load::load;
 use pst_model::Item;
 use pst_notices::Notice;
 use pst_rules::Typed;
 use pst_sources::Input;
+use pst_typing::load;
 use std::alloc::{AllocError, Global};
 
 /// The width of lines.

@@ -3,12 +3,11 @@
 use crate::faults::on_faults;
 use crate::scripts::{COMMANDS, SCRIPTS, generated_scripts};
 use pst_compile::{Compiled, compile};
-use pst_load::{ModelFile, items_of, load};
 use pst_model::Item;
 use pst_notices::{Notice, Notices, text_of};
-use pst_places::span_of;
 use pst_sexpr::{Form, Tree, node_of, word_of};
-use pst_sources::{Input, SourceFile};
+use pst_sources::{Input, SourceFile, span_of};
+use pst_typing::{ModelFile, items_of, load};
 use std::alloc::{AllocError, Global};
 use std::fmt::Display;
 
