@@ -1,8 +1,7 @@
 -- The text of an object is read back as the object.
 use Rattle.std.proofs.Common.{◌≡◌, ◌≤◌, ℕ, max, List, [], ◌∷◌, Some, option_and_then, refl, sym, ap, ◌∙◌, append-nil, arith}
-use Rattle.json.specs.Json.{Json, value, if_last, max_depth, document}
+use Rattle.json.specs.Json.{value, if_last, max_depth, document}
 use Rattle.json.specs.Lex.{tokens}
-use Rattle.json.specs.Print.{print}
 use Rattle.json.specs.Tree.{json_tokens, depth, items_depth, members_depth}
 use Rattle.json.proofs.Printed.Trees.{value-json_tokens}
 use Rattle.pst_objects.specs.Objects.{object_of, object_text, members_of, field_json, texts_of}

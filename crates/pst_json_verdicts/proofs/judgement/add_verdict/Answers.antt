@@ -1,4 +1,4 @@
-use Rattle.std.proofs.Common.{◌≡◌, [], ◌∷◌, ◌++◌, sym, ap, ◌∙◌, codes}
+use Rattle.std.proofs.Common.{[], ◌∷◌, ◌++◌, sym, ap, ◌∙◌, codes}
 use Rattle.std.proofs.lemmas.Result.{on_ok_weaker}
 use Rattle.pst_judge.specs.declared.judgement.Judged.TheVariants as judged
 use Rattle.pst_json_verdicts.specs.Verdicts.{merge_field, outcome_fields, verdict}
