@@ -134,9 +134,7 @@ fn item_report<R: Threads + Wait + Sync>(
     let copy = shaped.copy(alloc, compiled.typed().source())?;
     match valid(compiled, alloc, copy) {
         Ok(valid) => {
-            repeated_report(
-                rt, alloc, compiled, system, number, &valid, repeats, counts,
-            )
+            repeated_report(rt, alloc, compiled, system, number, &valid, repeats, counts)
         }
         Err(refused) => {
             counts.add_invalid(&refused.1);
