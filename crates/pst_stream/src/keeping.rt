@@ -17,11 +17,7 @@ fn keep_byte(limit: usize, kept: &mut Vec<u8>, byte: u8) -> Result<(), AllocErro
 }
 
 /// Ends the line that is kept: adds it to the lines, and begins another.
-fn end_line(
-    alloc: Global,
-    lines: &mut Vec<Vec<u8>>,
-    kept: &mut Vec<u8>,
-) -> Result<(), AllocError>
+fn end_line(alloc: Global, lines: &mut Vec<Vec<u8>>, kept: &mut Vec<u8>) -> Result<(), AllocError>
     ensures kept { kept.new.items ≡ [] }
     ensures lines { OnOk result (map (λ line. line.items) lines.new.items
         ≡ map (λ line. line.items) lines.old.items ++ kept.old.items ∷ []) }
