@@ -138,7 +138,8 @@ def finding(pages):
     want(numbers() == failing + others, numbers())
     browser.key("/")
     browser.type("misfit")
-    want(len(numbers()) == verdicts.count("broken") > 0, numbers())
+    wanted = [str(item["item"]) for item in pages.items("counter") if "misfit" in json.dumps(item["calls"])]
+    want(numbers() == wanted and 0 < len(wanted) < len(failing), numbers())
     browser.key("Escape")
     want(browser.run("document.activeElement === document.body"), "escape leaves the search")
     browser.click("#list a")

@@ -46,7 +46,7 @@ def without_policy(page):
 
 def of_program(program, runs):
     """Returns the page that the program writes for a file of runs."""
-    ran = subprocess.run([program, "explain", "--quiet", "--format", "html", runs], cwd=TOP, capture_output=True, timeout=60)
+    ran = subprocess.run([program, "explain", "--format", "html", runs], cwd=TOP, capture_output=True, timeout=60)
     if ran.returncode not in (0, 1):
         raise RuntimeError("pst explain --format html %s ends with %d: %s" % (runs, ran.returncode, ran.stderr.decode()))
     return ran.stdout.decode()

@@ -9,7 +9,7 @@ use crate::saving::{Both, Folder};
 use crate::{least, words};
 use clap::ArgMatches;
 use pst_campaign::{Unwatched, Watch};
-use pst_cli::{Absence, Status, campaign_text, refuse_text};
+use pst_cli::{Absence, CampaignNotes, Status, campaign_noting, campaign_text, refuse_text};
 use pst_sink::{Out, Sink, put_all};
 use pst_system::BoxedSystem;
 use pst_trial::Settings;
@@ -28,6 +28,7 @@ fn watched<W: Sink, K: Watch + Sync, R: Threads + Wait + Sync + Eprint + Clock>(
     watch: &K,
     is_terminal: bool,
     input: &[u8],
+    notes: &mut CampaignNotes,
     out: &mut W,
 ) -> Status
     requires ranges { AreInRange settings }
@@ -39,10 +40,10 @@ fn watched<W: Sink, K: Watch + Sync, R: Threads + Wait + Sync + Eprint + Clock>(
                 first: &progress,
                 second: watch,
             };
-            return campaign_text(rt, alloc, input, settings, systems, &both, out);
+            return campaign_noting(rt, alloc, input, settings, systems, &both, notes, out);
         }
     }
-    campaign_text(rt, alloc, input, settings, systems, watch, out)
+    campaign_noting(rt, alloc, input, settings, systems, watch, notes, out)
 }
 
 /// Runs a campaign whose report is written once it is whole. Explanations of its least failure and of its first trial without a
@@ -60,6 +61,7 @@ fn explained<W: Sink, K: Watch + Sync, R: Threads + Wait + Sync + Eprint + Clock
     requires ranges { AreInRange settings }
     requires stands { W.broken out.old ≡ false }
 {
+    let mut notes = CampaignNotes::new();
     let mut report = Out::new(Vec::new(alloc));
     let status = watched(
         rt,
@@ -69,6 +71,7 @@ fn explained<W: Sink, K: Watch + Sync, R: Threads + Wait + Sync + Eprint + Clock
         watch,
         is_terminal,
         input,
+        &mut notes,
         &mut report,
     );
     let report = report.into_inner();
@@ -79,7 +82,7 @@ fn explained<W: Sink, K: Watch + Sync, R: Threads + Wait + Sync + Eprint + Clock
     if put_all(report.as_slice(), out).is_err() {
         return Status::Lost;
     }
-    least::explain(rt, alloc, settings, input, report.as_slice());
+    least::explain(rt, alloc, settings, input, notes);
     status
 }
 
@@ -102,16 +105,7 @@ fn told<W: Sink, K: Watch + Sync, R: Threads + Wait + Sync + Eprint + Clock>(
     if words.get_flag("quiet") {
         return campaign_text(rt, alloc, input, settings, systems, watch, out);
     }
-    explained(
-        rt,
-        alloc,
-        settings,
-        systems,
-        watch,
-        is_terminal,
-        input,
-        out,
-    )
+    explained(rt, alloc, settings, systems, watch, is_terminal, input, out)
 }
 
 /// The words of a command before the file of a case that it drives on the same system.
@@ -155,16 +149,7 @@ fn saving<W: Sink, R: Threads + Wait + Sync + Eprint + Files + Clock>(
             return Status::Lost;
         }
     };
-    let status = told(
-        rt,
-        alloc,
-        words,
-        systems,
-        &folder,
-        is_terminal,
-        input,
-        out,
-    );
+    let status = told(rt, alloc, words, systems, &folder, is_terminal, input, out);
     status.or_worse(folder.report(words.get_flag("quiet")))
 }
 

@@ -4,7 +4,7 @@ use crate::systems::Unmade;
 use clap::ArgMatches;
 use pst_clients::{Clients, Folder, Notes, open_clients, result_types};
 use pst_items::Items;
-use pst_load::load;
+use pst_typing::load;
 use pst_value::Ty;
 use std::alloc::{AllocError, Global};
 use std::io::{BufReader, ErrorKind};

@@ -1,53 +1,38 @@
 //! `pst run`.
 ghost use Rattle.std.specs.Prelude.{◌≡◌, false};
 
-use crate::explained::explain_run;
-use crate::overheard;
+use crate::{explained, overheard};
 use clap::ArgMatches;
+use pst_case::Run;
 use pst_cli::{Absence, Counts, Status, refuse_text, run_counting, run_repeatedly};
-use pst_misfits::Misfits;
+use pst_driver::Misfits;
 use pst_sink::{Out, Sink, put_all};
 use pst_system::BoxedSystem;
 use std::alloc::Global;
 use std::sync::Wait;
 use std::thread::Threads;
 
-/// The number of an item of which a line says that its run is broken, as `1 broken 2`.
-fn broken_item(line: &[u8]) -> Option<u64> {
-    let line = std::str::from_utf8(line).ok()?;
-    let (number, verdict) = line.split_once(' ')?;
-    if !verdict.starts_with("broken ") {
-        return None;
-    }
-    number.parse::<u64>().ok()
-}
-
-/// The first broken run of a report with the number of its item, and how many others there are. A run is on the line before
-/// its verdict.
-fn first_broken(report: &[u8]) -> Option<(u64, &[u8], usize)> {
-    let mut first: Option<(u64, &[u8], usize)> = None;
-    let mut before: &[u8] = &[];
-    for line in report.split(|byte| *byte == b'\n') {
-        if let Some(item) = broken_item(line) {
-            first = match first {
-                Some((item, run, others)) => Some((item, run, others.saturating_add(1))),
-                None => Some((item, before, 0)),
-            };
-        }
-        before = line;
-    }
-    first
-}
-
-/// Writes to standard error why the first broken run of a report is broken, and how many others are.
-fn explain_broken<R: Threads + Sync + Eprint>(rt: &R, alloc: Global, input: &[u8], report: &[u8]) {
-    let Some((item, run, others)) = first_broken(report) else {
+/// Writes to standard error why the first broken run is broken, and how many others are.
+fn explain_broken<R: Eprint>(rt: &R, alloc: Global, input: &[u8], counts: &mut Counts) {
+    let Some((item, run)) = counts.first_broken.take() else {
+        return;
+    };
+    let Run { shaped, history } = run;
+    let Some(history) = history else {
         return;
     };
     let Ok(heading) = format!(in alloc; "item {item} is broken:") else {
         return;
     };
-    explain_run(rt, alloc, heading.as_str(), input, run);
+    explained::report(
+        rt,
+        alloc,
+        heading.as_str(),
+        input,
+        shaped.into_case(),
+        history,
+    );
+    let others = counts.broken.saturating_sub(1);
     if others > 0 {
         let items = if others == 1 { "item is" } else { "items are" };
         let _ = eprintln!(rt; "{others} more {items} broken");
@@ -100,7 +85,7 @@ fn drive_and_explain<W: Sink, R: Threads + Wait + Sync + Eprint>(
         return Status::Lost;
     }
     overheard::report(rt, alloc, misfits);
-    explain_broken(rt, alloc, input, report.as_slice());
+    explain_broken(rt, alloc, input, counts);
     status
 }
 
@@ -125,16 +110,7 @@ pub fn drive<W: Sink, R: Threads + Wait + Sync + Eprint>(
     let repeats = words.get_one("repeats");
     match misfits {
         Some(misfits) => {
-            drive_and_explain(
-                rt,
-                alloc,
-                &mut system,
-                repeats,
-                misfits,
-                input,
-                counts,
-                out,
-            )
+            drive_and_explain(rt, alloc, &mut system, repeats, misfits, input, counts, out)
         }
         None => run_items(rt, alloc, &mut system, repeats, input, counts, out),
     }

@@ -50,6 +50,14 @@ fn dot_option<'a>(alloc: Global) -> Result<Arg<'a>, AllocError> {
         .conflicts_with("format")
 }
 
+/// The option that asks for the whole search of an explained run.
+fn all_option<'a>(alloc: Global) -> Arg<'a> {
+    Arg::new(alloc, "all")
+        .long("all")
+        .action(ArgAction::SetTrue)
+        .help("As dot: draws all positions of an explained run, not its interleaving alone")
+}
+
 /// The option that limits how many items are explained.
 fn max_option<'a>(alloc: Global) -> Arg<'a> {
     Arg::new(alloc, "max")
@@ -79,6 +87,7 @@ fn with_files<'a>(alloc: Global) -> Result<Command<'a>, AllocError> {
         .arg(crate::words::files(alloc))?
         .arg(format_option(alloc))?
         .arg(dot_option(alloc)?)?
+        .arg(all_option(alloc))?
         .arg(width_option(alloc))
 }
 
@@ -153,7 +162,7 @@ pub fn explain<W: Sink, R: Threads + Sync>(
     requires { W.broken out.old ≡ false }
 {
     let Some(form) = form(words) else {
-        return graph_text(rt, alloc, input, item(words), out);
+        return graph_text(rt, alloc, input, item(words), words.get_flag("all"), out);
     };
     let asked = Explaining {
         files,

@@ -38,6 +38,7 @@ Exit status: 0 if all items are explained or valid, 1 if some item is not, 2 if 
 pub const EXPLAIN: &str = "\
 Examples:
   pst explain --failures cache.runs
+  pst explain --format html cache.runs > cache.html
   pst explain --dot --item 2 cache.runs | dot -Tsvg > search.svg
 
 Exit status: that of `pst judge`.";

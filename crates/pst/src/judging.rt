@@ -2,10 +2,11 @@
 ghost use Rattle.std.specs.Prelude.{◌≡◌, false, All, IfSome};
 ghost use Rattle.pst_runs.specs.Lawful.{AreLawful};
 
+use crate::words::is_json;
 use clap::ArgMatches;
 use pst_cli::{
-    AnsweredFile, Counts, JudgedFile, Shown, Status, judge_file, judge_file_keeping_on, judge_text,
-    judge_text_keeping_on,
+    AnsweredFile, Counts, JudgedFile, Shown, Status, judge_file, judge_file_keeping_on, judge_json,
+    judge_text, judge_text_keeping_on,
 };
 use pst_sink::Sink;
 use pst_sources::{Input, SourceFile};
@@ -95,8 +96,23 @@ fn shown(words: &ArgMatches<'_>) -> Shown {
     }
 }
 
-/// Judges the items of the input, up to the first that is refused, or all of them where the words ask for it. Behind
-/// the lines on standard output messages may stand on standard error, unless the words forbid it. Then the items are
+/// Counts the items to which there are answers, and writes why the first broken one is broken and the warnings on them.
+fn count_and_warn<R: Eprint>(
+    rt: &R,
+    alloc: Global,
+    files: &[SourceFile<'_>],
+    input: &[u8],
+    counts: &mut Counts,
+    answered: Option<AnsweredFile>,
+) {
+    if let Some(answered) = &answered {
+        counts.add_answers(answered.answers.as_slice());
+    }
+    warn_on_answers(rt, alloc, files, input, answered);
+}
+
+/// Judges the items of the input, up to the first that is refused, or all of them if the words ask for it or ask for JSON.
+/// After the lines on standard output messages may be on standard error, unless the words forbid it. Then the items are
 /// counted as well.
 pub fn judge<W: Sink, R: Threads + Sync + Eprint>(
     rt: &R,
@@ -110,6 +126,13 @@ pub fn judge<W: Sink, R: Threads + Sync + Eprint>(
     requires { W.broken out.old ≡ false }
 {
     let shown = shown(words);
+    if is_json(words) {
+        let (status, answered) = judge_json(rt, alloc, input, shown, out);
+        if !words.get_flag("quiet") {
+            count_and_warn(rt, alloc, files, input, counts, answered);
+        }
+        return status;
+    }
     match (words.get_flag("keep-going"), words.get_flag("quiet")) {
         (false, true) if shown == Shown::All => judge_text(rt, alloc, input, out),
         (true, true) if shown == Shown::All => judge_text_keeping_on(rt, alloc, input, out),
@@ -125,10 +148,7 @@ pub fn judge<W: Sink, R: Threads + Sync + Eprint>(
         }
         (true, false) => {
             let (status, answered) = judge_file_keeping_on(rt, alloc, input, shown, out);
-            if let Some(answered) = &answered {
-                counts.add_answers(answered.answers.as_slice());
-            }
-            warn_on_answers(rt, alloc, files, input, answered);
+            count_and_warn(rt, alloc, files, input, counts, answered);
             status
         }
     }

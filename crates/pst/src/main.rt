@@ -16,6 +16,7 @@ mod help;
 mod input;
 mod judging;
 mod least;
+mod noticed;
 mod overheard;
 mod progress;
 mod refused;
@@ -31,8 +32,10 @@ use clap::ArgMatches;
 use driving::drive;
 use input::Reading;
 use judging::judge;
-use pst_cli::{Absence, Counts, KnownSystem, Status, check_text, list_text, refuse_text};
-use pst_misfits::{Misfits, Overheard};
+use pst_cli::{
+    Absence, Counts, KnownSystem, Status, check_json, check_text, list_text, refuse_text,
+};
+use pst_driver::{Misfits, Overheard};
 use pst_samples::{Counter, Meet, Queue, Racy, Registry, Stuck};
 use pst_sink::{Out, Sink};
 use pst_sources::{Input, SourceFile, joined};
@@ -96,10 +99,7 @@ fn with_systems<W: Sink, R: Threads + Wait + Sync + Eprint + Files + Clock + All
 }
 
 /// Does what the words say of an input, on standard output, and counts what its items came to.
-fn answer<
-    W: Sink,
-    R: Threads + Wait + Sync + Eprint + Files + Clock + io::Input + AllocGlobal,
->(
+fn answer<W: Sink, R: Threads + Wait + Sync + Eprint + Files + Clock + io::Input + AllocGlobal>(
     rt: &R,
     matches: &ArgMatches<'_>,
     systems: Systems,
@@ -117,6 +117,10 @@ fn answer<
     let alloc = rt.alloc();
     let Input { files, bytes } = input;
     match word {
+        "check" if noticed::are_written(word, words) => {
+            let notices = noticed::lines(alloc, words, &input);
+            check_json(alloc, bytes, notices.as_slice(), out)
+        }
         "check" => check_text(alloc, bytes, out),
         "list" => list_text(alloc, bytes, out),
         "generate" => generating::generate(rt, words, bytes, out),
@@ -147,7 +151,7 @@ fn say<R: Eprint + AllocGlobal>(
     let Some((word, words)) = matches.subcommand() else {
         return;
     };
-    if words.get_flag("quiet") {
+    if words.get_flag("quiet") || noticed::are_written(word, words) {
         return;
     }
     let Input { files, bytes } = input;

@@ -1,8 +1,8 @@
 //! What a system answered where the reply is `misfit`, on standard error.
 
 use clap::ArgMatches;
-use pst_load::load;
-use pst_misfits::{Misfits, misfits_text};
+use pst_driver::{Misfits, misfits_text};
+use pst_typing::load;
 use std::alloc::Global;
 use std::sync::Arc;
 

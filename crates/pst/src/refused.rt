@@ -1,5 +1,6 @@
 //! The messages beside refusals, on standard error.
 
+use crate::words::is_json;
 use clap::ArgMatches;
 use pst_cli::{Absence, Status, refuse_text};
 use pst_messages::{Asked, message_of};
@@ -16,7 +17,7 @@ pub fn memory<R: Runtime>(rt: &R) -> Status {
 /// What messages are written for, by the word that the program was given and the words behind it.
 fn asked(word: &str, words: &ArgMatches<'_>) -> Asked {
     match word {
-        "judge" if words.get_flag("keep-going") => {
+        "judge" if words.get_flag("keep-going") || is_json(words) => {
             if words.get_flag("all-messages") {
                 Asked::AllItems
             } else {

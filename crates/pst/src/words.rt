@@ -44,12 +44,13 @@ fn with_file<'a>(alloc: Global, name: &'a str, about: &'a str) -> Result<Command
 
 /// `check`, with the file of a model.
 fn check_command<'a>(alloc: Global) -> Result<Command<'a>, AllocError> {
-    let command = with_file(
+    with_file(
         alloc,
         "check",
         "Checks a model: prints `ok NAME`, or the refusal",
-    )?;
-    Ok(command.after_help(help::CHECK))
+    )?
+    .after_help(help::CHECK)
+    .arg(format_option(alloc))
 }
 
 /// `list`, with the file of a model.
@@ -62,6 +63,25 @@ fn list_command<'a>(alloc: Global) -> Result<Command<'a>, AllocError> {
     .after_help(help::LIST)
     .hide(true)
     .alias("disasm")
+}
+
+/// The forms of what is written of verdicts.
+const FORMS: [&str; 2] = ["text", "json"];
+
+/// The option that chooses between lines of text and JSON.
+fn format_option<'a>(alloc: Global) -> Arg<'a> {
+    Arg::new(alloc, "format")
+        .long("format")
+        .value_name("FORM")
+        .value_parser(ValueParser::Names(&FORMS))
+        .default_value("text")
+        .help("text, or json: an object for each line")
+        .hide_possible_values(true)
+}
+
+/// Whether the arguments ask for JSON.
+pub fn is_json(words: &ArgMatches<'_>) -> bool {
+    words.get_str("format") == Some("json")
 }
 
 /// The option that judges the items after a refused one.
@@ -89,7 +109,7 @@ fn stream<'a>(alloc: Global) -> Result<Arg<'a>, AllocError> {
         .long("stream")
         .action(ArgAction::SetTrue)
         .help("Judges the items on the lines of standard input as they come, one on each line")
-        .conflicts_with_all(&["keep-going", "failures", "all-messages"])
+        .conflicts_with_all(&["keep-going", "failures", "all-messages", "format"])
 }
 
 /// The option that leaves out the items that are explained or valid.
@@ -109,6 +129,7 @@ fn judge_command<'a>(alloc: Global) -> Result<Command<'a>, AllocError> {
         .arg(keep_going(alloc))?
         .arg(all_messages(alloc))?
         .arg(failures(alloc))?
+        .arg(format_option(alloc))?
         .arg(stream(alloc)?)?
         .arg(output(alloc))?
         .arg(quiet(alloc))

@@ -5,15 +5,12 @@ use Rattle.pst_campaign.specs.Entries.{MayGive}
 use Rattle.pst_campaign.specs.Working.{AllGiven, HasWorkers, IsCampaignFault}
 use Rattle.pst_campaign.specs.declared.fault.CampaignFault.{CampaignFault}
 use Rattle.pst_campaign.specs.declared.fault.CampaignFault.TheVariants.{NoMemory}
-use Rattle.pst_cli.specs.CampaignOutput.{Gives, plan_of, campaign_line, status_after}
-use Rattle.pst_cli.specs.CampaignOutput.{IsOutputFor, reported, not_started, IsCampaignOutput, accepted, refused}
+use Rattle.pst_cli.specs.CampaignOutput.{Gives, plan_of, campaign_line, status_after, IsOutputFor, reported, not_started, IsCampaignOutput, accepted, refused}
 use Rattle.pst_cli.specs.Head.{refusal_line}
 use Rattle.pst_cli.specs.declared.output.Output.{Output}
 use Rattle.pst_cli.specs.declared.status.Status.TheVariants.{Refused, Lost}
 use Rattle.pst_ledger.specs.declared.entry.Entry.{Entry}
 use Rattle.pst_ledger.specs.declared.entry.Entry.TheVariants as entry
-use Rattle.pst_load.specs.Loading.{Holds, IsRefusal}
-use Rattle.pst_load.specs.declared.refusal.Refusal.{Refusal}
 use Rattle.pst_model.specs.declared.model.Source.{Source}
 use Rattle.pst_report.specs.InOrder.{IsOf, AreOf}
 use Rattle.pst_report.specs.Status.{campaign_status}
@@ -23,6 +20,8 @@ use Rattle.pst_system.specs.Kept.{Answers, Fails, ResetFails}
 use Rattle.pst_trial.specs.PlanView.{PlanView}
 use Rattle.pst_trial.specs.RecordView.{RecordView}
 use Rattle.pst_trial.specs.declared.settings.Settings.{Settings}
+use Rattle.pst_typing.specs.Loading.{Holds, IsRefusal}
+use Rattle.pst_typing.specs.declared.load_refusal.Refusal.{Refusal}
 
 given_is_of : (A : Answers) (F : Fails) (R : ResetFails) (p : PlanView) (number : ℕ) (e : Entry RecordView)
     → MayGive A F R p number e → IsOf p number e

@@ -4,12 +4,12 @@ use Rattle.std.proofs.lemmas.List.Elements.{All-nil, All-cons}
 use Rattle.std.specs.List.{AllZip}
 use Rattle.pst_case.specs.declared.history.Run.{Run}
 use Rattle.pst_cli.specs.Output.{AreJudged}
-use Rattle.pst_each.proofs.One.{matches_if_any}
-use Rattle.pst_each.proofs.Permitted.{lawful_at}
-use Rattle.pst_each.specs.Parts.{joined}
 use Rattle.pst_judge.specs.Judgement.{HistoryMatches, IsJudgement}
 use Rattle.pst_judge.specs.declared.judgement.Judged.{Judged}
 use Rattle.pst_model.specs.declared.model.Source.{Source}
+use Rattle.pst_rejudge.proofs.One.{matches_if_any}
+use Rattle.pst_rejudge.proofs.Permitted.{lawful_at}
+use Rattle.pst_rejudge.specs.Parts.{joined}
 use Rattle.pst_runs.specs.Lawful.{IsLawful, AreLawful}
 
 module _ (m : Source) where

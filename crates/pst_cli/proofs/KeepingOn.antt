@@ -8,10 +8,10 @@ use Rattle.pst_cli.specs.Output.{AreJudged, is_good, item_line, item_lines}
 use Rattle.pst_cli.specs.Status.{or_worse}
 use Rattle.pst_cli.specs.declared.status.Status.{Status}
 use Rattle.pst_cli.specs.declared.status.Status.TheVariants.{Accepted, Failed}
-use Rattle.pst_each.specs.Answers.{IsAnswer}
-use Rattle.pst_each.specs.declared.Answer.TheVariants as answer
+use Rattle.pst_rejudge.specs.Answers.{IsAnswer}
+use Rattle.pst_rejudge.specs.declared.each.Answer.TheVariants as answer
 use Rattle.pst_judge.specs.declared.judgement.Judged.{Judged}
-use Rattle.pst_load.specs.Loading.{items_of}
+use Rattle.pst_typing.specs.Loading.{items_of}
 use Rattle.pst_model.specs.declared.model.Source.{Source}
 use Rattle.pst_runs.specs.Items.{item_of, numbered, runs_from}
 use Rattle.pst_runs.specs.Replies.{◌>>=◌, then_more}

@@ -4,12 +4,12 @@ use Rattle.std.specs.Prelude.{◌&&◌, Result, codes, decimal, if◌then◌else
 use Rattle.std.specs.List.{list_all}
 use Rattle.pst_case.specs.declared.history.Run.{Run}
 use Rattle.pst_cli.specs.Head.{refusal_line, line_end}
-use Rattle.pst_load.specs.Loading.{IsFile, Holds, items_of, IsRefusal}
+use Rattle.pst_typing.specs.Loading.{IsFile, Holds, items_of, IsRefusal}
 use Rattle.pst_cli.specs.Output.{IsCheckOutput, ok_line, HoldsRuns, IsFirstRefusal, IsJudgeOutput, run_line, AreJudged, item_line, item_lines, is_explained, is_good, status_of}
 use Rattle.pst_cli.specs.Output as output
 use Rattle.pst_cli.specs.OneOutput.{OneCheckOutput, OneJudgeOutput}
-use Rattle.pst_load.specs.declared.refusal.Refusal.{Refusal}
-use Rattle.pst_load.specs.declared.refusal.Refusal.TheVariants.{Unread, NoModel, IllTyped}
+use Rattle.pst_typing.specs.declared.load_refusal.Refusal.{Refusal}
+use Rattle.pst_typing.specs.declared.load_refusal.Refusal.TheVariants.{Unread, NoModel, IllTyped}
 use Rattle.pst_cli.specs.declared.status.Status.{Status}
 use Rattle.pst_cli.specs.declared.status.Status.TheVariants.{Accepted, Failed}
 use Rattle.pst_judge.specs.JudgedText.{judged_text, why_text, case_fault_text}

@@ -2,14 +2,14 @@
 use Rattle.std.proofs.Common.{◌≡◌, ◌≤◌, ℕ, Bool, true, false, List, [], ◌∷◌, ◌++◌, length, subst, sym, arith}
 use Rattle.pst_case.specs.declared.history.Run.{Run}
 use Rattle.pst_cli.specs.Output.{HoldsRuns}
-use Rattle.pst_each.proofs.Joined.{joined}
-use Rattle.pst_each.specs.Parts.{AreKept, EndsLine, SpellsRuns}
-use Rattle.pst_load.specs.Loading.{Holds, items_of}
 use Rattle.pst_model.specs.declared.model.Source.{Source}
+use Rattle.pst_rejudge.proofs.Joined.{joined}
+use Rattle.pst_rejudge.specs.Parts.{AreKept, EndsLine, SpellsRuns}
 use Rattle.pst_runs.proofs.Lawful.{runs_lawful}
 use Rattle.pst_runs.specs.Lawful.{AreLawful}
 use Rattle.pst_sexpr.specs.Reading.{max_bytes}
 use Rattle.pst_sexpr.specs.declared.form.Form.{Form}
+use Rattle.pst_typing.specs.Loading.{Holds, items_of}
 
 pub holds_both : (m : Source) (head rest : List ℕ) (trees : List Form) (runs : List Run) → length (head ++ rest) ≤ max_bytes → EndsLine head
     → length trees ≡ 1 → Holds head m trees → SpellsRuns m rest runs → HoldsRuns (head ++ rest) m runs

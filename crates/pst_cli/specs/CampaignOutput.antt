@@ -9,8 +9,6 @@ use Rattle.pst_cli.specs.Head.{refusal_line, line_end}
 use Rattle.pst_cli.specs.declared.status.Status.{Status}
 use Rattle.pst_cli.specs.declared.status.Status.TheVariants.{Accepted, Failed, Refused, Lost}
 use Rattle.pst_ledger.specs.declared.entry.Entry.{Entry}
-use Rattle.pst_load.specs.Loading.{Holds, IsRefusal}
-use Rattle.pst_load.specs.declared.refusal.Refusal.{Refusal}
 use Rattle.pst_model.specs.declared.model.Source.{Source}
 use Rattle.pst_report.specs.Status.{campaign_status}
 use Rattle.pst_report.specs.Text.{report_text}
@@ -20,6 +18,8 @@ use Rattle.pst_sexpr.specs.declared.form.Form.{Form}
 use Rattle.pst_trial.specs.PlanView.{PlanView}
 use Rattle.pst_trial.specs.RecordView.{RecordView}
 use Rattle.pst_trial.specs.declared.settings.Settings.{Settings}
+use Rattle.pst_typing.specs.Loading.{Holds, IsRefusal}
+use Rattle.pst_typing.specs.declared.load_refusal.Refusal.{Refusal}
 
 -- the plan of a model with the settings
 abbrev pub plan_of : Source → Settings → PlanView

@@ -11,16 +11,16 @@ use Rattle.pst_cli.specs.declared.status.Status.{Status}
 use Rattle.pst_cli.specs.declared.status.Status.TheVariants.{Accepted, Failed, Refused, Lost}
 use Rattle.pst_eval.specs.Places.{callback_name}
 use Rattle.pst_eval.specs.declared.place.Place.{Place}
-use Rattle.pst_load.specs.Loading.{Holds, IsRefusal}
-use Rattle.pst_load.specs.declared.refusal.Refusal.{Refusal}
 use Rattle.pst_model.specs.declared.model.Source.{Source}
+use Rattle.pst_runs.specs.Lines.{line_of}
+use Rattle.pst_runs.specs.Written.{run_form}
 use Rattle.pst_sexpr.specs.declared.form.Form.{Form}
 use Rattle.pst_trial.specs.PlanView.{PlanView}
 use Rattle.pst_trial.specs.Sound.{IsTrialCase}
 use Rattle.pst_trial.specs.declared.settings.Settings.{Settings}
+use Rattle.pst_typing.specs.Loading.{Holds, IsRefusal}
+use Rattle.pst_typing.specs.declared.load_refusal.Refusal.{Refusal}
 use Rattle.pst_value.specs.FaultName.{fault_name}
-use Rattle.pst_write.specs.Lines.{line_of}
-use Rattle.pst_write.specs.Written.{run_form}
 
 -- a case of the model, without replies
 abbrev pub case_alone : Source → Case → Run

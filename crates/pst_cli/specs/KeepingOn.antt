@@ -10,12 +10,12 @@ use Rattle.pst_cli.specs.declared.shown.Shown.{Shown}
 use Rattle.pst_cli.specs.declared.shown.Shown.TheVariants as shown
 use Rattle.pst_cli.specs.declared.status.Status.{Status}
 use Rattle.pst_cli.specs.declared.status.Status.TheVariants.{Accepted, Refused}
-use Rattle.pst_each.specs.Answers.{IsAnswer}
-use Rattle.pst_each.specs.declared.Answer.{Answer}
-use Rattle.pst_each.specs.declared.Answer.TheVariants as answer
+use Rattle.pst_rejudge.specs.Answers.{IsAnswer}
+use Rattle.pst_rejudge.specs.declared.each.Answer.{Answer}
+use Rattle.pst_rejudge.specs.declared.each.Answer.TheVariants as answer
 use Rattle.pst_judge.specs.declared.judgement.Judged.{Judged}
-use Rattle.pst_load.specs.Loading.{Holds, items_of, IsRefusal}
-use Rattle.pst_load.specs.declared.refusal.Refusal.{Refusal}
+use Rattle.pst_typing.specs.Loading.{Holds, items_of, IsRefusal}
+use Rattle.pst_typing.specs.declared.load_refusal.Refusal.{Refusal}
 use Rattle.pst_model.specs.declared.model.Source.{Source}
 use Rattle.pst_runs.specs.Items.{runs_of}
 use Rattle.pst_sexpr.specs.declared.form.Form.{Form}

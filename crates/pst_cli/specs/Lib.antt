@@ -5,6 +5,7 @@ pub mod ChosenItem
 pub mod ExplainOutput
 pub mod GenerateOutput
 pub mod GraphOutput
+pub mod JsonOutput
 pub mod KeepingOn
 pub mod Known
 pub mod ListOutput

@@ -3,8 +3,8 @@ use Rattle.std.specs.Prelude.{◌≡◌, ℕ, ◌+◌, Bool, true, false, if◌t
 use Rattle.std.specs.List.{list_all}
 use Rattle.pst_case.specs.declared.history.Run.{Run}
 use Rattle.pst_cli.specs.Head.{refusal_line, line_end}
-use Rattle.pst_load.specs.Loading.{Holds, items_of, IsRefusal}
-use Rattle.pst_load.specs.declared.refusal.Refusal.{Refusal}
+use Rattle.pst_typing.specs.Loading.{Holds, items_of, IsRefusal}
+use Rattle.pst_typing.specs.declared.load_refusal.Refusal.{Refusal}
 use Rattle.pst_cli.specs.declared.shown.Shown.{Shown}
 use Rattle.pst_cli.specs.declared.shown.Shown.TheVariants as shown
 use Rattle.pst_cli.specs.declared.status.Status.{Status}

@@ -18,15 +18,15 @@ use Rattle.pst_judge.specs.Validity.{IsValid, IsWhy}
 use Rattle.pst_judge.specs.declared.judgement.Judged.{Judged}
 use Rattle.pst_judge.specs.declared.judgement.Judged.TheVariants as kind
 use Rattle.pst_judge.specs.declared.why.Why.{Why}
-use Rattle.pst_load.specs.Loading.{Holds, items_of, IsRefusal}
-use Rattle.pst_load.specs.declared.refusal.Refusal.{Refusal}
 use Rattle.pst_model.specs.declared.model.Source.{Source}
 use Rattle.pst_runs.specs.Items.{runs_of}
+use Rattle.pst_runs.specs.Lines.{line_of}
+use Rattle.pst_runs.specs.Written.{run_form}
 use Rattle.pst_runs.specs.declared.fault.RunFault.{RunFault}
 use Rattle.pst_sexpr.specs.declared.form.Form.{Form}
 use Rattle.pst_system.specs.Kept.{Answers, Fails, ResetFails}
-use Rattle.pst_write.specs.Lines.{line_of}
-use Rattle.pst_write.specs.Written.{run_form}
+use Rattle.pst_typing.specs.Loading.{Holds, items_of, IsRefusal}
+use Rattle.pst_typing.specs.declared.load_refusal.Refusal.{Refusal}
 
 -- `NUMBER lost KIND`
 abbrev pub lost_line : ℕ → DriveFault → List ℕ

@@ -25,3 +25,11 @@ pub record Prints (IsOutput : List ℕ → Status → Type 0) (before after : Op
   pub status : Status
   pub lawful : IsOutput text status ⊎ ((text ≡ memory_line) × (status ≡ Lost))
   pub sent : Sends before after broken answer text status
+
+-- one output was sent, or if an allocation failed these bytes
+pub record PrintsElse (memory : List ℕ) (IsOutput : List ℕ → Status → Type 0) (before after : Option (List ℕ))
+    (broken : Bool) (answer : Status) : Type 0 where
+  pub text : List ℕ
+  pub status : Status
+  pub lawful : IsOutput text status ⊎ ((text ≡ memory) × (status ≡ Lost))
+  pub sent : Sends before after broken answer text status

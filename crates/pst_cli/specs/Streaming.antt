@@ -7,11 +7,18 @@ use Rattle.pst_cli.specs.declared.status.Status.TheVariants.{Accepted}
 use Rattle.pst_cli.specs.declared.stream.Cut.{Cut}
 use Rattle.pst_cli.specs.declared.stream.Cut.TheVariants.{Unread, NoMemory, Unwritten}
 use Rattle.pst_cli.specs.declared.stream.Written.{Written}
-use Rattle.pst_each.specs.declared.Answer.{Answer}
+use Rattle.pst_rejudge.specs.declared.each.Answer.{Answer}
 use Rattle.pst_model.specs.declared.model.Source.{Source}
 use Rattle.pst_sink.specs.Writing.{WritesAll, WritesPart}
 use Rattle.pst_stream.specs.Answers.{IsLineAnswer}
 use Rattle.pst_stream.specs.Lines.{lines_of}
+use Rattle.pst_stream.specs.declared.blocks.StreamFault.{StreamFault}
+use Rattle.pst_stream.specs.declared.blocks.StreamFault.TheVariants as fault
+
+-- why the lines end where a block cannot be had
+abbrev pub cut_of : StreamFault → Cut
+cut_of fault.Unread = Unread
+cut_of fault.NoMemory = NoMemory
 
 module _ (before after : Option (List ℕ)) (broken : Bool) (text : List ℕ) where
   -- the sink took nothing; or it failed, and took a beginning of the text

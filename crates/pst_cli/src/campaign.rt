@@ -12,17 +12,18 @@ ghost use Rattle.pst_report.specs.Status.{campaign_status};
 ghost use Rattle.pst_report.specs.Text.{report_text};
 ghost use Rattle.pst_trial.specs.Settings.{AreInRange};
 
+use crate::notes::CampaignNotes;
 use crate::output::{Output, send};
 use crate::refusal::refusal_output;
 use crate::status::Status;
 use pst_campaign::{CampaignFault, Watch, campaign};
 use pst_ledger::Closed;
-use pst_load::{ModelFile, load};
 use pst_report::{CampaignStatus, campaign_status, report};
 use pst_rules::Typed;
 use pst_sink::{Out, Sink};
 use pst_system::{BoxedSystem, System};
 use pst_trial::{Plan, Record, Settings};
+use pst_typing::{ModelFile, load};
 use std::alloc::{AllocError, Global};
 use std::sync::{Arc, Wait};
 use std::thread::Threads;
@@ -60,13 +61,19 @@ fn status_after(ended: CampaignStatus) -> Status
     }
 }
 
-/// The report of a campaign, and how the program ends then.
-fn report_output(alloc: Global, plan: &Plan, closed: &Closed<Record>) -> Result<Output, AllocError>
+/// The report of a campaign, and how the program ends then. The records are noted before.
+fn report_output(
+    alloc: Global,
+    plan: &Plan,
+    closed: &Closed<Record>,
+    notes: &mut CampaignNotes,
+) -> Result<Output, AllocError>
     requires trials { length closed.now ≡ plan.now.settings.trials }
     requires records { AreOf plan.now 0 closed.now }
     ensures text { IfOk result (λ output. output.text.items ≡ report_text plan.now closed.now) }
     ensures status { IfOk result (λ output. output.status ≡ spec.status_after (campaign_status closed.now)) }
 {
+    notes.add(alloc, plan, closed.entries())?;
     let mut out = Out::new(Vec::new(alloc));
     match report(alloc, plan, closed, &mut out) {
         Ok(()) => Ok(Output {
@@ -96,6 +103,7 @@ fn output_for<K: Watch + Sync, R: Threads + Wait + Sync>(
     settings: Settings,
     systems: Vec<BoxedSystem>,
     watch: &K,
+    notes: &mut CampaignNotes,
 ) -> Result<Output, AllocError>
     requires { AreInRange settings }
     ensures { IfOk result (λ output. IsOutputFor
@@ -105,7 +113,7 @@ fn output_for<K: Watch + Sync, R: Threads + Wait + Sync>(
 {
     let plan = plan_of(alloc, typed, settings)?;
     match campaign(rt, alloc, plan.clone()?, systems, watch) {
-        Ok(closed) => report_output(alloc, &plan, &closed),
+        Ok(closed) => report_output(alloc, &plan, &closed, notes),
         Err(fault) => not_started(alloc, fault),
     }
 }
@@ -118,6 +126,7 @@ fn campaign_output<K: Watch + Sync, R: Threads + Wait + Sync>(
     settings: Settings,
     systems: Vec<BoxedSystem>,
     watch: &K,
+    notes: &mut CampaignNotes,
 ) -> Result<Output, AllocError>
     requires { AreInRange settings }
     ensures { IfOk result (λ output. IsCampaignOutput
@@ -128,7 +137,7 @@ fn campaign_output<K: Watch + Sync, R: Threads + Wait + Sync>(
     match load(alloc, input)? {
         Ok(file) => {
             let ModelFile { typed, trees: _ } = file;
-            output_for(rt, alloc, typed, settings, systems, watch)
+            output_for(rt, alloc, typed, settings, systems, watch, notes)
         }
         Err(refusal) => refusal_output(alloc, &refusal),
     }
@@ -160,7 +169,30 @@ pub fn campaign_text<W: Sink, K: Watch + Sync, R: Threads + Wait + Sync>(
         ((System-box s).reset_fails s.value)) settings systems.items input.now)
         (W.taken sink.old) (W.taken sink.new) (W.broken sink.new) result }
 {
-    match campaign_output(rt, alloc, input, settings, systems, watch) {
+    let mut notes = CampaignNotes::new();
+    campaign_noting(rt, alloc, input, settings, systems, watch, &mut notes, sink)
+}
+
+/// Does what [`campaign_text`] does, and notes the least failure and the first trial without a case. If memory is refused some
+/// of it may be missing.
+pub fn campaign_noting<W: Sink, K: Watch + Sync, R: Threads + Wait + Sync>(
+    rt: &R,
+    alloc: Global,
+    input: &[u8],
+    settings: Settings,
+    systems: Vec<BoxedSystem>,
+    watch: &K,
+    notes: &mut CampaignNotes,
+    sink: &mut W,
+) -> Status
+    requires ranges { AreInRange settings }
+    requires stands { W.broken sink.old ≡ false }
+    ensures { Prints
+        (IsCampaignOutput (λ s. MayGive ((System-box s).answers s.value) ((System-box s).fails s.value)
+        ((System-box s).reset_fails s.value)) settings systems.items input.now)
+        (W.taken sink.old) (W.taken sink.new) (W.broken sink.new) result }
+{
+    match campaign_output(rt, alloc, input, settings, systems, watch, notes) {
         Ok(output) => send(output.text.as_slice(), output.status, sink),
         Err(AllocError) => send(b"refused memory\n", Status::Lost, sink),
     }

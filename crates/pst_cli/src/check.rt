@@ -6,10 +6,9 @@ ghost use Rattle.pst_cli.specs.Sending.{Prints};
 use crate::output::{Output, send};
 use crate::refusal::refusal_output;
 use crate::status::Status;
-use pst_load::load;
 use pst_rules::Typed;
 use pst_sink::Sink;
-use pst_typing::model_name;
+use pst_typing::{load, model_name};
 use std::alloc::{AllocError, Global};
 
 /// `ok NAME`.

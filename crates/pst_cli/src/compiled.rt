@@ -1,10 +1,10 @@
 //! The compiled model that an input begins with.
 ghost use Rattle.std.specs.Prelude.{◌≡◌, IfOk, MatchResult};
-ghost use Rattle.pst_load.specs.Loading.{Holds, IsRefusal};
+ghost use Rattle.pst_typing.specs.Loading.{Holds, IsRefusal};
 
 use pst_compile::{Compiled, compile};
-use pst_load::{ModelFile, Refusal, load};
 use pst_sexpr::Tree;
+use pst_typing::{ModelFile, Refusal, load};
 use std::alloc::{AllocError, Global};
 
 /// A file of trees, of which the first spells a well-typed model, with that model compiled.

@@ -1,10 +1,11 @@
 //! How many items came to what.
 
-use pst_each::Answer;
+use pst_case::Run;
 use pst_judge::{Judged, Verdict, Why};
+use pst_rejudge::Answer;
 
 /// How many items came to what. The names are those of the lines that are written.
-#[derive(Clone, Copy, Debug, PartialEq, Eq, Drop)]
+#[derive(Drop)]
 pub struct Counts {
     /// Runs that some interleaving explains.
     pub explained: usize,
@@ -24,6 +25,8 @@ pub struct Counts {
     pub refused: usize,
     /// Items that could not be driven.
     pub lost: usize,
+    /// The first run with a reply that is no value among those that were driven, and the number of its item, from 1.
+    pub first_broken: Option<(usize, Run)>,
 }
 
 /// Adds one.
@@ -44,6 +47,7 @@ impl Counts {
             casefault: 0,
             refused: 0,
             lost: 0,
+            first_broken: None,
         }
     }
 
@@ -56,6 +60,15 @@ impl Counts {
             Judged::Verdict(Verdict::Broken(_)) => add_one(&mut self.broken),
             Judged::Valid => add_one(&mut self.valid),
             Judged::Invalid(why) => self.add_invalid(why),
+        }
+    }
+
+    /// Keeps a run that was driven if it is the first with a reply that is no value.
+    pub(crate) fn keep_broken(&mut self, number: usize, run: Run, judged: &Judged) {
+        if let Judged::Verdict(Verdict::Broken(_)) = judged {
+            if self.first_broken.is_none() {
+                self.first_broken = Some((number, run));
+            }
         }
     }
 
@@ -85,8 +98,8 @@ impl Counts {
         }
     }
 
-    /// Adds other counts.
-    pub(crate) fn add_counts(&mut self, other: &Counts) {
+    /// Adds other counts, and keeps their first broken run if there is none yet.
+    pub(crate) fn add_counts(&mut self, other: Counts) {
         self.explained = self.explained.saturating_add(other.explained);
         self.unexplained = self.unexplained.saturating_add(other.unexplained);
         self.fault = self.fault.saturating_add(other.fault);
@@ -96,6 +109,9 @@ impl Counts {
         self.casefault = self.casefault.saturating_add(other.casefault);
         self.refused = self.refused.saturating_add(other.refused);
         self.lost = self.lost.saturating_add(other.lost);
+        if self.first_broken.is_none() {
+            self.first_broken = other.first_broken;
+        }
     }
 
     /// Counts an item that could not be driven.

@@ -13,9 +13,9 @@ use crate::status::Status;
 use crate::stream::Cut;
 use pst_case::Run;
 use pst_eval::Place;
-use pst_load::{ModelFile, load};
 use pst_sink::{Sink, WriteFailed, put_all};
 use pst_trial::{Plan, Settings, may_share_records, trial_case};
+use pst_typing::{ModelFile, load};
 use rayon::prelude::*;
 use std::alloc::{AllocError, Global};
 use std::thread::Threads;
@@ -52,10 +52,7 @@ fn case_output(alloc: Global, plan: &Plan, number: u64) -> Result<Output, AllocE
                 status: Status::Accepted,
             })
         }
-        Err(place) => Ok(Output::new(
-            genfault_line(alloc, number, &place)?,
-            Status::Failed,
-        )),
+        Err(place) => Ok(Output::new(genfault_line(alloc, number, &place)?, Status::Failed)),
     }
 }
 

@@ -48,6 +48,7 @@ fn item_graph(
     alloc: Global,
     compiled: &Compiled,
     number: usize,
+    whole: bool,
     runs: &[Run],
     all: &[Judged],
 ) -> Result<Option<Vec<u8>>, AllocError>
@@ -65,7 +66,15 @@ fn item_graph(
     let Some(judged) = all.get(index) else {
         return Ok(None);
     };
-    let graph = graph_item(compiled, alloc, compiled.typed(), run, judged, number)?;
+    let graph = graph_item(
+        compiled,
+        alloc,
+        compiled.typed(),
+        run,
+        judged,
+        number,
+        whole,
+    )?;
     Ok(Some(graph))
 }
 
@@ -74,6 +83,7 @@ fn chosen_graph(
     alloc: Global,
     compiled: &Compiled,
     item: Option<usize>,
+    whole: bool,
     runs: &[Run],
     all: &[Judged],
 ) -> Result<Output, AllocError>
@@ -82,7 +92,7 @@ fn chosen_graph(
     ensures { IfOk result (λ output. IsGraphOf item all.now output.text.items output.status) }
 {
     let number = drawn_number(item, all);
-    match item_graph(alloc, compiled, number, runs, all)? {
+    match item_graph(alloc, compiled, number, whole, runs, all)? {
         Some(text) => Ok(Output {
             text,
             status: status_of(all),
@@ -97,6 +107,7 @@ fn graph_output<R: Threads + Sync>(
     alloc: Global,
     input: &[u8],
     item: Option<usize>,
+    whole: bool,
 ) -> Result<Output, AllocError>
     ensures { IfOk result (λ output. IsGraphOutput input.now item output.text.items output.status) }
 {
@@ -109,12 +120,20 @@ fn graph_output<R: Threads + Sync>(
         Err(output) => return Ok(output),
     };
     let runs = joined(alloc, runs)?;
-    chosen_graph(alloc, &compiled, item, runs.as_slice(), judged.as_slice())
+    chosen_graph(
+        alloc,
+        &compiled,
+        item,
+        whole,
+        runs.as_slice(),
+        judged.as_slice(),
+    )
 }
 
 /// Draws the search of an item behind the model that the input begins with: writes it as a graph for
 /// Graphviz. `item` is its number, from 1; where it is absent, the first item is drawn that is neither
-/// explained nor valid, and item 1 where there is none. Where there is no such item, `refused item N of
+/// explained nor valid, and item 1 where there is none. Of an explained run the interleaving and its dead ends are drawn, and
+/// with `whole` all positions. Where there is no such item, `refused item N of
 /// COUNT` alone is written, and else the first refusal alone, as `judge_text` does. The status is that of
 /// `judge_text`. Where memory is refused, `refused memory` alone is written.
 pub fn graph_text<W: Sink, R: Threads + Sync>(
@@ -122,13 +141,14 @@ pub fn graph_text<W: Sink, R: Threads + Sync>(
     alloc: Global,
     input: &[u8],
     item: Option<usize>,
+    whole: bool,
     sink: &mut W,
 ) -> Status
     requires { W.broken sink.old ≡ false }
     ensures { Prints (IsGraphOutput input.now item)
         (W.taken sink.old) (W.taken sink.new) (W.broken sink.new) result }
 {
-    match graph_output(rt, alloc, input, item) {
+    match graph_output(rt, alloc, input, item, whole) {
         Ok(output) => send(output.text.as_slice(), output.status, sink),
         Err(AllocError) => send(b"refused memory\n", Status::Lost, sink),
     }

@@ -8,7 +8,7 @@ use crate::output::Output;
 use crate::refusal::refusal_output;
 use pst_case::Run;
 use pst_compile::Compiled;
-use pst_load::items_of;
+use pst_typing::items_of;
 use std::alloc::{AllocError, Global};
 
 /// A model, and the runs behind it.

@@ -5,7 +5,7 @@ ghost use Rattle.pst_cli.specs.Kept.{HoldsJudged, keeps_all};
 ghost use Rattle.pst_cli.specs.Output.{IsJudgeOutput, IsShownOutput, is_good, run_line, status_of};
 ghost use Rattle.pst_cli.specs.Sending.{Prints};
 ghost use Rattle.pst_cli.specs.declared.status.Status.TheVariants.{Refused};
-ghost use Rattle.pst_each.specs.Parts.{joined};
+ghost use Rattle.pst_rejudge.specs.Parts.{joined};
 ghost use Rattle.pst_runs.specs.Items.{runs_of};
 ghost use Rattle.pst_runs.specs.Lawful.{AreLawful};
 

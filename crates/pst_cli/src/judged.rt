@@ -2,7 +2,7 @@
 ghost use Rattle.std.specs.Prelude.{◌≡◌, true, IfOk, IfSome, MatchResult};
 ghost use Rattle.pst_cli.specs.Kept.{HoldsJudged, keeps_all};
 ghost use Rattle.pst_cli.specs.Output.{IsFirstRefusal};
-ghost use Rattle.pst_each.specs.Parts.{joined};
+ghost use Rattle.pst_rejudge.specs.Parts.{joined};
 
 use crate::compiled::{CompiledFile, load_compiled};
 use crate::items::{ModelAndRuns, read_in_order};
@@ -11,9 +11,8 @@ use crate::output::Output;
 use crate::sharing::may_share_compiled;
 use pst_case::Run;
 use pst_compile::Compiled;
-use pst_each::{JudgedParts, head_and_rest, judge_in_parts};
 use pst_judge::Judged;
-use pst_rejudge::rejudge;
+use pst_rejudge::{JudgedParts, head_and_rest, judge_in_parts, rejudge};
 use pst_sexpr::MAX_BYTES;
 use std::alloc::{AllocError, Global};
 use std::thread::Threads;

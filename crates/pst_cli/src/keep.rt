@@ -25,10 +25,10 @@ use crate::run::status_of_one;
 use crate::sharing::may_share_compiled;
 use crate::shown::Shown;
 use crate::status::Status;
-use pst_each::{Answer, judge_each};
-use pst_load::items_of;
+use pst_rejudge::{Answer, judge_each};
 use pst_runs::RunFault;
 use pst_sink::Sink;
+use pst_typing::items_of;
 use std::alloc::{AllocError, Global};
 use std::thread::Threads;
 
@@ -67,7 +67,7 @@ fn answer_lines(alloc: Global, answers: &[Answer]) -> Result<String, AllocError>
 }
 
 /// Whether the item is explained or valid.
-fn is_good_answer(answer: &Answer) -> bool
+pub fn is_good_answer(answer: &Answer) -> bool
     ensures { result ≡ is_good_answer answer.now }
 {
     match answer {
@@ -124,7 +124,7 @@ pub(crate) fn answer_status(answer: &Answer) -> Status
 }
 
 /// The worst of the statuses of all items.
-fn worst_status(answers: &[Answer]) -> Status
+pub fn worst_status(answers: &[Answer]) -> Status
     ensures { result ≡ worst_status Accepted answers.now }
 {
     let mut status = Status::Accepted;

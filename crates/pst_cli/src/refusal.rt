@@ -5,7 +5,7 @@ ghost use Rattle.pst_cli.specs.declared.status.Status.TheVariants.{Refused};
 
 use crate::output::Output;
 use crate::status::Status;
-use pst_load::Refusal;
+use pst_typing::Refusal;
 use std::alloc::{AllocError, Global};
 
 /// `refused read KIND at PLACE`, `refused model KIND item I` or `refused type item I`, and how the program ends then.

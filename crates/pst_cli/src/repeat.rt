@@ -15,9 +15,9 @@ use crate::status::Status;
 use pst_case::{Run, Shaped};
 use pst_compile::Compiled;
 use pst_judge::{Valid, valid};
-use pst_load::items_of;
 use pst_sink::Sink;
 use pst_system::{BoxedSystem, System};
+use pst_typing::items_of;
 use std::alloc::{AllocError, Global};
 use std::sync::Wait;
 use std::thread::Threads;
@@ -94,7 +94,7 @@ fn repeated_report<R: Threads + Wait + Sync>(
         let mut drive = Counts::new();
         let output = valid_report(rt, alloc, compiled, system, number, copy, &mut drive)?;
         if output.status == Status::Lost {
-            counts.add_counts(&drive);
+            counts.add_counts(drive);
             return Ok(output);
         }
         if failed == 0 {
@@ -105,7 +105,7 @@ fn repeated_report<R: Threads + Wait + Sync>(
         }
         shown = shown_after(shown, output);
     }
-    counts.add_counts(&own);
+    counts.add_counts(own);
     match shown {
         Some(shown) => with_drives(alloc, number, shown, repeats, failed),
         None => unreachable!(),
@@ -134,9 +134,7 @@ fn item_report<R: Threads + Wait + Sync>(
     let copy = shaped.copy(alloc, compiled.typed().source())?;
     match valid(compiled, alloc, copy) {
         Ok(valid) => {
-            repeated_report(
-                rt, alloc, compiled, system, number, &valid, repeats, counts,
-            )
+            repeated_report(rt, alloc, compiled, system, number, &valid, repeats, counts)
         }
         Err(refused) => {
             counts.add_invalid(&refused.1);

@@ -8,10 +8,10 @@ ghost use Rattle.pst_cli.specs.declared.status.Status.TheVariants.{Accepted};
 ghost use Rattle.pst_judge.specs.declared.judgement.Judged.TheVariants as kind;
 ghost use Rattle.pst_judge.specs.declared.why.Why.TheVariants as reasons;
 ghost use Rattle.pst_runs.specs.Lawful.{AreLawful, IsLawful};
+ghost use Rattle.pst_runs.specs.Lines.{line_of};
+ghost use Rattle.pst_runs.specs.Written.{run_form};
 ghost use Rattle.pst_sink.specs.Writing.{Writes};
 ghost use Rattle.pst_system.specs.Kept.{AreKept};
-ghost use Rattle.pst_write.specs.Lines.{line_of};
-ghost use Rattle.pst_write.specs.Written.{run_form};
 
 use crate::compiled::load_compiled;
 use crate::counts::Counts;
@@ -24,12 +24,12 @@ use pst_case::{History, Run, Shaped};
 use pst_compile::Compiled;
 use pst_driver::DriveFault;
 use pst_judge::{Judged, Valid, Why, judge_one, valid};
-use pst_load::items_of;
 use pst_rules::Typed;
+use pst_runs::run_tree;
 use pst_sexpr::{Tree, write};
 use pst_sink::{Out, Sink, WriteFailed, put_all};
 use pst_system::{BoxedSystem, System};
-use pst_write::run_tree;
+use pst_typing::items_of;
 use std::alloc::{AllocError, Global};
 use std::sync::Wait;
 use std::thread::Threads;
@@ -91,6 +91,7 @@ fn run_report(
     let line = item_line(alloc, number, &judged)?;
     text.extend_from_slice(line.as_bytes())?;
     let status = status_of_one(&judged);
+    counts.keep_broken(number, run, &judged);
     Ok(Output { text, status })
 }
 

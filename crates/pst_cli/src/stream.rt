@@ -2,7 +2,7 @@
 ghost use Rattle.std.specs.Prelude.{◌≡◌, ◌+◌, ◌++◌, ℕ, List, Some, false, length, IfOk, MatchResult, OnOk, string_bytes};
 ghost use Rattle.pst_cli.specs.KeepingOn.{answer_lines, worst_status};
 ghost use Rattle.pst_cli.specs.Sending.{Prints};
-ghost use Rattle.pst_cli.specs.Streaming.{EndsBlock, EndsStream};
+ghost use Rattle.pst_cli.specs.Streaming.{EndsBlock, EndsStream, cut_of};
 ghost use Rattle.pst_cli.specs.StreamOutput.{IsStreamOutput};
 
 use crate::compiled::load_compiled;
@@ -13,7 +13,7 @@ use crate::refusal::refusal_output;
 use crate::sharing::may_share_compiled;
 use crate::status::Status;
 use pst_compile::Compiled;
-use pst_each::Answer;
+use pst_rejudge::Answer;
 use pst_sink::{Sink, WriteFailed, put_all};
 use pst_stream::{StreamFault, next_block};
 use std::alloc::{AllocError, Global};
@@ -95,7 +95,9 @@ fn write_block<W: Sink>(
 }
 
 /// Why the lines end where a block cannot be had.
-fn cut_by(fault: StreamFault) -> Cut {
+fn cut_by(fault: StreamFault) -> Cut
+    ensures { result ≡ cut_of fault }
+{
     match fault {
         StreamFault::Unread => Cut::Unread,
         StreamFault::NoMemory => Cut::NoMemory,

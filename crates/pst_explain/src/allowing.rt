@@ -4,12 +4,11 @@ ghost use Rattle.pst_case.specs.Matches.{matches};
 ghost use Rattle.pst_case.specs.Recorded.{recorded};
 ghost use Rattle.pst_judge.specs.Verdict.{first_broken};
 
-use pst_allowed::{AllowedValues, Candidates, allowed, merge_beyond};
 use pst_case::{History, Reply};
 use pst_eval::Callbacks;
 use pst_evidence::wanted_reply;
 use pst_meaning::Env;
-use pst_reasons::without;
+use pst_reasons::{AllowedValues, Candidates, allowed, merge_beyond, without};
 use pst_scene::{Call, Falsity, Scene, arguments, falsity_of, operation, state_before};
 use pst_value::Value;
 use std::alloc::{AllocError, Global};

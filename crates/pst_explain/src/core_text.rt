@@ -3,8 +3,8 @@
 use crate::allowing::WrongIn;
 use crate::cores::{Core, CoreAnswer};
 use crate::parts::add_parts;
-use pst_allowed::AllowedValues;
 use pst_model::Source;
+use pst_reasons::AllowedValues;
 use pst_scene::{
     Call, Page, Scene, Table, add, add_reply, add_value, add_word, expression_text, falsity_text,
     joined, operation, text_of, two, value_text,

@@ -6,11 +6,10 @@ ghost use Rattle.pst_judge.specs.Verdict.{first_broken};
 ghost use Rattle.pst_reasons.specs.Reasons.{IsUnexplained};
 
 use crate::allowing::{WrongIn, allowed_of, wrong_without};
-use pst_allowed::AllowedValues;
 use pst_case::History;
 use pst_eval::Callbacks;
 use pst_evidence::wants_one_reply;
-use pst_reasons::core;
+use pst_reasons::{AllowedValues, core};
 use pst_scene::{Call, Part, Scene, call_numbered, operation};
 use std::alloc::{AllocError, Global};
 

@@ -3,7 +3,7 @@
 //! `explain_item` explains one item, whose judgement is known, and `explanation_text` writes the explanation as `pst explain`
 //! prints it. `first_places` finds where the trees of an input begin, `explain_script` says why no case can be generated, and
 //! `broken_text` which reply makes a run broken. Cores come from `pst_reasons`, the interleavings from `pst_judge`, and their
-//! states from `pst_paths`; what else is in an explanation, and its text, is tested and not proved. `AllocError` is out of
+//! states from `pst_reasons`; what else is in an explanation, and its text, is tested and not proved. `AllocError` is out of
 //! memory.
 #![tactic(auto)]
 
@@ -29,5 +29,5 @@ pub use explanation::{Explanation, Reason, explain_item};
 pub use failures::{Evaluated, Expression, FailingPart, Failure};
 pub use places::{TreePlace, first_places};
 pub use scripts::explain_script;
-pub use text::explanation_text;
+pub use text::{explanation_text, reason_text};
 pub use walks::{Step, Stopped, Walk};

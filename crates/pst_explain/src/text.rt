@@ -107,6 +107,18 @@ fn add_reason(
     }
 }
 
+/// Why the judgement is as it is, as `explanation_text` has it after the first line.
+pub fn reason_text(
+    alloc: Global,
+    explanation: &Explanation<'_>,
+    width: usize,
+) -> Result<Vec<u8>, AllocError> {
+    let mut page = Page::new(alloc, width);
+    add_reason(&mut page, alloc, &explanation.scene, &explanation.reason)?;
+    let Page { text, width: _ } = page;
+    Ok(text)
+}
+
 /// An explanation in lines of at most `width` bytes: what is longer than a line is cut in the middle with `..`.
 pub fn explanation_text(
     alloc: Global,

@@ -7,7 +7,7 @@ ghost use Rattle.pst_judge.specs.Verdict.{first_broken};
 use pst_case::History;
 use pst_eval::Callbacks;
 use pst_judge::{Postconditions, verdict_with_interleaving};
-use pst_paths::states;
+use pst_reasons::states;
 use pst_scene::{
     Call, DeadEnd, Outcome, Part, PreAnswer, Scene, falsity_of, in_order, next_calls, outcome_of,
     precondition,

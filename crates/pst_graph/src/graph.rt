@@ -4,13 +4,21 @@ ghost use Rattle.pst_judge.specs.Judgement.{HistoryMatches, IsJudgement};
 
 use crate::drawing::drawn;
 use crate::path::shown_calls;
-use crate::search::search_of;
+use crate::search::{search_of, shown_path};
 use pst_case::Run;
 use pst_eval::Callbacks;
-use pst_judge::Judged;
+use pst_judge::{Judged, Verdict};
 use pst_rules::Typed;
 use pst_scene::scene_of;
 use std::alloc::{AllocError, Global};
+
+/// What the title says if only the interleaving of the verdict is drawn.
+const PATH_ALONE: &str = "\nthe interleaving and its dead ends; --all draws the whole search";
+
+/// Whether an interleaving explains the run.
+fn is_explained(judged: &Judged) -> bool {
+    matches!(judged, Judged::Verdict(Verdict::Explained(_)))
+}
 
 /// The search of an item of the model as a graph for Graphviz: `judged` is its judgement, and `number` its
 /// number.
@@ -18,8 +26,9 @@ use std::alloc::{AllocError, Global};
 /// A node is a position of the search: how far each part of the item has come, and the state there. Those
 /// behind equally many commands stand side by side. An edge is a command with its answer. A command that
 /// cannot come next leads, in red, to a dead end, which says why. The edges of the interleaving of the
-/// verdict are bold. The first 300 positions are gone on from, and all along the bold edges; others are
-/// dashed, and the title says so. `AllocError`: memory was refused.
+/// verdict are bold. Of an explained run only these and the dead ends beside them are drawn, unless `all` asks for the whole
+/// search. The search goes on from the first 300 positions, and from all along the bold edges; other positions are dashed, and
+/// the title says so. `AllocError`: memory was refused.
 pub fn graph_item<C: Callbacks>(
     callbacks: &C,
     alloc: Global,
@@ -27,6 +36,7 @@ pub fn graph_item<C: Callbacks>(
     run: &Run,
     judged: &Judged,
     number: usize,
+    all: bool,
 ) -> Result<Vec<u8>, AllocError>
     requires shaped { run.now.shaped.model ≡ C.model callbacks.now }
     requires matches { HistoryMatches (C.model callbacks.now) run.now }
@@ -34,9 +44,15 @@ pub fn graph_item<C: Callbacks>(
 {
     let scene = scene_of(alloc, typed, run)?;
     let shown = shown_calls(callbacks, alloc, &scene, judged)?;
-    let search = search_of(alloc, &scene, shown.as_slice())?;
+    let is_path = is_explained(judged) && !all;
+    let search = if is_path {
+        shown_path(alloc, &scene, shown.as_slice())?
+    } else {
+        search_of(alloc, &scene, shown.as_slice())?
+    };
     let verdict = judged.text(alloc)?;
     let verdict = verdict.as_str();
-    let title = format!(in alloc; "{number} {verdict}")?;
+    let rest = if is_path { PATH_ALONE } else { "" };
+    let title = format!(in alloc; "{number} {verdict}{rest}")?;
     drawn(alloc, &scene, &search, title.as_str())
 }

@@ -180,6 +180,83 @@ fn begun<'a>(
     Ok(search)
 }
 
+/// The new number of a position of the number, where only these positions are kept.
+fn kept_number(kept: &[usize], number: usize) -> usize {
+    kept.iter().filter(|other| **other < number).count()
+}
+
+/// The numbers of the positions along the interleaving that is shown.
+fn shown_positions(alloc: Global, search: &Search<'_>) -> Result<Vec<usize>, AllocError> {
+    let mut numbers = Vec::new(alloc);
+    if !search.positions.is_empty() {
+        numbers.push(0)?;
+    }
+    for number in &search.shown {
+        if let Some(step) = search.moves.get(*number) {
+            if let Target::Position(to) = step.target {
+                numbers.push(to)?;
+            }
+        }
+    }
+    Ok(numbers)
+}
+
+impl<'a> Search<'a> {
+    /// Adds a move of a larger search, of whose positions these are kept: one of the interleaving that is shown, or one to a
+    /// dead end.
+    fn keep_move(
+        &mut self,
+        step: Move<'a>,
+        is_shown: bool,
+        kept: &[usize],
+    ) -> Result<(), AllocError> {
+        let Move { from, call, target } = step;
+        if !kept.contains(&from) {
+            return Ok(());
+        }
+        let from = kept_number(kept, from);
+        let target = match target {
+            Target::Position(to) if is_shown => Target::Position(kept_number(kept, to)),
+            Target::Position(_) => return Ok(()),
+            Target::DeadEnd(why) => Target::DeadEnd(why),
+        };
+        if is_shown {
+            self.shown.push(self.moves.len())?;
+        }
+        self.moves.push(Move { from, call, target })?;
+        Ok(())
+    }
+}
+
+/// The interleaving that is shown, with the dead ends beside it, and nothing else of its search.
+pub fn shown_path<'a>(
+    alloc: Global,
+    scene: &Scene<'a>,
+    shown: &[Call<'_>],
+) -> Result<Search<'a>, AllocError> {
+    let search = begun(alloc, scene, shown)?;
+    let kept = shown_positions(alloc, &search)?;
+    let mut path = Search {
+        positions: Vec::new(alloc),
+        moves: Vec::new(alloc),
+        shown: Vec::new(alloc),
+    };
+    let Search {
+        positions,
+        moves,
+        shown,
+    } = search;
+    for (number, position) in positions.into_iter().enumerate() {
+        if kept.contains(&number) {
+            path.positions.push(position)?;
+        }
+    }
+    for (number, step) in moves.into_iter().enumerate() {
+        path.keep_move(step, shown.contains(&number), kept.as_slice())?;
+    }
+    Ok(path)
+}
+
 /// The search of an item from its initial state on. It goes along the commands of the interleaving that is
 /// shown, and then from the other positions in the order in which it met them, as far as the limit allows.
 pub fn search_of<'a>(

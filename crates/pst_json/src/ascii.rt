@@ -1,9 +1,13 @@
 //! JSON in ASCII.
+ghost use Rattle.std.specs.Prelude.{IfOk, IfSome, OnOk};
+ghost use Rattle.pst_json.specs.Page.{IsPageByte, IsPageText};
 
 use std::alloc::{AllocError, Global};
 
 /// The digit of a number below 16.
-fn digit(number: u32) -> u8 {
+fn digit(number: u32) -> u8
+    ensures { IsPageByte result }
+{
     match number {
         0 => b'0',
         1 => b'1',
@@ -24,18 +28,32 @@ fn digit(number: u32) -> u8 {
     }
 }
 
-/// Adds the escape of a number of 16 bits, as `\u003c`.
-fn add_escape(out: &mut Vec<u8>, number: u32) -> Result<(), AllocError> {
-    out.extend_from_slice(b"\\u")?;
-    out.push(digit(number / 4096 % 16))?;
-    out.push(digit(number / 256 % 16))?;
-    out.push(digit(number / 16 % 16))?;
-    out.push(digit(number % 16))?;
+/// Adds a byte.
+#[tactic(auto, using(crate::proofs::Page::page_push))]
+pub fn add_byte(out: &mut Vec<u8>, byte: u8) -> Result<(), AllocError>
+    requires { IsPageByte byte }
+    ensures { IsPageText out.old.items → OnOk result (IsPageText out.new.items) }
+{
+    out.push(byte)?;
     Ok(())
 }
 
+/// Adds the escape of a number of 16 bits, as `\u003c`.
+fn add_escape(out: &mut Vec<u8>, number: u32) -> Result<(), AllocError>
+    ensures { IsPageText out.old.items → OnOk result (IsPageText out.new.items) }
+{
+    add_byte(out, b'\\')?;
+    add_byte(out, b'u')?;
+    add_byte(out, digit(number / 4096 % 16))?;
+    add_byte(out, digit(number / 256 % 16))?;
+    add_byte(out, digit(number / 16 % 16))?;
+    add_byte(out, digit(number % 16))
+}
+
 /// Adds the escape of a character: that of its number, or of the two halves of one that is beyond 16 bits.
-fn add_escaped(out: &mut Vec<u8>, character: char) -> Result<(), AllocError> {
+fn add_escaped(out: &mut Vec<u8>, character: char) -> Result<(), AllocError>
+    ensures { IsPageText out.old.items → OnOk result (IsPageText out.new.items) }
+{
     let number = u32::from(character);
     match number.checked_sub(0x10000) {
         None => add_escape(out, number),
@@ -47,7 +65,9 @@ fn add_escaped(out: &mut Vec<u8>, character: char) -> Result<(), AllocError> {
 }
 
 /// The byte of a character that may be in a page: one of ASCII, but `<`, `>`, `&` and DEL.
-fn plain_byte(character: char) -> Option<u8> {
+fn plain_byte(character: char) -> Option<u8>
+    ensures { IfSome result IsPageByte }
+{
     match u8::try_from(u32::from(character)) {
         Ok(byte) if byte < 127 && byte != b'<' && byte != b'>' && byte != b'&' => Some(byte),
         _ => None,
@@ -55,11 +75,14 @@ fn plain_byte(character: char) -> Option<u8> {
 }
 
 /// JSON with each other character than those of `plain_byte` as an escape, which it can be since it is in a text.
-pub fn ascii(alloc: Global, json: &str) -> Result<Vec<u8>, AllocError> {
+#[tactic(auto, using(crate::proofs::Page::empty_page))]
+pub fn ascii(alloc: Global, json: &str) -> Result<Vec<u8>, AllocError>
+    ensures { IfOk result (λ text. IsPageText text.items) }
+{
     let mut out = Vec::new(alloc);
     for character in json.chars() {
         match plain_byte(character) {
-            Some(byte) => out.push(byte)?,
+            Some(byte) => add_byte(&mut out, byte)?,
             None => add_escaped(&mut out, character)?,
         }
     }

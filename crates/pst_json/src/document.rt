@@ -1,5 +1,8 @@
 //! Documents.
+ghost use Rattle.std.specs.Prelude.{IfOk};
+ghost use Rattle.pst_json.specs.Page.{IsPageText};
 
+use crate::ascii::add_byte;
 use crate::models::put_model;
 use crate::writing::written;
 use json::Writer;
@@ -24,7 +27,9 @@ pub fn document_start(
     alloc: Global,
     files: &[SourceFile<'_>],
     model: &Source,
-) -> Result<Vec<u8>, AllocError> {
+) -> Result<Vec<u8>, AllocError>
+    ensures { IfOk result (λ text. IsPageText text.items) }
+{
     let mut writer = Writer::new(Vec::new(alloc));
     writer.begin_object()?;
     writer.key("pst")?;
@@ -39,6 +44,6 @@ pub fn document_start(
     writer.key("items")?;
     writer.begin_array()?;
     let mut start = written(alloc, writer)?;
-    start.push(b'\n')?;
+    add_byte(&mut start, b'\n')?;
     Ok(start)
 }

@@ -1,4 +1,6 @@
 //! Items.
+ghost use Rattle.std.specs.Prelude.{IfOk};
+ghost use Rattle.pst_json.specs.Page.{IsPageText};
 
 use crate::calls::put_calls;
 use crate::cores::put_core;
@@ -78,7 +80,9 @@ fn put_reason(
 }
 
 /// The explanation of an item as a JSON object, without a line end.
-pub fn item_json(alloc: Global, explanation: &Explanation<'_>) -> Result<Vec<u8>, AllocError> {
+pub fn item_json(alloc: Global, explanation: &Explanation<'_>) -> Result<Vec<u8>, AllocError>
+    ensures { IfOk result (λ text. IsPageText text.items) }
+{
     let mut writer = Writer::new(Vec::new(alloc));
     writer.begin_object()?;
     put_head(&mut writer, alloc, explanation)?;

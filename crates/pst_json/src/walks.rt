@@ -64,16 +64,13 @@ fn kind_of(reason: &Reason<'_>) -> &'static str {
     }
 }
 
-/// Writes the calls that cannot come next, if there are some.
+/// Writes the member `next`: the calls that cannot come next.
 fn put_next(
     writer: &mut Writer<Global>,
     alloc: Global,
     model: &Source,
     all: &[Stopped<'_>],
 ) -> Result<(), AllocError> {
-    if all.is_empty() {
-        return Ok(());
-    }
     writer.key("next")?;
     writer.begin_array()?;
     for stopped in all {

@@ -1,4 +1,6 @@
 //! Members of objects.
+ghost use Rattle.std.specs.Prelude.{IfOk};
+ghost use Rattle.pst_json.specs.Page.{IsPageText};
 
 use crate::ascii::ascii;
 use json::Writer;
@@ -24,7 +26,9 @@ fn text_of(alloc: Global, bytes: &[u8]) -> Result<String, AllocError> {
 }
 
 /// The JSON that was written, in ASCII.
-pub fn written(alloc: Global, writer: Writer<Global>) -> Result<Vec<u8>, AllocError> {
+pub fn written(alloc: Global, writer: Writer<Global>) -> Result<Vec<u8>, AllocError>
+    ensures { IfOk result (λ text. IsPageText text.items) }
+{
     let json = writer.into_inner();
     let json = text_of(alloc, json.as_slice())?;
     ascii(alloc, json.as_str())

@@ -1,6 +1,6 @@
 //! The tokens of a file, comments among them.
 
-use pst_places::{State, after};
+use pst_sources::{State, after};
 use std::alloc::{AllocError, Global};
 
 /// What a token is.

@@ -1,8 +1,7 @@
 //! Bytes that are no file of trees.
 
-use pst_places::{Span, char_at, closed_item, open_item};
 use pst_sexpr::{FaultKind, MAX_BYTES, MAX_LEVELS, SexprFault};
-use pst_sources::Input;
+use pst_sources::{Input, Span, char_at, closed_item, open_item};
 use std::alloc::{AllocError, Global};
 use std::fmt::Display;
 

@@ -1,17 +1,17 @@
 //! The messages beside refusals.
 
-use crate::bytes::unread;
+use crate::bytes::{Wrong, unread};
 use pst_form_problems::form_problems;
-use pst_load::{ModelFile, Refusal, items_of, load};
-use pst_places::{Span, first_item, span_in, span_of, tree_at};
+use pst_notices::{Notice, Notices, text_of};
 use pst_problems::{MOST_PROBLEMS, Problem};
 use pst_rules::Typed;
 use pst_run_problems::run_problem;
 use pst_runs::{RunFault, read_runs};
 use pst_sexpr::{Tree, read};
-use pst_sources::{Input, LastLine, SourceFile};
+use pst_sources::{Input, SourceFile, Span, first_item, span_in, span_of, tree_at};
 use pst_syntax::{SyntaxFault, read_model};
 use pst_type_problems::type_problems;
+use pst_typing::{ModelFile, Refusal, items_of, load};
 use std::alloc::{AllocError, Global};
 use std::slice;
 
@@ -28,27 +28,45 @@ pub enum Asked {
     AllItems,
 }
 
-/// The message of a problem.
-fn of_problem(alloc: Global, input: &Input<'_>, problem: &Problem) -> Result<String, AllocError> {
-    let span = span_of(input.bytes, problem.path.as_slice());
-    let what = problem.what.as_str();
-    input.message(alloc, span, what, problem.notes.as_slice())
+/// What is said of a problem of these bytes.
+fn notice_of(alloc: Global, span: Span, problem: Problem) -> Notice {
+    let Problem {
+        path: _,
+        what,
+        notes,
+    } = problem;
+    Notice {
+        span,
+        is_warning: false,
+        what,
+        notes,
+        lines: String::new(alloc),
+    }
 }
 
-/// The messages of the problems of a model, at most twenty.
+/// What is said of a problem of the input.
+fn of_problem(alloc: Global, input: &Input<'_>, problem: Problem) -> Notice {
+    let span = span_of(input.bytes, problem.path.as_slice());
+    notice_of(alloc, span, problem)
+}
+
+/// What is said of the problems of a model, at most twenty.
 fn of_problems(
     alloc: Global,
     input: &Input<'_>,
-    problems: &[Problem],
-) -> Result<String, AllocError> {
-    let mut text = String::new(alloc);
-    for problem in problems.iter().take(MOST_PROBLEMS) {
-        text.push_str(of_problem(alloc, input, problem)?.as_str())?;
+    problems: Vec<Problem>,
+) -> Result<Notices, AllocError> {
+    let mut notices = Notices::none(alloc);
+    for problem in problems {
+        if notices.all.len() < MOST_PROBLEMS {
+            notices.all.push(of_problem(alloc, input, problem))?;
+        } else if notices.more.is_empty() {
+            notices
+                .more
+                .push_str("more errors of the model are not shown\n")?;
+        }
     }
-    if problems.len() > MOST_PROBLEMS {
-        text.push_str("more errors of the model are not shown\n")?;
-    }
-    Ok(text)
+    Ok(notices)
 }
 
 /// Whether a text begins with a model.
@@ -122,23 +140,11 @@ fn of_first_item(
     }
 }
 
-/// The message of a problem of the item of a span, where others are written before it.
-fn in_item(
-    alloc: Global,
-    input: &Input<'_>,
-    last: &mut LastLine,
-    item: Span,
-    problem: &Problem,
-) -> Result<String, AllocError> {
+/// What is said of a problem of the item of a span.
+fn in_item(alloc: Global, input: &Input<'_>, item: Span, problem: Problem) -> Notice {
     let path = problem.path.get(1..).unwrap_or(&[]);
     let span = span_in(input.bytes, item, path);
-    input.next_message(
-        alloc,
-        last,
-        span,
-        problem.what.as_str(),
-        problem.notes.as_slice(),
-    )
+    notice_of(alloc, span, problem)
 }
 
 /// The line that says how many more items are refused than those of which there are messages, if some are.
@@ -153,7 +159,7 @@ fn add_count(text: &mut String, more: usize) -> Result<(), AllocError> {
     )
 }
 
-/// The messages of the items behind a model that are refused, of the first ones up to a number in full. It goes over the
+/// What is said of the items behind a model that are refused, of the first ones up to a number in full. It goes over the
 /// input once.
 fn of_each_item(
     alloc: Global,
@@ -161,9 +167,8 @@ fn of_each_item(
     typed: &Typed,
     trees: &[Tree],
     most: usize,
-) -> Result<String, AllocError> {
-    let mut text = String::new(alloc);
-    let mut last = LastLine::none();
+) -> Result<Notices, AllocError> {
+    let mut notices = Notices::none(alloc);
     let mut span = tree_at(input.bytes, 0);
     let mut refused: usize = 0;
     for (index, tree) in items_of(trees).iter().enumerate() {
@@ -179,37 +184,61 @@ fn of_each_item(
                 ..fault
             };
             if let Some(problem) = run_problem(alloc, typed.source(), tree.form(), fault)? {
-                text.push_str(in_item(alloc, input, &mut last, span, &problem)?.as_str())?;
+                notices.all.push(in_item(alloc, input, span, problem))?;
             }
         }
         refused = refused.saturating_add(1);
     }
-    add_count(&mut text, refused.saturating_sub(most))?;
-    Ok(text)
+    add_count(&mut notices.more, refused.saturating_sub(most))?;
+    Ok(notices)
 }
 
-/// The messages of the items behind a model that is well typed.
+/// What is said of the items behind a model that is well typed.
 fn of_items(
     alloc: Global,
     input: &Input<'_>,
     file: &ModelFile,
     asked: Asked,
-) -> Result<String, AllocError> {
+) -> Result<Notices, AllocError> {
     let trees = file.trees.as_slice();
     match asked {
-        Asked::Model => Ok(String::new(alloc)),
+        Asked::Model => Ok(Notices::none(alloc)),
         Asked::FirstItem => match of_first_item(alloc, &file.typed, trees)? {
-            Some(problem) => of_problem(alloc, input, &problem),
-            None => Ok(String::new(alloc)),
+            Some(problem) => Notices::one(alloc, of_problem(alloc, input, problem)),
+            None => Ok(Notices::none(alloc)),
         },
         Asked::EachItem => of_each_item(alloc, input, &file.typed, trees, MOST_PROBLEMS),
         Asked::AllItems => of_each_item(alloc, input, &file.typed, trees, usize::MAX),
     }
 }
 
+/// The errors of an input: for each the bytes that are wrong, what was expected and found, and hints. There are none if
+/// nothing is refused of what is asked.
+pub fn errors_of(alloc: Global, input: &Input<'_>, asked: Asked) -> Result<Notices, AllocError> {
+    match load(alloc, input.bytes)? {
+        Ok(file) => of_items(alloc, input, &file, asked),
+        Err(Refusal::Unread(refused)) => {
+            let Wrong { span, what, notes } = unread(alloc, input, refused)?;
+            let lines = String::new(alloc);
+            let notice = Notice {
+                span,
+                is_warning: false,
+                what,
+                notes,
+                lines,
+            };
+            Notices::one(alloc, notice)
+        }
+        Err(refusal) => {
+            let problems = of_model(alloc, input, &refusal)?;
+            of_problems(alloc, input, problems)
+        }
+    }
+}
+
 /// The messages beside the refusals of an input, for a person to read. Each has the name of the file, the line and the
-/// column of what is wrong, that line with the place underlined, what was wanted and found, and hints. `input` is the
-/// text of the files. `None` where nothing is refused of what is asked.
+/// column of what is wrong, that line with the place underlined, what was expected and found, and hints. `input` is the
+/// text of the files. `None` if nothing is refused of what is asked.
 ///
 /// `AllocError`: memory was refused.
 pub fn message_of(
@@ -222,21 +251,6 @@ pub fn message_of(
         files,
         bytes: input,
     };
-    let message = match load(alloc, input.bytes)? {
-        Ok(file) => of_items(alloc, &input, &file, asked)?,
-        Err(Refusal::Unread(refused)) => {
-            let fault = unread(alloc, &input, refused)?;
-            let what = fault.what.as_str();
-            input.message(alloc, fault.span, what, fault.notes.as_slice())?
-        }
-        Err(refusal) => {
-            let problems = of_model(alloc, &input, &refusal)?;
-            of_problems(alloc, &input, problems.as_slice())?
-        }
-    };
-    if message.is_empty() {
-        Ok(None)
-    } else {
-        Ok(Some(message))
-    }
+    let errors = errors_of(alloc, &input, asked)?;
+    text_of(alloc, &input, &errors)
 }

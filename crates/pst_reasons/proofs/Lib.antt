@@ -3,3 +3,9 @@ pub mod Fewer
 pub mod Numbered
 pub mod FewerAsked
 pub mod Rising
+pub mod Posts
+pub mod OneAnswer
+pub mod Asking
+pub mod Unnamed
+pub mod Equality
+pub mod Along

@@ -1,2 +1,6 @@
 -- what the public contracts cite
 pub mod Reasons
+pub mod Allowed
+pub mod Equality
+pub mod Names
+pub mod States

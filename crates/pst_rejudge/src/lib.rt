@@ -1,35 +1,31 @@
-//! Judges many items at once, by as many threads as there are processors.
+//! Judges many items at once, by as many threads as there are processors: items that were read, those that an input
+//! spells, or each tree by itself.
 #![tactic(auto)]
 
 ghost use Rattle.std.specs.Prelude.{◌≡◌, All, IfOk};
 ghost use Rattle.std.specs.List.{AllZip};
-ghost use Rattle.std.specs.Thread.{IsSync};
-ghost use Rattle.pst_case.specs.contracts.history.Run.{the_row as run_row};
 ghost use Rattle.pst_judge.specs.Judgement.{IsJudgement};
 ghost use Rattle.pst_rejudge.specs.Judging.{MayBeJudged};
 
-use pst_case::{Case, Command, Run};
+mod each;
+mod judging;
+mod parts;
+mod places;
+mod reading;
+mod sharing;
+mod taking;
+
+pub use crate::sharing::may_share_models;
+use crate::sharing::may_share_runs;
+pub use each::{Answer, answer_of, judge_each};
+pub use judging::{JudgedParts, judge_in_parts};
+pub use parts::head_and_rest;
+use pst_case::Run;
 use pst_eval::Callbacks;
 use pst_judge::{Judged, judge_one};
-use pst_value::Value;
 use rayon::prelude::*;
 use std::alloc::{AllocError, Global};
 use std::thread::Threads;
-
-/// What is `Sync` may be shared by threads.
-fn may_share<T: Sync>()
-    ensures { IsSync T.row }
-{}
-
-/// Items may be shared by threads, since their parts may be. The function does nothing.
-fn may_share_runs()
-    ensures { IsSync run_row }
-{
-    may_share::<Value>();
-    may_share::<Command>();
-    may_share::<Case>();
-    may_share::<Run>()
-}
 
 /// The judgement of each item, in the order of the items: what `judge_one` gives of it. Several threads judge
 /// the items at once. `AllocError` where memory is refused to any of them.

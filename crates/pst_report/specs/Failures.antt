@@ -6,12 +6,12 @@ use Rattle.pst_model.specs.declared.model.Source.{Source}
 use Rattle.pst_report.specs.Least.{failure_in}
 use Rattle.pst_report.specs.Text.{run_line}
 use Rattle.pst_report.specs.declared.failures.ShrunkFailure.{ShrunkFailure}
+use Rattle.pst_runs.specs.Lines.{line_of}
+use Rattle.pst_runs.specs.Written.{run_form}
 use Rattle.pst_shrink.specs.declared.shrunk.Shrunk.{Shrunk}
 use Rattle.pst_shrink.specs.declared.shrunk.Taken.{Taken}
 use Rattle.pst_trial.specs.RecordView.{RecordView}
 use Rattle.pst_trial.specs.declared.run.JudgedRun.{JudgedRun}
-use Rattle.pst_write.specs.Lines.{line_of}
-use Rattle.pst_write.specs.Written.{run_form}
 
 -- the case without its replies
 abbrev pub case_of : Source → Taken JudgedRun → Run

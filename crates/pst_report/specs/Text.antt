@@ -1,6 +1,5 @@
 -- The text of a report: of a plan, and of what came of each number from 0 on, in order.
-use Rattle.std.specs.Prelude.{ℕ, ◌+◌, ◌==◌, if◌then◌else◌, List, [], ◌∷◌, ◌++◌, length, codes, decimal}
-use Rattle.std.specs.Prelude.{Option, Some, None}
+use Rattle.std.specs.Prelude.{ℕ, ◌+◌, ◌==◌, if◌then◌else◌, List, [], ◌∷◌, ◌++◌, length, codes, decimal, Option, Some, None}
 use Rattle.pst_case.specs.declared.history.Run.{Run}
 use Rattle.pst_eval.specs.Places.{callback_name}
 use Rattle.pst_eval.specs.declared.place.Place.{Place}
@@ -14,6 +13,8 @@ use Rattle.pst_report.specs.Kinds.{count_of, own_failure}
 use Rattle.pst_report.specs.Least.{least_fault, least_failure}
 use Rattle.pst_report.specs.declared.kind.EntryKind.{EntryKind}
 use Rattle.pst_report.specs.declared.kind.EntryKind.TheVariants as kind
+use Rattle.pst_runs.specs.Lines.{line_of}
+use Rattle.pst_runs.specs.Written.{run_form}
 use Rattle.pst_shrink.specs.declared.shrunk.Ending.{Ending}
 use Rattle.pst_shrink.specs.declared.shrunk.Ending.TheVariants.{Minimal, Stopped}
 use Rattle.pst_shrink.specs.declared.shrunk.Shrunk.{Shrunk}
@@ -23,8 +24,6 @@ use Rattle.pst_trial.specs.RecordView.{RecordView}
 use Rattle.pst_trial.specs.declared.run.JudgedRun.{JudgedRun}
 use Rattle.pst_trial.specs.declared.settings.Settings.{Settings}
 use Rattle.pst_value.specs.FaultName.{fault_name}
-use Rattle.pst_write.specs.Lines.{line_of}
-use Rattle.pst_write.specs.Written.{run_form}
 
 -- the end of a line
 abbrev pub line_end : List ℕ

@@ -6,14 +6,18 @@ ghost use Rattle.pst_report.specs.Text as spec;
 use crate::kind::own_failure;
 use pst_case::{Run, shape};
 use pst_rules::Typed;
+use pst_runs::write_runs;
 use pst_shrink::{Ending, Shrunk, Taken};
 use pst_sink::Out;
 use pst_trial::JudgedRun;
-use pst_write::write_runs;
 use std::alloc::{AllocError, Global};
 
 /// The case with the history that it broke with.
-pub(crate) fn run_of(alloc: Global, typed: &Typed, taken: &Taken<JudgedRun>) -> Result<Run, AllocError>
+pub(crate) fn run_of(
+    alloc: Global,
+    typed: &Typed,
+    taken: &Taken<JudgedRun>,
+) -> Result<Run, AllocError>
     ensures { IfOk result (λ run. run ≡ spec.run_of typed.now taken.now) }
 {
     let case = taken.case.copy(alloc)?;
@@ -28,7 +32,11 @@ pub(crate) fn run_of(alloc: Global, typed: &Typed, taken: &Taken<JudgedRun>) -> 
 }
 
 /// The case and its history as a tree, and a line end.
-pub(crate) fn run_line(alloc: Global, typed: &Typed, taken: &Taken<JudgedRun>) -> Result<Vec<u8>, AllocError>
+pub(crate) fn run_line(
+    alloc: Global,
+    typed: &Typed,
+    taken: &Taken<JudgedRun>,
+) -> Result<Vec<u8>, AllocError>
     requires { IsMatching typed.now taken.now }
     ensures { IfOk result (λ line. line.items ≡ spec.run_line typed.now taken.now) }
 {

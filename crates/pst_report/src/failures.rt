@@ -7,10 +7,10 @@ use crate::counterexample::{run_line, run_of};
 use crate::least::failure_of;
 use pst_case::Run;
 use pst_rules::Typed;
+use pst_runs::write_runs;
 use pst_shrink::Taken;
 use pst_sink::Out;
 use pst_trial::{JudgedRun, Record};
-use pst_write::write_runs;
 use std::alloc::{AllocError, Global};
 
 /// The failure that the case of a trial was shrunk to, as text.

@@ -17,5 +17,6 @@ mod writer;
 pub use failures::{ShrunkFailure, shrunk_failure};
 pub use fault::ReportFault;
 pub use kind::EntryKind;
+pub use least::{least_failure, least_fault};
 pub use status::{CampaignStatus, campaign_status};
 pub use writer::report;

@@ -8,10 +8,10 @@ ghost use Rattle.pst_runs.specs.Lawful.{AreLawful};
 use pst_case::{History, Run};
 use pst_eval::Plain;
 use pst_judge::{Verdict, verdict};
-use pst_load::{items_of, load};
 use pst_reasons::core;
 use pst_rules::Typed;
 use pst_runs::read_runs;
+use pst_typing::{items_of, load};
 use std::alloc::{AllocError, Global};
 
 /// The numbers of a core.

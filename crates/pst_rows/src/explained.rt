@@ -111,7 +111,7 @@ fn drawn<R: Threads + Sync>(
 ) -> Result<String, AllocError> {
     let item = if item == 0 { None } else { Some(item) };
     let mut out = Out::new(Vec::new(alloc));
-    let status = graph_text(rt, alloc, input, item, &mut out);
+    let status = graph_text(rt, alloc, input, item, true, &mut out);
     with_status(alloc, out.into_inner().as_slice(), status)
 }
 

@@ -8,7 +8,7 @@ use pst_eval::Plain;
 use pst_gen::generate;
 use pst_judge::Valid;
 use pst_rules::Typed;
-use pst_write::run_tree;
+use pst_runs::run_tree;
 use std::alloc::{AllocError, Global};
 
 /// How many commands, branches and commands of a suffix are asked for.

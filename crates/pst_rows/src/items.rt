@@ -6,12 +6,11 @@ use pst_case::{Case, Run, shape};
 use pst_cli::judge_text;
 use pst_eval::Plain;
 use pst_judge::{Valid, judge_one, valid, verdict};
-use pst_load::{items_of, load};
 use pst_rules::Typed;
-use pst_runs::read_runs;
+use pst_runs::{read_runs, write_runs};
 use pst_sexpr::read;
 use pst_sink::Out;
-use pst_write::write_runs;
+use pst_typing::{items_of, load};
 use std::alloc::{AllocError, Global};
 use std::thread::Threads;
 

@@ -3,12 +3,12 @@
 use pst_cli::{Status, check_text, list_text};
 use pst_compile::compile;
 use pst_eval::{Callbacks, Plain};
-use pst_load::load;
 use pst_print::print_model;
 use pst_rules::Typed;
 use pst_sexpr::{Tree, read, write};
 use pst_sink::Out;
 use pst_syntax::{Model, read_model};
+use pst_typing::load;
 use pst_value::Value;
 use std::alloc::{AllocError, Global};
 

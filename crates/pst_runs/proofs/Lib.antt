@@ -6,3 +6,16 @@ pub mod Named
 pub mod Present
 pub mod Rooms
 pub mod Small
+pub mod CaseAgain
+pub mod CommandAgain
+pub mod EntryAgain
+pub mod Forms
+pub mod ItemAgain
+pub mod LevelOf
+pub mod Lines
+pub mod Numbers
+pub mod ReplyAgain
+pub mod Sized
+pub mod Texts
+pub mod ValueAgain
+pub mod WholeAgain

@@ -2,6 +2,9 @@
 pub mod Items
 pub mod Lawful
 pub mod FaultName
+pub mod WriteFaultName
+pub mod Lines
+pub mod Written
 -- what these are made of
 pub mod Forms
 pub mod Commands
@@ -10,3 +13,4 @@ pub mod Replies
 pub mod Values
 -- what the contracts within the crate cite
 pub mod Shown
+pub mod ReadAgain

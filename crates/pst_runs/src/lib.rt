@@ -1,4 +1,4 @@
-//! Runs as text: their reader, which finds the first fault of the first refused one.
+//! Runs as text: their reader, which finds the first fault of the first refused one, and their writer.
 #![tactic(auto)]
 
 mod commands;
@@ -10,6 +10,8 @@ mod reading;
 mod replies;
 mod room;
 mod values;
+mod write;
 
 pub use fault::{RunFault, RunFaultKind};
 pub use reader::read_runs;
+pub use write::{WriteFault, run_tree, write_runs};

@@ -3,7 +3,8 @@
 //! What stands here serves messages, which are tested and not proved.
 
 use crate::files::{FilePlace, SourceFile, locate};
-use pst_places::{LineStart, Place, Span, first_line, line_from, place_of, place_on};
+use crate::shown::{LineStart, Place, first_line, line_from, place_of, place_on};
+use crate::span::Span;
 use std::alloc::{AllocError, Global};
 
 /// An input: its files, and their text, as `joined` gives it.

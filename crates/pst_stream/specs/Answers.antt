@@ -1,9 +1,9 @@
 -- What is answered of lines.
 use Rattle.std.specs.Prelude.{◌≡◌, ◌≤◌, ℕ, List, [], ◌∷◌, length}
 use Rattle.std.specs.List.{AllZip}
-use Rattle.pst_each.specs.Answers.{IsAnswer}
-use Rattle.pst_each.specs.declared.Answer.{Answer}
-use Rattle.pst_each.specs.declared.Answer.TheVariants.{Refused}
+use Rattle.pst_rejudge.specs.Answers.{IsAnswer}
+use Rattle.pst_rejudge.specs.declared.each.Answer.{Answer}
+use Rattle.pst_rejudge.specs.declared.each.Answer.TheVariants.{Refused}
 use Rattle.pst_model.specs.declared.model.Source.{Source}
 use Rattle.pst_runs.specs.declared.fault.RunFaultKind.TheVariants.{BadForm}
 use Rattle.pst_sexpr.specs.Reading.{max_bytes, Spells}

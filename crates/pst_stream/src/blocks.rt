@@ -4,10 +4,10 @@ ghost use Rattle.pst_sexpr.specs.Reading.{max_bytes};
 ghost use Rattle.pst_stream.specs.Blocks.{IsBlock};
 
 use crate::judging::line_answers;
-use crate::keeping::{end_line, keep_bytes};
+use crate::keeping::{keep_bytes, last_lines};
 use crate::reading::{Unread, read_some};
-use pst_each::Answer;
 use pst_eval::Callbacks;
+use pst_rejudge::Answer;
 use pst_rules::Typed;
 use pst_sexpr::MAX_BYTES;
 use std::alloc::{AllocError, Global};
@@ -62,20 +62,25 @@ pub fn next_block<I: Read, C: Callbacks + Sync, R: Threads + Sync>(
 ) -> Result<Block, StreamFault>
     requires model { typed.now ≡ C.model callbacks.now }
     requires room { 0 < length buffer.old }
-    ensures { IfOk result (λ block. (line : List ℕ) → kept.old.items ≡ take (suc max_bytes) line
+    ensures same { length buffer.new ≡ length buffer.old }
+    ensures block { IfOk result (λ block. (line : List ℕ) → kept.old.items ≡ take (suc max_bytes) line
         → IsBlock (C.model callbacks.now) (I.remaining reader.old) (I.remaining reader.new) line kept.new.items
         block.is_last block.answers.items) }
 {
     let count = read_some(reader, buffer)?;
-    let mut lines = Vec::new(alloc);
-    let is_last = count == 0;
-    if is_last {
-        if !kept.is_empty() {
-            end_line(alloc, &mut lines, kept)?;
-        }
-    } else {
-        keep_bytes(alloc, MAX_KEPT, &mut lines, kept, &buffer[..count])?;
+    if count == 0 {
+        let lines = last_lines(alloc, kept)?;
+        let answers = line_answers(rt, callbacks, alloc, typed, lines.as_slice())?;
+        return Ok(Block {
+            answers,
+            is_last: true,
+        });
     }
+    let mut lines = Vec::new(alloc);
+    keep_bytes(alloc, MAX_KEPT, &mut lines, kept, &buffer[..count])?;
     let answers = line_answers(rt, callbacks, alloc, typed, lines.as_slice())?;
-    Ok(Block { answers, is_last })
+    Ok(Block {
+        answers,
+        is_last: false,
+    })
 }

@@ -3,8 +3,8 @@ ghost use Rattle.std.specs.Prelude.{◌≡◌, IfOk};
 ghost use Rattle.std.specs.List.{AllZip};
 ghost use Rattle.pst_stream.specs.Answers.{IsLineAnswer};
 
-use pst_each::{Answer, answer_of, may_share_models};
 use pst_eval::Callbacks;
+use pst_rejudge::{Answer, answer_of, may_share_models};
 use pst_rules::Typed;
 use pst_runs::RunFaultKind;
 use pst_sexpr::{FaultKind, read};

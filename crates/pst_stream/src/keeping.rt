@@ -1,6 +1,6 @@
 //! The lines of a stream, of each of which a beginning is kept.
-ghost use Rattle.std.specs.Prelude.{◌≡◌, ℕ, List, [], ◌∷◌, ◌++◌, map, take, OnOk};
-ghost use Rattle.pst_stream.specs.Lines.{begun, ended};
+ghost use Rattle.std.specs.Prelude.{◌≡◌, ◌<◌, ℕ, List, [], ◌∷◌, ◌++◌, map, take, IfOk, OnOk};
+ghost use Rattle.pst_stream.specs.Lines.{begun, ended, last_line};
 
 use std::alloc::{AllocError, Global};
 use std::mem::replace;
@@ -17,11 +17,7 @@ fn keep_byte(limit: usize, kept: &mut Vec<u8>, byte: u8) -> Result<(), AllocErro
 }
 
 /// Ends the line that is kept: adds it to the lines, and begins another.
-pub(crate) fn end_line(
-    alloc: Global,
-    lines: &mut Vec<Vec<u8>>,
-    kept: &mut Vec<u8>,
-) -> Result<(), AllocError>
+fn end_line(alloc: Global, lines: &mut Vec<Vec<u8>>, kept: &mut Vec<u8>) -> Result<(), AllocError>
     ensures kept { kept.new.items ≡ [] }
     ensures lines { OnOk result (map (λ line. line.items) lines.new.items
         ≡ map (λ line. line.items) lines.old.items ++ kept.old.items ∷ []) }
@@ -71,4 +67,16 @@ pub(crate) fn keep_bytes(
         add_byte(alloc, limit, lines, kept, *byte)?;
     }
     Ok(())
+}
+
+/// The line that the end of the stream ends, if one has begun.
+pub(crate) fn last_lines(alloc: Global, kept: &mut Vec<u8>) -> Result<Vec<Vec<u8>>, AllocError>
+    ensures { IfOk result (λ lines. (limit : ℕ) (line : List ℕ) → 0 < limit → kept.old.items ≡ take limit line
+        → map (λ l. l.items) lines.items ≡ map (take limit) (last_line line)) }
+{
+    let mut lines = Vec::new(alloc);
+    if !kept.is_empty() {
+        end_line(alloc, &mut lines, kept)?;
+    }
+    Ok(lines)
 }

@@ -1,7 +1,7 @@
 //! What the libraries answer for a text.
 
-use pst_load::load;
 use pst_rules::Typed;
+use pst_typing::load;
 use std::alloc::Global;
 
 /// The well-typed model that a text begins with.

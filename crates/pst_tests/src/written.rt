@@ -6,10 +6,9 @@ use crate::answers::typed_of;
 use crate::models::COUNTER;
 use pst_case::Run;
 use pst_rules::Typed;
-use pst_runs::read_runs;
+use pst_runs::{WriteFault, read_runs, write_runs};
 use pst_sexpr::read;
 use pst_sink::{Failed, Sink};
-use pst_write::{WriteFault, write_runs};
 use std::alloc::Global;
 use std::test::Fail;
 

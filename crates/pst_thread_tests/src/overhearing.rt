@@ -3,9 +3,9 @@
 use crate::driving::is_driven_so;
 use crate::hostile::{Liar, NoGet, Odd};
 use crate::models::{COUNTER, SAYING};
-use pst_load::load;
-use pst_misfits::{MOST_KEPT, Misfits, Overheard, misfits_text};
+use pst_driver::{MOST_KEPT, Misfits, Overheard, misfits_text};
 use pst_system::BoxedSystem;
+use pst_typing::load;
 use std::alloc::{AllocError, Global};
 use std::sync::Arc;
 use std::test::Fail;

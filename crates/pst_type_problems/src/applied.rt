@@ -3,13 +3,13 @@
 use crate::diagnose::Leaf;
 use crate::operands::wanted_type;
 use crate::trees::tree_in;
-use pst_kinds::Kind;
 use pst_model::{Fun, Item, Param};
 use pst_problems::{
     Judged, Problem, Signature, below, counted, in_place_of, is_of_maps, nearest_head, noted_at,
     operation, unknown_among, with_note, wrong,
 };
 use pst_sexpr::word_of;
+use pst_typing::Kind;
 use std::alloc::{AllocError, Global};
 use std::fmt::Display;
 

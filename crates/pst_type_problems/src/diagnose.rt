@@ -7,14 +7,13 @@ use crate::operands::{
 use crate::spelling::spelled;
 use crate::trees::{clauses_of, goes_over_list, head_word};
 use pst_items::{Items, Text};
-use pst_kinds::{Form, Kind};
 use pst_model::Expr;
 use pst_problems::{
     Judged, Listed, Problem, TypeText, is_of_maps, key_word, nearest, noted, with_note, wrong,
     wrong_at,
 };
 use pst_sexpr::{Form as Tree, word_of};
-use pst_typing::Context;
+use pst_typing::{Context, Form, Kind};
 use pst_value::{KeyTy, Ty};
 use std::alloc::{AllocError, Global};
 use std::fmt::Display;

@@ -2,8 +2,8 @@
 
 use crate::diagnose::Leaf;
 use crate::spelling::spelled;
-use pst_kinds::{Form, Kind};
 use pst_problems::{Judged, Problem, below, noted, with_note, wrong, wrong_at};
+use pst_typing::{Form, Kind};
 use std::alloc::Global;
 use std::fmt::Display;
 

@@ -2,8 +2,8 @@
 
 ghost use Rattle.std.specs.Prelude.{◌≤◌};
 
-use pst_kinds::{Form, Kind};
 use pst_problems::key_word;
+use pst_typing::{Form, Kind};
 use std::alloc::{AllocError, Global};
 
 /// The most forms of a type that are shown: a type may have more forms than memory holds, since its equal parts are

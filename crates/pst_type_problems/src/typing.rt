@@ -4,11 +4,10 @@ use crate::diagnose::{Leaf, diagnose};
 use crate::operands::other_type;
 use crate::trees::{enter_part, head_word, tree_in};
 use crate::walk::{names_in, part_at};
-use pst_kinds::Kind;
 use pst_model::{Expr, Fun, Item, Op, Source, state_of};
 use pst_problems::{Judged, MOST_PROBLEMS, Problem, noted, tell, wrong};
 use pst_sexpr::{Form, node_of};
-use pst_typing::{Blame, Context, Found, Scope, find, holds_call, holds_ref};
+use pst_typing::{Blame, Context, Found, Kind, Scope, find, holds_call, holds_ref};
 use pst_value::Ty;
 use std::alloc::{AllocError, Global};
 

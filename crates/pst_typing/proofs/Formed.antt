@@ -1,9 +1,9 @@
 -- The parts of a type, by the form of its kind.
 use Rattle.std.proofs.Common.{◌≡◌, ℕ, zero, suc, ◌-◌, true, false, List, Some, None, slice_get, refl, sym, ap, ◌∙◌, arith}
-use Rattle.pst_kinds.specs.Forms.{formed}
-use Rattle.pst_kinds.specs.declared.form.Form.{Form}
-use Rattle.pst_kinds.specs.declared.form.Form.TheVariants as form
 use Rattle.pst_typing.specs.Decision.{◌>>=◌, item_at, item_type, parts_at, part_type, referred_at, referred_type, is_ref_at, is_ref, is_sequence_at, is_sequence, values_at, values_type}
+use Rattle.pst_typing.specs.Forms.{formed}
+use Rattle.pst_typing.specs.declared.kinds.form.Form.{Form}
+use Rattle.pst_typing.specs.declared.kinds.form.Form.TheVariants as form
 use Rattle.pst_value.specs.Subst.{numbered}
 use Rattle.pst_value.specs.declared.key.KeyTy.{KeyTy}
 use Rattle.pst_value.specs.declared.ty.Ty.{Ty, out-Ty}

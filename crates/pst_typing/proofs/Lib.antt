@@ -14,3 +14,11 @@ pub mod Steps
 pub mod WellItems
 pub mod Whole
 pub mod OneIll
+pub mod Answering
+pub mod Collecting
+pub mod Exact
+pub mod Growing
+pub mod Held
+pub mod Holding
+pub mod Injective
+pub mod Taking

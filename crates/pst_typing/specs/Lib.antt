@@ -7,6 +7,10 @@ pub mod Items
 pub mod Laws
 pub mod Operations
 pub mod Scope
+pub mod Adding
+pub mod Forms
+pub mod Nodes
+pub mod Loading
 -- what these are made of
 pub mod Decision
 pub mod Least

@@ -10,6 +10,7 @@ ghost use Rattle.pst_value.specs.declared.ty.Ty.TheVariants.{Map as map_type, Tu
 
 use crate::blame::{Blame, Found};
 use crate::context::Context;
+use crate::kinds::Kind;
 use crate::operators::{
     binary_type, copied, int_type, kept, keys_type, kind_of, part_type, text_type, unary_type,
     values_type, where_true,
@@ -17,7 +18,6 @@ use crate::operators::{
 use crate::refusal::Refusal;
 use crate::scope::{Names, find_name, function_called, operation_called};
 use pst_items::Items;
-use pst_kinds::Kind;
 use pst_model::{Binary, Clause, Expr, Param, Unary};
 use pst_value::{KeyTy, LIMIT, Ty};
 use std::alloc::{AllocError, Global};

@@ -4,10 +4,10 @@ ghost use Rattle.std.specs.Prelude.{◌≡◌, ◌++◌, map, take, IfOk};
 ghost use Rattle.pst_typing.specs.Gathering as spec;
 
 use crate::blame::{Blame, Found};
+use crate::kinds::Kind;
 use crate::operators::item_type;
 use crate::refusal::Refusal;
 use pst_items::Items;
-use pst_kinds::Kind;
 use std::alloc::{AllocError, Global};
 
 /// How many blames are kept. A message shows 20 problems, and says whether there are more.

@@ -9,9 +9,9 @@ ghost use Rattle.pst_value.specs.declared.ty.Ty.TheVariants.{Bool as truth, List
 use crate::blame::Found;
 use crate::context::Context;
 use crate::expressions::find;
+use crate::kinds::Kind;
 use crate::scope::Scope;
 use crate::types::{holds_call, holds_ref, parameters_hold_call};
-use pst_kinds::Kind;
 use pst_model::{Expr, Item, Op};
 use pst_value::Ty;
 use std::alloc::{AllocError, Global};

@@ -1,4 +1,5 @@
-//! The type checker of the model language.
+//! The type checker of the model language, and `load`: from bytes to a well-typed model and the trees behind it, or the
+//! first refusal.
 #![tactic(auto)]
 
 mod blame;
@@ -8,7 +9,10 @@ mod context;
 mod expressions;
 mod gathered;
 mod items;
+mod kinds;
 mod laws;
+mod load_refusal;
+mod loading;
 mod operators;
 mod parts;
 mod refusal;
@@ -21,7 +25,10 @@ pub use checking::check;
 pub use context::Context;
 pub use expressions::find;
 pub use items::{first_ill, well_item};
+pub use kinds::{Form, Kind};
 pub use laws::{first_ill_is_least, ill_is_not_well, items_are_exact, one_is_ill, types_are_exact};
+pub use load_refusal::Refusal;
+pub use loading::{ModelFile, items_of, load};
 pub use parts::{model_name, operation_name, operation_parameters, operation_result};
 pub use scope::Scope;
 pub use type_fault::TypeFault;

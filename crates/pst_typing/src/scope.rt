@@ -6,10 +6,10 @@ ghost use Rattle.pst_typing.specs.Decision as decision;
 ghost use Rattle.pst_typing.specs.Answers.{Answers};
 ghost use Rattle.pst_typing.specs.Scope.{names_of, names_in, name_seen};
 
+use crate::kinds::Kind;
 use crate::operators::copied;
 use crate::refusal::Refusal;
 use pst_items::Items;
-use pst_kinds::Kind;
 use pst_model::{Fun, Item, Op, Param, number_of, operation_of};
 use std::alloc::{AllocError, Global};
 

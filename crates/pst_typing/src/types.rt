@@ -9,7 +9,7 @@ use pst_value::Ty;
 
 /// Whether `ref` or `call` stands in a type.
 #[cycle(refs)]
-#[tactic(auto, using(pst_kinds::proofs::Holding::refs))]
+#[tactic(auto, using(crate::proofs::Holding::refs))]
 pub fn holds_ref(ty: &Ty) -> bool
     ensures { result ≡ kinds.holds_ref ty.now }
 {
@@ -35,7 +35,7 @@ fn any_holds_ref(types: &[Ty]) -> bool
 
 /// Whether `call` stands in a type.
 #[cycle(calls)]
-#[tactic(auto, using(pst_kinds::proofs::Holding::calls))]
+#[tactic(auto, using(crate::proofs::Holding::calls))]
 pub fn holds_call(ty: &Ty) -> bool
     ensures { result ≡ kinds.holds_call ty.now }
 {

@@ -1,14 +1,13 @@
 //! Why recorded runs are broken.
 
-use pst_each::Answer;
 use pst_explain::broken_text;
 use pst_judge::{Judged, Verdict};
-use pst_places::span_of;
+use pst_rejudge::Answer;
 use pst_rules::Typed;
 use pst_run_problems::{commands_of, place_of};
 use pst_runs::read_runs;
 use pst_sexpr::{Form, Tree, node_of, read, word_of};
-use pst_sources::Input;
+use pst_sources::{Input, span_of};
 use std::alloc::{AllocError, Global};
 use std::slice;
 

@@ -7,7 +7,7 @@ use crate::asking::Preconditions;
 use pst_case::{Case, Command, Run};
 use pst_eval::Callbacks;
 use pst_model::{Expr, Item};
-use pst_paths::states;
+use pst_reasons::states;
 use pst_value::Value;
 use std::alloc::{AllocError, Global};
 

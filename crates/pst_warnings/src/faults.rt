@@ -7,10 +7,11 @@ use pst_case::Command;
 use pst_compile::{Compiled, compile};
 use pst_eval::{Callback, Place};
 use pst_explain::explain_script;
-use pst_load::load;
 use pst_model::Item;
+use pst_notices::Notice;
 use pst_rules::Typed;
 use pst_sources::Input;
+use pst_typing::load;
 use std::alloc::{AllocError, Global};
 
 /// The width of lines.
@@ -91,7 +92,8 @@ pub fn on_faults(
     input: &Input<'_>,
     typed: &Typed,
     scripts: Scripts,
-) -> Result<String, AllocError> {
+) -> Result<Vec<Notice>, AllocError> {
+    let mut warnings = Vec::new(alloc);
     let what = count_text(alloc, &scripts)?;
     let Scripts {
         called: _called,
@@ -101,19 +103,20 @@ pub fn on_faults(
         is_cut: _,
     } = scripts;
     let Some(first) = first_faulty else {
-        return Ok(String::new(alloc));
+        return Ok(warnings);
     };
     let items = typed.source().items.as_slice();
     let path = path_of(alloc, items, first.commands.as_slice(), first.place)?;
-    let mut text = warning(
+    let mut faults = warning(
         alloc,
         input,
         path.as_slice(),
         what,
         "a campaign has no case for such a script and counts it under `genfault`",
     )?;
-    text.push_str(explanation(alloc, typed, first)?.as_str())?;
-    Ok(text)
+    faults.lines = explanation(alloc, typed, first)?;
+    warnings.push(faults)?;
+    Ok(warnings)
 }
 
 /// Why a trial of a campaign has no case, if a callback faults in its script, in the lines of `pst explain`. `input` begins

@@ -18,4 +18,4 @@ mod warning;
 pub use broken::{broken_answer, broken_run};
 pub use faults::genfault_text;
 pub use preconditions::{warnings_on_answers, warnings_on_runs};
-pub use warning::warnings_of;
+pub use warning::{warnings_in, warnings_of};

@@ -7,10 +7,11 @@ use crate::places::{Spot, spot_of};
 use crate::spelling::shown;
 use crate::warning::warning;
 use pst_case::Run;
-use pst_each::Answer;
 use pst_eval::Callbacks;
 use pst_judge::{Judged, Verdict};
 use pst_model::Source;
+use pst_notices::notice_text;
+use pst_rejudge::Answer;
 use pst_rules::Typed;
 use pst_runs::read_runs;
 use pst_sexpr::{Tree, read};
@@ -65,7 +66,7 @@ fn at_spot(
     let place = spot.place;
     let call = spot.call.as_str();
     let state = shown(alloc, subject.source, state)?;
-    warning(
+    let warning = warning(
         alloc,
         &subject.input,
         spot.path.as_slice(),
@@ -75,7 +76,8 @@ fn at_spot(
         format_args!(
             "the state before it is {state}; a verdict on a recorded run asks no precondition"
         ),
-    )
+    )?;
+    notice_text(alloc, &subject.input, &warning)
 }
 
 /// Adds the recorded run of an item that the interleaving of a word explains, if it is warned of.

@@ -3,11 +3,11 @@
 use crate::faults::on_faults;
 use crate::scripts::{COMMANDS, SCRIPTS, generated_scripts};
 use pst_compile::{Compiled, compile};
-use pst_load::{ModelFile, items_of, load};
 use pst_model::Item;
-use pst_places::span_of;
+use pst_notices::{Notice, Notices, text_of};
 use pst_sexpr::{Form, Tree, node_of, word_of};
-use pst_sources::{Input, SourceFile};
+use pst_sources::{Input, SourceFile, span_of};
+use pst_typing::{ModelFile, items_of, load};
 use std::alloc::{AllocError, Global};
 use std::fmt::Display;
 
@@ -18,11 +18,16 @@ pub fn warning<D: Display + Drop, N: Display + Drop>(
     path: &[usize],
     what: D,
     note: N,
-) -> Result<String, AllocError> {
-    let span = span_of(input.bytes, path);
-    let what = format!(in alloc; "warning: {what}")?;
-    let note = format!(in alloc; "{note}")?;
-    input.message(alloc, span, what.as_str(), &[note])
+) -> Result<Notice, AllocError> {
+    let mut notes = Vec::new(alloc);
+    notes.push(format!(in alloc; "{note}")?)?;
+    Ok(Notice {
+        span: span_of(input.bytes, path),
+        is_warning: true,
+        what: format!(in alloc; "{what}")?,
+        notes,
+        lines: String::new(alloc),
+    })
 }
 
 /// The number of the tree of an item of a model, by the number of the item from 0: its head and its name come before.
@@ -31,7 +36,7 @@ pub fn tree_of(item: usize) -> usize {
 }
 
 /// The warning that no call may be made at first, at the item `command`.
-fn none_offered(alloc: Global, input: &Input<'_>, items: &[Item]) -> Result<String, AllocError> {
+fn none_offered(alloc: Global, input: &Input<'_>, items: &[Item]) -> Result<Notice, AllocError> {
     let mut place = 0;
     for (number, item) in items.iter().enumerate() {
         if let Item::Command(_) = item {
@@ -53,7 +58,7 @@ fn never_called(
     input: &Input<'_>,
     item: usize,
     name: &str,
-) -> Result<String, AllocError> {
+) -> Result<Notice, AllocError> {
     warning(
         alloc,
         input,
@@ -69,39 +74,43 @@ fn on_operations(
     input: &Input<'_>,
     items: &[Item],
     called: &[bool],
-) -> Result<String, AllocError> {
-    let mut text = String::new(alloc);
+) -> Result<Vec<Notice>, AllocError> {
+    let mut warnings = Vec::new(alloc);
     let mut operation: usize = 0;
     for (number, item) in items.iter().enumerate() {
         if let Item::Op(op) = item {
             if called.get(operation) == Some(&false) {
-                let warning = never_called(alloc, input, number, op.name.as_str())?;
-                text.push_str(warning.as_str())?;
+                warnings.push(never_called(alloc, input, number, op.name.as_str())?)?;
             }
             operation = operation.saturating_add(1);
         }
     }
-    Ok(text)
+    Ok(warnings)
 }
 
 /// The warnings on generated scripts of a model. If they are not all generated, nothing is said of operations that none of
 /// them calls.
-fn on_scripts(alloc: Global, input: &Input<'_>, compiled: &Compiled) -> Result<String, AllocError> {
+fn on_scripts(
+    alloc: Global,
+    input: &Input<'_>,
+    compiled: &Compiled,
+) -> Result<Vec<Notice>, AllocError> {
     let typed = compiled.typed();
     let items = typed.source().items.as_slice();
     let scripts = generated_scripts(alloc, compiled)?;
     if scripts.faulty > 0 {
         return on_faults(alloc, input, typed, scripts);
     }
+    let mut warnings = Vec::new(alloc);
     if scripts.is_cut {
-        return Ok(String::new(alloc));
+        return Ok(warnings);
     }
     let called = scripts.called.as_slice();
     if called.iter().any(|is_called| *is_called) {
-        on_operations(alloc, input, items, called)
-    } else {
-        none_offered(alloc, input, items)
+        return on_operations(alloc, input, items, called);
     }
+    warnings.push(none_offered(alloc, input, items)?)?;
+    Ok(warnings)
 }
 
 /// Whether a tree is headed as a model is.
@@ -115,9 +124,13 @@ fn is_model(form: &Form) -> bool {
     }
 }
 
-/// The warnings on further models behind the first.
-fn on_trees(alloc: Global, input: &Input<'_>, trees: &[Tree]) -> Result<String, AllocError> {
-    let mut text = String::new(alloc);
+/// Adds the warnings on further models behind the first.
+fn add_on_trees(
+    alloc: Global,
+    input: &Input<'_>,
+    trees: &[Tree],
+    warnings: &mut Vec<Notice>,
+) -> Result<(), AllocError> {
     for (index, tree) in items_of(trees).iter().enumerate() {
         if is_model(tree.form()) {
             let path = [index.saturating_add(1)];
@@ -128,19 +141,38 @@ fn on_trees(alloc: Global, input: &Input<'_>, trees: &[Tree]) -> Result<String, 
                 "a second model, which is not read",
                 "the first tree of an input is its model; cases and runs stand behind it",
             )?;
-            text.push_str(warning.as_str())?;
+            warnings.push(warning)?;
         }
     }
-    Ok(text)
+    Ok(())
 }
 
-/// Warnings on an input whose model is accepted, for a person to read, each in the form of a message: scripts in which a
-/// callback faults, an operation that no generated script calls, a model of which no call may be made at first, and a second
-/// model after the first. `input` is the text of the files. `None`: there are none, or the model is refused.
+/// Warnings on an input whose model is accepted: scripts in which a callback faults, an operation that no generated script
+/// calls, a model of which no call may be made at first, and a second model after the first. There are none if the model is
+/// refused.
 ///
 /// At most sixteen scripts of at most sixteen commands are generated, always of the same random words, and their callbacks
 /// take a bounded number of steps. If a callback faults in one of them, or the steps do not suffice for all, nothing is said
 /// of calls.
+///
+/// `AllocError`: memory was refused.
+pub fn warnings_in(alloc: Global, input: &Input<'_>) -> Result<Notices, AllocError> {
+    let Ok(ModelFile { typed, trees }) = load(alloc, input.bytes)? else {
+        return Ok(Notices::none(alloc));
+    };
+    let Ok(compiled) = compile(alloc, typed) else {
+        return Err(AllocError);
+    };
+    let mut all = on_scripts(alloc, input, &compiled)?;
+    add_on_trees(alloc, input, trees.as_slice(), &mut all)?;
+    Ok(Notices {
+        all,
+        more: String::new(alloc),
+    })
+}
+
+/// The warnings on an input, as [`warnings_in`] finds them, for a person to read. `input` is the text of the files. `None`:
+/// there are none.
 ///
 /// `AllocError`: memory was refused.
 pub fn warnings_of(
@@ -152,17 +184,6 @@ pub fn warnings_of(
         files,
         bytes: input,
     };
-    let Ok(ModelFile { typed, trees }) = load(alloc, input.bytes)? else {
-        return Ok(None);
-    };
-    let Ok(compiled) = compile(alloc, typed) else {
-        return Err(AllocError);
-    };
-    let mut text = on_scripts(alloc, &input, &compiled)?;
-    text.push_str(on_trees(alloc, &input, trees.as_slice())?.as_str())?;
-    if text.is_empty() {
-        Ok(None)
-    } else {
-        Ok(Some(text))
-    }
+    let warnings = warnings_in(alloc, &input)?;
+    text_of(alloc, &input, &warnings)
 }

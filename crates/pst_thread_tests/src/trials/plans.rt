@@ -1,9 +1,9 @@
 //! Plans that the tests start from.
 
-use pst_load::load;
 use pst_rules::Typed;
 use pst_system::BoxedSystem;
 use pst_trial::{Plan, Record, Settings, trial};
+use pst_typing::load;
 use std::alloc::Global;
 use std::sync::{Arc, Wait};
 use std::thread::Threads;

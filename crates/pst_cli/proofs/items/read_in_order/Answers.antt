@@ -1,6 +1,6 @@
 use Rattle.std.proofs.Common.{◌≡◌, Err, sym, ap, ◌∙◌}
 use Rattle.pst_cli.specs.Output.{of_item, of_model}
-use Rattle.pst_load.specs.Loading.{items_of}
+use Rattle.pst_typing.specs.Loading.{items_of}
 use Rattle.pst_runs.specs.Items.{runs_of}
 use Rattle.pst_cli.proofs.items.read_in_order.Goals as goal
 

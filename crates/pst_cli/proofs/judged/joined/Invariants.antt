@@ -1,5 +1,5 @@
 use Rattle.std.proofs.Common.{◌≡◌}
-use Rattle.pst_each.specs.Parts.{joined}
+use Rattle.pst_rejudge.specs.Parts.{joined}
 use Rattle.pst_cli.proofs.judged.joined.Given as goal
 
 abbrev pub invariant-loop-part : goal.invariant-loop-part

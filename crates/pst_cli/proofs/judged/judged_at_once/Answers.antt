@@ -2,7 +2,7 @@ use Rattle.std.proofs.Common.{◌≡◌, ◌≤◌, ℕ, List, length, arith, ap
 use Rattle.pst_cli.proofs.Judging.{are_judged}
 use Rattle.pst_cli.proofs.Reading.{all_are_kept, holds_both, items_are_lawful, kept_are_lawful}
 use Rattle.pst_cli.specs.Output.{HoldsRuns}
-use Rattle.pst_each.specs.Parts.{joined}
+use Rattle.pst_rejudge.specs.Parts.{joined}
 use Rattle.pst_sexpr.specs.Reading.{max_bytes}
 use Rattle.pst_cli.proofs.judged.judged_at_once.Goals as goal
 

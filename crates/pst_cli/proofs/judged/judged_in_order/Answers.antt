@@ -2,8 +2,8 @@ use Rattle.std.proofs.Common.{List, sym, subst}
 use Rattle.pst_case.specs.declared.history.Run.{Run}
 use Rattle.pst_cli.proofs.Judging.{are_judged}
 use Rattle.pst_cli.specs.Output.{AreJudged}
-use Rattle.pst_each.proofs.Permitted.{may_be_judged}
-use Rattle.pst_load.specs.Loading.{items_of}
+use Rattle.pst_rejudge.proofs.Permitted.{may_be_judged}
+use Rattle.pst_typing.specs.Loading.{items_of}
 use Rattle.pst_runs.proofs.Lawful.{runs_lawful}
 use Rattle.pst_runs.specs.Lawful.{AreLawful}
 use Rattle.pst_cli.proofs.judged.judged_in_order.Goals as goal

@@ -2,8 +2,8 @@ use Rattle.std.proofs.Common.{◌≡◌, List, sym, ap, ◌∙◌, subst}
 use Rattle.std.specs.List.{AllZip}
 use Rattle.pst_cli.specs.KeepingOn.{shown_answer_lines, worst_status, answered, refused}
 use Rattle.pst_cli.specs.declared.status.Status.TheVariants.{Accepted}
-use Rattle.pst_each.specs.Answers.{IsAnswer}
-use Rattle.pst_load.specs.Loading.{items_of}
+use Rattle.pst_rejudge.specs.Answers.{IsAnswer}
+use Rattle.pst_typing.specs.Loading.{items_of}
 use Rattle.pst_sexpr.specs.declared.form.Form.{Form}
 use Rattle.pst_cli.proofs.keep.keeping_on_output.Goals as goal
 

@@ -3,7 +3,7 @@ use denote.Param.Sent.{Sends, Syncs}
 use Rattle.pst_thread_tests.proofs.overhearing.eight_misfits_are_kept.OwnLists as own
 use Rattle.pst_thread_tests.proofs.hostile.Liar.TheSendSync as liar_crosses
 use Rattle.pst_thread_tests.specs.contracts.hostile.Liar as liar
-use Rattle.pst_misfits.proofs.Sent.{boxed_send, boxed_sync}
+use Rattle.pst_driver.proofs.Sent.{boxed_send, boxed_sync}
 
 pub sends-part-1-1 : Sends own.part-1-1
 sends-part-1-1 i = boxed_send liar.the_row liar_crosses.the_send

@@ -3,7 +3,7 @@ use denote.Param.Sent.{Sends, Syncs}
 use Rattle.pst_thread_tests.proofs.overhearing.odd_answers_are_spelled.OwnLists as own
 use Rattle.pst_thread_tests.proofs.hostile.Odd.TheSendSync as odd_crosses
 use Rattle.pst_thread_tests.specs.contracts.hostile.Odd as odd
-use Rattle.pst_misfits.proofs.Sent.{boxed_send, boxed_sync}
+use Rattle.pst_driver.proofs.Sent.{boxed_send, boxed_sync}
 
 pub sends-part-1-1 : Sends own.part-1-1
 sends-part-1-1 i = boxed_send odd.the_row odd_crosses.the_send

@@ -3,7 +3,7 @@ use denote.Param.Sent.{Sends, Syncs}
 use Rattle.pst_thread_tests.proofs.overhearing.what_fits_is_not_noted.OwnLists as own
 use Rattle.pst_thread_tests.proofs.hostile.NoGet.TheSendSync as no_get_crosses
 use Rattle.pst_thread_tests.specs.contracts.hostile.NoGet as no_get
-use Rattle.pst_misfits.proofs.Sent.{boxed_send, boxed_sync}
+use Rattle.pst_driver.proofs.Sent.{boxed_send, boxed_sync}
 
 pub sends-part-1-1 : Sends own.part-1-1
 sends-part-1-1 i = boxed_send no_get.the_row no_get_crosses.the_send

@@ -4,7 +4,7 @@ use denote.Param.Sent.{Sends, Syncs}
 use mir.Syntax.{Dict}
 use Rattle.pst.proofs.fn.main.spawn.OwnLists as own
 use Rattle.pst_clients.proofs.Sent as clients
-use Rattle.pst_misfits.proofs.Sent.{boxed_send, boxed_sync}
+use Rattle.pst_driver.proofs.Sent.{boxed_send, boxed_sync}
 use Rattle.pst_samples.proofs.counter.Counter.TheSendSync as counter_crosses
 use Rattle.pst_samples.proofs.racy.Racy.TheSendSync as racy_crosses
 use Rattle.pst_samples.proofs.stuck.Stuck.TheSendSync as stuck_crosses

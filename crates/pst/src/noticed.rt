@@ -1,0 +1,97 @@
+//! The errors and warnings on a model, as JSON.
+
+use crate::words::is_json;
+use clap::ArgMatches;
+use pst_items::Text;
+use pst_json_verdicts::{Field, Name, add_number, add_words, object_line};
+use pst_messages::{Asked, errors_of};
+use pst_notices::{Notice, Notices, place_in};
+use pst_sources::Input;
+use pst_warnings::warnings_in;
+use std::alloc::{AllocError, Global};
+
+/// Texts of strings.
+fn texts(alloc: Global, strings: Vec<String>) -> Result<Vec<Text>, AllocError> {
+    let mut texts = Vec::new(alloc);
+    for string in strings {
+        texts.push(Text::from_string(string))?;
+    }
+    Ok(texts)
+}
+
+/// The object of an error or a warning: how serious it is, where it is, what is wrong, and notes.
+fn notice_object(alloc: Global, input: &Input<'_>, notice: Notice) -> Result<Vec<u8>, AllocError> {
+    let place = place_in(alloc, input, &notice)?;
+    let severity = if notice.is_warning {
+        "warning"
+    } else {
+        "error"
+    };
+    let mut fields = Vec::new(alloc);
+    add_words(alloc, &mut fields, Name::Severity, severity)?;
+    add_words(alloc, &mut fields, Name::File, place.file)?;
+    add_number(&mut fields, Name::Line, place.line)?;
+    add_number(&mut fields, Name::Column, place.column)?;
+    add_number(&mut fields, Name::Start, place.start)?;
+    add_number(&mut fields, Name::End, place.end)?;
+    let Notice {
+        span: _,
+        is_warning: _,
+        what,
+        notes,
+        lines,
+    } = notice;
+    fields.push(Field::Words(Name::Message, Text::from_string(what)))?;
+    fields.push(Field::Lines(Name::Notes, texts(alloc, notes)?))?;
+    if !lines.is_empty() {
+        fields.push(Field::Words(Name::Explanation, Text::from_string(lines)))?;
+    }
+    object_line(alloc, fields.as_slice())
+}
+
+/// The objects of errors and warnings on an input, a line each.
+fn notice_objects(
+    alloc: Global,
+    input: &Input<'_>,
+    notices: Notices,
+) -> Result<Vec<u8>, AllocError> {
+    let mut text = Vec::new(alloc);
+    let Notices { all, more } = notices;
+    for notice in all {
+        text.extend_from_slice(notice_object(alloc, input, notice)?.as_slice())?;
+    }
+    if !more.is_empty() {
+        let mut fields = Vec::new(alloc);
+        add_words(alloc, &mut fields, Name::Severity, "error")?;
+        add_words(alloc, &mut fields, Name::Message, more.as_str().trim())?;
+        text.extend_from_slice(object_line(alloc, fields.as_slice())?.as_slice())?;
+    }
+    Ok(text)
+}
+
+/// The objects of the errors of a model, or of the warnings on it if it is accepted, a line each.
+fn model_notices(alloc: Global, input: &Input<'_>) -> Result<Vec<u8>, AllocError> {
+    let errors = errors_of(alloc, input, Asked::Model)?;
+    if errors.all.is_empty() {
+        notice_objects(alloc, input, warnings_in(alloc, input)?)
+    } else {
+        notice_objects(alloc, input, errors)
+    }
+}
+
+/// Whether the errors and warnings are part of the output.
+pub fn are_written(word: &str, words: &ArgMatches<'_>) -> bool {
+    word == "check" && is_json(words)
+}
+
+/// The objects of the errors and warnings on a model, a line each; none if the arguments forbid them, or if an allocation for
+/// them fails.
+pub fn lines(alloc: Global, words: &ArgMatches<'_>, input: &Input<'_>) -> Vec<u8> {
+    if words.get_flag("quiet") {
+        return Vec::new(alloc);
+    }
+    match model_notices(alloc, input) {
+        Ok(lines) => lines,
+        Err(AllocError) => Vec::new(alloc),
+    }
+}

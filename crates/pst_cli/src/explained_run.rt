@@ -1,0 +1,59 @@
+//! The explanation of a run that a command drove.
+
+use crate::compiled::load_compiled;
+use crate::judge::is_good;
+use pst_case::{Case, CaseFaultKind, History, Run, shape};
+use pst_explain::{explain_item, reason_text};
+use pst_judge::judge_one;
+use pst_rules::Typed;
+use std::alloc::{AllocError, Global};
+
+/// The run of a case and its history, if it is one of the model.
+fn run_of(
+    alloc: Global,
+    typed: &Typed,
+    case: Case,
+    history: History,
+) -> Result<Option<Run>, AllocError> {
+    let shaped = match shape(alloc, typed, case) {
+        Ok(shaped) => shaped,
+        Err((_, fault)) => {
+            return match fault.kind {
+                CaseFaultKind::NoMemory => Err(AllocError),
+                _ => Ok(None),
+            };
+        }
+    };
+    if !history.matches(typed, &shaped) {
+        return Ok(None);
+    }
+    Ok(Some(Run {
+        shaped,
+        history: Some(history),
+    }))
+}
+
+/// Why no interleaving explains a recorded run on the model that the input begins with, in lines of at most `width` bytes.
+/// `None`: it is explained, or the input is refused, or the run is not one of the model.
+pub fn explain_run(
+    alloc: Global,
+    input: &[u8],
+    case: Case,
+    history: History,
+    width: usize,
+) -> Result<Option<Vec<u8>>, AllocError> {
+    let Ok(file) = load_compiled(alloc, input)? else {
+        return Ok(None);
+    };
+    let compiled = &file.compiled;
+    let typed = compiled.typed();
+    let Some(run) = run_of(alloc, typed, case, history)? else {
+        return Ok(None);
+    };
+    let judged = judge_one(compiled, alloc, &run)?;
+    if is_good(&judged) {
+        return Ok(None);
+    }
+    let explanation = explain_item(compiled, alloc, typed, &run, &judged, 1, None)?;
+    Ok(Some(reason_text(alloc, &explanation, width)?))
+}

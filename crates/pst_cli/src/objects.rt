@@ -1,0 +1,174 @@
+//! `pst judge` and `pst check` with `--format json`.
+ghost use Rattle.std.specs.Prelude.{◌≡◌, [], ◌++◌, false, IfOk, IfSome, OnOk};
+ghost use Rattle.pst_cli.specs.JsonOutput.{
+  IsCheckJson,
+  IsJudgeJson,
+  answer_object,
+  memory_object,
+  refusal_object,
+  shown_object,
+  shown_objects,
+};
+ghost use Rattle.pst_cli.specs.KeepingOn.{HoldsAnswers};
+ghost use Rattle.pst_cli.specs.Sending.{PrintsElse};
+ghost use Rattle.pst_cli.specs.declared.status.Status.TheVariants.{Refused};
+
+use crate::compiled::load_compiled;
+use crate::keep::{AnsweredFile, is_good_answer, worst_status};
+use crate::output::{Output, send};
+use crate::sharing::may_share_compiled;
+use crate::shown::Shown;
+use crate::status::Status;
+use pst_json_verdicts::{
+    accepted_fields, judged_fields, object_line, refusal_fields, refused_fields,
+};
+use pst_rejudge::{Answer, judge_each};
+use pst_sink::Sink;
+use pst_typing::{Refusal, items_of, load, model_name};
+use std::alloc::{AllocError, Global};
+use std::thread::Threads;
+
+/// The object of an item: its verdict, or why it is refused.
+fn answer_object(alloc: Global, number: usize, answer: &Answer) -> Result<Vec<u8>, AllocError>
+    ensures { IfOk result (λ line. line.items ≡ answer_object number answer.now) }
+{
+    let fields = match answer {
+        Answer::Judged(judged) => judged_fields(alloc, number, judged)?,
+        Answer::Refused { kind, command } => refused_fields(alloc, number, *kind, *command)?,
+    };
+    object_line(alloc, fields.as_slice())
+}
+
+/// Adds the object of an item, if it is shown.
+fn add_shown(
+    alloc: Global,
+    text: &mut Vec<u8>,
+    shown: Shown,
+    number: usize,
+    answer: &Answer,
+) -> Result<(), AllocError>
+    ensures { OnOk result (text.new.items ≡ text.old.items ++ shown_object shown number answer.now) }
+{
+    if shown == Shown::Failures && is_good_answer(answer) {
+        return Ok(());
+    }
+    let line = answer_object(alloc, number, answer)?;
+    text.extend_from_slice(line.as_slice())
+}
+
+/// The objects of the items that are shown, numbered from 1.
+fn shown_objects(alloc: Global, shown: Shown, answers: &[Answer]) -> Result<Vec<u8>, AllocError>
+    ensures { IfOk result (λ text. text.items ≡ shown_objects shown 1 answers.now) }
+{
+    let mut text = Vec::new(alloc);
+    for (index, answer) in answers.iter().enumerate() {
+        add_shown(alloc, &mut text, shown, index + 1, answer)?;
+    }
+    Ok(text)
+}
+
+/// The object of a refusal, and how the program ends then.
+fn refusal_object(alloc: Global, refusal: &Refusal) -> Result<Output, AllocError>
+    ensures text { IfOk result (λ output. output.text.items ≡ refusal_object refusal.now) }
+    ensures status { IfOk result (λ output. output.status ≡ Refused) }
+{
+    let fields = refusal_fields(alloc, refusal)?;
+    Ok(Output {
+        text: object_line(alloc, fields.as_slice())?,
+        status: Status::Refused,
+    })
+}
+
+/// The objects of the items behind the model that are shown, and all answers; or the object of the model's refusal.
+fn judge_output<R: Threads + Sync>(
+    rt: &R,
+    alloc: Global,
+    input: &[u8],
+    shown: Shown,
+) -> Result<(Output, Option<AnsweredFile>), AllocError>
+    ensures output { IfOk result (λ r. IsJudgeJson shown input.now r.0.text.items r.0.status) }
+    ensures held { IfOk result (λ r. IfSome r.1 (λ answered. HoldsAnswers input.now answered.file.compiled
+        answered.file.trees.items answered.answers.items)) }
+{
+    let file = match load_compiled(alloc, input)? {
+        Ok(file) => file,
+        Err(refusal) => return Ok((refusal_object(alloc, &refusal)?, None)),
+    };
+    let items = items_of(file.trees.as_slice());
+    may_share_compiled();
+    let answers = judge_each(rt, &file.compiled, alloc, file.compiled.typed(), items)?;
+    let output = Output {
+        text: shown_objects(alloc, shown, answers.as_slice())?,
+        status: worst_status(answers.as_slice()),
+    };
+    Ok((output, Some(AnsweredFile { file, answers })))
+}
+
+/// Judges each item behind the model that the input begins with, several at once, and writes an object for each that is
+/// shown, a line each, in the order of the items: its number and its verdict, or why it is refused. If the input is no file
+/// of trees, or the model is refused, the object of that refusal is written alone. Nothing is written before all items are
+/// judged; if an allocation fails, the object of that is written alone. Returns the status, and the answers if there are
+/// some.
+///
+/// The status is `Refused` if an item or the model is refused, else `Failed` if an item is not explained or not valid, else
+/// `Accepted`; `Lost` if an allocation or the writer failed.
+pub fn judge_json<W: Sink, R: Threads + Sync>(
+    rt: &R,
+    alloc: Global,
+    input: &[u8],
+    shown: Shown,
+    sink: &mut W,
+) -> (Status, Option<AnsweredFile>)
+    requires { W.broken sink.old ≡ false }
+    ensures prints { PrintsElse memory_object (IsJudgeJson shown input.now)
+        (W.taken sink.old) (W.taken sink.new) (W.broken sink.new) result.0 }
+    ensures held { IfSome result.1 (λ answered. HoldsAnswers input.now answered.file.compiled
+        answered.file.trees.items answered.answers.items) }
+{
+    match judge_output(rt, alloc, input, shown) {
+        Ok((output, answered)) => (send(output.text.as_slice(), output.status, sink), answered),
+        Err(AllocError) => (send(MEMORY_OBJECT, Status::Lost, sink), None),
+    }
+}
+
+/// The object that is written if an allocation fails.
+const MEMORY_OBJECT: &[u8] = b"{\"verdict\":\"refused\",\"stage\":\"memory\"}\n";
+
+/// The object of a well-typed model, or of its first refusal.
+fn check_object(alloc: Global, input: &[u8]) -> Result<Output, AllocError>
+    ensures { IfOk result (λ output. IsCheckJson input.now [] output.text.items output.status) }
+{
+    match load(alloc, input)? {
+        Ok(file) => {
+            let fields = accepted_fields(alloc, model_name(&file.typed).as_str())?;
+            Ok(Output {
+                text: object_line(alloc, fields.as_slice())?,
+                status: Status::Accepted,
+            })
+        }
+        Err(refusal) => refusal_object(alloc, &refusal),
+    }
+}
+
+/// The object of a well-typed model, or of its first refusal, and the notices.
+fn check_output(alloc: Global, input: &[u8], notices: &[u8]) -> Result<Output, AllocError>
+    ensures { IfOk result (λ output. IsCheckJson input.now notices.now output.text.items output.status) }
+{
+    let Output { mut text, status } = check_object(alloc, input)?;
+    text.extend_from_slice(notices)?;
+    Ok(Output { text, status })
+}
+
+/// Writes the object of the well-typed model that the input begins with, or else that of its first refusal, on a line, and
+/// after it the notices, which are lines of objects. Returns the status. If an allocation fails, the object of that is
+/// written alone.
+pub fn check_json<W: Sink>(alloc: Global, input: &[u8], notices: &[u8], sink: &mut W) -> Status
+    requires { W.broken sink.old ≡ false }
+    ensures { PrintsElse memory_object (IsCheckJson input.now notices.now)
+        (W.taken sink.old) (W.taken sink.new) (W.broken sink.new) result }
+{
+    match check_output(alloc, input, notices) {
+        Ok(output) => send(output.text.as_slice(), output.status, sink),
+        Err(AllocError) => send(MEMORY_OBJECT, Status::Lost, sink),
+    }
+}

@@ -1,0 +1,149 @@
+//! What a system answers that is not of the result type of the operation that was called.
+//!
+//! A driver replies `misfit` to such an answer and does not keep it. A system that is overheard (`Overheard`) answers
+//! as before, and the first of these answers are kept beside it (`Misfits`), for lines that people read
+//! (`misfits_text`).
+ghost use Rattle.std.specs.Prelude.{◌≡◌, [], IfOk};
+ghost use Rattle.pst_case.specs.Shape.{result_type};
+ghost use Rattle.pst_rules.specs.Fitting.{fits_in};
+
+use pst_case::Command;
+use pst_items::Items;
+use pst_model::Source;
+use pst_rules::Typed;
+use pst_system::RealCall;
+use pst_value::Value;
+use std::alloc::{AllocError, Global};
+use std::sync::OnceLock;
+use std::sync::atomic::{AtomicU64, Ordering};
+
+/// The most misfits that are kept.
+pub const MOST_KEPT: usize = 8;
+
+/// A call, and the answer to it, which is not of the operation's result type.
+#[derive(Debug, PartialEq, Eq, Drop)]
+pub struct Misfit {
+    pub call: RealCall,
+    pub answer: Value,
+}
+
+/// What a system answered that is not of the result type of the operation: the first of these answers with their calls,
+/// and the number of all. The threads that call a system may note answers at once; they do not wait for one another.
+#[derive(Drop)]
+pub struct Misfits {
+    alloc: Global,
+    /// The model, from when answers are compared with it.
+    typed: OnceLock<Typed>,
+    /// How many there were.
+    count: AtomicU64,
+    /// A place for each of the first, which stays empty where memory for a copy was refused.
+    kept: Vec<OnceLock<Misfit>>,
+}
+
+fn copy_values(alloc: Global, values: &[Value]) -> Result<Items<Value>, AllocError>
+    ensures { IfOk result (λ copies. copies ≡ values.now) }
+{
+    let mut copies = Items::new(alloc);
+    for value in values {
+        copies.push(value.copy(alloc)?)?;
+    }
+    Ok(copies)
+}
+
+fn copy_call(alloc: Global, call: &RealCall) -> Result<RealCall, AllocError>
+    ensures { IfOk result (λ copy. copy ≡ call.now) }
+{
+    Ok(RealCall {
+        op: call.op,
+        name: call.name.copy(alloc)?,
+        args: copy_values(alloc, call.args.as_slice())?,
+    })
+}
+
+impl Misfit {
+    /// An answer and its call, copied.
+    pub fn copied(alloc: Global, call: &RealCall, answer: &Value) -> Result<Misfit, AllocError>
+        ensures call { IfOk result (λ misfit. misfit.call ≡ call.now) }
+        ensures answer { IfOk result (λ misfit. misfit.answer ≡ answer.now) }
+    {
+        Ok(Misfit {
+            call: copy_call(alloc, call)?,
+            answer: answer.copy(alloc)?,
+        })
+    }
+}
+
+/// Whether the answer is of the result type of the operation that is called.
+fn is_of_result_type(alloc: Global, typed: &Typed, call: &RealCall, answer: &Value) -> bool
+    ensures { result ≡ fits_in typed.now [] [] answer.now
+        (result_type typed.now (record { op = call.now.op; args = [] })) }
+{
+    // The type depends on the operation alone, and no arguments take no memory.
+    let command = Command {
+        op: call.op,
+        args: Items::new(alloc),
+    };
+    command.admits(typed, answer)
+}
+
+impl Misfits {
+    /// No answers. None is noted before `compare_with`.
+    pub fn new(alloc: Global) -> Result<Misfits, AllocError> {
+        let mut kept = Vec::new(alloc);
+        for _ in 0..MOST_KEPT {
+            kept.push(OnceLock::new())?;
+        }
+        Ok(Misfits {
+            alloc,
+            typed: OnceLock::new(),
+            count: AtomicU64::new(0),
+            kept,
+        })
+    }
+
+    /// From now on answers are compared with the result types of the model. The first model stays.
+    pub fn compare_with(&self, typed: Typed) {
+        let _ = self.typed.try_set(typed);
+    }
+
+    /// The model that answers are compared with, if there is one.
+    pub fn model(&self) -> Option<&Source> {
+        match self.typed.get() {
+            Some(typed) => Some(typed.source()),
+            None => None,
+        }
+    }
+
+    /// Keeps a copy of an answer and of its call, if a place is left and memory is not refused.
+    fn keep(&self, call: &RealCall, answer: &Value) {
+        let before = self.count.fetch_add(1, Ordering::SeqCst);
+        let Ok(place) = usize::try_from(before) else {
+            return;
+        };
+        let Some(place) = self.kept.get(place) else {
+            return;
+        };
+        if let Ok(misfit) = Misfit::copied(self.alloc, call, answer) {
+            let _ = place.try_set(misfit);
+        }
+    }
+
+    /// Notes an answer to a call, where it is not of the result type of the operation.
+    pub fn note(&self, call: &RealCall, answer: &Value) {
+        if let Some(typed) = self.typed.get() {
+            if !is_of_result_type(self.alloc, typed, call, answer) {
+                self.keep(call, answer);
+            }
+        }
+    }
+
+    /// The misfit at a place below `MOST_KEPT`, if one is kept there.
+    pub fn get(&self, place: usize) -> Option<&Misfit> {
+        self.kept.get(place)?.get()
+    }
+
+    /// How many misfits there were, those that are not kept among them.
+    pub fn count(&self) -> u64 {
+        self.count.load(Ordering::SeqCst)
+    }
+}

@@ -1,5 +1,0 @@
--- what the public contracts cite
-pub mod Answers
-pub mod Parts
--- what the contracts within the crate cite
-pub mod Places

@@ -1,0 +1,33 @@
+//! Interleavings as texts.
+ghost use Rattle.std.specs.Prelude.{◌≡◌, ◌∷◌, [], IfOk};
+ghost use Rattle.pst_judge.specs.VerdictText.{word_text};
+ghost use Rattle.pst_judge.specs.Words.{letter};
+
+use pst_items::Text;
+use std::alloc::{AllocError, Global};
+
+/// The letter of a branch, from 0.
+fn letter(branch: usize) -> &'static str
+    ensures { result.now ≡ letter branch ∷ [] }
+{
+    match branch {
+        0 => "L",
+        1 => "R",
+        2 => "S",
+        _ => "T",
+    }
+}
+
+/// The letters of an interleaving's branches; `-` if there are none.
+pub fn merge_text(alloc: Global, branches: &[usize]) -> Result<Text, AllocError>
+    ensures { IfOk result (λ text. text ≡ word_text branches.now) }
+{
+    let mut text = String::new(alloc);
+    if branches.is_empty() {
+        text.push_str("-")?;
+    }
+    for branch in branches {
+        text.push_str(letter(*branch))?;
+    }
+    Ok(Text::from_string(text))
+}

@@ -1,6 +1,0 @@
-use Rattle.pst_kinds.proofs.Collecting.{added_more}
-use Rattle.pst_kinds.proofs.kind.add_kinds.Goals as goal
-
-pub loop-kind-preserved : goal.loop-kind-preserved
-loop-kind-preserved c =
-    added_more _ c.loop-kind.nodes _ c.args.kinds.now c.loop-kind.numbers _ c.loop-kind.kind-index c.in_ok-number.number c.kind-item.result c.loop-kind.invariant c.loop-kind-test.true c.kind-item.is c.in_ok-number.ensures c.in_ok-push.ensures.ok

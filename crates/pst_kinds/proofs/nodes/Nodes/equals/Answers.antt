@@ -1,9 +1,0 @@
-use Rattle.std.proofs.Common.{[], sym, ap, ◌∙◌}
-use Rattle.pst_kinds.proofs.Exact.{same_nodes}
-use Rattle.pst_kinds.specs.Nodes.{types_after}
-use Rattle.pst_kinds.proofs.nodes.Nodes.equals.Goals as goal
-
-pub returns : goal.returns
-returns c e =
-    let keys = sym c.as_slice.ensures.keys ∙ same_nodes c.as_slice.result.now c.as_slice-2.result.now (sym c.eq.ensures ∙ e) ∙ c.as_slice-2.ensures.keys in
-    sym c.self.view_is ∙ ap (types_after []) keys ∙ c.others.view_is

@@ -1,6 +1,0 @@
-use Rattle.std.proofs.Common.{length, sym, ap, ◌∙◌}
-use Rattle.pst_kinds.proofs.Growing.{types_length}
-use Rattle.pst_kinds.proofs.nodes.Nodes.len.Goals as goal
-
-pub returns : goal.returns
-returns c = c.len.ensures.len ∙ sym (types_length c.self.inside.nodes.keys c.self.invariant) ∙ ap length c.self.view_is

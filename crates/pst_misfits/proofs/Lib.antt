@@ -1,2 +1,0 @@
--- the lemmas of pst_misfits
-pub mod Sent

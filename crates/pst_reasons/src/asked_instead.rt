@@ -1,0 +1,82 @@
+//! What is asked of a command in place of what it answered.
+ghost use Rattle.std.specs.Prelude.{◌≡◌, []};
+
+use crate::answers::{is_right, one_is_right};
+use crate::asked::Asked;
+use pst_eval::Callbacks;
+use pst_judge::{Condition, Event};
+use pst_model::Source;
+use pst_value::{Fault, Value};
+use std::alloc::{AllocError, Global};
+
+/// Asks of a command whether another answer would have been right, and of others whether they were.
+#[derive(Clone, Copy, Drop)]
+pub(crate) struct AskedInstead<'a> {
+    pub model: &'a Source,
+    pub number: u32,
+    pub answer: &'a Value,
+    /// The numbers of the others.
+    pub others: &'a [u32],
+}
+
+/// Asks of a command whether none of these answers would have been right, and of others whether they were.
+#[derive(Clone, Copy, Drop)]
+pub(crate) struct AskedNoneOf<'a> {
+    pub model: &'a Source,
+    pub number: u32,
+    pub answers: &'a [Value],
+    /// The numbers of the others.
+    pub others: &'a [u32],
+}
+
+impl<'a> Condition for AskedInstead<'a> {
+    ghost use Rattle.pst_reasons.specs.Allowed.{asks_at};
+    ghost use Rattle.pst_reasons.specs.Allowed as spec;
+
+    ghost asked = { λ a m s e. asks_at a.number (λ t d. spec.is_right a.model.now t d a.answer.now)
+        a.others.now m s e };
+
+    fn ask<C: Callbacks>(
+        &self,
+        callbacks: &C,
+        alloc: Global,
+        state: &Value,
+        event: &Event,
+    ) -> Result<Result<bool, Fault>, AllocError> {
+        if event.number == self.number {
+            return is_right(self.model, alloc, state, event, self.answer);
+        }
+        let others = Asked {
+            first: self.others,
+            rest: &[],
+        };
+        others.ask(callbacks, alloc, state, event)
+    }
+}
+
+impl<'a> Condition for AskedNoneOf<'a> {
+    ghost use Rattle.pst_reasons.specs.Allowed.{asks_at, none_is_right};
+
+    ghost asked = { λ a m s e. asks_at a.number (λ t d. none_is_right a.model.now t d a.answers.now)
+        a.others.now m s e };
+
+    fn ask<C: Callbacks>(
+        &self,
+        callbacks: &C,
+        alloc: Global,
+        state: &Value,
+        event: &Event,
+    ) -> Result<Result<bool, Fault>, AllocError> {
+        if event.number == self.number {
+            return match one_is_right(self.model, alloc, state, event, self.answers)? {
+                Ok(right) => Ok(Ok(!right)),
+                Err(fault) => Ok(Err(fault)),
+            };
+        }
+        let others = Asked {
+            first: self.others,
+            rest: &[],
+        };
+        others.ask(callbacks, alloc, state, event)
+    }
+}

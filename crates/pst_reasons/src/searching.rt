@@ -1,0 +1,99 @@
+//! The searches that decide which answers are allowed.
+ghost use Rattle.std.specs.Prelude.{◌≡◌, true, None, List, ℕ, IfOk, MatchOption};
+ghost use Rattle.pst_case.specs.Matches.{matches};
+ghost use Rattle.pst_case.specs.Recorded.{recorded};
+ghost use Rattle.pst_grid.specs.declared.answer.Ending.TheVariants.{AllTrue};
+ghost use Rattle.pst_judge.specs.Verdict.{EndsAsking, first_broken};
+ghost use Rattle.pst_reasons.specs.Allowed.{AreAll, IsBeyond, IsWhetherAllowed};
+
+use crate::asked_instead::{AskedInstead, AskedNoneOf};
+use pst_case::{History, Shaped};
+use pst_eval::Callbacks;
+use pst_judge::{Condition, Verdict, verdict_asking};
+use pst_model::Source;
+use pst_value::Value;
+use std::alloc::{AllocError, Global};
+
+/// A merge that is true to its end where a condition is asked of each event, if there is one.
+fn true_merge<C: Callbacks, A: Condition>(
+    callbacks: &C,
+    condition: &A,
+    alloc: Global,
+    shaped: &Shaped,
+    history: &History,
+) -> Result<Option<Vec<usize>>, AllocError>
+    requires model { shaped.now.model ≡ C.model callbacks.now }
+    requires matches { matches (C.model callbacks.now) shaped.now.case history.now ≡ true }
+    requires answered { first_broken 1 (recorded history.now) ≡ None }
+    ensures { let m = C.model callbacks.now in let asked = A.asked condition.now m in IfOk result
+        (λ merge. MatchOption merge
+        ((v : List ℕ) → EndsAsking m asked shaped.now.case history.now AllTrue v → ⊥)
+        (λ word. EndsAsking m asked shaped.now.case history.now AllTrue word.items)) }
+{
+    match verdict_asking(callbacks, condition, alloc, shaped, history)? {
+        Verdict::Explained(word) => Ok(Some(word)),
+        Verdict::Faulted(_) => Ok(None),
+        Verdict::Unexplained(_) => Ok(None),
+        Verdict::Broken(_) => unreachable!(),
+    }
+}
+
+/// Whether the model allows an answer of the command with the number: whether in some merge in which what the
+/// others answered is right, it would have been right. `AllocError` where memory is refused.
+pub fn is_allowed<C: Callbacks>(
+    callbacks: &C,
+    alloc: Global,
+    model: &Source,
+    shaped: &Shaped,
+    history: &History,
+    others: &[u32],
+    number: u32,
+    answer: &Value,
+) -> Result<bool, AllocError>
+    requires same { model.now ≡ C.model callbacks.now }
+    requires model { shaped.now.model ≡ C.model callbacks.now }
+    requires matches { matches (C.model callbacks.now) shaped.now.case history.now ≡ true }
+    requires answered { first_broken 1 (recorded history.now) ≡ None }
+    ensures { IfOk result (λ is. IsWhetherAllowed (C.model callbacks.now) shaped.now.case history.now
+        others.now number is answer.now) }
+{
+    let asked = AskedInstead {
+        model,
+        number,
+        answer,
+        others,
+    };
+    match true_merge(callbacks, &asked, alloc, shaped, history)? {
+        Some(_word) => Ok(true),
+        None => Ok(false),
+    }
+}
+
+/// A merge in which what the others answered is right, and none of these answers of the command with the
+/// number would have been, if there is one. `AllocError` where memory is refused.
+pub fn merge_beyond<C: Callbacks>(
+    callbacks: &C,
+    alloc: Global,
+    model: &Source,
+    shaped: &Shaped,
+    history: &History,
+    others: &[u32],
+    number: u32,
+    answers: &[Value],
+) -> Result<Option<Vec<usize>>, AllocError>
+    requires same { model.now ≡ C.model callbacks.now }
+    requires model { shaped.now.model ≡ C.model callbacks.now }
+    requires matches { matches (C.model callbacks.now) shaped.now.case history.now ≡ true }
+    requires answered { first_broken 1 (recorded history.now) ≡ None }
+    ensures { let m = C.model callbacks.now in IfOk result (λ merge. MatchOption merge
+        (AreAll m shaped.now.case history.now others.now number answers.now)
+        (λ word. IsBeyond m shaped.now.case history.now others.now number answers.now word.items)) }
+{
+    let asked = AskedNoneOf {
+        model,
+        number,
+        answers,
+        others,
+    };
+    true_merge(callbacks, &asked, alloc, shaped, history)
+}

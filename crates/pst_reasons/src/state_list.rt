@@ -1,0 +1,190 @@
+//! The states along an interleaving of a history.
+ghost use Rattle.std.specs.Prelude.{◌≡◌, ◌∷◌, ◌++◌, ◌≤◌, [], List, true, None, IfOk, MatchOption, length};
+ghost use Rattle.pst_case.specs.Matches.{matches};
+ghost use Rattle.pst_case.specs.Recorded.{recorded};
+ghost use Rattle.pst_case.specs.Shape.{joined, result_types};
+ghost use Rattle.pst_judge.specs.Replay.{branch_turn_asking};
+ghost use Rattle.pst_judge.specs.Running.{EventsFit, IsRealState};
+ghost use Rattle.pst_judge.specs.Verdict.{first_broken};
+ghost use Rattle.pst_reasons.specs.States.{AllFit, OnLast, branch_states, event_states, onward, states_of, word_states};
+ghost use Rattle.pst_rules.specs.Fitting.{is_state};
+ghost use Rattle.pst_value.specs.declared.ty.Ty.{Ty};
+ghost use Rattle.pst_value.specs.declared.value.Value.{Value};
+
+use crate::numbers::letters_in;
+use pst_case::{History, Shaped};
+use pst_eval::Callbacks;
+use pst_grid::Turn;
+use pst_items::Items;
+use pst_judge::{Branches, Condition, Event, branches_of, event_turn, prefix_of};
+use pst_value::Value;
+use std::alloc::{AllocError, Global};
+
+fn split_first(events: &[Event]) -> Option<(&Event, &[Event])>
+    ensures { MatchOption result (events.now ≡ []) (λ p. events.now ≡ p.0.now ∷ p.1.now) }
+{
+    events.split_first()
+}
+
+/// The states after each of these events in turn, as far as they are true, behind others; and the last state,
+/// where all are true.
+fn along<C: Callbacks, A: Condition>(
+    callbacks: &C,
+    condition: &A,
+    alloc: Global,
+    state: Value,
+    events: &[Event],
+    mut states: Items<Value>,
+) -> Result<(Items<Value>, Option<Value>), AllocError>
+    requires { (vars : List Ty) × (is_state (C.model callbacks.now) [] vars state ≡ true)
+        × EventsFit (C.model callbacks.now) vars events.now }
+    ensures states { let m = C.model callbacks.now in IfOk result (λ r. (rest : Value → List Value)
+        → states ++ event_states m (A.asked condition.now m) events.now state rest ≡ r.0 ++ onward r.1 rest) }
+    ensures last { IfOk result (λ r. (vars : List Ty)
+        → is_state (C.model callbacks.now) [] vars state ≡ true
+        → EventsFit (C.model callbacks.now) vars events.now
+        → OnLast r.1 (λ s. is_state (C.model callbacks.now) [] vars s ≡ true)) }
+{
+    let Some((event, events)) = split_first(events) else {
+        return Ok((states, Some(state)));
+    };
+    match event_turn(callbacks, condition, alloc, &state, event)? {
+        Turn::Stop(_) => Ok((states, None)),
+        Turn::Next(next) => {
+            states.push(next.copy(alloc)?)?;
+            along(callbacks, condition, alloc, next, events, states)
+        }
+    }
+}
+
+fn split_letter(word: &[usize]) -> Option<(&usize, &[usize])>
+    ensures { MatchOption result (word.now ≡ []) (λ p. word.now ≡ p.0.now ∷ p.1.now) }
+{
+    word.split_first()
+}
+
+/// The states after the event of each letter in turn, as far as they are true, behind others; and the last
+/// state, where all are true.
+fn along_word<C: Callbacks, A: Condition>(
+    branches: &Branches<'_, C, A>,
+    alloc: Global,
+    state: Value,
+    word: &[usize],
+    mut done: Vec<usize>,
+    mut states: Items<Value>,
+) -> Result<(Items<Value>, Option<Value>), AllocError>
+    requires lengths { length done.items ≡ length branches.now.events }
+    requires state { IsRealState (C.model branches.now.callbacks.now) branches.now.shaped.now.case state }
+    requires fit { let m = C.model branches.now.callbacks.now in
+        AllFit m (result_types m branches.now.shaped.now.case) branches.now.events }
+    ensures states { let b = branches.now in let m = C.model b.callbacks.now in
+        IfOk result (λ r. (rest : Value → List Value)
+        → states ++ word_states (branch_turn_asking m (A.asked b.condition.now m) b.events) done.items state
+        word.now rest ≡ r.0 ++ onward r.1 rest) }
+    ensures last { let m = C.model branches.now.callbacks.now in
+        IfOk result (λ r. OnLast r.1 (IsRealState m branches.now.shaped.now.case)) }
+{
+    let Some((branch, word)) = split_letter(word) else {
+        return Ok((states, Some(state)));
+    };
+    let Some(events) = branches.events.get(*branch) else {
+        return Ok((states, None));
+    };
+    let index = done[*branch];
+    // The index is below this number, which fits a `usize`: so does the index and one.
+    let _most = events.len();
+    let Some(event) = events.get(index) else {
+        return Ok((states, None));
+    };
+    match event_turn(branches.callbacks, branches.condition, alloc, &state, event)? {
+        Turn::Stop(_) => Ok((states, None)),
+        Turn::Next(next) => {
+            done[*branch] = index + 1;
+            states.push(next.copy(alloc)?)?;
+            along_word(branches, alloc, next, word, done, states)
+        }
+    }
+}
+
+/// The states of a run from the state after the prefix: those of a word of branches, and, where it has a letter
+/// for each command of the branches, those of the suffix, behind others.
+fn after_prefix<C: Callbacks, A: Condition>(
+    branches: &Branches<'_, C, A>,
+    alloc: Global,
+    state: Value,
+    word: &[usize],
+    states: Items<Value>,
+) -> Result<Items<Value>, AllocError>
+    requires state { IsRealState (C.model branches.now.callbacks.now) branches.now.shaped.now.case state }
+    requires fit { let m = C.model branches.now.callbacks.now in
+        AllFit m (result_types m branches.now.shaped.now.case) branches.now.events }
+    requires events { let m = C.model branches.now.callbacks.now in
+        EventsFit m (result_types m branches.now.shaped.now.case) branches.now.suffix }
+    requires lengths { length branches.now.events ≡ length branches.now.shaped.now.case.branches }
+    requires few { length (joined branches.now.shaped.now.case.branches) ≤ 16 }
+    ensures { let b = branches.now in let m = C.model b.callbacks.now in IfOk result
+        (λ all. all ≡ states
+        ++ branch_states m (A.asked b.condition.now m) b.shaped.now.case b.events b.suffix word.now state) }
+{
+    let parts = branches.shaped.case().branches.as_slice();
+    let done = vec![in alloc; 0; parts.len()]?;
+    let (states, last) = along_word(branches, alloc, state, word, done, states)?;
+    let Some(last) = last else {
+        return Ok(states);
+    };
+    if word.len() < letters_in(parts) {
+        return Ok(states);
+    }
+    let suffix = branches.suffix.as_slice();
+    let (states, _) = along(
+        branches.callbacks,
+        branches.condition,
+        alloc,
+        last,
+        suffix,
+        states,
+    )?;
+    Ok(states)
+}
+
+/// The states of an interleaving, as far as what is asked of its events is true: the initial state, and the
+/// state after each event. They are those of the prefix, of the commands of a word of branches, and, where the
+/// word has a letter for each command of the branches, of the suffix. There are none where `init` faults.
+/// `AllocError` where memory is refused.
+pub fn states<C: Callbacks, A: Condition>(
+    callbacks: &C,
+    condition: &A,
+    alloc: Global,
+    shaped: &Shaped,
+    history: &History,
+    word: &[usize],
+) -> Result<Items<Value>, AllocError>
+    requires model { shaped.now.model ≡ C.model callbacks.now }
+    requires matches { matches (C.model callbacks.now) shaped.now.case history.now ≡ true }
+    requires answered { first_broken 1 (recorded history.now) ≡ None }
+    ensures { let m = C.model callbacks.now in IfOk result
+        (λ states. states ≡ states_of m (A.asked condition.now m) shaped.now.case history.now word.now) }
+{
+    let _case = shaped.case();
+    let results = history.recorded(alloc)?;
+    let results = results.as_slice();
+    let mut states = Items::new(alloc);
+    let Ok((state, _)) = callbacks.init(alloc)? else {
+        return Ok(states);
+    };
+    states.push(state.copy(alloc)?)?;
+    let prefix = prefix_of(alloc, shaped, history, results)?;
+    let (states, last) = along(
+        callbacks,
+        condition,
+        alloc,
+        state,
+        prefix.as_slice(),
+        states,
+    )?;
+    let Some(last) = last else {
+        return Ok(states);
+    };
+    let branches = branches_of(callbacks, condition, alloc, shaped, history, results)?;
+    after_prefix(&branches, alloc, last, word, states)
+}

@@ -1,0 +1,32 @@
+-- Parts of an input that several threads have read and judged, and the places where they are put.
+use Rattle.std.specs.Prelude.{◌≡◌, ℕ, Bool, List, [], Option, Some, None, IfSome, slice_get}
+use Rattle.std.specs.Borrow.{Bor}
+use Rattle.std.specs.List.{AllZip}
+use Rattle.pst_case.specs.declared.history.Run.{Run}
+use Rattle.pst_rejudge.specs.Parts.{IsJudgedPart}
+use Rattle.pst_rejudge.specs.declared.judging.JudgedRuns.{JudgedRuns}
+use Rattle.pst_rejudge.specs.declared.taking.Part.{Part}
+use Rattle.pst_judge.specs.declared.judgement.Judged.{Judged}
+use Rattle.pst_model.specs.declared.model.Source.{Source}
+
+-- the bytes of a part spell runs that are judged
+abbrev pub HoldsPart : Source → Bool → List ℕ → JudgedRuns → Type 0
+HoldsPart m keeps bytes content = IsJudgedPart m keeps bytes content.runs.items content.judged.items
+
+-- what was taken is what the part at its place spells
+pub record StandsIn (m : Source) (keeps : Bool) (parts : List (Bor (List ℕ))) (taken : Part) : Type 0 where
+  pub part : Bor (List ℕ)
+  pub place : slice_get parts taken.place ≡ Some part
+  pub content : HoldsPart m keeps part.now taken.content
+
+-- there is a place for each part, and what stands in it is what the part spells
+abbrev pub AreFilled : Source → Bool → List (Bor (List ℕ)) → List (Option JudgedRuns) → Type 0
+AreFilled m keeps parts places = AllZip (λ part place. IfSome place (HoldsPart m keeps part.now)) parts places
+
+abbrev pub runs_in : Option JudgedRuns → List Run
+runs_in None = []
+runs_in (Some content) = content.runs.items
+
+abbrev pub judged_in : Option JudgedRuns → List Judged
+judged_in None = []
+judged_in (Some content) = content.judged.items

@@ -1,0 +1,74 @@
+//! Reads and judges each tree behind a model by itself, several at once, so that one that is refused leaves the others
+//! their verdicts.
+ghost use Rattle.std.specs.Prelude.{◌≡◌, IfOk};
+ghost use Rattle.std.specs.List.{AllZip};
+ghost use Rattle.pst_rejudge.specs.Answers.{IsAnswer};
+
+use crate::reading::read_one;
+use crate::sharing::may_share_models;
+use pst_eval::Callbacks;
+use pst_judge::{Judged, judge_one};
+use pst_rules::Typed;
+use pst_runs::{RunFault, RunFaultKind};
+use pst_sexpr::Tree;
+use rayon::prelude::*;
+use std::alloc::{AllocError, Global};
+use std::thread::Threads;
+
+/// What is answered of an item.
+#[derive(Debug, Drop)]
+pub enum Answer {
+    /// It was read, and this is the judgement on it.
+    Judged(Judged),
+    /// It is refused for this reason.
+    Refused {
+        /// The kind of its first fault.
+        kind: RunFaultKind,
+        /// The number of the command that is at fault, from 1; 0 stands for the item itself.
+        command: u32,
+    },
+}
+
+/// What is answered of the item that a tree spells. `AllocError`: memory was refused.
+pub fn answer_of<C: Callbacks>(
+    callbacks: &C,
+    alloc: Global,
+    typed: &Typed,
+    tree: &Tree,
+) -> Result<Answer, AllocError>
+    requires { typed.now ≡ C.model callbacks.now }
+    ensures { IfOk result (IsAnswer (C.model callbacks.now) tree.now) }
+{
+    match read_one(alloc, typed, tree)? {
+        Ok(run) => Ok(Answer::Judged(judge_one(callbacks, alloc, &run)?)),
+        Err(RunFault { kind, command, .. }) => Ok(Answer::Refused { kind, command }),
+    }
+}
+
+/// What is answered of each of the items that trees spell, in their order: the judgement on it, or why it is
+/// refused. Several threads read and judge the items at once. `AllocError` where memory is refused to any of
+/// them.
+///
+/// `typed` is the model of the callbacks.
+pub fn judge_each<C: Callbacks + Sync, R: Threads + Sync>(
+    rt: &R,
+    callbacks: &C,
+    alloc: Global,
+    typed: &Typed,
+    trees: &[Tree],
+) -> Result<Vec<Answer>, AllocError>
+    requires { typed.now ≡ C.model callbacks.now }
+    ensures { IfOk result (λ all. AllZip (IsAnswer (C.model callbacks.now)) trees.now all.items) }
+{
+    may_share_models();
+    trees
+        .par_iter()
+        .with_min_len(1)
+        .map(
+            |tree: &Tree| -> Result<Answer, AllocError>
+                requires { typed.now ≡ C.model callbacks.now }
+                ensures { IfOk result (IsAnswer (C.model callbacks.entry.now) tree.now) }
+            { answer_of(callbacks, alloc, typed, tree) },
+        )
+        .collect::<Result<Vec<Answer>, AllocError>>(rt, alloc)?
+}

@@ -1,0 +1,85 @@
+//! Reads and judges the items of an input in parts, several at once.
+ghost use Rattle.std.specs.Prelude.{◌≡◌, All, IfOk, IfSome};
+ghost use Rattle.pst_rejudge.specs.Parts.{IsJudgedPart, joined};
+ghost use Rattle.pst_rejudge.specs.Places.{StandsIn};
+
+use crate::parts::parts_of;
+use crate::places::{in_order, in_places};
+use crate::reading::PartFault;
+use crate::sharing::{may_send_parts, may_share_models};
+use crate::taking::{Part, take_parts};
+use pst_case::Run;
+use pst_eval::Callbacks;
+use pst_judge::Judged;
+use pst_rules::Typed;
+use rayon::prelude::*;
+use std::alloc::{AllocError, Global};
+use std::sync::atomic::AtomicUsize;
+use std::thread::Threads;
+
+/// The runs of one part of an input, and the judgement on each.
+#[derive(Drop)]
+pub(crate) struct JudgedRuns {
+    /// The runs.
+    pub runs: Vec<Run>,
+    /// Their judgements, in the same order.
+    pub judged: Vec<Judged>,
+}
+
+/// The runs of an input, in the parts in which it was read, and the judgement on each.
+#[derive(Drop)]
+pub struct JudgedParts {
+    /// The runs of each part, in the order of the parts.
+    pub runs: Vec<Vec<Run>>,
+    /// The judgement on each run, in the order of the runs.
+    pub judged: Vec<Judged>,
+}
+
+/// How often the parts are offered. Each offer is taken by a thread, and the first ones leave nothing to the others.
+const OFFERS: usize = 64;
+
+/// The runs of the items that an input spells, all of them trees of runs, and the judgements on them. The input is read
+/// and judged in parts, several at once, and the trees of a part are let go once its runs are read. The runs stay in
+/// these parts, and the judgements are one list. `keeps` says whether the runs are kept: where they are not, the thread that
+/// judged a part lets its runs go, and all lists of runs are empty.
+///
+/// `None`: some part is not read by itself, which says nothing of the whole input. `AllocError`: an allocation failed, while
+/// parts were read or judged as well.
+///
+/// `typed` is the model of the callbacks.
+pub fn judge_in_parts<C: Callbacks + Sync, R: Threads + Sync>(
+    rt: &R,
+    callbacks: &C,
+    alloc: Global,
+    typed: &Typed,
+    input: &[u8],
+    keeps: bool,
+) -> Result<Option<JudgedParts>, AllocError>
+    requires { typed.now ≡ C.model callbacks.now }
+    ensures { IfOk result (λ read. IfSome read
+        (λ parts. IsJudgedPart typed.now keeps input.now (joined parts.runs.items) parts.judged.items)) }
+{
+    may_share_models();
+    may_send_parts();
+    let parts = parts_of(alloc, input)?;
+    let next = AtomicUsize::new(0);
+    let offers = [0u8; OFFERS];
+    let taken = offers
+        .par_iter()
+        .with_min_len(1)
+        .map(
+            |_: &u8| -> Result<Vec<Part>, PartFault>
+                requires { typed.now ≡ C.model callbacks.now }
+                ensures { IfOk result (λ taken. All (StandsIn (C.model callbacks.entry.now) keeps parts.entry.items) taken.items) }
+            { take_parts(callbacks, alloc, typed, parts.as_slice(), keeps, &next) },
+        )
+        .collect::<Result<Vec<Vec<Part>>, PartFault>>(rt, alloc)?;
+    match taken {
+        Ok(lists) => {
+            let places = in_places(alloc, parts.as_slice(), lists)?;
+            in_order(alloc, places)
+        }
+        Err(PartFault::NotRead) => Ok(None),
+        Err(PartFault::NoMemory) => Err(AllocError),
+    }
+}

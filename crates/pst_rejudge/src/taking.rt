@@ -1,0 +1,86 @@
+//! Takes parts of an input to read and judge them. Each thread takes the next part that none has taken, so that a part
+//! that takes long holds up one thread alone.
+ghost use Rattle.std.specs.Prelude.{◌≡◌, All, IfOk};
+ghost use Rattle.std.specs.List.{AllZip};
+ghost use Rattle.pst_rejudge.specs.Places.{HoldsPart, StandsIn};
+ghost use Rattle.pst_judge.specs.Judgement.{IsJudgement};
+ghost use Rattle.pst_rejudge.specs.Judging.{MayBeJudged};
+
+use crate::judging::JudgedRuns;
+use crate::reading::{PartFault, runs_of_part};
+use pst_case::Run;
+use pst_eval::Callbacks;
+use pst_judge::{Judged, judge_one};
+use pst_rules::Typed;
+use std::alloc::{AllocError, Global};
+use std::sync::atomic::{AtomicUsize, Ordering};
+
+/// A part of an input.
+#[derive(Drop)]
+pub(crate) struct Part {
+    /// Its place among the parts, from 0.
+    pub place: usize,
+    /// The runs that it spells, and the judgements on them.
+    pub content: JudgedRuns,
+}
+
+/// The judgement on each run.
+fn judged_runs<C: Callbacks>(
+    callbacks: &C,
+    alloc: Global,
+    runs: &[Run],
+) -> Result<Vec<Judged>, AllocError>
+    requires { All (MayBeJudged (C.model callbacks.now)) runs.now }
+    ensures { IfOk result (λ all. AllZip (IsJudgement (C.model callbacks.now)) runs.now all.items) }
+{
+    let mut judged = Vec::with_capacity(alloc, runs.len())?;
+    for run in runs {
+        judged.push(judge_one(callbacks, alloc, run)?)?;
+    }
+    Ok(judged)
+}
+
+/// The runs that the bytes of a part spell, where they are kept, and the judgements on them.
+fn judged_part<C: Callbacks>(
+    callbacks: &C,
+    alloc: Global,
+    typed: &Typed,
+    bytes: &[u8],
+    keeps: bool,
+) -> Result<JudgedRuns, PartFault>
+    requires { typed.now ≡ C.model callbacks.now }
+    ensures { IfOk result (HoldsPart (C.model callbacks.now) keeps bytes.now) }
+{
+    let runs = runs_of_part(alloc, typed, bytes)?;
+    let judged = judged_runs(callbacks, alloc, runs.as_slice())?;
+    Ok(JudgedRuns {
+        runs: if keeps { runs } else { Vec::new(alloc) },
+        judged,
+    })
+}
+
+/// Reads and judges one part after another, each of which no other thread takes, until none is left.
+pub(crate) fn take_parts<C: Callbacks>(
+    callbacks: &C,
+    alloc: Global,
+    typed: &Typed,
+    parts: &[&[u8]],
+    keeps: bool,
+    next: &AtomicUsize,
+) -> Result<Vec<Part>, PartFault>
+    requires { typed.now ≡ C.model callbacks.now }
+    ensures { IfOk result (λ taken. All (StandsIn (C.model callbacks.now) keeps parts.now) taken.items) }
+{
+    let mut taken = Vec::new(alloc);
+    for _ in 0..parts.len() {
+        let place = next.fetch_add(1, Ordering::Relaxed);
+        let Some(bytes) = parts.get(place) else {
+            return Ok(taken);
+        };
+        let content = judged_part(callbacks, alloc, typed, bytes, keeps)?;
+        if taken.push(Part { place, content }).is_err() {
+            return Err(PartFault::NoMemory);
+        }
+    }
+    Ok(taken)
+}

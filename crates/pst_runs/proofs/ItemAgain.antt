@@ -1,0 +1,130 @@
+-- A lawful run is read again from what is written for it.
+use Rattle.std.proofs.Common.{◌≡◌, ℕ, ◌+◌, true, List, [], ◌∷◌, ◌++◌, Option, Some, None, Ok, Err, refl, sym, ap, ◌∙◌, subst, arith}
+use Rattle.std.specs.Prelude.{IfSome, codes, if◌then◌else◌}
+use Rattle.std.specs.Str.{bytes_eq}
+use Rattle.pst_case.specs.Matches.{matches}
+use Rattle.pst_case.specs.Shape.{IsShaped}
+use Rattle.pst_case.specs.declared.case.Case.{Case}
+use Rattle.pst_case.specs.declared.history.History.{History}
+use Rattle.pst_case.specs.declared.history.Run.{Run}
+use Rattle.pst_model.specs.Language.{KeepsLanguage}
+use Rattle.pst_model.specs.Operations.{HasOperations}
+use Rattle.pst_model.specs.declared.model.Source.{Source}
+use Rattle.pst_rules.specs.WellTyped.{WellModel}
+use Rattle.pst_runs.specs.Forms.{Parts, case_parts, run_parts, item_in, parts_of}
+use Rattle.pst_runs.specs.Items.{run as run_with, with_history, run_of, unless_fault, of_parts, item_of, numbered, runs_from, runs_of}
+use Rattle.pst_runs.specs.Lawful.{IsLawful}
+use Rattle.pst_runs.specs.Reading.{readable_case}
+use Rattle.pst_runs.specs.Replies.{◌>>=◌, then_more, history_of}
+use Rattle.pst_sexpr.specs.Parts.{and_then}
+use Rattle.pst_runs.specs.declared.fault.RunFaultKind.TheVariants.{NotAFit}
+use Rattle.pst_sexpr.specs.Bytes.{is_word_byte}
+use Rattle.pst_sexpr.specs.Lawful.{IsTree, AreTrees}
+use Rattle.pst_sexpr.specs.declared.form.Form.TheVariants.{Word}
+use Rattle.pst_sexpr.specs.declared.form.Form.{Form}
+use Rattle.pst_runs.proofs.CaseAgain.{CaseAgain, whole_case, case_again, case_read, run_read, case_sized}
+use Rattle.pst_runs.proofs.CommandAgain.{node_is, word_is}
+use Rattle.pst_runs.proofs.ReplyAgain.{lists_of, history_sized, lists_read, history_counted, history_read}
+use Rattle.pst_runs.proofs.Sized.{wider, last_sized, headed_sized}
+use Rattle.pst_runs.proofs.WholeAgain.{readable_is, no_fault}
+use Rattle.pst_runs.specs.ReadAgain.{IsRead, AreRead}
+use Rattle.pst_runs.specs.Written.{case_forms, replies_form, item_form, run_form, run_forms}
+
+-- the tree of an item has a spelling, and is read as the run
+record ItemAgain (m : Source) (c : Case) (history : Option History) : Type 0 where
+  lawful : IsTree (item_form m c history)
+  reads : item_of m (item_form m c history) ≡ Ok (run_with m c history)
+
+module _ (m : Source) (model : WellModel m) (has : HasOperations m.items) (language : KeepsLanguage m) where
+  abbrev parts : Case → Option (List Form) → Parts
+  parts c replies = record { read = whole_case c; replies = replies }
+
+  case_parts_read : (c : Case) → CaseAgain m c → parts_of m (item_form m c None) ≡ Some (parts c None)
+  unfolding parts_of
+  case_parts_read c a =
+      let forms = case_forms m c in
+      ap (λ o. and_then o (item_in m)) (node_is (Word (codes "case") ∷ forms))
+      ∙ ap (λ o. and_then o (λ head. if bytes_eq head (codes "case") then case_parts m forms else if bytes_eq head (codes "run") then run_parts m forms else None)) (word_is (codes "case"))
+      ∙ case_read m c a
+
+  run_parts_read : (c : Case) (h : History) → CaseAgain m c → matches m c h ≡ true → parts_of m (item_form m c (Some h)) ≡ Some (parts c (Some (lists_of h)))
+  unfolding parts_of
+  run_parts_read c h a e =
+      let forms = case_forms m c ++ replies_form h ∷ [] in
+      ap (λ o. and_then o (item_in m)) (node_is (Word (codes "run") ∷ forms))
+      ∙ ap (λ o. and_then o (λ head. if bytes_eq head (codes "case") then case_parts m forms else if bytes_eq head (codes "run") then run_parts m forms else None)) (word_is (codes "run"))
+      ∙ run_read m c (replies_form h) a
+      ∙ lists_read m model has language c h e
+
+  -- the case is read again
+  again : (c : Case) (replies : Option (List Form)) → IsShaped m c → of_parts m (Some (parts c replies)) ≡ run_of m c replies
+  again c replies s =
+      ap (λ f. unless_fault f (run_of m (readable_case (whole_case c)) replies)) (no_fault m c s)
+      ∙ ap (λ c. run_of m c replies) (readable_is c)
+
+  item_again : (c : Case) (history : Option History) → IsShaped m c → IfSome history (λ h. matches m c h ≡ true) → ItemAgain m c history
+  unfolding item_of is_word_byte
+  item_again c None s e =
+      let a = case_again m model has language c s in
+      record {
+        lawful = (headed_sized _ _ refl (case_sized m c a) (omega arith)).lawful;
+        reads = ap (of_parts m) (case_parts_read c a) ∙ again c None s;
+      }
+  item_again c (Some h) s e =
+      let a = case_again m model has language c s in
+      let lists = lists_of h in
+      record {
+        lawful = (headed_sized _ _ refl (last_sized (case_forms m c) (case_sized m c a) (wider 35 (history_sized m model has language c h a e) (omega arith))) (omega arith)).lawful;
+        reads =
+            ap (of_parts m) (run_parts_read c h a e) ∙ again c (Some lists) s
+            ∙ ap (λ b. if b then with_history m c (history_of m c lists) else Err (record { kind = NotAFit; command = 0 })) (history_counted m model has language c h e)
+            ∙ ap (with_history m c) (history_read m model has language c h a e);
+      }
+
+  -- what is written of a lawful run has a spelling
+  pub written_lawful : (run : Run) → IsLawful m run → IsShaped m run.shaped.case → IsTree (run_form m run)
+  written_lawful run h s = (item_again run.shaped.case run.history s h.matching).lawful
+
+  -- it is read as the run
+  pub written_read : (run : Run) → IsLawful m run → IsShaped m run.shaped.case → item_of m (run_form m run) ≡ Ok run
+  written_read run h s =
+      let same : run_with m run.shaped.case run.history ≡ run =
+      ap (λ n. run_with n run.shaped.case run.history) (sym h.model) in
+      (item_again run.shaped.case run.history s h.matching).reads ∙ ap (λ r. Ok r) same
+
+-- ---- all runs
+
+module _ (m : Source) where
+  all_read : (number : ℕ) (runs : List Run) → AreRead m runs → runs_from m number (run_forms m runs) ≡ Ok runs
+  all_read number [] h = refl
+  all_read number (run ∷ runs) h =
+      let more = runs_from m (number + 1) (run_forms m runs) in
+      ap (λ r. numbered number r >>= (λ run. then_more run more)) h.0.read
+      ∙ ap (then_more run) (all_read (number + 1) runs h.1)
+
+  pub runs_read : (runs : List Run) → AreRead m runs → runs_of m (run_forms m runs) ≡ Ok runs
+  runs_read runs h = all_read 1 runs h
+
+  pub runs_lawful : (runs : List Run) → AreRead m runs → AreTrees (run_forms m runs)
+  runs_lawful [] h = tt
+  runs_lawful (run ∷ runs) h = (h.0.lawful, runs_lawful runs h.1)
+
+-- ---- what the types of the model and of the case keep
+
+pub lawful_is_read : (m n : Source) (run : Run) → n ≡ m → IsShaped run.shaped.model run.shaped.case → WellModel n → HasOperations n.items → KeepsLanguage n
+    → IsLawful m run → IsRead m run
+lawful_is_read m n run same shape model has language h =
+    let P : Source → Type 0 = λ m. HasOperations m.items in
+    let well : WellModel m = subst WellModel same model in
+    let operations : HasOperations m.items = subst P same has in
+    let speaks : KeepsLanguage m = subst KeepsLanguage same language in
+    let shaped : IsShaped m run.shaped.case = subst (λ m. IsShaped m run.shaped.case) h.model shape in
+    record {
+      lawful = written_lawful m well operations speaks run h shaped;
+      read = written_read m well operations speaks run h shaped;
+    }
+
+-- a form that is the tree of the run
+pub form_is : (m n : Source) (c : Case) (run : Run) {form : Form} → form ≡ item_form n c run.history → n ≡ m → c ≡ run.shaped.case
+    → form ≡ run_form m run
+form_is m n c run is same case = is ∙ ap (λ n. item_form n c run.history) same ∙ ap (λ c. item_form m c run.history) case

@@ -1,0 +1,91 @@
+//! The writer of runs.
+ghost use Rattle.std.specs.Prelude.{◌≡◌, false, IfOk, Ok};
+ghost use Rattle.pst_runs.specs.Items.{runs_of};
+ghost use Rattle.pst_runs.specs.Lawful.{AreLawful};
+ghost use Rattle.pst_runs.specs.Lines.{line_of, lines_of, WritesLines};
+ghost use Rattle.pst_runs.specs.Written.{run_forms};
+ghost use Rattle.pst_sexpr.specs.Reading.{Spells};
+ghost use Rattle.pst_sink.specs.Writing.{Writes};
+
+use crate::write::fault::WriteFault;
+use crate::write::items::{is_read, run_tree};
+use pst_case::Run;
+use pst_rules::Typed;
+use pst_sexpr::{Tree, write};
+use pst_sink::{Sink, WriteFailed, put_all};
+use std::alloc::{AllocError, Global};
+
+/// The lines of lawful runs spell their trees, and these are read as the runs. This takes no memory: it only
+/// learns what `is_read` says of each run.
+fn are_read(typed: &Typed, runs: &[Run])
+    requires { AreLawful typed.now runs.now }
+    ensures spelled { Spells (lines_of (run_forms typed.now runs.now)) (run_forms typed.now runs.now) }
+    ensures read { runs_of typed.now (run_forms typed.now runs.now) ≡ Ok runs.now }
+{
+    for run in runs {
+        is_read(typed, run);
+    }
+}
+
+/// The tree of each run.
+fn run_trees(alloc: Global, typed: &Typed, runs: &[Run]) -> Result<Vec<Tree>, AllocError>
+    requires { AreLawful typed.now runs.now }
+    ensures { IfOk result (λ trees. trees.items ≡ run_forms typed.now runs.now) }
+{
+    let mut trees = Vec::new(alloc);
+    for run in runs {
+        trees.push(run_tree(alloc, typed, run)?)?;
+    }
+    Ok(trees)
+}
+
+/// Writes a tree and a line end.
+fn write_line<W: Sink>(tree: &Tree, writer: &mut W) -> Result<(), WriteFailed>
+    requires { W.broken writer.old ≡ false }
+    ensures { Writes (W.taken writer.old) (W.taken writer.new) (W.broken writer.new) result
+        (line_of tree.now) }
+{
+    write(tree, writer)?;
+    put_all(b"\n", writer)
+}
+
+/// Writes each tree, with a line end after it.
+fn write_lines<W: Sink>(trees: &[Tree], writer: &mut W) -> Result<(), WriteFailed>
+    requires { W.broken writer.old ≡ false }
+    ensures { Writes (W.taken writer.old) (W.taken writer.new) (W.broken writer.new) result
+        (lines_of trees.now) }
+{
+    for tree in trees {
+        write_line(tree, writer)?;
+    }
+    Ok(())
+}
+
+/// Writes each run as one tree, in its one spelling, with a line end after it. What is written is read as
+/// equal runs, where it is no more than a file may have (`MAX_BYTES`).
+///
+/// Each run must be one of the model, its history must match, and the writer must not have failed. All trees
+/// are made before the first is written.
+/// `WriteFailed`: the writer has failed, and a beginning of the lines went out.
+/// `NoMemory`: memory was refused; nothing went out, and the writer has not failed.
+pub fn write_runs<W: Sink>(
+    alloc: Global,
+    typed: &Typed,
+    runs: &[Run],
+    writer: &mut W,
+) -> Result<(), WriteFault>
+    requires lawful { AreLawful typed.now runs.now }
+    requires stands { W.broken writer.old ≡ false }
+    // What goes out is the lines of the runs' trees.
+    ensures written { WritesLines (W.taken writer.old) (W.taken writer.new) (W.broken writer.new) result
+        (run_forms typed.now runs.now) }
+    // The lines are read as these trees, and as nothing else.
+    ensures spelled { Spells (lines_of (run_forms typed.now runs.now)) (run_forms typed.now runs.now) }
+    // The trees are read as the runs.
+    ensures read { runs_of typed.now (run_forms typed.now runs.now) ≡ Ok runs.now }
+{
+    are_read(typed, runs);
+    let trees = run_trees(alloc, typed, runs)?;
+    write_lines(trees.as_slice(), writer)?;
+    Ok(())
+}

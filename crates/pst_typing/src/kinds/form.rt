@@ -1,0 +1,103 @@
+//! The form of a kind, and whether it holds references.
+
+ghost use Rattle.std.specs.Prelude.{◌≡◌, ◌<◌, length, map, IfOk};
+ghost use Rattle.std.specs.List.{list_any};
+ghost use Rattle.pst_typing.specs.Forms as spec;
+ghost use Rattle.pst_typing.specs.Nodes.{type_at, AreBelow, IsBelow};
+ghost use Rattle.pst_rules.specs.Kinds as kinds;
+
+use crate::kinds::kind::Kind;
+use crate::kinds::node::Node;
+use crate::kinds::nodes::Nodes;
+use pst_items::Items;
+use pst_value::KeyTy;
+use std::alloc::{AllocError, Global};
+use std::rc::Rc;
+
+/// The form of a type, with its parts as kinds.
+#[derive(Drop)]
+pub enum Form {
+    Int,
+    Bool,
+    Text,
+    Tuple(Items<Kind>),
+    List(Kind),
+    Map(KeyTy, Kind),
+    Ref(Kind),
+    Call,
+}
+
+/// The form of the type of a node.
+pub fn form_of(alloc: Global, nodes: &Rc<Nodes>, number: usize) -> Result<Form, AllocError>
+    requires { number < length nodes.now.value }
+    ensures { IfOk result (λ form. spec.formed form ≡ type_at nodes.now.value number) }
+{
+    match nodes.as_ref().get(number) {
+        Node::Int => Ok(Form::Int),
+        Node::Bool => Ok(Form::Bool),
+        Node::Text => Ok(Form::Text),
+        Node::Tuple(parts) => Ok(Form::Tuple(parts_of(alloc, nodes, parts.as_slice())?)),
+        Node::List(part) => Ok(Form::List(Kind::of_node(nodes, *part)?)),
+        Node::Map(keys, part) => Ok(Form::Map(*keys, Kind::of_node(nodes, *part)?)),
+        Node::Ref(part) => Ok(Form::Ref(Kind::of_node(nodes, *part)?)),
+        Node::Call => Ok(Form::Call),
+    }
+}
+
+/// The kinds of nodes.
+fn parts_of(alloc: Global, nodes: &Rc<Nodes>, parts: &[usize]) -> Result<Items<Kind>, AllocError>
+    requires { AreBelow (length nodes.now.value) parts.now }
+    ensures { IfOk result (λ kinds. kinds ≡ map (type_at nodes.now.value) parts.now) }
+{
+    let mut kinds = Items::new(alloc);
+    for part in parts {
+        let kind = Kind::of_node(nodes, *part)?;
+        kinds.push(kind)?;
+    }
+    Ok(kinds)
+}
+
+/// Whether `ref` or `call` is in the type of a node.
+pub fn node_holds_ref(alloc: Global, nodes: &Nodes, number: usize) -> Result<bool, AllocError>
+    requires { number < length nodes.now }
+    ensures { IfOk result (λ held. held ≡ kinds.holds_ref (type_at nodes.now number)) }
+{
+    let mut held = Items::new(alloc);
+    for at in 0..nodes.len() {
+        let holds = holds_by(nodes.get(at), held.as_slice());
+        held.push(holds)?;
+    }
+    Ok(held_at(held.as_slice(), number))
+}
+
+/// Whether a node holds a reference or a call, by what is known of the nodes before it.
+fn holds_by(node: &Node, held: &[bool]) -> bool
+    requires { IsBelow (length held.now) node.now }
+    ensures { result ≡ spec.node_holds held.now node.now }
+{
+    match node {
+        Node::Int | Node::Bool | Node::Text => false,
+        Node::Tuple(parts) => any_held(parts.as_slice(), held),
+        Node::List(part) | Node::Map(_, part) => held_at(held, *part),
+        Node::Ref(_) | Node::Call => true,
+    }
+}
+
+fn any_held(parts: &[usize], held: &[bool]) -> bool
+    requires { AreBelow (length held.now) parts.now }
+    ensures { result ≡ list_any (spec.held_at held.now) parts.now }
+{
+    for part in parts {
+        if held_at(held, *part) {
+            return true;
+        }
+    }
+    false
+}
+
+fn held_at(held: &[bool], part: usize) -> bool
+    requires { part < length held.now }
+    ensures { result ≡ spec.held_at held.now part }
+{
+    held[part]
+}

@@ -1,0 +1,99 @@
+//! Loading a model: from bytes to a well-typed model and the trees behind it, or the first refusal.
+ghost use Rattle.std.specs.Prelude.{◌≡◌, IfOk, MatchResult};
+ghost use Rattle.pst_rules.specs.WellTyped.{WellModel};
+ghost use Rattle.pst_syntax.specs.Items.{model_of};
+ghost use Rattle.pst_typing.specs.Least.{IsIll};
+ghost use Rattle.pst_typing.specs.Loading.{IsFile, Holds, IsRefusal, items_of};
+
+use crate::checking::check;
+use crate::load_refusal::Refusal;
+use crate::type_fault::TypeFault;
+use pst_rules::Typed;
+use pst_sexpr::{FaultKind, Tree, read};
+use pst_syntax::{Model, SyntaxFault, read_model};
+use std::alloc::{AllocError, Global};
+
+/// A file of trees, of which the first spells a well-typed model.
+#[derive(Drop)]
+pub struct ModelFile {
+    /// The model.
+    pub typed: Typed,
+    /// All trees, that of the model among them.
+    pub trees: Vec<Tree>,
+}
+
+/// The trees of a file.
+fn trees_of(alloc: Global, input: &[u8]) -> Result<Result<Vec<Tree>, Refusal>, AllocError>
+    ensures { IfOk result
+        (λ read. MatchResult read (λ trees. IsFile input.now trees.items)
+        (λ refusal. IsRefusal input.now refusal)) }
+{
+    match read(alloc, input) {
+        Ok(trees) => Ok(Ok(trees)),
+        Err(fault) => {
+            if fault.kind == FaultKind::NoMemory {
+                return Err(AllocError);
+            }
+            Ok(Err(Refusal::Unread(fault)))
+        }
+    }
+}
+
+/// The model that the first tree spells.
+fn model_in(alloc: Global, trees: &[Tree]) -> Result<Result<Model, SyntaxFault>, AllocError>
+    ensures { IfOk result (λ model. model_of trees.now ≡ model) }
+{
+    match read_model(alloc, trees) {
+        Ok(model) => Ok(Ok(model)),
+        Err(fault) => {
+            if fault.kind == pst_syntax::FaultKind::NoMemory {
+                return Err(AllocError);
+            }
+            Ok(Err(fault))
+        }
+    }
+}
+
+/// The model where it is well typed, and else the number of its least item that is not.
+fn typed_of(alloc: Global, model: Model) -> Result<Result<Typed, usize>, AllocError>
+    ensures { IfOk result
+        (λ checked. MatchResult checked (λ typed. (typed ≡ model) × WellModel model)
+        (λ number. IsIll model number)) }
+{
+    match check(alloc, model) {
+        Ok(typed) => Ok(Ok(typed)),
+        Err((_, TypeFault::Item(number))) => Ok(Err(number)),
+        Err((_, TypeFault::NoMemory)) => Err(AllocError),
+    }
+}
+
+/// The well-typed model that an input begins with, and all trees of the input; or its first refusal, that of its bytes before that
+/// of the model, and that before the model's types. `AllocError` where memory is refused.
+pub fn load(alloc: Global, input: &[u8]) -> Result<Result<ModelFile, Refusal>, AllocError>
+    ensures { IfOk result (λ read. MatchResult read
+        (λ file. Holds input.now file.typed file.trees.items)
+        (λ refusal. IsRefusal input.now refusal)) }
+{
+    let trees = match trees_of(alloc, input)? {
+        Ok(trees) => trees,
+        Err(refusal) => return Ok(Err(refusal)),
+    };
+    let model = match model_in(alloc, trees.as_slice())? {
+        Ok(model) => model,
+        Err(fault) => return Ok(Err(Refusal::NoModel(fault))),
+    };
+    match typed_of(alloc, model)? {
+        Ok(typed) => Ok(Ok(ModelFile { typed, trees })),
+        Err(number) => Ok(Err(Refusal::IllTyped(number))),
+    }
+}
+
+/// The trees behind the model: all but the first.
+pub fn items_of(trees: &[Tree]) -> &[Tree]
+    ensures { result.now ≡ items_of trees.now }
+{
+    match trees.split_first() {
+        Some((_, items)) => items,
+        None => &[],
+    }
+}

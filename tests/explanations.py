@@ -1,0 +1,323 @@
+#!/usr/bin/env python3
+"""Compares the forms of `pst explain`: explanations.py PROGRAM [FILE..]
+
+For each input the JSON has to be as docs/json.md says, and the text has to be the one that is written here from the JSON alone. The page has to
+have the JSON in it. The inputs are the files that are named, or else the examples, those of crates/pst_rows/data/explained, and some that
+are made of them by changing answers and arguments.
+"""
+import glob, json, os, random, re, subprocess, sys
+
+TOP = os.path.dirname(os.path.dirname(os.path.abspath(__file__)))
+WIDTH = 1000
+
+# The schema. A key that ends in `?` may be absent; a type, a tuple of words, a list of one schema, or a dict of keys.
+VALUE = {"text": str, "value?": object, "bytes?": int}
+WHY = {"text": str, "part?": str, "wants?": VALUE, "compares?": [str]}
+NAMES = [[str]]
+ALLOWED = {"values": [VALUE], "all": bool, "only": bool}
+ITEM = {
+    "item": int, "kind": ("run", "case"), "verdict": ("explained", "unexplained", "fault", "broken", "valid", "prefalse", "casefault"),
+    "line": str, "at": {"file": str, "line": int},
+    "calls": [{"id": str, "number": int, "part": tuple("PLRSTX"), "index": int, "op": str, "args": [VALUE], "reply?": VALUE}],
+    "core?": [{"call": "call", "why?": {**WHY, "by?": str, "state": str}, "allowed?": ALLOWED}], "prefix?": bool,
+    "walk?": {"kind": ("explains", "furthest", "faults", "breaks"), "word": str, "start?": str,
+              "steps": [{"call": "call", "state": str, "pre?": str}], "next": [{"call": "call", "why": WHY}]},
+    "callback?": {"call": "call or null", "callback": ("init", "pre", "next", "post"), "outcome": str, "expr": str, "names": NAMES,
+                  "part?": {"expr": str, "names": NAMES, "function?": str}},
+    "broken?": {"call": "call", "wanted": str},
+    "search": {"orders": int, "positions?": int, "moves?": int},
+    "graph?": {"nodes": [{"at": [int], "state": str}], "edges": [{"from": "node", "call": "call", "to?": "node", "on?": bool, "why?": WHY}]},
+}
+PARAMS = [[str]]
+MODEL = {"name": str, "state": str, "init": str,
+         "ops": [{"name": str, "params": PARAMS, "result": str, "pre": str, "next": str, "post": str}],
+         "funs": [{"name": str, "params": PARAMS, "result": str, "body": str}]}
+DOCUMENT = {"pst": (1,), "files": [str], "model": MODEL, "items": [ITEM]}
+NEEDED = {"explained": {"walk"}, "unexplained": {"walk", "core"}, "fault": {"walk", "core", "callback"}, "broken": {"broken"}, "valid": set(),
+          "prefalse": {"walk", "callback"}, "casefault": {"walk", "callback"}}
+
+
+def check(value, schema, path, item=None):
+    """Raises AssertionError if the value is not as the schema says."""
+    if schema is object:
+        return
+    if isinstance(schema, list):
+        assert type(value) is list, f"{path} is no list"
+        for at, each in enumerate(value):
+            check(each, schema[0], f"{path}[{at}]", each if schema[0] is ITEM else item)
+    elif isinstance(schema, dict):
+        assert type(value) is dict, f"{path} is no object"
+        keys = {key.rstrip("?"): each for key, each in schema.items()}
+        for key in value:
+            assert key in keys, f"{path} has {key}"
+            check(value[key], keys[key], f"{path}.{key}", item)
+        for key in schema:
+            assert key.endswith("?") or key in value, f"{path} lacks {key}"
+    elif isinstance(schema, tuple):
+        assert value in schema, f"{path} is {value!r}"
+    elif schema == "node":
+        assert 0 <= value < len(item["graph"]["nodes"]), f"{path} is no node"
+    elif schema in ("call", "call or null"):
+        assert value in {call["id"] for call in item["calls"]} or (value is None and schema != "call"), f"{path} is no call"
+    else:
+        assert type(value) is schema, f"{path} is {value!r}"
+
+
+def spelled(value):
+    """Spells a value that is written as JSON."""
+    if isinstance(value, bool):
+        return str(value).lower()
+    if isinstance(value, int):
+        return str(value)
+    if isinstance(value, str):
+        return '"' + value.replace("\\", "\\\\").replace('"', '\\"') + '"'
+    if isinstance(value, list):
+        return " ".join(["(list", *map(spelled, value)]) + ")"
+    (kind,) = [key for key in value if key != "value"]
+    of = value[kind]
+    if kind == "int":
+        assert abs(int(of)) > 2**53 - 1
+        return of
+    if kind == "tuple":
+        return " ".join(["(tuple", *map(spelled, of)]) + ")"
+    if kind == "map":
+        return " ".join(["(map", *(f"({spelled(key)} {spelled(each)})" for key, each in of)]) + ")"
+    if kind == "call":
+        return " ".join(["(" + of[0], *map(spelled, of[1:])]) + ")"
+    return f"${of}" + (f"={spelled(value['value'])}" if kind == "ref" else "")
+
+
+def check_values(value):
+    """Checks that each value of a document is spelled as its JSON says, and is long if it has its length alone."""
+    if isinstance(value, list):
+        for each in value:
+            check_values(each)
+    elif isinstance(value, dict):
+        if "text" in value and "value" in value:
+            assert spelled(value["value"]) == value["text"], f"{value} is spelled as {spelled(value['value'])}"
+        assert "bytes" not in value or value["bytes"] > 4000 and len(value["text"]) <= 4000
+        for key, each in value.items():
+            if key != "value":
+                check_values(each)
+
+
+class Text:
+    """The text of an item, written from its JSON."""
+
+    def __init__(self, document, item):
+        self.item, self.lines = item, []
+        self.calls = {call["id"]: call for call in item["calls"]}
+        self.posts = {op["name"]: op["post"] for op in document["model"]["ops"]}
+        place = f"line {item['at']['line']}"
+        if len(document["files"]) > 1:
+            place = f"{item['at']['file']} {place}"
+        self.add(f"{item['item']} {item['line']} ({place})")
+        getattr(self, "of_" + item["verdict"])()
+
+    def add(self, *cells):
+        self.lines.append("   ".join(cell for cell in cells if cell))
+
+    def call(self, call):
+        return f"{call['id']} (" + " ".join([call["op"], *(arg["text"] for arg in call["args"])]) + ")"
+
+    def replied(self, call):
+        return self.call(call) + " -> " + (call["reply"]["text"] if "reply" in call else f"${call['number']}")
+
+    def run(self, marked):
+        cell = lambda call: ("*" if call["id"] in marked else " ") + self.replied(call)
+        part = lambda letter: [cell(call) for call in self.calls.values() if call["part"] == letter]
+        for each in part("P"):
+            self.add(each)
+        branches = [part(letter) for letter in "LRST"]
+        for at in range(max(map(len, branches))):
+            self.add(*(branch[at] for branch in branches if at < len(branch)))
+        for each in part("X"):
+            self.add(each)
+
+    def states(self):
+        walk = self.item["walk"]
+        if "start" in walk:
+            self.add("at first", "state " + walk["start"])
+            for step in walk["steps"]:
+                self.add(self.replied(self.calls[step["call"]]), "state " + step["state"])
+
+    def core(self):
+        core = self.item["core"]
+        self.add({0: "No answer is to blame: the model faults in every interleaving, whatever is answered.",
+                  1: "This answer cannot be right, whatever the others are:"}.get(
+                      len(core), "These answers cannot all be right; without any one of them the others can:"))
+        for answer in core:
+            call, why, allowed = self.calls[answer["call"]], answer.get("why"), answer.get("allowed")
+            self.add(self.call(call) + " answered " + call["reply"]["text"], "postcondition " + self.posts[call["op"]],
+                     why and why["text"] + (f", as by {why['by']}" if "by" in why else ""),
+                     allowed and "allowed: " + ", ".join(each["text"] for each in allowed["values"]) + ("" if allowed["all"] else " .."))
+        if self.item.get("prefix"):
+            self.add("The prefix alone shows it: no race is needed.")
+        self.add("The run, with * before what is reported above:" if core else "The run:")
+        self.run({answer["call"] for answer in core})
+
+    def expression(self, found):
+        self.add(found["expr"])
+        for name, value in found["names"]:
+            self.add(name, value)
+
+    def failure(self):
+        found, word = self.item["callback"], self.item["walk"]["word"]
+        call = self.calls.get(found["call"])
+        if call is None:
+            self.add(f"The initial state faults with {found['outcome']}:")
+        elif found["outcome"] == "false":
+            self.add(f"In the interleaving {word} the precondition of {self.call(call)} is false:")
+        else:
+            branches = sum(call["part"] in "LRST" for call in self.calls.values())
+            how = "in the interleaving" if len(word.strip("-")) == branches else "in an interleaving that begins with"
+            self.add(f"The callback {found['callback']} of {self.replied(call) if 'reply' in call else self.call(call)} faults with {found['outcome']}"
+                     + (f" {how} {word}" if call["part"] != "P" else "") + ":")
+        self.expression(found)
+        if "part" in found:
+            function = found["part"].get("function")
+            self.add("It faults in this part" + (f" of the function {function}:" if function else ":"))
+            self.expression(found["part"])
+        if call:
+            self.add("The states before it:")
+            self.states()
+
+    def of_explained(self):
+        self.states()
+        for step in self.item["walk"]["steps"]:
+            if "pre" in step:
+                how = "is false" if step["pre"] == "false" else f"faults with {step['pre']}"
+                self.add(f"The precondition of {self.call(self.calls[step['call']])} {how} there; the verdict on a recorded run does not ask it.")
+
+    def of_unexplained(self):
+        self.core()
+        walk, far = self.item["walk"], int(self.item["line"].split()[-1])
+        as_in = "" if walk["word"] == "-" else f", as in {walk['word']}"
+        self.add("No event is true before a false one:" if far == 0 else
+                 f"At most {far} event{' is' if far == 1 else 's are'} true before a false one{as_in}:")
+        assert len(walk["steps"]) == far
+        self.states()
+        self.add(f"There the postcondition of {'the' if len(walk['next']) == 1 else 'each'} next command is false:")
+        for stopped in walk["next"]:
+            self.add(self.replied(self.calls[stopped["call"]]), stopped["why"]["text"])
+
+    def of_fault(self):
+        self.failure()
+        self.core()
+
+    of_prefalse = of_casefault = failure
+
+    def of_valid(self):
+        pass
+
+    def of_broken(self):
+        call = self.calls[self.item["broken"]["call"]]
+        how = {"misfit": "it answered something else than", "failed": "the call was refused, and did not answer",
+               "not-run": "it was not called, and did not answer"}[call["reply"]["text"]]
+        self.add(f"{self.call(call)} has the reply {call['reply']['text']}: {how} a value of type {self.item['broken']['wanted']}.")
+        self.add("The run, with * before this command:")
+        self.run({call["id"]})
+
+
+def check_graph(item):
+    """Checks that the graph of an item has its walk, and that nothing can be tried that it has not."""
+    graph, walk = item["graph"], item["walk"]
+    assert len(graph["nodes"]) == item["search"]["positions"] and len(graph["edges"]) == item["search"]["moves"]
+    assert all(("to" in edge) != ("why" in edge) for edge in graph["edges"])
+    at, way = 0, []
+    for edge in (edge for edge in graph["edges"] if edge.get("on")):
+        assert edge["from"] == at
+        at = edge["to"]
+        way.append([edge["call"], graph["nodes"][at]["state"]])
+    assert way == [[step["call"], step["state"]] for step in walk["steps"]] and graph["nodes"][0]["state"] == walk["start"]
+    stopped = [edge for edge in graph["edges"] if edge["from"] == at and "why" in edge]
+    assert sorted(edge["call"] for edge in stopped) == sorted(each["call"] for each in walk["next"])
+    if item["kind"] == "run" and item["verdict"] == "unexplained":
+        reached = {edge["from"] for edge in graph["edges"]}
+        assert set(range(len(graph["nodes"]))) == reached, "a position without a move"
+
+
+def run(program, words, text):
+    ran = subprocess.run([program, "explain", *words], cwd=TOP, input=text, capture_output=True, timeout=120)
+    return ran.returncode, ran.stdout
+
+
+def words_of(text):
+    """The lines of a text without what its layout adds, as items."""
+    lines = [re.sub(r" {2,}", "   ", line.strip()) for line in text.split("\n")]
+    return [item.split("\n") for item in "\n".join(lines).strip("\n").split("\n\n")]
+
+
+def compare(program, words, text=None):
+    """Compares the forms for an input. Returns how many items were compared, and how many of them had lines that are too long."""
+    status, document = run(program, [*words, "--format", "json"], text)
+    if status > 1:
+        assert document.startswith(b"refused "), document[:100]
+        return 0, 0
+    assert not re.search(rb"[^\n -~]|[<>&]", document), "a byte that may not be in a page"
+    _, page = run(program, [*words, "--format", "html"], text)
+    assert page.count(document) == 1 and page.startswith(b"<!DOCTYPE html>"), "the page has other JSON"
+    lines = document.decode().splitlines()
+    document = json.loads(document)
+    assert len(lines) == len(document["items"]) + 2
+    assert all(json.loads(line.rstrip(",")) == item for line, item in zip(lines[1:], document["items"]))
+    check(document, DOCUMENT, "")
+    check_values(document)
+    again, shown = run(program, [*words, "--width", str(WIDTH)], text)
+    assert again == status
+    shown = words_of(shown.decode()) if shown else []
+    assert len(shown) == len(document["items"])
+    long = 0
+    for item, got in zip(document["items"], shown):
+        assert NEEDED[item["verdict"]] <= set(item), f"item {item['item']} lacks a part"
+        if "graph" in item:
+            check_graph(item)
+        wanted = words_of("\n".join(Text(document, item).lines))[0]
+        if max(map(len, wanted)) > WIDTH - 10:
+            long += 1
+        else:
+            assert got == wanted, f"item {item['item']}:\n" + "\n".join(got) + "\n-- from the JSON:\n" + "\n".join(wanted)
+    return len(shown), long
+
+
+def changed(text, chance):
+    """An input with some answers and arguments changed at random."""
+    def other(match):
+        word = match.group(0)
+        if chance.random() > 0.15:
+            return word
+        if word in ("true", "false"):
+            return chance.choice(["true", "false", "true", "false", "failed"])
+        return str(chance.choice([int(word) + 1, int(word) - 1, 0, 1, 2]))
+    begin = min((at for at in (text.find("\n(run"), text.find("\n(case")) if at >= 0), default=len(text))
+    return text[:begin] + re.sub(r'(?<![$\w"-])(-?\d+|true|false)(?![\w"])', other, text[begin:])
+
+
+def main(program, *files):
+    program = os.path.abspath(program)
+    inputs = [([name], None) for name in files]
+    if not files:
+        folder = "crates/pst_rows/data/explained"
+        names = sorted(glob.glob(f"{folder}/*.runs", root_dir=TOP) + glob.glob("examples/*.runs", root_dir=TOP))
+        inputs = [([*more, name], None) for name in names for more in ([], ["--failures"], ["--item", "2"], ["--max", "1"])]
+        inputs.append(([f"{folder}/{name}" for name in ("parts.model", "monday.runs", "tuesday.runs")], None))
+        chance = random.Random(7)
+        for name in (chance.choice(names) for _ in range(200)):
+            with open(os.path.join(TOP, name), encoding="utf-8") as file:
+                inputs.append((["-"], changed(re.sub(r"(?m)^;.*\n", "", file.read()), chance).encode()))
+    items = long = failed = 0
+    for words, text in inputs:
+        try:
+            more, too_long = compare(program, words, text)
+            items, long = items + more, long + too_long
+        except AssertionError as error:
+            failed += 1
+            print(f"{' '.join(words)}: {error}")
+            if text:
+                print(text.decode())
+    print(f"{items} items of {len(inputs)} inputs, {long} of them too long to compare, {failed} failed")
+    return 1 if failed or not items else 0
+
+
+if __name__ == "__main__":
+    sys.exit(main(*sys.argv[1:]))
