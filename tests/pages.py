@@ -7,6 +7,7 @@ The words after the fence of a block say what it is:
   console WORD..        commands: bash runs each line `$ COMMAND`, and the lines after it are what it prints, where a line `..` stands for any lines; a line
                         `? N` is the exit status, 0 if there is none. With `varies` the output is one of many, and the first word of each line is compared.
                         With `needs=NAME` it is run only if there is a program NAME, a Python module NAME or, for redis, also a server on Redis's port
+  LANGUAGE within FILE  what a file that a command has written holds, whatever its spaces are; `..` stands for anything
   lisp items            items of a model, which has to be accepted
   LANGUAGE not-run      what no test runs; it is listed
   text                  no command and no output
@@ -106,6 +107,11 @@ class Page:
             with open(os.path.join(TOP, words[2]), encoding="utf-8") as file:
                 shown = file.read().splitlines()
             self.count(fits(["..", *lines, ".."], shown), number, f"this is not what {words[2]} has")
+        elif words[1:2] == ["within"]:
+            with open(os.path.join(self.folder, words[2]), encoding="utf-8") as file:
+                written = "".join(file.read().split())
+            parts = [re.escape("".join(part.split())) for part in "".join(lines).split("..")]
+            self.count(re.search(".*".join(parts), written), number, f"this is not what {words[2]} has")
         elif words == ["lisp", "items"]:
             self.count(self.accepts(lines, "int", "0") or self.accepts(lines, "(map text int)", "(map text int)"), number, "these items are refused")
         elif words[1:] == ["not-run"]:
