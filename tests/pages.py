@@ -144,7 +144,7 @@ class Page:
     def files(self):
         """Looks for each file of the repository that the page names."""
         for number, line in enumerate(self.lines, 1):
-            for name in re.findall(r"`((?:crates|docs|bench|tests|examples|mutants|tools|stress|assets)/[\w./-]+|pst_\w+/(?:specs|src)/[\w./-]+)`", line) + re.findall(r"\]\(([\w./-]+)\)", line):
+            for name in re.findall(r"`((?:crates|docs|bench|tests|examples|mutants|tools|stress|assets)/[\w./-]+|pst_\w+/(?:specs|src)/[\w./-]+)`", line) + re.findall(r"(?:\]\(|src(?:set)?=\")([\w./-]+)[)\"]", line):
                 at = os.path.join(os.path.dirname(self.path), name)
                 self.count(any(os.path.exists(os.path.join(top, name)) for top in (TOP, CRATES)) or os.path.exists(at), number, f"there is no {name}")
 
