@@ -3,9 +3,9 @@
 use crate::words::is_json;
 use clap::ArgMatches;
 use pst_items::Text;
-use pst_json_verdicts::{Field, Name, add_number, add_words, object_line};
 use pst_messages::{Asked, errors_of};
 use pst_notices::{Notice, Notices, place_in};
+use pst_objects::{Field, Name, add_number, add_words, object_line};
 use pst_sources::Input;
 use pst_warnings::warnings_in;
 use std::alloc::{AllocError, Global};
@@ -30,10 +30,10 @@ fn notice_object(alloc: Global, input: &Input<'_>, notice: Notice) -> Result<Vec
     let mut fields = Vec::new(alloc);
     add_words(alloc, &mut fields, Name::Severity, severity)?;
     add_words(alloc, &mut fields, Name::File, place.file)?;
-    add_number(&mut fields, Name::Line, place.line)?;
-    add_number(&mut fields, Name::Column, place.column)?;
-    add_number(&mut fields, Name::Start, place.start)?;
-    add_number(&mut fields, Name::End, place.end)?;
+    add_number(&mut fields, Name::Line, place.line as u64)?;
+    add_number(&mut fields, Name::Column, place.column as u64)?;
+    add_number(&mut fields, Name::Start, place.start as u64)?;
+    add_number(&mut fields, Name::End, place.end as u64)?;
     let Notice {
         span: _,
         is_warning: _,

@@ -19,9 +19,8 @@ use crate::output::{Output, send};
 use crate::sharing::may_share_compiled;
 use crate::shown::Shown;
 use crate::status::Status;
-use pst_json_verdicts::{
-    accepted_fields, judged_fields, object_line, refusal_fields, refused_fields,
-};
+use pst_json_verdicts::{accepted_fields, judged_fields, refusal_fields, refused_fields};
+use pst_objects::object_line;
 use pst_rejudge::{Answer, judge_each};
 use pst_sink::Sink;
 use pst_typing::{Refusal, items_of, load, model_name};

@@ -1,3 +1,2 @@
 -- what the public contracts cite
-pub mod Objects
 pub mod Verdicts

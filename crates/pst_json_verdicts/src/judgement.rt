@@ -1,52 +1,34 @@
 //! The members of the objects of items.
 ghost use Rattle.std.specs.Prelude.{◌≡◌, [], ◌∷◌, ◌++◌, IfOk, OnOk};
 ghost use Rattle.pst_json_verdicts.specs.Verdicts.{judged_fields, merge_field, outcome_fields, place_fields, refused_fields};
-ghost use Rattle.pst_json_verdicts.specs.declared.field.Field.TheVariants as spec;
 ghost use Rattle.pst_judge.specs.declared.judgement.Judged.TheVariants as judged;
 
-use crate::field::{Field, Name};
 use crate::merge::merge_text;
 use pst_eval::Place;
-use pst_items::Text;
 use pst_judge::{Judged, Verdict, Why};
+use pst_objects::{Field, Name, add_number, add_words};
 use pst_runs::RunFaultKind;
 use std::alloc::{AllocError, Global};
-
-/// Adds a member that is a text.
-pub fn add_words(
-    alloc: Global,
-    fields: &mut Vec<Field>,
-    name: Name,
-    words: &str,
-) -> Result<(), AllocError>
-    ensures { OnOk result (fields.new.items ≡ fields.old.items ++ spec.Words name words.now ∷ []) }
-{
-    fields.push(Field::Words(name, Text::from_string(String::from_str(alloc, words)?)))?;
-    Ok(())
-}
-
-/// Adds a member that is a number.
-pub fn add_number(fields: &mut Vec<Field>, name: Name, number: usize) -> Result<(), AllocError>
-    ensures { OnOk result (fields.new.items ≡ fields.old.items ++ spec.Number name number ∷ []) }
-{
-    fields.push(Field::Number(name, number))?;
-    Ok(())
-}
 
 /// Adds the place of a fault.
 fn add_place(alloc: Global, fields: &mut Vec<Field>, place: &Place) -> Result<(), AllocError>
     ensures { OnOk result (fields.new.items ≡ fields.old.items ++ place_fields place.now) }
 {
-    add_number(fields, Name::Command, place.command as usize)?;
+    add_number(fields, Name::Command, place.command as u64)?;
     add_words(alloc, fields, Name::Callback, place.callback.name())?;
     add_words(alloc, fields, Name::Fault, place.fault.name())
 }
 
-/// Adds an interleaving.
-fn add_merge(alloc: Global, fields: &mut Vec<Field>, branches: &[usize]) -> Result<(), AllocError>
-    ensures { OnOk result (fields.new.items ≡ fields.old.items ++ merge_field branches.now ∷ []) }
+/// Adds an interleaving, the numbers of its branches.
+fn add_merge(
+    alloc: Global,
+    fields: &mut Vec<Field>,
+    branches: &Vec<usize>,
+) -> Result<(), AllocError>
+    ensures { OnOk result (fields.new.items ≡ fields.old.items ++ merge_field branches.now.items ∷ []) }
 {
-    fields.push(Field::Words(Name::Merge, merge_text(alloc, branches)?))?;
+    let merge = merge_text(alloc, branches.as_slice())?;
+    fields.push(Field::Words(Name::Merge, merge))?;
     Ok(())
 }
 
@@ -57,7 +39,7 @@ fn add_verdict(alloc: Global, fields: &mut Vec<Field>, verdict: &Verdict) -> Res
     match verdict {
         Verdict::Explained(word) => {
             add_words(alloc, fields, Name::Verdict, "explained")?;
-            add_merge(alloc, fields, word.as_slice())
+            add_merge(alloc, fields, word)
         }
         Verdict::Faulted(place) => {
             add_words(alloc, fields, Name::Verdict, "fault")?;
@@ -65,11 +47,11 @@ fn add_verdict(alloc: Global, fields: &mut Vec<Field>, verdict: &Verdict) -> Res
         }
         Verdict::Unexplained(far) => {
             add_words(alloc, fields, Name::Verdict, "unexplained")?;
-            add_number(fields, Name::Far, *far)
+            add_number(fields, Name::Far, *far as u64)
         }
         Verdict::Broken(command) => {
             add_words(alloc, fields, Name::Verdict, "broken")?;
-            add_number(fields, Name::Command, *command as usize)
+            add_number(fields, Name::Command, *command as u64)
         }
     }
 }
@@ -81,13 +63,13 @@ fn add_why(alloc: Global, fields: &mut Vec<Field>, why: &Why) -> Result<(), Allo
     match why {
         Why::PreFalse { command, merge } => {
             add_words(alloc, fields, Name::Verdict, "prefalse")?;
-            add_number(fields, Name::Command, *command as usize)?;
-            add_merge(alloc, fields, merge.as_slice())
+            add_number(fields, Name::Command, *command as u64)?;
+            add_merge(alloc, fields, merge)
         }
         Why::CallbackFault { place, merge } => {
             add_words(alloc, fields, Name::Verdict, "casefault")?;
             add_place(alloc, fields, place)?;
-            add_merge(alloc, fields, merge.as_slice())
+            add_merge(alloc, fields, merge)
         }
         Why::NoMemory => {
             add_words(alloc, fields, Name::Verdict, "refused")?;
@@ -105,7 +87,7 @@ pub fn judged_fields(
     ensures { IfOk result (λ fields. fields.items ≡ judged_fields number judged.now) }
 {
     let mut fields = Vec::new(alloc);
-    add_number(&mut fields, Name::Item, number)?;
+    add_number(&mut fields, Name::Item, number as u64)?;
     match judged {
         Judged::Verdict(verdict) => add_verdict(alloc, &mut fields, verdict)?,
         Judged::Valid => add_words(alloc, &mut fields, Name::Verdict, "valid")?,
@@ -125,10 +107,10 @@ pub fn refused_fields(
     ensures { IfOk result (λ fields. fields.items ≡ refused_fields number kind command) }
 {
     let mut fields = Vec::new(alloc);
-    add_number(&mut fields, Name::Item, number)?;
+    add_number(&mut fields, Name::Item, number as u64)?;
     add_words(alloc, &mut fields, Name::Verdict, "refused")?;
     add_words(alloc, &mut fields, Name::Stage, "item")?;
-    add_number(&mut fields, Name::Command, command as usize)?;
+    add_number(&mut fields, Name::Command, command as u64)?;
     add_words(alloc, &mut fields, Name::Fault, kind.name())?;
     Ok(fields)
 }

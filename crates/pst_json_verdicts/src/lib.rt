@@ -1,15 +1,11 @@
-//! JSON of verdicts and refusals: objects of numbers and texts, each on a line of its own.
+//! JSON of verdicts and refusals: the members of their objects.
 //!
 //! Each function returns `AllocError` if an allocation fails.
 #![tactic(auto)]
 
-mod field;
 mod judgement;
 mod merge;
-mod object;
 mod refusal;
 
-pub use field::{Field, Name};
-pub use judgement::{add_number, add_words, judged_fields, refused_fields};
-pub use object::object_line;
+pub use judgement::{judged_fields, refused_fields};
 pub use refusal::{accepted_fields, refusal_fields};

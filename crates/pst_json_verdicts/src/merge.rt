@@ -22,10 +22,10 @@ fn letter(branch: usize) -> &'static str
 pub fn merge_text(alloc: Global, branches: &[usize]) -> Result<Text, AllocError>
     ensures { IfOk result (λ text. text ≡ word_text branches.now) }
 {
-    let mut text = String::new(alloc);
     if branches.is_empty() {
-        text.push_str("-")?;
+        return Ok(Text::from_string(String::from_str(alloc, "-")?));
     }
+    let mut text = String::new(alloc);
     for branch in branches {
         text.push_str(letter(*branch))?;
     }

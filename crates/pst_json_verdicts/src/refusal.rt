@@ -2,8 +2,7 @@
 ghost use Rattle.std.specs.Prelude.{◌≡◌, IfOk};
 ghost use Rattle.pst_json_verdicts.specs.Verdicts as spec;
 
-use crate::field::{Field, Name};
-use crate::judgement::{add_number, add_words};
+use pst_objects::{Field, Name, add_number, add_words};
 use pst_typing::Refusal;
 use std::alloc::{AllocError, Global};
 
@@ -27,16 +26,16 @@ pub fn refusal_fields(alloc: Global, refusal: &Refusal) -> Result<Vec<Field>, Al
         Refusal::Unread(fault) => {
             add_words(alloc, &mut fields, Name::Stage, "read")?;
             add_words(alloc, &mut fields, Name::Fault, fault.kind.name())?;
-            add_number(&mut fields, Name::Place, fault.place)?;
+            add_number(&mut fields, Name::Place, fault.place as u64)?;
         }
         Refusal::NoModel(fault) => {
             add_words(alloc, &mut fields, Name::Stage, "model")?;
             add_words(alloc, &mut fields, Name::Fault, fault.kind.name())?;
-            add_number(&mut fields, Name::ModelItem, fault.item)?;
+            add_number(&mut fields, Name::ModelItem, fault.item as u64)?;
         }
         Refusal::IllTyped(number) => {
             add_words(alloc, &mut fields, Name::Stage, "type")?;
-            add_number(&mut fields, Name::ModelItem, *number)?;
+            add_number(&mut fields, Name::ModelItem, *number as u64)?;
         }
     }
     Ok(fields)

@@ -1,6 +1,6 @@
 //! Members of JSON objects.
 ghost use Rattle.std.specs.Prelude.{◌≡◌};
-ghost use Rattle.pst_json_verdicts.specs.Objects.{name_text};
+ghost use Rattle.pst_objects.specs.Objects.{name_text};
 
 use pst_items::Text;
 
@@ -47,6 +47,52 @@ pub enum Name {
     Notes,
     /// Why it is wrong, in lines.
     Explanation,
+    /// The seed of a campaign.
+    Seed,
+    /// How many trials a campaign has.
+    Trials,
+    /// The most commands of a case's branches.
+    Commands,
+    /// How many branches a case has.
+    Branches,
+    /// The most commands of a case's suffix.
+    Suffix,
+    /// How often each case is driven.
+    Repeats,
+    /// The most cases that are driven to shrink one.
+    Limit,
+    /// How many trials passed.
+    Passed,
+    /// How many trials failed because no interleaving explains a run.
+    Unexplained,
+    /// How many trials failed because the model faults.
+    Faulted,
+    /// How many trials failed because a reply is no value.
+    Broken,
+    /// How many trials have no case, because a callback faults while it is generated.
+    GenFault,
+    /// How many trials were lost.
+    Lost,
+    /// How many trials were not begun.
+    Undrawn,
+    /// The numbers of the trials that were lost, each with its cause.
+    Losses,
+    /// The first trial that failed.
+    Least,
+    /// The run with which that trial failed, as a tree.
+    From,
+    /// The verdict on that run.
+    FromVerdict,
+    /// How many cases shrinking took.
+    Steps,
+    /// Whether shrinking ended with a case that no step makes smaller: `minimal` or `stopped`.
+    Ending,
+    /// The last run that shrinking came to, as a tree.
+    To,
+    /// The verdict on that run.
+    ToVerdict,
+    /// The run that a system gave, as a tree.
+    Run,
 }
 
 impl Name {
@@ -75,6 +121,29 @@ impl Name {
             Name::Message => "message",
             Name::Notes => "notes",
             Name::Explanation => "explanation",
+            Name::Seed => "seed",
+            Name::Trials => "trials",
+            Name::Commands => "commands",
+            Name::Branches => "branches",
+            Name::Suffix => "suffix",
+            Name::Repeats => "repeats",
+            Name::Limit => "limit",
+            Name::Passed => "passed",
+            Name::Unexplained => "unexplained",
+            Name::Faulted => "faulted",
+            Name::Broken => "broken",
+            Name::GenFault => "genfault",
+            Name::Lost => "lost",
+            Name::Undrawn => "undrawn",
+            Name::Losses => "losses",
+            Name::Least => "least",
+            Name::From => "from",
+            Name::FromVerdict => "from_verdict",
+            Name::Steps => "steps",
+            Name::Ending => "ending",
+            Name::To => "to",
+            Name::ToVerdict => "to_verdict",
+            Name::Run => "run",
         }
     }
 }
@@ -83,7 +152,7 @@ impl Name {
 #[derive(Debug, Drop)]
 pub enum Field {
     /// A member that is a number.
-    Number(Name, usize),
+    Number(Name, u64),
     /// A member that is a text.
     Words(Name, Text),
     /// A member that is an array of texts.

@@ -2,9 +2,9 @@ use Rattle.std.proofs.Common.{◌≡◌, sym, ap, ◌∙◌, rules}
 use Rattle.json.specs.Lex.{tokens}
 use Rattle.json.specs.Print.{print}
 use Rattle.json.specs.Tree.{json_tokens}
-use Rattle.pst_json_verdicts.specs.Objects.{object_of}
-use Rattle.pst_json_verdicts.proofs.Reading.{read_back}
-use Rattle.pst_json_verdicts.proofs.object.object_line.Goals as goal
+use Rattle.pst_objects.specs.Objects.{object_of}
+use Rattle.pst_objects.proofs.Reading.{read_back}
+use Rattle.pst_objects.proofs.object.object_line.Goals as goal
 
 pub returns-clause-reads_back : goal.returns-clause-reads_back
 returns-clause-reads_back c =

@@ -1,7 +1,7 @@
 use Rattle.std.proofs.Common.{◌≡◌, ◌++◌, drop}
 use Rattle.json.specs.Tree.{items_tokens}
-use Rattle.pst_json_verdicts.specs.Objects.{texts_of}
-use Rattle.pst_json_verdicts.proofs.object.put_texts.Given as goal
+use Rattle.pst_objects.specs.Objects.{texts_of}
+use Rattle.pst_objects.proofs.object.put_texts.Given as goal
 
 abbrev pub invariant-loop-text : goal.invariant-loop-text
 invariant-loop-text l =

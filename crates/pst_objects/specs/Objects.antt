@@ -3,10 +3,10 @@ use Rattle.std.specs.Prelude.{ℕ, List, [], ◌∷◌, ◌++◌, codes, decimal
 use Rattle.json.specs.Json.{Json, number, string, array, object, Items, no_items, item, Members, no_members, member}
 use Rattle.json.specs.Print.{print}
 use Rattle.json.specs.Tree.{json_tokens}
-use Rattle.pst_json_verdicts.specs.declared.field.Field.{Field}
-use Rattle.pst_json_verdicts.specs.declared.field.Field.TheVariants.{Number, Words, Lines}
-use Rattle.pst_json_verdicts.specs.declared.field.Name.{Name}
-use Rattle.pst_json_verdicts.specs.declared.field.Name.TheVariants as name
+use Rattle.pst_objects.specs.declared.field.Field.{Field}
+use Rattle.pst_objects.specs.declared.field.Field.TheVariants.{Number, Words, Lines}
+use Rattle.pst_objects.specs.declared.field.Name.{Name}
+use Rattle.pst_objects.specs.declared.field.Name.TheVariants as name
 
 abbrev pub name_text : Name → List ℕ
 name_text name.Item = codes "item"
@@ -29,6 +29,29 @@ name_text name.End = codes "end"
 name_text name.Message = codes "message"
 name_text name.Notes = codes "notes"
 name_text name.Explanation = codes "explanation"
+name_text name.Seed = codes "seed"
+name_text name.Trials = codes "trials"
+name_text name.Commands = codes "commands"
+name_text name.Branches = codes "branches"
+name_text name.Suffix = codes "suffix"
+name_text name.Repeats = codes "repeats"
+name_text name.Limit = codes "limit"
+name_text name.Passed = codes "passed"
+name_text name.Unexplained = codes "unexplained"
+name_text name.Faulted = codes "faulted"
+name_text name.Broken = codes "broken"
+name_text name.GenFault = codes "genfault"
+name_text name.Lost = codes "lost"
+name_text name.Undrawn = codes "undrawn"
+name_text name.Losses = codes "losses"
+name_text name.Least = codes "least"
+name_text name.From = codes "from"
+name_text name.FromVerdict = codes "from_verdict"
+name_text name.Steps = codes "steps"
+name_text name.Ending = codes "ending"
+name_text name.To = codes "to"
+name_text name.ToVerdict = codes "to_verdict"
+name_text name.Run = codes "run"
 
 -- the name of a member, and its value
 abbrev pub field_name : Field → List ℕ

@@ -1,13 +1,12 @@
 -- The text of an object is read back as the object.
 use Rattle.std.proofs.Common.{◌≡◌, ◌≤◌, ℕ, max, List, [], ◌∷◌, Some, option_and_then, refl, sym, ap, ◌∙◌, append-nil, arith}
-use Rattle.json.specs.Json.{Json, value, if_last, max_depth, document}
+use Rattle.json.specs.Json.{value, if_last, max_depth, document}
 use Rattle.json.specs.Lex.{tokens}
-use Rattle.json.specs.Print.{print}
 use Rattle.json.specs.Tree.{json_tokens, depth, items_depth, members_depth}
 use Rattle.json.proofs.Printed.Trees.{value-json_tokens}
-use Rattle.pst_json_verdicts.specs.Objects.{object_of, object_text, members_of, field_json, texts_of}
-use Rattle.pst_json_verdicts.specs.declared.field.Field.{Field}
-use Rattle.pst_json_verdicts.specs.declared.field.Field.TheVariants.{Number, Words, Lines}
+use Rattle.pst_objects.specs.Objects.{object_of, object_text, members_of, field_json, texts_of}
+use Rattle.pst_objects.specs.declared.field.Field.{Field}
+use Rattle.pst_objects.specs.declared.field.Field.TheVariants.{Number, Words, Lines}
 
 texts_depth : (ts : List (List ℕ)) → items_depth (texts_of ts) ≡ 0
 texts_depth [] = refl

@@ -1,7 +1,7 @@
 use Rattle.std.proofs.Common.{◌≡◌, ◌++◌, drop}
 use Rattle.json.specs.Tree.{members_tokens}
-use Rattle.pst_json_verdicts.specs.Objects.{members_of}
-use Rattle.pst_json_verdicts.proofs.object.put_fields.Given as goal
+use Rattle.pst_objects.specs.Objects.{members_of}
+use Rattle.pst_objects.proofs.object.put_fields.Given as goal
 
 abbrev pub invariant-loop-field : goal.invariant-loop-field
 invariant-loop-field l =

@@ -3,7 +3,7 @@ ghost use Rattle.std.specs.Prelude.{◌≡◌, [], ◌∷◌, ◌++◌, Some, If
 ghost use Rattle.json.specs.Json.{document};
 ghost use Rattle.json.specs.Token.{key};
 ghost use Rattle.json.specs.Tree.{items_tokens, json_tokens, members_tokens};
-ghost use Rattle.pst_json_verdicts.specs.Objects.{field_json, field_name, members_of, object_line, object_of, object_text, texts_of};
+ghost use Rattle.pst_objects.specs.Objects.{field_json, field_name, members_of, object_line, object_of, object_text, texts_of};
 
 use crate::field::Field;
 use json::Writer;
@@ -30,7 +30,7 @@ fn put_field(writer: &mut Writer<Global>, field: &Field) -> Result<(), AllocErro
     match field {
         Field::Number(name, number) => {
             writer.key(name.text())?;
-            writer.u64(*number as u64)
+            writer.u64(*number)
         }
         Field::Words(name, words) => {
             writer.key(name.text())?;
