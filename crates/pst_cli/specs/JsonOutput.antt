@@ -54,10 +54,16 @@ pub data IsJudgeJson (which : Shown) (input text : List ℕ) (status : Status) :
 
 -- ---- `pst check --format json`
 
--- the object of a well-typed model, or that of its first refusal, and after it the notices
-pub data IsCheckJson (input notices text : List ℕ) (status : Status) : Type 0 where
-  accepted : (m : Source) (trees : List Form) → Holds input m trees
-      → text ≡ object_line (accepted_fields m.name) ++ notices → status ≡ Accepted
-      → IsCheckJson input notices text status
-  refused : (refusal : Refusal) → IsRefusal input refusal → text ≡ refusal_object refusal ++ notices → status ≡ Refused
-      → IsCheckJson input notices text status
+-- the object of a well-typed model, or that of its first refusal
+pub data IsModelObject (input text : List ℕ) (status : Status) : Type 0 where
+  accepted : (m : Source) (trees : List Form) → Holds input m trees → text ≡ object_line (accepted_fields m.name)
+      → status ≡ Accepted
+      → IsModelObject input text status
+  refused : (refusal : Refusal) → IsRefusal input refusal → text ≡ refusal_object refusal → status ≡ Refused
+      → IsModelObject input text status
+
+-- the object of the model, and after it the notices
+pub record IsCheckJson (input notices text : List ℕ) (status : Status) : Type 0 where
+  pub object : List ℕ
+  pub model : IsModelObject input object status
+  pub whole : text ≡ object ++ notices

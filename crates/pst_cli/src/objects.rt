@@ -1,8 +1,9 @@
 //! `pst judge` and `pst check` with `--format json`.
-ghost use Rattle.std.specs.Prelude.{◌≡◌, [], ◌++◌, false, IfOk, IfSome, OnOk};
+ghost use Rattle.std.specs.Prelude.{◌≡◌, ◌++◌, false, IfOk, IfSome, OnOk};
 ghost use Rattle.pst_cli.specs.JsonOutput.{
   IsCheckJson,
   IsJudgeJson,
+  IsModelObject,
   answer_object,
   memory_object,
   refusal_object,
@@ -12,6 +13,8 @@ ghost use Rattle.pst_cli.specs.JsonOutput.{
 ghost use Rattle.pst_cli.specs.KeepingOn.{HoldsAnswers};
 ghost use Rattle.pst_cli.specs.Sending.{PrintsElse};
 ghost use Rattle.pst_cli.specs.declared.status.Status.TheVariants.{Refused};
+ghost use Rattle.pst_json_verdicts.specs.Verdicts.{accepted_fields};
+ghost use Rattle.pst_objects.specs.Objects.{object_line};
 
 use crate::compiled::load_compiled;
 use crate::keep::{AnsweredFile, is_good_answer, worst_status};
@@ -22,6 +25,7 @@ use crate::status::Status;
 use pst_json_verdicts::{accepted_fields, judged_fields, refusal_fields, refused_fields};
 use pst_objects::object_line;
 use pst_rejudge::{Answer, judge_each};
+use pst_rules::Typed;
 use pst_sink::Sink;
 use pst_typing::{Refusal, items_of, load, model_name};
 use std::alloc::{AllocError, Global};
@@ -96,10 +100,9 @@ fn judge_output<R: Threads + Sync>(
     let items = items_of(file.trees.as_slice());
     may_share_compiled();
     let answers = judge_each(rt, &file.compiled, alloc, file.compiled.typed(), items)?;
-    let output = Output {
-        text: shown_objects(alloc, shown, answers.as_slice())?,
-        status: worst_status(answers.as_slice()),
-    };
+    let text = shown_objects(alloc, shown, answers.as_slice())?;
+    let status = worst_status(answers.as_slice());
+    let output = Output { text, status };
     Ok((output, Some(AnsweredFile { file, answers })))
 }
 
@@ -133,18 +136,23 @@ pub fn judge_json<W: Sink, R: Threads + Sync>(
 /// The object that is written if an allocation fails.
 const MEMORY_OBJECT: &[u8] = b"{\"verdict\":\"refused\",\"stage\":\"memory\"}\n";
 
+/// The object of a model that is accepted.
+fn accepted_object(alloc: Global, typed: &Typed) -> Result<Vec<u8>, AllocError>
+    ensures { IfOk result (λ line. line.items ≡ object_line (accepted_fields typed.now.name)) }
+{
+    let fields = accepted_fields(alloc, model_name(typed).as_str())?;
+    object_line(alloc, fields.as_slice())
+}
+
 /// The object of a well-typed model, or of its first refusal.
-fn check_object(alloc: Global, input: &[u8]) -> Result<Output, AllocError>
-    ensures { IfOk result (λ output. IsCheckJson input.now [] output.text.items output.status) }
+fn model_object(alloc: Global, input: &[u8]) -> Result<Output, AllocError>
+    ensures { IfOk result (λ output. IsModelObject input.now output.text.items output.status) }
 {
     match load(alloc, input)? {
-        Ok(file) => {
-            let fields = accepted_fields(alloc, model_name(&file.typed).as_str())?;
-            Ok(Output {
-                text: object_line(alloc, fields.as_slice())?,
-                status: Status::Accepted,
-            })
-        }
+        Ok(file) => Ok(Output {
+            text: accepted_object(alloc, &file.typed)?,
+            status: Status::Accepted,
+        }),
         Err(refusal) => refusal_object(alloc, &refusal),
     }
 }
@@ -153,7 +161,7 @@ fn check_object(alloc: Global, input: &[u8]) -> Result<Output, AllocError>
 fn check_output(alloc: Global, input: &[u8], notices: &[u8]) -> Result<Output, AllocError>
     ensures { IfOk result (λ output. IsCheckJson input.now notices.now output.text.items output.status) }
 {
-    let Output { mut text, status } = check_object(alloc, input)?;
+    let Output { mut text, status } = model_object(alloc, input)?;
     text.extend_from_slice(notices)?;
     Ok(Output { text, status })
 }
