@@ -1,4 +1,6 @@
 //! The explanation of a run that a command drove.
+ghost use Rattle.std.specs.Prelude.{IfOk, IfSome};
+ghost use Rattle.pst_runs.specs.Lawful.{IsLawful};
 
 use crate::compiled::load_compiled;
 use crate::judge::is_good;
@@ -14,7 +16,9 @@ fn run_of(
     typed: &Typed,
     case: Case,
     history: History,
-) -> Result<Option<Run>, AllocError> {
+) -> Result<Option<Run>, AllocError>
+    ensures { IfOk result (λ found. IfSome found (IsLawful typed.now)) }
+{
     let shaped = match shape(alloc, typed, case) {
         Ok(shaped) => shaped,
         Err((_, fault)) => {
