@@ -1,7 +1,8 @@
 #!/usr/bin/env python3
 """Runs the commands of transcripts and compares what they print: commands.py PROGRAM FILE..
 
-A transcript has blocks that begin with a line `$ COMMAND`, which bash runs at the top of the repository with `pst` for the program.
+A transcript has blocks that begin with a line `$ COMMAND`, which bash runs at the top of the repository with `pst` for the program
+and $PST_ROOM for a folder of its own.
 The lines after it are those of standard output; those that begin with `! ` are of standard error; a line `? N` is the exit status, 0
 if there is none. A line `...` stands for any lines. Lines that begin with `#` between blocks are comments.
 """
@@ -49,7 +50,8 @@ def main(program, *paths):
     passed = failed = 0
     with tempfile.TemporaryDirectory() as room:
         os.symlink(os.path.abspath(program), f"{room}/pst")
-        env = {**os.environ, "PATH": f"{room}:{os.environ['PATH']}"}
+        os.mkdir(f"{room}/files")
+        env = {**os.environ, "PATH": f"{room}:{os.environ['PATH']}", "PST_ROOM": f"{room}/files"}
         for path in paths:
             for number, command, out, errors, (status,) in blocks(path):
                 ran = subprocess.run(["bash", "-c", command], cwd=TOP, env=env, stdin=subprocess.DEVNULL, capture_output=True, timeout=120)

@@ -5,8 +5,9 @@ The words after the fence of a block say what it is:
   LANGUAGE FILE         a file, which is written to the folder
   LANGUAGE shows FILE   lines of a file of the repository; a line `..` stands for any lines
   console WORD..        commands: bash runs each line `$ COMMAND`, and the lines after it are what it prints, where a line `..` stands for any lines; a line
-                        `? N` is the exit status, 0 if there is none. With `varies` the output is one of many, and the first word of each line is compared.
-                        With `needs=NAME` it is run only if there is a program NAME, a Python module NAME or, for redis, also a server on Redis's port
+                        `? N` is the exit status; else it is that of the word `status=N`, or 0. With `varies` the output is one of many, and the first word of
+                        each line is compared. With `needs=NAME` it is run only if there is a program NAME, a Python module NAME or, for redis, also a server on Redis's port
+  LANGUAGE within FILE  what a file that a command has written holds, whatever its spaces are; `..` stands for anything
   lisp items            items of a model, which has to be accepted
   LANGUAGE not-run      what no test runs; it is listed
   text                  no command and no output
@@ -31,12 +32,12 @@ def blocks(lines):
     return found
 
 
-def commands(lines):
-    """Returns each command of a block with its lines of output and its status."""
+def commands(lines, usual):
+    """Returns each command of a block with its lines of output and its status, which is the usual one if none is given."""
     found = []
     for line in lines:
         if line.startswith("$ "):
-            found.append([line[2:], [], 0])
+            found.append([line[2:], [], usual])
         elif line.startswith("? "):
             found[-1][2] = int(line[2:])
         else:
@@ -86,7 +87,8 @@ class Page:
             print(f"{self.path}:{number}: skipped: {' '.join(missing)}")
             return
         as_seen = first_words if "varies" in words else list
-        for command, wanted, status in commands(lines):
+        usual = int(dict(word.split("=") for word in words if "=" in word).get("status", 0))
+        for command, wanted, status in commands(lines, usual):
             got, ended = self.ran(command)
             self.count(fits(as_seen(wanted), as_seen(got)) and ended == status, number, f"$ {command}", *got, f"? {ended}")
 
@@ -106,6 +108,11 @@ class Page:
             with open(os.path.join(TOP, words[2]), encoding="utf-8") as file:
                 shown = file.read().splitlines()
             self.count(fits(["..", *lines, ".."], shown), number, f"this is not what {words[2]} has")
+        elif words[1:2] == ["within"]:
+            with open(os.path.join(self.folder, words[2]), encoding="utf-8") as file:
+                written = "".join(file.read().split())
+            parts = [re.escape("".join(part.split())) for part in "".join(lines).split("..")]
+            self.count(re.search(".*".join(parts), written), number, f"this is not what {words[2]} has")
         elif words == ["lisp", "items"]:
             self.count(self.accepts(lines, "int", "0") or self.accepts(lines, "(map text int)", "(map text int)"), number, "these items are refused")
         elif words[1:] == ["not-run"]:
@@ -137,7 +144,7 @@ class Page:
     def files(self):
         """Looks for each file of the repository that the page names."""
         for number, line in enumerate(self.lines, 1):
-            for name in re.findall(r"`((?:crates|docs|bench|tests|examples|mutants|tools|stress|assets)/[\w./-]+|pst_\w+/(?:specs|src)/[\w./-]+)`", line) + re.findall(r"\]\(([\w./-]+)\)", line):
+            for name in re.findall(r"`((?:crates|docs|bench|tests|examples|mutants|tools|stress|assets)/[\w./-]+|pst_\w+/(?:specs|src)/[\w./-]+)`", line) + re.findall(r"(?:\]\(|src(?:set)?=\")([\w./-]+)[)\"]", line):
                 at = os.path.join(os.path.dirname(self.path), name)
                 self.count(any(os.path.exists(os.path.join(top, name)) for top in (TOP, CRATES)) or os.path.exists(at), number, f"there is no {name}")
 

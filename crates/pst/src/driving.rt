@@ -40,7 +40,7 @@ fn explain_broken<R: Eprint>(rt: &R, alloc: Global, input: &[u8], counts: &mut C
 }
 
 /// Drives the items of the input once each, or as often as is asked for.
-fn run_items<W: Sink, R: Threads + Wait + Sync>(
+fn run_items<W: Sink, R: Threads + Wait>(
     rt: &R,
     alloc: Global,
     system: &mut BoxedSystem,

@@ -27,7 +27,7 @@ fn cause_of(fault: TrialFault) -> Cause
 
 /// Runs the trial of a number, with its fault as a cause.
 #[tactic(auto, using(crate::specs::Moving::gives_loss))]
-fn run_trial<H: Threads + Wait + Sync>(
+fn run_trial<H: Threads + Wait>(
     rt: &H,
     alloc: Global,
     plan: &Arc<Plan>,

@@ -1,10 +1,13 @@
 pub mod Campaigning
+pub mod Generated
 pub mod Graphs
 pub mod Judging
-pub mod KeepingOn
 pub mod Keeping
+pub mod KeepingOn
 pub mod OneOutput
 pub mod Printing
 pub mod Reading
 pub mod Reporting
 pub mod Rows
+pub mod Streamed
+pub mod Streaming

@@ -16,12 +16,12 @@ use Rattle.pst_sink.specs.Writing.{WritesAll, WritesPart}
 use Rattle.pst_stream.specs.Answers.{IsLineAnswer}
 use Rattle.pst_typing.specs.Loading.{Holds}
 
-all_after : {before mid after : Option (List ℕ)} {mid_broken broken : Bool} {one two : List ℕ} → WritesAll before mid mid_broken one
+pub all_after : {before mid after : Option (List ℕ)} {mid_broken broken : Bool} {one two : List ℕ} → WritesAll before mid mid_broken one
     → WritesAll mid after broken two → WritesAll before after broken (one ++ two)
 all_after {before} {mid} {after} {one = one} {two} w v =
     record { appended = Appends-trans before mid after one two w.appended v.appended; stands = v.stands }
 
-part_after : {before mid after : Option (List ℕ)} {mid_broken : Bool} {one two : List ℕ} → WritesAll before mid mid_broken one
+pub part_after : {before mid after : Option (List ℕ)} {mid_broken : Bool} {one two : List ℕ} → WritesAll before mid mid_broken one
     → WritesPart mid after two → WritesPart before after (one ++ two)
 part_after {before} {mid} {after} {one = one} {two} w v = record {
   sent = one ++ v.sent;
@@ -38,7 +38,7 @@ sends_behind w (inl v) = inl (all_after w v.0, v.1)
 sends_behind w (inr v) = inr (part_after w v.0, v.1, v.2)
 
 -- a text of which a beginning was written, and more behind it
-part_of_more : {before after : Option (List ℕ)} {one : List ℕ} (two : List ℕ) → WritesPart before after one
+pub part_of_more : {before after : Option (List ℕ)} {one : List ℕ} (two : List ℕ) → WritesPart before after one
     → WritesPart before after (one ++ two)
 part_of_more two v = record {
   sent = v.sent;

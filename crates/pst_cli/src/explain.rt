@@ -87,7 +87,7 @@ fn chosen_output(
 ) -> Result<Output, AllocError>
     requires lawful { AreLawful compiled.now runs.now }
     requires judged { AreJudged compiled.now runs.now all.now }
-    ensures { IfOk result (λ output. IsExplanation asked.chosen all.now output.text.items output.status) }
+    ensures { IfOk result (λ output. IsExplanation asked.entry.chosen all.now output.text.items output.status) }
 {
     if let Chosen::Item(number) = asked.chosen {
         if !is_item(number, all) {
@@ -107,7 +107,7 @@ fn explain_output<R: Threads + Sync>(
     input: &[u8],
     asked: Explaining<'_>,
 ) -> Result<Output, AllocError>
-    ensures { IfOk result (λ output. IsExplainOutput input.now asked.chosen output.text.items output.status) }
+    ensures { IfOk result (λ output. IsExplainOutput input.now asked.entry.chosen output.text.items output.status) }
 {
     let JudgedFile {
         compiled,
@@ -142,7 +142,7 @@ pub fn explain_text<W: Sink, R: Threads + Sync>(
     sink: &mut W,
 ) -> Status
     requires { W.broken sink.old ≡ false }
-    ensures { Prints (IsExplainOutput input.now asked.chosen)
+    ensures { Prints (IsExplainOutput input.now asked.entry.chosen)
         (W.taken sink.old) (W.taken sink.new) (W.broken sink.new) result }
 {
     match explain_output(rt, alloc, input, asked) {

@@ -174,7 +174,8 @@ pub fn generate_text<W: Sink, R: Threads + Sync>(
     };
     match write_cases(rt, alloc, &plan, first, first + count, sink) {
         Ok(status) => status,
+        Err(Cut::Unread) => send(b"refused memory\n", Status::Lost, sink),
+        Err(Cut::NoMemory) => send(b"refused memory\n", Status::Lost, sink),
         Err(Cut::Unwritten) => Status::Lost,
-        Err(_) => send(b"refused memory\n", Status::Lost, sink),
     }
 }

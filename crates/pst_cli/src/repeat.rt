@@ -67,7 +67,7 @@ fn with_drives(
 }
 
 /// The report of an item whose case is valid: it is driven several times, unless a drive is lost.
-fn repeated_report<R: Threads + Wait + Sync>(
+fn repeated_report<R: Threads + Wait>(
     rt: &R,
     alloc: Global,
     compiled: &Compiled,
@@ -113,7 +113,7 @@ fn repeated_report<R: Threads + Wait + Sync>(
 }
 
 /// The report of an item.
-fn item_report<R: Threads + Wait + Sync>(
+fn item_report<R: Threads + Wait>(
     rt: &R,
     alloc: Global,
     compiled: &Compiled,
@@ -145,7 +145,7 @@ fn item_report<R: Threads + Wait + Sync>(
 }
 
 /// The reports of all items, numbered from 1.
-fn item_reports<R: Threads + Wait + Sync>(
+fn item_reports<R: Threads + Wait>(
     rt: &R,
     alloc: Global,
     compiled: &Compiled,
@@ -180,7 +180,7 @@ fn item_reports<R: Threads + Wait + Sync>(
 }
 
 /// The reports of the items behind the model, or the first refusal.
-fn repeat_output<R: Threads + Wait + Sync>(
+fn repeat_output<R: Threads + Wait>(
     rt: &R,
     alloc: Global,
     input: &[u8],
@@ -223,7 +223,7 @@ fn repeat_output<R: Threads + Wait + Sync>(
 /// no more. Refusals and the status are those of `run_text`.
 ///
 /// Each item is counted once, by what is shown of it.
-pub fn run_repeatedly<W: Sink, R: Threads + Wait + Sync>(
+pub fn run_repeatedly<W: Sink, R: Threads + Wait>(
     rt: &R,
     alloc: Global,
     input: &[u8],

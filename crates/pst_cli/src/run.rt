@@ -117,7 +117,7 @@ pub(crate) fn why_line(alloc: Global, number: usize, why: Why) -> Result<String,
 }
 
 /// The report of an item whose case is valid: it is driven once.
-pub(crate) fn valid_report<R: Threads + Wait + Sync>(
+pub(crate) fn valid_report<R: Threads + Wait>(
     rt: &R,
     alloc: Global,
     compiled: &Compiled,
@@ -154,7 +154,7 @@ pub(crate) fn valid_report<R: Threads + Wait + Sync>(
 }
 
 /// The report of an item.
-fn item_report<R: Threads + Wait + Sync>(
+fn item_report<R: Threads + Wait>(
     rt: &R,
     alloc: Global,
     compiled: &Compiled,
@@ -182,7 +182,7 @@ fn item_report<R: Threads + Wait + Sync>(
 }
 
 /// The reports of all items, numbered from 1, and the worst of their statuses.
-fn item_reports<R: Threads + Wait + Sync>(
+fn item_reports<R: Threads + Wait>(
     rt: &R,
     alloc: Global,
     compiled: &Compiled,
@@ -208,7 +208,7 @@ fn item_reports<R: Threads + Wait + Sync>(
 }
 
 /// The reports of the items behind the model, or the first refusal.
-fn run_output<R: Threads + Wait + Sync>(
+fn run_output<R: Threads + Wait>(
     rt: &R,
     alloc: Global,
     input: &[u8],
@@ -239,7 +239,7 @@ fn run_output<R: Threads + Wait + Sync>(
 ///
 /// The status is `Lost` where an item was lost, else `Failed` where one is not explained or not valid, else `Accepted`;
 /// `Refused` where the input is refused; `Lost` where memory was refused or the writer failed. The relations of the system stay.
-pub fn run_text<W: Sink, R: Threads + Wait + Sync>(
+pub fn run_text<W: Sink, R: Threads + Wait>(
     rt: &R,
     alloc: Global,
     input: &[u8],
@@ -258,7 +258,7 @@ pub fn run_text<W: Sink, R: Threads + Wait + Sync>(
 
 /// Does what [`run_text`] does, and adds to the counts what each item that was reported came to. Where memory is refused
 /// outside the driver nothing is counted.
-pub fn run_counting<W: Sink, R: Threads + Wait + Sync>(
+pub fn run_counting<W: Sink, R: Threads + Wait>(
     rt: &R,
     alloc: Global,
     input: &[u8],

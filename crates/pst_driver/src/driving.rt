@@ -74,7 +74,7 @@ fn skip_all(alloc: Global, branches: &[Items<Command>]) -> Result<Items<Items<Re
 }
 
 /// The replies of the branches, which are run at once where the whole prefix has values, and else not at all.
-fn run_branches<S: Subject, R: Threads + Wait + Sync>(
+fn run_branches<S: Subject, R: Threads + Wait>(
     rt: &R,
     alloc: Global,
     typed: &Typed,
@@ -120,7 +120,7 @@ fn run_suffix<S: Subject>(
 }
 
 /// Drives a case that has the shape of the model.
-fn drive<S: Subject, R: Threads + Wait + Sync>(
+fn drive<S: Subject, R: Threads + Wait>(
     rt: &R,
     alloc: Global,
     typed: &Typed,
@@ -179,7 +179,7 @@ fn drive<S: Subject, R: Threads + Wait + Sync>(
 ///
 /// The threads of the branches wait for one another for a bounded number of looks before their first calls,
 /// so that these come close together. Nothing is proved of time.
-pub fn run<R: Threads + Wait + Sync>(
+pub fn run<R: Threads + Wait>(
     rt: &R,
     alloc: Global,
     typed: &Typed,

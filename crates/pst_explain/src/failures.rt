@@ -1,6 +1,6 @@
 //! Callbacks that fault, and preconditions that are false.
 
-use crate::walks::{Walk, stopped_after, walk_along};
+use crate::walks::{Walk, empty_walk, stopped_after, walk_along};
 use pst_case::Reply;
 use pst_eval::{Callback, Place};
 use pst_evidence::{Binding, FaultyPart, bindings_of, faulty_part, words_of};
@@ -61,7 +61,7 @@ fn value_of<'a>(bindings: &'a [Binding], name: &[u8]) -> Option<&'a Value> {
 }
 
 /// An expression, and the names in it with their values.
-fn evaluated<'a>(
+fn with_values<'a>(
     alloc: Global,
     expr: &'a Expr,
     bindings: &[Binding],
@@ -90,7 +90,7 @@ fn failing_part<'a>(
     }
     Ok(Some(FailingPart {
         function: found.function,
-        evaluated: evaluated(alloc, found.part, found.names.as_slice())?,
+        evaluated: with_values(alloc, found.part, found.names.as_slice())?,
     }))
 }
 
@@ -102,7 +102,7 @@ fn expression_in<'a>(
     env: &Env<'_>,
 ) -> Result<Option<Expression<'a>>, AllocError> {
     let names = bindings_of(alloc, env)?;
-    let whole = evaluated(alloc, expr, names.as_slice())?;
+    let whole = with_values(alloc, expr, names.as_slice())?;
     let part = match faulty_part(alloc, scene.model, expr, env)? {
         Some(found) => failing_part(alloc, expr, &found)?,
         None => None,
@@ -210,7 +210,7 @@ pub fn failure_in<'a>(
         call: None,
         fault,
         expression: of_init(alloc, scene)?,
-        walk: walk_along(alloc, scene, word, &[], &[])?,
+        walk: empty_walk(alloc, word)?,
     })
 }
 

@@ -58,6 +58,16 @@ impl<'a> Walk<'a> {
     }
 }
 
+/// The walk of an interleaving without a state.
+pub fn empty_walk<'a>(alloc: Global, word: &[usize]) -> Result<Walk<'a>, AllocError> {
+    Ok(Walk {
+        word: Vec::from_slice(alloc, word)?,
+        start: None,
+        steps: Vec::new(alloc),
+        stopped: Vec::new(alloc),
+    })
+}
+
 /// The walk along the commands, as far as there are states: the initial one, and one after each command in turn.
 pub fn walk_along<'a>(
     alloc: Global,
@@ -66,12 +76,7 @@ pub fn walk_along<'a>(
     calls: &[Call<'a>],
     states: &[Value],
 ) -> Result<Walk<'a>, AllocError> {
-    let mut walk = Walk {
-        word: Vec::from_slice(alloc, word)?,
-        start: None,
-        steps: Vec::new(alloc),
-        stopped: Vec::new(alloc),
-    };
+    let mut walk = empty_walk(alloc, word)?;
     let Some((first, others)) = states.split_first() else {
         return Ok(walk);
     };

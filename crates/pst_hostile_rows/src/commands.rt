@@ -85,7 +85,7 @@ fn write_campaign<R: Threads + Wait + Sync>(
 }
 
 /// Drives the items on the system `stuck`, and writes what comes of them.
-fn write_runs<R: Threads + Wait + Sync>(
+fn write_runs<R: Threads + Wait>(
     rt: &R,
     alloc: Global,
     input: &[u8],

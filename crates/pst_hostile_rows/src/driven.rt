@@ -52,7 +52,7 @@ const CALLS: [(&str, &str); 34] = [
 ];
 
 /// Prints what is written of items that are driven on a system.
-fn print_run<R: Threads + Wait + Sync + Print + AllocGlobal>(
+fn print_run<R: Threads + Wait + Print + AllocGlobal>(
     rt: &R,
     name: &str,
     input: &str,
@@ -75,7 +75,7 @@ fn print_run<R: Threads + Wait + Sync + Print + AllocGlobal>(
 }
 
 /// Prints what comes of each odd answer, called in the prefix, and of two of them in branches.
-fn print_odd<R: Threads + Wait + Sync + Print + AllocGlobal>(rt: &R) -> io::Result<()> {
+fn print_odd<R: Threads + Wait + Print + AllocGlobal>(rt: &R) -> io::Result<()> {
     let alloc = rt.alloc();
     let mut odd: BoxedSystem = Box::new(alloc, Odd::new(alloc))?;
     for (operation, name) in CALLS {
@@ -91,7 +91,7 @@ fn print_odd<R: Threads + Wait + Sync + Print + AllocGlobal>(rt: &R) -> io::Resu
 }
 
 /// Prints what comes of cases on the other systems.
-fn print_others<R: Threads + Wait + Sync + Print + AllocGlobal>(rt: &R) -> io::Result<()> {
+fn print_others<R: Threads + Wait + Print + AllocGlobal>(rt: &R) -> io::Result<()> {
     let alloc = rt.alloc();
     let mut liar: BoxedSystem = Box::new(alloc, Liar)?;
     let input = format!(in alloc; "{COUNTER} (case (prefix (inc) (get)) (left (get)) (right))")?;

@@ -38,7 +38,7 @@ fn run_of(alloc: Global, typed: &Typed, item: &str) -> Option<Run> {
 }
 
 /// Whether a drive of the case on the system has these replies.
-fn has_replies<R: Threads + Wait + Sync>(
+fn has_replies<R: Threads + Wait>(
     rt: &R,
     alloc: Global,
     typed: &Typed,
@@ -55,7 +55,7 @@ fn has_replies<R: Threads + Wait + Sync>(
 }
 
 /// Whether the case is valid, and a drive of it on the system has these replies.
-fn case_has_replies<R: Threads + Wait + Sync>(
+fn case_has_replies<R: Threads + Wait>(
     rt: &R,
     alloc: Global,
     typed: &Typed,
@@ -73,7 +73,7 @@ fn case_has_replies<R: Threads + Wait + Sync>(
 }
 
 /// Whether the case of a run, driven on the system, has the replies of the run. `None` where there is no run.
-pub fn is_driven_so<R: Threads + Wait + Sync>(
+pub fn is_driven_so<R: Threads + Wait>(
     rt: &R,
     alloc: Global,
     model: &str,

@@ -22,7 +22,7 @@ const QUEUE: &str = "(model q (state (list int)) (init (list int))
 type Row = (&'static str, &'static str, Status, &'static str);
 
 /// What `pst run` writes of a model and an item on the system, and its status.
-fn written<R: Threads + Wait + Sync>(
+fn written<R: Threads + Wait>(
     rt: &R,
     alloc: Global,
     system: &mut BoxedSystem,
@@ -36,7 +36,7 @@ fn written<R: Threads + Wait + Sync>(
 }
 
 /// How many rows there are of which `pst run` answers or writes otherwise on the system.
-fn missed<R: Threads + Wait + Sync>(
+fn missed<R: Threads + Wait>(
     rt: &R,
     alloc: Global,
     system: &mut BoxedSystem,

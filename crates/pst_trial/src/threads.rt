@@ -23,14 +23,14 @@ use std::thread::Threads;
 /// Drives cases on a system, with a thread for each branch. A drive waits for as long as the calls of the
 /// system do.
 #[derive(Drop)]
-pub struct ThreadDriver<'a, R: Threads + Wait + Sync> {
+pub struct ThreadDriver<'a, R: Threads + Wait> {
     /// The handle that starts the threads and waits for them.
     pub rt: &'a R,
     /// The system, which each drive resets first.
     pub system: &'a mut BoxedSystem,
 }
 
-impl<'a, R: Threads + Wait + Sync> Driver for ThreadDriver<'a, R> {
+impl<'a, R: Threads + Wait> Driver for ThreadDriver<'a, R> {
     ghost use Rattle.std.specs.Prelude.{◌≡◌};
     ghost use Rattle.std.proofs.Common.{refl, ◌∙◌};
     ghost use Rattle.pst_driver.specs.Driven.{IsDriven, IsDriveFault};
@@ -75,7 +75,7 @@ impl<'a, R: Threads + Wait + Sync> Driver for ThreadDriver<'a, R> {
 /// The fault is that of the drive that failed, also while a case is shrunk, and then there is no record:
 /// `ResetFailed` where the system refused a reset; `NoThread` where a thread could not be started; `NoMemory`
 /// where memory is refused. The call waits for as long as the calls of the system do.
-pub fn trial<R: Threads + Wait + Sync>(
+pub fn trial<R: Threads + Wait>(
     rt: &R,
     alloc: Global,
     plan: &Arc<Plan>,

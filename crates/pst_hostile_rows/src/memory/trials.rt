@@ -45,7 +45,7 @@ fn record_text(alloc: Global, record: &Record) -> Result<String, AllocError> {
 }
 
 /// The record of the first trial of a plan.
-fn record_of<R: Threads + Wait + Sync>(
+fn record_of<R: Threads + Wait>(
     rt: &R,
     alloc: Global,
     plan: &Arc<Plan>,
@@ -59,7 +59,7 @@ fn record_of<R: Threads + Wait + Sync>(
 }
 
 /// `trial`: the record of the first trial.
-pub fn trial_answer<R: Threads + Wait + Sync>(rt: &R, alloc: Global) -> Result<String, Refused> {
+pub fn trial_answer<R: Threads + Wait>(rt: &R, alloc: Global) -> Result<String, Refused> {
     let record = record_of(rt, alloc, &plan_of(alloc)?)?;
     Ok(record_text(alloc, &record)?)
 }

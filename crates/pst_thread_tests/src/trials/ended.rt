@@ -20,7 +20,7 @@ fn passed(record: &Record) -> Option<(usize, usize)> {
 }
 
 /// The same of trial 3 of a counter with a suffix of two commands.
-fn passed_counter<R: Threads + Wait + Sync>(
+fn passed_counter<R: Threads + Wait>(
     rt: &R,
     alloc: Global,
     counter: &mut BoxedSystem,
@@ -49,7 +49,7 @@ fn faulted(record: &Record) -> Option<(u64, u32, Callback)> {
 }
 
 /// The same of trial 7 of a number that cannot grow.
-fn faulted_top<R: Threads + Wait + Sync>(
+fn faulted_top<R: Threads + Wait>(
     rt: &R,
     alloc: Global,
     system: &mut BoxedSystem,
@@ -66,7 +66,7 @@ fn a_callback_faults(rt: HostRuntime) -> Result<(), Fail> {
 }
 
 /// The fault of trial 0 of a counter without `get`, where there is one.
-fn fault<R: Threads + Wait + Sync>(
+fn fault<R: Threads + Wait>(
     rt: &R,
     alloc: Global,
     settings: Settings,

@@ -48,7 +48,7 @@ pub(crate) fn plan_of(alloc: Global, text: &str, settings: Settings) -> Option<A
 }
 
 /// The record of a trial of the plan of a model's text, where the settings are in their ranges and the trial has one.
-pub(crate) fn record_of<R: Threads + Wait + Sync>(
+pub(crate) fn record_of<R: Threads + Wait>(
     rt: &R,
     alloc: Global,
     text: &str,

@@ -28,7 +28,7 @@ fn shrunk(record: &Record) -> Option<(usize, Ending, usize)> {
 }
 
 /// How the case of trial 0 of a counter without `get` is shrunk, on the system that answers 0.
-fn shrunk_on_stuck<R: Threads + Wait + Sync>(
+fn shrunk_on_stuck<R: Threads + Wait>(
     rt: &R,
     alloc: Global,
     settings: Settings,
@@ -106,7 +106,7 @@ fn failure(alloc: Global, typed: &Typed, record: &Record) -> Option<(usize, usiz
 }
 
 /// The same of the trial of a number of a plan, where it fails.
-fn failure_of<R: Threads + Wait + Sync>(
+fn failure_of<R: Threads + Wait>(
     rt: &R,
     alloc: Global,
     plan: &Arc<Plan>,
@@ -118,7 +118,7 @@ fn failure_of<R: Threads + Wait + Sync>(
 }
 
 /// The same of the first trial that fails.
-fn first_failure<R: Threads + Wait + Sync>(
+fn first_failure<R: Threads + Wait>(
     rt: &R,
     alloc: Global,
     system: &mut BoxedSystem,
@@ -151,7 +151,7 @@ fn a_race_is_found(rt: HostRuntime) -> Result<(), Fail> {
 }
 
 /// The same of trial 0 of a counter on the system that answers 0, whose every `inc` is wrong.
-fn failure_on_stuck<R: Threads + Wait + Sync>(
+fn failure_on_stuck<R: Threads + Wait>(
     rt: &R,
     alloc: Global,
     settings: Settings,

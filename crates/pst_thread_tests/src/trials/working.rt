@@ -41,7 +41,7 @@ fn closed_by_one<R: Threads + Wait + Sync>(
 }
 
 /// Whether an entry is the record of the number, with the outcome of its trial alone on the system that answers 0.
-fn is_record_on_stuck<R: Threads + Wait + Sync>(
+fn is_record_on_stuck<R: Threads + Wait>(
     rt: &R,
     alloc: Global,
     plan: &Arc<Plan>,

@@ -14,9 +14,9 @@ returns g c =
     let file = c.in-Ok.file in
     let read = rw c.in-Ok.is at c.in_ok-file.ensures in
     let all = file.judged.items in
-    let OfAll : Output → List Judged → Type 0 = λ o js. IsExplanation c.args.chosen js o.text.items o.status in
+    let OfAll : Output → List Judged → Type 0 = λ o js. IsExplanation c.args.asked.chosen js o.text.items o.status in
     let IsChosen : Output → Type 0 = λ o. OfAll o c.as_slice-2.result.now in
-    let IsSo : Output → Type 0 = λ o. IsExplainOutput c.args.input.now c.args.chosen o.text.items o.status in
+    let IsSo : Output → Type 0 = λ o. IsExplainOutput c.args.input.now c.args.asked.chosen o.text.items o.status in
     if_ok_then IsChosen IsSo (λ o h. judged file.compiled read.runs all read.holds read.judged
     (subst (OfAll o) c.as_slice-2.ensures.value h))
     c.chosen_output.result c.chosen_output.ensures
