@@ -206,8 +206,11 @@ module _ (m : Source) (stream before : Option (List ℕ)) where
         (block : IsBlock m left next (begun [] come.bytes) new_kept is_last answers) (bs : List ℕ) → stream ≡ Some bs
         → (rest : List (List ℕ)) × (lines_of bs ≡ lines_with next new_kept is_last answers block ++ rest)
     front_with next new_kept true answers block bs e = elim (left_of stream left come.bytes bs come.read e) [
-      | is_left ys known same ↦ ([], ap lines_of (same ∙ ap (λ l. come.bytes ++ l) (nothing_left left ys block.rest known) ∙ append-nil come.bytes)
-          ∙ sym (append-nil (lines_of come.bytes)))
+      | is_left ys known same ↦ (
+        [],
+        ap lines_of (same ∙ ap (λ l. come.bytes ++ l) (nothing_left left ys block.rest known) ∙ append-nil come.bytes)
+            ∙ sym (append-nil (lines_of come.bytes)),
+      )
     ]
     front_with next new_kept false answers block bs e =
         elim (left_of stream next (come.bytes ++ block.bytes) bs (Consumes-trans stream left next come.bytes block.bytes come.read block.read) e) [

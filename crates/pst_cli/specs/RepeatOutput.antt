@@ -4,13 +4,15 @@ use Rattle.std.specs.Prelude.{◌≡◌, ◌≢◌, ℕ, ◌+◌, Bool, true, fa
 use Rattle.pst_case.specs.declared.case.Case.{Case}
 use Rattle.pst_case.specs.declared.history.Run.{Run}
 use Rattle.pst_cli.specs.Head.{refusal_line, line_end}
-use Rattle.pst_cli.specs.Output.{run_line}
+use Rattle.pst_cli.specs.Output.{item_line, run_line}
 use Rattle.pst_cli.specs.Outputs.{joined, worst_of}
 use Rattle.pst_cli.specs.RunOutput.{IsReported}
 use Rattle.pst_cli.specs.declared.output.Output.{Output}
 use Rattle.pst_cli.specs.declared.status.Status.{Status}
 use Rattle.pst_cli.specs.declared.status.Status.TheVariants.{Accepted, Failed, Refused, Lost}
-use Rattle.pst_judge.specs.Validity.{IsValid}
+use Rattle.pst_judge.specs.Validity.{IsValid, IsWhy}
+use Rattle.pst_judge.specs.declared.judgement.Judged.TheVariants as kind
+use Rattle.pst_judge.specs.declared.why.Why.{Why}
 use Rattle.pst_load.specs.Loading.{Holds, items_of, IsRefusal}
 use Rattle.pst_load.specs.declared.refusal.Refusal.{Refusal}
 use Rattle.pst_model.specs.declared.model.Source.{Source}
@@ -54,13 +56,15 @@ module _ (m : Source) (answers : Answers) (fails : Fails) (reset_fails : ResetFa
       IsReported m answers fails reset_fails number c o.text.items o.status × (o.status ≢ Lost) × AreDriven number c os
 
   -- A valid case was driven as often as it was to be: the report of the first drive that failed, or else of the last one, and how
-  -- many failed. Or the case is not valid, or a drive was lost: that report.
+  -- many failed. Or the case is not valid, for this reason. Or a drive was lost: its report.
   pub data IsRepeated (repeats number : ℕ) (c : Case) (text : List ℕ) (status : Status) : Type 0 where
     repeated : IsValid m c → (reports : List Output) → length reports ≡ repeats → AreDriven number c reports
         → (shown : Output) → shown_of None reports ≡ Some shown
         → text ≡ shown.text.items ++ drives_line number repeats (failed_of 0 reports) → status ≡ shown.status
         → IsRepeated repeats number c text status
-    ended : (IsValid m c → status ≡ Lost) → IsReported m answers fails reset_fails number c text status
+    invalid : (why : Why) → IsWhy m c why → text ≡ item_line number (kind.Invalid why) → status ≡ Failed
+        → IsRepeated repeats number c text status
+    lost : IsReported m answers fails reset_fails number c text status → status ≡ Lost
         → IsRepeated repeats number c text status
 
   -- the reports of the items, the first of which has the number

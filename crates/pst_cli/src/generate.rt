@@ -52,10 +52,7 @@ fn case_output(alloc: Global, plan: &Plan, number: u64) -> Result<Output, AllocE
                 status: Status::Accepted,
             })
         }
-        Err(place) => Ok(Output::new(
-            genfault_line(alloc, number, &place)?,
-            Status::Failed,
-        )),
+        Err(place) => Ok(Output::new(genfault_line(alloc, number, &place)?, Status::Failed)),
     }
 }
 

@@ -1,5 +1,5 @@
 //! `pst run --repeats`.
-ghost use Rattle.std.specs.Prelude.{◌≡◌, ◌≤◌, ◌++◌, ◌+◌, false, if◌then◌else◌, IfOk, string_bytes};
+ghost use Rattle.std.specs.Prelude.{◌≡◌, ◌<◌, ◌≤◌, ◌++◌, ◌+◌, ◌^◌, false, if◌then◌else◌, IfOk, string_bytes};
 ghost use Rattle.pst_cli.specs.RepeatOutput.{AreRepeated, IsRepeatOutput, IsRepeated, drives_line, is_accepted, shown_after};
 ghost use Rattle.pst_cli.specs.Sending.{Prints};
 ghost use Rattle.pst_runs.specs.Lawful.{AreLawful};
@@ -46,6 +46,23 @@ fn shown_after(shown: Option<Output>, output: Output) -> Option<Output>
             }
         }
     }
+}
+
+/// How many drives failed after one more.
+fn failed_after(failed: u32, status: Status) -> u32
+    requires { failed + 1 < 2 ^ 32 }
+    ensures { result ≡ (if is_accepted status then failed else failed + 1) }
+{
+    if is_accepted(status) {
+        failed
+    } else {
+        failed + 1
+    }
+}
+
+/// What the report that is shown of a case counts for after one more drive, where so many failed before it.
+fn counts_after(failed: u32, own: Counts, drive: Counts) -> Counts {
+    if failed == 0 { drive } else { own }
 }
 
 /// The report that is shown of a case, and behind it the line `NUMBER drives N failed K`.
@@ -97,12 +114,8 @@ fn repeated_report<R: Threads + Wait>(
             counts.add_counts(&drive);
             return Ok(output);
         }
-        if failed == 0 {
-            own = drive;
-        }
-        if !is_accepted(output.status) {
-            failed += 1;
-        }
+        own = counts_after(failed, own, drive);
+        failed = failed_after(failed, output.status);
         shown = shown_after(shown, output);
     }
     counts.add_counts(&own);
@@ -134,9 +147,7 @@ fn item_report<R: Threads + Wait>(
     let copy = shaped.copy(alloc, compiled.typed().source())?;
     match valid(compiled, alloc, copy) {
         Ok(valid) => {
-            repeated_report(
-                rt, alloc, compiled, system, number, &valid, repeats, counts,
-            )
+            repeated_report(rt, alloc, compiled, system, number, &valid, repeats, counts)
         }
         Err(refused) => {
             counts.add_invalid(&refused.1);
