@@ -1,5 +1,5 @@
 -- Drives of a case, one after another, and the reports of items.
-use Rattle.std.proofs.Common.{◌≡◌, ◌≢◌, ◌≤◌, ◌<◌, ◌∙◌, ℕ, zero, suc, ◌+◌, Bool, true, false, List, [], ◌∷◌, ◌++◌, Option, Some, None, Result, Ok, Err, IfOk, length, length-append, get_or, take, drop, refl, sym, ap, subst, arith}
+use Rattle.std.proofs.Common.{◌≡◌, ◌≢◌, ◌≤◌, ◌<◌, ◌∙◌, ℕ, zero, suc, ◌+◌, Bool, true, false, List, [], ◌∷◌, ◌++◌, Option, Some, None, length, length-append, get_or, take, drop, refl, sym, ap, subst, arith}
 use Rattle.std.specs.Prelude.{if◌then◌else◌}
 use Rattle.pst_case.specs.declared.case.Case.{Case}
 use Rattle.pst_case.specs.declared.history.Run.{Run}
@@ -12,11 +12,6 @@ use Rattle.pst_cli.specs.declared.status.Status.TheVariants.{Lost}
 use Rattle.pst_judge.specs.Validity.{IsValid}
 use Rattle.pst_model.specs.declared.model.Source.{Source}
 use Rattle.pst_system.specs.Kept.{Answers, Fails, ResetFails, AreKept}
-
--- what follows from two facts of the value of an `Ok`
-pub if_both : {T E : Type 0} (r : Result T E) (P Q R : T → Type 0) → IfOk r P → IfOk r Q → ((v : T) → P v → Q v → R v) → IfOk r R
-if_both (Ok v) P Q R p q f = f v p q
-if_both (Err e) P Q R p q f = tt
 
 shown_more : (shown : Option Output) (os : List Output) (o : Output) → shown_of shown (os ++ o ∷ []) ≡ shown_after (shown_of shown os) o
 shown_more shown [] o = refl
@@ -102,9 +97,11 @@ module _ (m : Source) (answers : Answers) (fails : Fails) (reset_fails : ResetFa
   repeated_more repeats number (suc i) (run ∷ runs) [] o d h all is = absurd all
   repeated_more repeats number (suc i) (run ∷ runs) (x ∷ os) o d h all is =
       let here : suc i + number ≡ i + (number + 1) = omega arith in
-      let below : i < length runs = omega arith in
-      (all.0, repeated_more repeats (number + 1) i runs os o d below all.1
-      (subst (λ n. IsRepeated m answers fails reset_fails repeats n (get_or runs i d).shaped.case o.text.items o.status) here is))
+      let below : i < length runs = omega arith in (
+        all.0,
+        repeated_more repeats (number + 1) i runs os o d below all.1
+            (subst (λ n. IsRepeated m answers fails reset_fails repeats n (get_or runs i d).shaped.case o.text.items o.status) here is),
+      )
 
 -- a report by the relations as they are is one by the relations as they were
 driven_before : {A B : Answers} {F G : Fails} {R S : ResetFails} (m : Source) (number : ℕ) (c : Case) (os : List Output)

@@ -75,13 +75,19 @@ module _ (m : Source) (answers : Answers) (fails : Fails) (reset_fails : ResetFa
   AreRepeated repeats number (run ∷ runs) (o ∷ os) =
       IsRepeated repeats number run.shaped.case o.text.items o.status × AreRepeated repeats (number + 1) runs os
 
+  -- the reports of all items, one after another, and the worst of their statuses
+  pub record ReportsAll (repeats : ℕ) (runs : List Run) (text : List ℕ) (status : Status) : Type 0 where
+    pub reports : List Output
+    pub repeats_each : AreRepeated repeats 1 runs reports
+    pub lines : text ≡ joined reports
+    pub worst : status ≡ worst_of Accepted reports
+
 module _ (answers : Answers) (fails : Fails) (reset_fails : ResetFails) where
   -- the report of each item, from 1, and the worst of their statuses; or the first refusal, that of the runs being the last
   pub data IsRepeatOutput (repeats : ℕ) (input text : List ℕ) (status : Status) : Type 0 where
-    reported : (m : Source) (trees : List Form) (runs : List Run) (reports : List Output) → Holds input m trees
+    reported : (m : Source) (trees : List Form) (runs : List Run) → Holds input m trees
         → runs_of m (items_of trees) ≡ Ok runs
-        → AreRepeated m answers fails reset_fails repeats 1 runs reports
-        → text ≡ joined reports → status ≡ worst_of Accepted reports
+        → ReportsAll m answers fails reset_fails repeats runs text status
         → IsRepeatOutput repeats input text status
     run_refused : (m : Source) (trees : List Form) (fault : RunFault) → Holds input m trees
         → runs_of m (items_of trees) ≡ Err fault → text ≡ run_line fault → status ≡ Refused

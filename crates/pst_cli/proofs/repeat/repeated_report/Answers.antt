@@ -1,9 +1,11 @@
-use Rattle.std.proofs.Common.{◌≡◌, ◌≢◌, ◌≤◌, ◌+◌, ◌∙◌, ℕ, Option, Some, None, sym, ap, subst, rules, arith}
+use Rattle.std.proofs.Common.{◌≡◌, ◌≢◌, ◌≤◌, ◌+◌, ◌++◌, ◌∙◌, ℕ, Option, Some, None, sym, ap, subst, rules, arith}
 use Rattle.pst_case.specs.OfModel.{OfModel}
 use Rattle.pst_case.specs.declared.case.Case.{Case}
 use Rattle.pst_cli.proofs.Keeping.{kept_on, reported_before}
-use Rattle.pst_cli.proofs.Repeating.{all_driven, if_both, one_more, some_driven}
-use Rattle.pst_cli.specs.RepeatOutput.{lost}
+use Rattle.pst_cli.proofs.Repeating.{all_driven, one_more, some_driven}
+use Rattle.pst_cli.proofs.Reporting.{if_ok_both}
+use Rattle.pst_cli.specs.RepeatOutput.{IsRepeated, drives_line, lost}
+use Rattle.pst_cli.specs.declared.output.Output.{Output}
 use Rattle.pst_cli.specs.RunOutput.{IsReported}
 use Rattle.pst_judge.specs.Validity.{IsValid}
 use Rattle.pst_model.specs.declared.model.Source.{Source}
@@ -60,5 +62,8 @@ returns-clause-reported g c =
     let driven = rw (all, c.in-Some.is) at c.loop-drive.invariant.driven in
     let Valid : Source → Type 0 = λ n. IsValid n c.args.valid.now.case in
     let is = subst Valid c.requires.model c.shaped-shaped.ensures.validity in
-    if_both c.with_drives.result _ _ _ c.with_drives.ensures.text c.with_drives.ensures.status
-    (λ o t e. all_driven c.args.compiled.now (s.answers value) (s.fails value) (s.reset_fails value) c.args.number c.args.valid.now.case c.args.repeats c.in-Some.shown c.loop-drive.failed o.text.items o.status is driven t e)
+    let HasText : Output → Type 0 = λ o. o.text.items ≡ c.in-Some.shown.text.items ++ drives_line c.args.number c.args.repeats c.loop-drive.failed in
+    let HasStatus : Output → Type 0 = λ o. o.status ≡ c.in-Some.shown.status in
+    let IsSo : Output → Type 0 = λ o. IsRepeated c.args.compiled.now (s.answers value) (s.fails value) (s.reset_fails value) c.args.repeats c.args.number c.args.valid.now.case o.text.items o.status in
+    if_ok_both HasText HasStatus IsSo
+    (λ o t e. all_driven c.args.compiled.now (s.answers value) (s.fails value) (s.reset_fails value) c.args.number c.args.valid.now.case c.args.repeats c.in-Some.shown c.loop-drive.failed o.text.items o.status is driven t e) c.with_drives.result c.with_drives.ensures.text c.with_drives.ensures.status
