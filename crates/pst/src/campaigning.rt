@@ -102,16 +102,7 @@ fn told<W: Sink, K: Watch + Sync, R: Threads + Wait + Sync + Eprint + Clock>(
     if words.get_flag("quiet") {
         return campaign_text(rt, alloc, input, settings, systems, watch, out);
     }
-    explained(
-        rt,
-        alloc,
-        settings,
-        systems,
-        watch,
-        is_terminal,
-        input,
-        out,
-    )
+    explained(rt, alloc, settings, systems, watch, is_terminal, input, out)
 }
 
 /// The words of a command before the file of a case that it drives on the same system.
@@ -155,16 +146,7 @@ fn saving<W: Sink, R: Threads + Wait + Sync + Eprint + Files + Clock>(
             return Status::Lost;
         }
     };
-    let status = told(
-        rt,
-        alloc,
-        words,
-        systems,
-        &folder,
-        is_terminal,
-        input,
-        out,
-    );
+    let status = told(rt, alloc, words, systems, &folder, is_terminal, input, out);
     status.or_worse(folder.report(words.get_flag("quiet")))
 }
 

@@ -125,16 +125,7 @@ pub fn drive<W: Sink, R: Threads + Wait + Sync + Eprint>(
     let repeats = words.get_one("repeats");
     match misfits {
         Some(misfits) => {
-            drive_and_explain(
-                rt,
-                alloc,
-                &mut system,
-                repeats,
-                misfits,
-                input,
-                counts,
-                out,
-            )
+            drive_and_explain(rt, alloc, &mut system, repeats, misfits, input, counts, out)
         }
         None => run_items(rt, alloc, &mut system, repeats, input, counts, out),
     }

@@ -96,10 +96,7 @@ fn with_systems<W: Sink, R: Threads + Wait + Sync + Eprint + Files + Clock + All
 }
 
 /// Does what the words say of an input, on standard output, and counts what its items came to.
-fn answer<
-    W: Sink,
-    R: Threads + Wait + Sync + Eprint + Files + Clock + io::Input + AllocGlobal,
->(
+fn answer<W: Sink, R: Threads + Wait + Sync + Eprint + Files + Clock + io::Input + AllocGlobal>(
     rt: &R,
     matches: &ArgMatches<'_>,
     systems: Systems,

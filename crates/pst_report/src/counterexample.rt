@@ -13,7 +13,11 @@ use pst_write::write_runs;
 use std::alloc::{AllocError, Global};
 
 /// The case with the history that it broke with.
-pub(crate) fn run_of(alloc: Global, typed: &Typed, taken: &Taken<JudgedRun>) -> Result<Run, AllocError>
+pub(crate) fn run_of(
+    alloc: Global,
+    typed: &Typed,
+    taken: &Taken<JudgedRun>,
+) -> Result<Run, AllocError>
     ensures { IfOk result (λ run. run ≡ spec.run_of typed.now taken.now) }
 {
     let case = taken.case.copy(alloc)?;
@@ -28,7 +32,11 @@ pub(crate) fn run_of(alloc: Global, typed: &Typed, taken: &Taken<JudgedRun>) -> 
 }
 
 /// The case and its history as a tree, and a line end.
-pub(crate) fn run_line(alloc: Global, typed: &Typed, taken: &Taken<JudgedRun>) -> Result<Vec<u8>, AllocError>
+pub(crate) fn run_line(
+    alloc: Global,
+    typed: &Typed,
+    taken: &Taken<JudgedRun>,
+) -> Result<Vec<u8>, AllocError>
     requires { IsMatching typed.now taken.now }
     ensures { IfOk result (λ line. line.items ≡ spec.run_line typed.now taken.now) }
 {
