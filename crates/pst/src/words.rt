@@ -371,17 +371,18 @@ fn small_number(words: &ArgMatches<'_>, name: &str) -> Option<u32> {
     words.get_one(name)
 }
 
-/// The settings that the arguments of `generate` give, with the defaults of a campaign for what chooses no case. Each was found to
-/// be in its range.
+/// The settings that the arguments of `generate` give: no trial is driven with them. Each was found to be in its range.
 pub fn case_settings(words: &ArgMatches<'_>) -> Option<Settings>
     ensures { IfSome result AreInRange }
 {
     let settings = Settings {
         seed: words.get_one("seed")?,
+        trials: 0,
         commands: small_number(words, "commands")?,
         branches: small_number(words, "branches")?,
         suffix: small_number(words, "suffix")?,
-        ..Settings::default()
+        repeats: 1,
+        limit: 0,
     };
     if settings.are_in_range() {
         Some(settings)

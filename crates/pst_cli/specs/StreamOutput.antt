@@ -2,16 +2,16 @@
 use Rattle.std.specs.Prelude.{◌≡◌, ◌⊎◌, ℕ, List, ◌++◌, codes}
 use Rattle.std.specs.List.{AllZip}
 use Rattle.pst_cli.specs.Head.{refusal_line, line_end}
-use Rattle.pst_cli.specs.KeepingOn.{answer_lines, worst_status}
+use Rattle.pst_cli.specs.KeepingOn.{IsKeepingOnOutput, answer_lines, worst_status}
 use Rattle.pst_cli.specs.Sending.{memory_line}
 use Rattle.pst_cli.specs.declared.status.Status.{Status}
 use Rattle.pst_cli.specs.declared.status.Status.TheVariants.{Accepted, Refused, Lost}
 use Rattle.pst_rejudge.specs.declared.each.Answer.{Answer}
-use Rattle.pst_typing.specs.Loading.{Holds, IsRefusal}
+use Rattle.pst_typing.specs.Loading.{Holds, IsRefusal, items_of}
 use Rattle.pst_typing.specs.declared.load_refusal.Refusal.{Refusal}
 use Rattle.pst_model.specs.declared.model.Source.{Source}
 use Rattle.pst_sexpr.specs.declared.form.Form.{Form}
-use Rattle.pst_stream.specs.Answers.{IsLineAnswer}
+use Rattle.pst_stream.specs.Answers.{IsLineAnswer, SpellsItem}
 use Rattle.pst_stream.specs.Lines.{lines_of}
 
 -- the line after the last one where the reader fails
@@ -35,3 +35,11 @@ pub data IsStreamOutput (input bytes text : List ℕ) (status : Status) : Type 0
       → IsStreamOutput input bytes text status
   refused : (refusal : Refusal) → IsRefusal input refusal → text ≡ refusal_line refusal → status ≡ Refused
       → IsStreamOutput input bytes text status
+
+-- the lines and the status of a stream with one item on each line are those with `--keep-going` of an input with these items
+abbrev pub StreamsAreFiles : Type 0
+StreamsAreFiles =
+    (input bytes : List ℕ) (m : Source) (trees : List Form) (answers : List Answer)
+    → Holds input m trees → AllZip SpellsItem (lines_of bytes) (items_of trees)
+    → AllZip (IsLineAnswer m) (lines_of bytes) answers
+    → IsKeepingOnOutput input (answer_lines 1 answers) (worst_status Accepted answers)

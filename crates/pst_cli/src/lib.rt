@@ -47,7 +47,7 @@ pub use judge::{judge_file, judge_text};
 pub use judged::JudgedFile;
 pub use keep::{AnsweredFile, judge_file_keeping_on, judge_text_keeping_on};
 pub use known::{KnownSystem, known_system};
-pub use laws::{keeps_judgements, one_output};
+pub use laws::{keeps_judgements, one_output, streams_are_files};
 pub use list::list_text;
 pub use notes::CampaignNotes;
 pub use objects::{MEMORY_OBJECT, check_json, judge_json};
