@@ -32,7 +32,7 @@ With --stream standard input has one item on each line, and the line of its verd
 no item, or longer than 1 MiB, is refused as BadForm.
 
 Exit status: 0 if all items are explained or valid, 1 if some item is not, 2 if the input is refused
-(with --keep-going: if some item is), 3 if an allocation failed or the output cannot be written.";
+(with --keep-going or --format json: if some item is), 3 if an allocation failed or the output cannot be written.";
 
 /// After the help of `explain`.
 pub const EXPLAIN: &str = "\

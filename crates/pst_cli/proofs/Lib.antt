@@ -7,6 +7,7 @@ pub mod KeepingOn
 pub mod OneOutput
 pub mod Printing
 pub mod Reading
+pub mod Repeating
 pub mod Reporting
 pub mod Rows
 pub mod Streamed

@@ -4,13 +4,15 @@ use Rattle.std.specs.Prelude.{◌≡◌, ◌≢◌, ℕ, ◌+◌, Bool, true, fa
 use Rattle.pst_case.specs.declared.case.Case.{Case}
 use Rattle.pst_case.specs.declared.history.Run.{Run}
 use Rattle.pst_cli.specs.Head.{refusal_line, line_end}
-use Rattle.pst_cli.specs.Output.{run_line}
+use Rattle.pst_cli.specs.Output.{item_line, run_line}
 use Rattle.pst_cli.specs.Outputs.{joined, worst_of}
 use Rattle.pst_cli.specs.RunOutput.{IsReported}
 use Rattle.pst_cli.specs.declared.output.Output.{Output}
 use Rattle.pst_cli.specs.declared.status.Status.{Status}
 use Rattle.pst_cli.specs.declared.status.Status.TheVariants.{Accepted, Failed, Refused, Lost}
-use Rattle.pst_judge.specs.Validity.{IsValid}
+use Rattle.pst_judge.specs.Validity.{IsValid, IsWhy}
+use Rattle.pst_judge.specs.declared.judgement.Judged.TheVariants as kind
+use Rattle.pst_judge.specs.declared.why.Why.{Why}
 use Rattle.pst_model.specs.declared.model.Source.{Source}
 use Rattle.pst_runs.specs.Items.{runs_of}
 use Rattle.pst_runs.specs.declared.fault.RunFault.{RunFault}
@@ -54,13 +56,15 @@ module _ (m : Source) (answers : Answers) (fails : Fails) (reset_fails : ResetFa
       IsReported m answers fails reset_fails number c o.text.items o.status × (o.status ≢ Lost) × AreDriven number c os
 
   -- A valid case was driven as often as it was to be: the report of the first drive that failed, or else of the last one, and how
-  -- many failed. Or the case is not valid, or a drive was lost: that report.
+  -- many failed. Or the case is not valid, for this reason. Or a drive was lost: its report.
   pub data IsRepeated (repeats number : ℕ) (c : Case) (text : List ℕ) (status : Status) : Type 0 where
     repeated : IsValid m c → (reports : List Output) → length reports ≡ repeats → AreDriven number c reports
         → (shown : Output) → shown_of None reports ≡ Some shown
         → text ≡ shown.text.items ++ drives_line number repeats (failed_of 0 reports) → status ≡ shown.status
         → IsRepeated repeats number c text status
-    ended : (IsValid m c → status ≡ Lost) → IsReported m answers fails reset_fails number c text status
+    invalid : (why : Why) → IsWhy m c why → text ≡ item_line number (kind.Invalid why) → status ≡ Failed
+        → IsRepeated repeats number c text status
+    lost : IsReported m answers fails reset_fails number c text status → status ≡ Lost
         → IsRepeated repeats number c text status
 
   -- the reports of the items, the first of which has the number
@@ -71,13 +75,19 @@ module _ (m : Source) (answers : Answers) (fails : Fails) (reset_fails : ResetFa
   AreRepeated repeats number (run ∷ runs) (o ∷ os) =
       IsRepeated repeats number run.shaped.case o.text.items o.status × AreRepeated repeats (number + 1) runs os
 
+  -- the reports of all items, one after another, and the worst of their statuses
+  pub record ReportsAll (repeats : ℕ) (runs : List Run) (text : List ℕ) (status : Status) : Type 0 where
+    pub reports : List Output
+    pub repeats_each : AreRepeated repeats 1 runs reports
+    pub lines : text ≡ joined reports
+    pub worst : status ≡ worst_of Accepted reports
+
 module _ (answers : Answers) (fails : Fails) (reset_fails : ResetFails) where
   -- the report of each item, from 1, and the worst of their statuses; or the first refusal, that of the runs being the last
   pub data IsRepeatOutput (repeats : ℕ) (input text : List ℕ) (status : Status) : Type 0 where
-    reported : (m : Source) (trees : List Form) (runs : List Run) (reports : List Output) → Holds input m trees
+    reported : (m : Source) (trees : List Form) (runs : List Run) → Holds input m trees
         → runs_of m (items_of trees) ≡ Ok runs
-        → AreRepeated m answers fails reset_fails repeats 1 runs reports
-        → text ≡ joined reports → status ≡ worst_of Accepted reports
+        → ReportsAll m answers fails reset_fails repeats runs text status
         → IsRepeatOutput repeats input text status
     run_refused : (m : Source) (trees : List Form) (fault : RunFault) → Holds input m trees
         → runs_of m (items_of trees) ≡ Err fault → text ≡ run_line fault → status ≡ Refused

@@ -1,12 +1,28 @@
 //! The explanation of a run that a command drove.
+ghost use Rattle.std.specs.Prelude.{◌≡◌, IfOk, IfSome};
+ghost use Rattle.pst_runs.specs.Lawful.{IsLawful};
 
 use crate::compiled::load_compiled;
 use crate::judge::is_good;
-use pst_case::{Case, CaseFaultKind, History, Run, shape};
+use pst_case::{Case, CaseFaultKind, History, Run, Shaped, shape};
 use pst_explain::{explain_item, reason_text};
 use pst_judge::judge_one;
 use pst_rules::Typed;
 use std::alloc::{AllocError, Global};
+
+/// The run of a case of the model and its history, if the history matches the case.
+fn matching_run(typed: &Typed, shaped: Shaped, history: History) -> Option<Run>
+    requires { shaped.model ≡ typed.now }
+    ensures { IfSome result (IsLawful typed.now) }
+{
+    if !history.matches(typed, &shaped) {
+        return None;
+    }
+    Some(Run {
+        shaped,
+        history: Some(history),
+    })
+}
 
 /// The run of a case and its history, if it is one of the model.
 fn run_of(
@@ -14,23 +30,16 @@ fn run_of(
     typed: &Typed,
     case: Case,
     history: History,
-) -> Result<Option<Run>, AllocError> {
-    let shaped = match shape(alloc, typed, case) {
-        Ok(shaped) => shaped,
-        Err((_, fault)) => {
-            return match fault.kind {
-                CaseFaultKind::NoMemory => Err(AllocError),
-                _ => Ok(None),
-            };
-        }
-    };
-    if !history.matches(typed, &shaped) {
-        return Ok(None);
+) -> Result<Option<Run>, AllocError>
+    ensures { IfOk result (λ found. IfSome found (IsLawful typed.now)) }
+{
+    match shape(alloc, typed, case) {
+        Ok(shaped) => Ok(matching_run(typed, shaped, history)),
+        Err((_, fault)) => match fault.kind {
+            CaseFaultKind::NoMemory => Err(AllocError),
+            _ => Ok(None),
+        },
     }
-    Ok(Some(Run {
-        shaped,
-        history: Some(history),
-    }))
 }
 
 /// Why no interleaving explains a recorded run on the model that the input begins with, in lines of at most `width` bytes.

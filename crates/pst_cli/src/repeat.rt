@@ -1,6 +1,6 @@
 //! `pst run --repeats`.
-ghost use Rattle.std.specs.Prelude.{◌≡◌, ◌≤◌, ◌++◌, ◌+◌, false, if◌then◌else◌, IfOk, string_bytes};
-ghost use Rattle.pst_cli.specs.RepeatOutput.{AreRepeated, IsRepeatOutput, IsRepeated, drives_line, is_accepted, shown_after};
+ghost use Rattle.std.specs.Prelude.{◌≡◌, ◌<◌, ◌≤◌, ◌++◌, ◌+◌, ◌^◌, false, if◌then◌else◌, IfOk, string_bytes};
+ghost use Rattle.pst_cli.specs.RepeatOutput.{AreRepeated, IsRepeatOutput, IsRepeated, ReportsAll, drives_line, is_accepted, shown_after};
 ghost use Rattle.pst_cli.specs.Sending.{Prints};
 ghost use Rattle.pst_runs.specs.Lawful.{AreLawful};
 ghost use Rattle.pst_system.specs.Kept.{AreKept};
@@ -46,6 +46,23 @@ fn shown_after(shown: Option<Output>, output: Output) -> Option<Output>
             }
         }
     }
+}
+
+/// How many drives failed after one more.
+fn failed_after(failed: u32, status: Status) -> u32
+    requires { failed + 1 < 2 ^ 32 }
+    ensures { result ≡ (if is_accepted status then failed else failed + 1) }
+{
+    if is_accepted(status) {
+        failed
+    } else {
+        failed + 1
+    }
+}
+
+/// What the report that is shown of a case counts for after one more drive, where so many failed before it.
+fn counts_after(failed: u32, own: Counts, drive: Counts) -> Counts {
+    if failed == 0 { drive } else { own }
 }
 
 /// The report that is shown of a case, and behind it the line `NUMBER drives N failed K`.
@@ -97,12 +114,8 @@ fn repeated_report<R: Threads + Wait>(
             counts.add_counts(drive);
             return Ok(output);
         }
-        if failed == 0 {
-            own = drive;
-        }
-        if !is_accepted(output.status) {
-            failed += 1;
-        }
+        own = counts_after(failed, own, drive);
+        failed = failed_after(failed, output.status);
         shown = shown_after(shown, output);
     }
     counts.add_counts(own);
@@ -179,6 +192,28 @@ fn item_reports<R: Threads + Wait>(
     Ok(reports)
 }
 
+/// The reports of all items, one after another, and the worst of their statuses.
+fn all_reports<R: Threads + Wait>(
+    rt: &R,
+    alloc: Global,
+    compiled: &Compiled,
+    system: &mut BoxedSystem,
+    runs: &[Run],
+    repeats: u32,
+    counts: &mut Counts,
+) -> Result<Output, AllocError>
+    requires lawful { AreLawful compiled.now runs.now }
+    requires some { 1 ≤ repeats }
+    ensures reported { IfOk result (λ output.
+        ReportsAll compiled.now (answers system.old) (fails system.old) (reset_fails system.old)
+        repeats runs.now output.text.items output.status) }
+    ensures kept { AreKept (answers system.new) (answers system.old) (fails system.new) (fails system.old)
+        (reset_fails system.new) (reset_fails system.old) }
+{
+    let reports = item_reports(rt, alloc, compiled, system, runs, repeats, counts)?;
+    joined(alloc, Status::Accepted, reports.as_slice())
+}
+
 /// The reports of the items behind the model, or the first refusal.
 fn repeat_output<R: Threads + Wait>(
     rt: &R,
@@ -200,20 +235,20 @@ fn repeat_output<R: Threads + Wait>(
         Err(refusal) => return refusal_output(alloc, &refusal),
     };
     let items = items_of(file.trees.as_slice());
-    let runs = match runs_in(alloc, file.compiled.typed(), items)? {
-        Ok(runs) => runs,
-        Err(fault) => return refused_run(alloc, &fault),
-    };
-    let reports = item_reports(
-        rt,
-        alloc,
-        &file.compiled,
-        system,
-        runs.as_slice(),
-        repeats,
-        counts,
-    )?;
-    joined(alloc, Status::Accepted, reports.as_slice())
+    match runs_in(alloc, file.compiled.typed(), items)? {
+        Ok(runs) => {
+            all_reports(
+                rt,
+                alloc,
+                &file.compiled,
+                system,
+                runs.as_slice(),
+                repeats,
+                counts,
+            )
+        }
+        Err(fault) => refused_run(alloc, &fault),
+    }
 }
 
 /// Drives the case of each item behind the model that the input begins with on the system, `repeats` times, and answers the status.
