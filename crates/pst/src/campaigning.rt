@@ -9,7 +9,11 @@ use crate::saving::{Both, Folder};
 use crate::{least, words};
 use clap::ArgMatches;
 use pst_campaign::{Unwatched, Watch};
-use pst_cli::{Absence, CampaignNotes, Status, campaign_noting, campaign_text, refuse_text};
+use pst_cli::{
+    Absence, CampaignNotes, MEMORY_OBJECT, Status, campaign_noting, campaign_text, check_json,
+    refuse_text,
+};
+use pst_objects::{Field, object_line};
 use pst_sink::{Out, Sink, put_all};
 use pst_system::BoxedSystem;
 use pst_trial::Settings;
@@ -86,6 +90,71 @@ fn explained<W: Sink, K: Watch + Sync, R: Threads + Wait + Sync + Eprint + Clock
     status
 }
 
+/// Writes the object of a campaign, or if none was begun that of the refusal of its model or of an allocation that failed.
+fn write_object<W: Sink>(
+    alloc: Global,
+    status: Status,
+    input: &[u8],
+    report: Option<&Vec<Field>>,
+    out: &mut W,
+) -> Status
+    requires { W.broken out.old ≡ false }
+{
+    if status == Status::Refused {
+        return check_json(alloc, input, &[], out);
+    }
+    let line = match report {
+        Some(fields) => object_line(alloc, fields.as_slice()),
+        None => Err(AllocError),
+    };
+    match line {
+        Ok(line) => match put_all(line.as_slice(), out) {
+            Ok(()) => status,
+            Err(_) => Status::Lost,
+        },
+        Err(AllocError) => {
+            let _ = put_all(MEMORY_OBJECT, out);
+            Status::Lost
+        }
+    }
+}
+
+/// Runs a campaign whose report is written as a JSON object. Explanations are on standard error in the end, unless it is to be
+/// quiet.
+fn as_object<W: Sink, K: Watch + Sync, R: Threads + Wait + Sync + Eprint + Clock>(
+    rt: &R,
+    alloc: Global,
+    settings: Settings,
+    systems: Vec<BoxedSystem>,
+    watch: &K,
+    is_terminal: bool,
+    is_quiet: bool,
+    input: &[u8],
+    out: &mut W,
+) -> Status
+    requires ranges { AreInRange settings }
+    requires stands { W.broken out.old ≡ false }
+{
+    let mut notes = CampaignNotes::new();
+    let mut text = Out::new(Vec::new(alloc));
+    let status = watched(
+        rt,
+        alloc,
+        settings,
+        systems,
+        watch,
+        is_terminal && !is_quiet,
+        input,
+        &mut notes,
+        &mut text,
+    );
+    let status = write_object(alloc, status, input, notes.report.as_ref(), out);
+    if !is_quiet {
+        least::explain(rt, alloc, settings, input, notes);
+    }
+    status
+}
+
 /// Runs a campaign that is watched, with messages on standard error unless the words forbid it.
 fn told<W: Sink, K: Watch + Sync, R: Threads + Wait + Sync + Eprint + Clock>(
     rt: &R,
@@ -102,7 +171,21 @@ fn told<W: Sink, K: Watch + Sync, R: Threads + Wait + Sync + Eprint + Clock>(
     let Some(settings) = words::settings(words) else {
         return Status::Refused;
     };
-    if words.get_flag("quiet") {
+    let is_quiet = words.get_flag("quiet");
+    if words::is_json(words) {
+        return as_object(
+            rt,
+            alloc,
+            settings,
+            systems,
+            watch,
+            is_terminal,
+            is_quiet,
+            input,
+            out,
+        );
+    }
+    if is_quiet {
         return campaign_text(rt, alloc, input, settings, systems, watch, out);
     }
     explained(rt, alloc, settings, systems, watch, is_terminal, input, out)

@@ -45,6 +45,7 @@ pub fn explain<R: Eprint>(
     let CampaignNotes {
         least,
         first_genfault,
+        report: _,
     } = notes;
     if let Some((case, history)) = least {
         explained::report(rt, alloc, "the least failure:", input, case, history);

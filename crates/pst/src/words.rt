@@ -75,7 +75,7 @@ fn format_option<'a>(alloc: Global) -> Arg<'a> {
         .value_name("FORM")
         .value_parser(ValueParser::Names(&FORMS))
         .default_value("text")
-        .help("text, or json: an object for each line")
+        .help("text, or json: an object for each item, model or campaign")
         .hide_possible_values(true)
 }
 
@@ -294,6 +294,7 @@ fn campaign_command<'a>(alloc: Global) -> Result<Command<'a>, AllocError> {
         command = command.arg(plan_option(alloc, number))?;
     }
     command
+        .arg(format_option(alloc))?
         .arg(save(alloc))?
         .arg(output(alloc))?
         .arg(quiet(alloc))

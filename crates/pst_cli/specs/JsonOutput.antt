@@ -1,5 +1,5 @@
 -- The JSON that `pst judge` and `pst check` write: objects, each on a line of its own.
-use Rattle.std.specs.Prelude.{◌≡◌, ℕ, ◌+◌, Bool, true, if◌then◌else◌, List, [], ◌∷◌, ◌++◌, codes}
+use Rattle.std.specs.Prelude.{◌≡◌, ℕ, ◌+◌, if◌then◌else◌, List, [], ◌∷◌, ◌++◌, codes}
 use Rattle.std.specs.List.{AllZip}
 use Rattle.pst_cli.specs.Head.{line_end}
 use Rattle.pst_cli.specs.KeepingOn.{is_good_answer, worst_status}

@@ -73,7 +73,7 @@ fn report_output(
     ensures text { IfOk result (λ output. output.text.items ≡ report_text plan.now closed.now) }
     ensures status { IfOk result (λ output. output.status ≡ spec.status_after (campaign_status closed.now)) }
 {
-    notes.add(alloc, plan, closed.entries())?;
+    notes.add(alloc, plan, closed)?;
     let mut out = Out::new(Vec::new(alloc));
     match report(alloc, plan, closed, &mut out) {
         Ok(()) => Ok(Output {

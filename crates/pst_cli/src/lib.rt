@@ -50,7 +50,7 @@ pub use known::{KnownSystem, known_system};
 pub use laws::{keeps_judgements, one_output};
 pub use list::list_text;
 pub use notes::CampaignNotes;
-pub use objects::{check_json, judge_json};
+pub use objects::{MEMORY_OBJECT, check_json, judge_json};
 pub use repeat::run_repeatedly;
 pub use run::{run_counting, run_text};
 pub use shown::Shown;

@@ -3,8 +3,9 @@
 ghost use Rattle.pst_report.specs.InOrder.{AreOf};
 
 use pst_case::{Case, History};
-use pst_ledger::Entry;
-use pst_report::{least_failure, least_fault};
+use pst_ledger::Closed;
+use pst_objects::Field;
+use pst_report::{add_failure, least_failure, least_fault, report_fields};
 use pst_trial::{Plan, Record};
 use std::alloc::{AllocError, Global};
 
@@ -15,6 +16,8 @@ pub struct CampaignNotes {
     pub least: Option<(Case, History)>,
     /// The number of the first trial whose case could not be generated, from 0.
     pub first_genfault: Option<usize>,
+    /// The members of the report as a JSON object; none if no trial was begun.
+    pub report: Option<Vec<Field>>,
 }
 
 impl CampaignNotes {
@@ -23,6 +26,7 @@ impl CampaignNotes {
         CampaignNotes {
             least: None,
             first_genfault: None,
+            report: None,
         }
     }
 
@@ -31,10 +35,14 @@ impl CampaignNotes {
         &mut self,
         alloc: Global,
         plan: &Plan,
-        entries: &[Entry<Record>],
+        closed: &Closed<Record>,
     ) -> Result<(), AllocError>
-        requires { AreOf plan.now 0 entries.now }
+        requires { AreOf plan.now 0 closed.now }
     {
+        let entries = closed.entries();
+        let mut fields = report_fields(alloc, plan, closed)?;
+        add_failure(alloc, &mut fields, plan, entries)?;
+        self.report = Some(fields);
         if let Some((number, _)) = least_fault(entries) {
             self.first_genfault = Some(number);
         }

@@ -133,8 +133,8 @@ pub fn judge_json<W: Sink, R: Threads + Sync>(
     }
 }
 
-/// The object that is written if an allocation fails.
-const MEMORY_OBJECT: &[u8] = b"{\"verdict\":\"refused\",\"stage\":\"memory\"}\n";
+/// The object that is written if an allocation fails, on its line.
+pub const MEMORY_OBJECT: &[u8] = b"{\"verdict\":\"refused\",\"stage\":\"memory\"}\n";
 
 /// The object of a model that is accepted.
 fn accepted_object(alloc: Global, typed: &Typed) -> Result<Vec<u8>, AllocError>

@@ -4,6 +4,7 @@ pub mod FaultName
 pub mod InOrder
 pub mod Kinds
 pub mod Least
+pub mod Object
 pub mod Status
 pub mod Text
 pub mod Written

@@ -57,7 +57,7 @@ fn least_line(alloc: Global, number: usize, taken: &Taken<JudgedRun>) -> Result<
 }
 
 /// `minimal` or `stopped`.
-fn ending_name(ending: Ending) -> &'static str
+pub(crate) fn ending_name(ending: Ending) -> &'static str
     ensures { result.now ≡ spec.ending_name ending }
 {
     match ending {

@@ -11,6 +11,7 @@ mod head;
 mod kind;
 mod least;
 mod losses;
+mod object;
 mod status;
 mod writer;
 
@@ -18,5 +19,6 @@ pub use failures::{ShrunkFailure, shrunk_failure};
 pub use fault::ReportFault;
 pub use kind::EntryKind;
 pub use least::{least_failure, least_fault};
+pub use object::{add_failure, report_fields};
 pub use status::{CampaignStatus, campaign_status};
 pub use writer::report;

@@ -1,0 +1,53 @@
+-- The first members of the object of a campaign: how it ended, its plan, and its counts.
+use Rattle.std.specs.Prelude.{ℕ, List, [], ◌∷◌, ◌++◌, codes}
+use Rattle.pst_ledger.specs.declared.entry.Entry.{Entry}
+use Rattle.pst_objects.specs.declared.field.Field.{Field}
+use Rattle.pst_objects.specs.declared.field.Field.TheVariants.{Number, Words}
+use Rattle.pst_objects.specs.declared.field.Name.{Name}
+use Rattle.pst_objects.specs.declared.field.Name.TheVariants as name
+use Rattle.pst_report.specs.Kinds.{count_of}
+use Rattle.pst_report.specs.Status.{campaign_status}
+use Rattle.pst_report.specs.declared.kind.EntryKind.{EntryKind}
+use Rattle.pst_report.specs.declared.kind.EntryKind.TheVariants as kind
+use Rattle.pst_report.specs.declared.status.CampaignStatus.{CampaignStatus}
+use Rattle.pst_report.specs.declared.status.CampaignStatus.TheVariants.{Passed, Failed, Incomplete}
+use Rattle.pst_trial.specs.PlanView.{PlanView}
+use Rattle.pst_trial.specs.RecordView.{RecordView}
+use Rattle.pst_trial.specs.declared.settings.Settings.{Settings}
+
+-- how the campaign ended
+abbrev pub status_word : CampaignStatus → List ℕ
+status_word Passed = codes "passed"
+status_word Failed = codes "failed"
+status_word Incomplete = codes "incomplete"
+
+-- how many trials there are, and of which cases
+abbrev pub case_fields : Settings → List Field
+case_fields s =
+    Number name.Seed s.seed ∷ Number name.Trials s.trials ∷ Number name.Commands s.commands
+    ∷ Number name.Branches s.branches ∷ []
+
+-- how cases are driven
+abbrev pub drive_fields : Settings → List Field
+drive_fields s =
+    Number name.Suffix s.suffix ∷ Number name.Repeats s.repeats ∷ Number name.Limit s.limit ∷ []
+
+-- how many numbers ended in the way of a kind
+abbrev pub count_field : Name → EntryKind → List (Entry RecordView) → Field
+count_field n k entries = Number n (count_of k entries)
+
+abbrev pub judged_fields : List (Entry RecordView) → List Field
+judged_fields entries =
+    count_field name.Passed kind.Passed entries ∷ count_field name.Unexplained kind.Unexplained entries
+    ∷ count_field name.Faulted kind.Faulted entries ∷ count_field name.Broken kind.Broken entries ∷ []
+
+abbrev pub missing_fields : List (Entry RecordView) → List Field
+missing_fields entries =
+    count_field name.GenFault kind.GenFaulted entries ∷ count_field name.Lost kind.Lost entries
+    ∷ count_field name.Undrawn kind.Undrawn entries ∷ []
+
+-- how it ended, the name of its model, its plan, and its counts
+abbrev pub report_fields : PlanView → List (Entry RecordView) → List Field
+report_fields p entries =
+    (Words name.Verdict (status_word (campaign_status entries)) ∷ Words name.Model p.model.name ∷ [])
+    ++ (case_fields p.settings ++ (drive_fields p.settings ++ (judged_fields entries ++ missing_fields entries)))

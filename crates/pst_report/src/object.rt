@@ -1,0 +1,195 @@
+//! The report of a campaign as the members of a JSON object.
+ghost use Rattle.std.specs.Prelude.{◌≡◌, [], ◌∷◌, ◌++◌, IfOk, OnOk};
+ghost use Rattle.pst_report.specs.InOrder.{AreOf};
+ghost use Rattle.pst_report.specs.Matching.{AreMatching, IsMatching};
+ghost use Rattle.pst_report.specs.Object as spec;
+
+use crate::counterexample::{ending_name, run_line};
+use crate::kind::{EntryKind, count_of, own_failure};
+use crate::least::least_failure;
+use crate::status::{CampaignStatus, campaign_status};
+use pst_items::Text;
+use pst_ledger::{Closed, Entry};
+use pst_objects::{Field, Name, add_number, add_words};
+use pst_rules::Typed;
+use pst_shrink::{Shrunk, Taken};
+use pst_trial::{JudgedRun, Plan, Record, Settings};
+use std::alloc::{AllocError, Global};
+
+/// How the campaign ended.
+fn status_word(status: CampaignStatus) -> &'static str
+    ensures { result.now ≡ spec.status_word status }
+{
+    match status {
+        CampaignStatus::Passed => "passed",
+        CampaignStatus::Failed => "failed",
+        CampaignStatus::Incomplete => "incomplete",
+    }
+}
+
+/// Adds how many trials there are, and of which cases.
+fn add_cases(fields: &mut Vec<Field>, settings: &Settings) -> Result<(), AllocError>
+    ensures { OnOk result (fields.new.items ≡ fields.old.items ++ spec.case_fields settings.now) }
+{
+    add_number(fields, Name::Seed, settings.seed)?;
+    add_number(fields, Name::Trials, settings.trials as u64)?;
+    add_number(fields, Name::Commands, settings.commands as u64)?;
+    add_number(fields, Name::Branches, settings.branches as u64)
+}
+
+/// Adds how cases are driven.
+fn add_drives(fields: &mut Vec<Field>, settings: &Settings) -> Result<(), AllocError>
+    ensures { OnOk result (fields.new.items ≡ fields.old.items ++ spec.drive_fields settings.now) }
+{
+    add_number(fields, Name::Suffix, settings.suffix as u64)?;
+    add_number(fields, Name::Repeats, settings.repeats as u64)?;
+    add_number(fields, Name::Limit, settings.limit as u64)
+}
+
+/// Adds how many numbers ended in the way of a kind.
+fn add_count(
+    fields: &mut Vec<Field>,
+    name: Name,
+    kind: EntryKind,
+    entries: &[Entry<Record>],
+) -> Result<(), AllocError>
+    ensures { OnOk result
+        (fields.new.items ≡ fields.old.items ++ spec.count_field name kind entries.now ∷ []) }
+{
+    add_number(fields, name, count_of(kind, entries) as u64)
+}
+
+/// Adds the counts of the trials that passed or failed.
+fn add_judged(fields: &mut Vec<Field>, entries: &[Entry<Record>]) -> Result<(), AllocError>
+    ensures { OnOk result (fields.new.items ≡ fields.old.items ++ spec.judged_fields entries.now) }
+{
+    add_count(fields, Name::Passed, EntryKind::Passed, entries)?;
+    add_count(fields, Name::Unexplained, EntryKind::Unexplained, entries)?;
+    add_count(fields, Name::Faulted, EntryKind::Faulted, entries)?;
+    add_count(fields, Name::Broken, EntryKind::Broken, entries)
+}
+
+/// Adds the counts of the numbers for which there is no run.
+fn add_missing(fields: &mut Vec<Field>, entries: &[Entry<Record>]) -> Result<(), AllocError>
+    ensures { OnOk result (fields.new.items ≡ fields.old.items ++ spec.missing_fields entries.now) }
+{
+    add_count(fields, Name::GenFault, EntryKind::GenFaulted, entries)?;
+    add_count(fields, Name::Lost, EntryKind::Lost, entries)?;
+    add_count(fields, Name::Undrawn, EntryKind::Undrawn, entries)
+}
+
+/// The first members of the object of a campaign: how it ended, the name of its model, its plan, and how many trials ended in
+/// which way.
+///
+/// `AllocError`: an allocation failed.
+pub fn report_fields(
+    alloc: Global,
+    plan: &Plan,
+    closed: &Closed<Record>,
+) -> Result<Vec<Field>, AllocError>
+    ensures { IfOk result (λ fields. fields.items ≡ spec.report_fields plan.now closed.now) }
+{
+    let entries = closed.entries();
+    let mut fields = Vec::new(alloc);
+    add_words(
+        alloc,
+        &mut fields,
+        Name::Verdict,
+        status_word(campaign_status(closed)),
+    )?;
+    add_words(
+        alloc,
+        &mut fields,
+        Name::Model,
+        plan.typed().source().name.as_str(),
+    )?;
+    add_cases(&mut fields, plan.settings())?;
+    add_drives(&mut fields, plan.settings())?;
+    add_judged(&mut fields, entries)?;
+    add_missing(&mut fields, entries)?;
+    Ok(fields)
+}
+
+/// A case with its replies as a tree, without a line end.
+fn tree_text(alloc: Global, typed: &Typed, taken: &Taken<JudgedRun>) -> Result<Text, AllocError>
+    requires { IsMatching typed.now taken.now }
+{
+    let mut line = run_line(alloc, typed, taken)?;
+    let _ = line.pop();
+    match String::from_utf8(line) {
+        Ok(text) => Ok(Text::from_string(text)),
+        Err(_) => Err(AllocError),
+    }
+}
+
+/// Adds a run and the verdict on it, under two names.
+fn add_run(
+    alloc: Global,
+    fields: &mut Vec<Field>,
+    typed: &Typed,
+    names: (Name, Name),
+    taken: &Taken<JudgedRun>,
+) -> Result<(), AllocError>
+    requires { IsMatching typed.now taken.now }
+{
+    let (run, verdict) = names;
+    fields.push(Field::Words(run, tree_text(alloc, typed, taken)?))?;
+    let words = &taken.history.verdict;
+    let words = Text::from_string(format!(in alloc; "{words}")?);
+    fields.push(Field::Words(verdict, words))?;
+    Ok(())
+}
+
+/// Adds how the case of a trial that failed was shrunk.
+fn add_shrunk(
+    alloc: Global,
+    fields: &mut Vec<Field>,
+    typed: &Typed,
+    shrunk: &Shrunk<JudgedRun>,
+) -> Result<(), AllocError>
+    requires { AreMatching typed.now shrunk.now }
+{
+    let from = (Name::From, Name::FromVerdict);
+    add_run(alloc, fields, typed, from, own_failure(shrunk))?;
+    add_number(fields, Name::Steps, shrunk.before.len() as u64)?;
+    add_words(alloc, fields, Name::Ending, ending_name(shrunk.ending))?;
+    add_run(
+        alloc,
+        fields,
+        typed,
+        (Name::To, Name::ToVerdict),
+        &shrunk.last,
+    )
+}
+
+/// The numbers that were lost, each with its cause, as `3:Panicked`.
+fn losses(alloc: Global, entries: &[Entry<Record>]) -> Result<Vec<Text>, AllocError> {
+    let mut losses = Vec::new(alloc);
+    for (number, entry) in entries.iter().enumerate() {
+        if let Entry::Lost(cause) = entry {
+            let name = cause.name();
+            losses.push(Text::from_string(format!(in alloc; "{number}:{name}")?))?;
+        }
+    }
+    Ok(losses)
+}
+
+/// Adds the last members of the object of a campaign: the numbers that were lost, and if a trial failed the least number whose
+/// trial did, its own failing run, and the last run that shrinking came to, each with its verdict.
+///
+/// The records must be of the plan and stand at their own numbers. `AllocError`: an allocation failed.
+pub fn add_failure(
+    alloc: Global,
+    fields: &mut Vec<Field>,
+    plan: &Plan,
+    entries: &[Entry<Record>],
+) -> Result<(), AllocError>
+    requires { AreOf plan.now 0 entries.now }
+{
+    fields.push(Field::Lines(Name::Losses, losses(alloc, entries)?))?;
+    if let Some((number, shrunk)) = least_failure(plan, entries) {
+        add_number(fields, Name::Least, number as u64)?;
+        add_shrunk(alloc, fields, plan.typed(), shrunk)?;
+    }
+    Ok(())
+}
