@@ -27,8 +27,8 @@ returns-in-Err-NoMemory g c =
     no_memory_prints c.args.input.now c.args.settings c.args.first c.args.count _ _ (rw c.in-Ok-Ok.field-0-is at c.in-Ok-Ok.ensures) _
     (rw (all, c.in-Ok-new.ensures.plan, c.in-Err-NoMemory.field-0-is) at c.in-Err-NoMemory.ensures) c.send-in-Err-NoMemory.ensures
 
-pub returns-in-Err-Unwritten : goal.returns-in-Err-Unwritten
-returns-in-Err-Unwritten g c =
+pub returns : goal.returns
+returns g c =
     let all : (c.args.first + c.args.count) - c.args.first ≡ c.args.count = omega arith in
     unwritten_prints c.args.input.now c.args.settings c.args.first c.args.count _ _ (rw c.in-Ok-Ok.field-0-is at c.in-Ok-Ok.ensures) _
     (rw (all, c.in-Ok-new.ensures.plan, c.in-Err-Unwritten.field-0-is) at c.in-Err-Unwritten.ensures)
