@@ -7,7 +7,7 @@ from browser import Browser
 from documents import RUNS, TOP, of_program
 
 # The file, the example, its item, the width, and whether the page is dark.
-PICTURES = [("page.png", "cache", 3, 1000, False), ("page-dark.png", "lost", 1, 1000, True)]
+PICTURES = [("page.png", "cache", 3, 1000, False), ("page-dark.png", "cache", 3, 1000, True)]
 
 
 def main(program):
