@@ -8,7 +8,7 @@ use pst_campaign::work;
 use pst_ledger::{Cause, Closed, Entry, Ledger};
 use pst_samples::Stuck;
 use pst_system::BoxedSystem;
-use pst_trial::{Plan, Record, Settings, trial};
+use pst_trial::{Plan, Record, Settings, may_share_records, trial};
 use std::alloc::Global;
 use std::sync::{Arc, Wait};
 use std::test::Fail;
@@ -32,6 +32,7 @@ fn closed_by_one<R: Threads + Wait + Sync>(
     plan: &Arc<Plan>,
     mut system: BoxedSystem,
 ) -> Option<Closed<Record>> {
+    may_share_records();
     let trials = plan.settings().trials as u64;
     let (ledger, mut seats) = Ledger::<Record>::open(alloc, trials, 1).ok()?;
     let mut seat = seats.pop()?;
