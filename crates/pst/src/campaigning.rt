@@ -3,9 +3,8 @@
 ghost use Rattle.std.specs.Prelude.{◌≡◌, false};
 ghost use Rattle.pst_trial.specs.Settings.{AreInRange};
 
-use crate::input::STANDARD_INPUT;
 use crate::progress::Progress;
-use crate::saving::{Both, Folder};
+use crate::watching::Both;
 use crate::{least, words};
 use clap::ArgMatches;
 use pst_campaign::{Unwatched, Watch};
@@ -18,7 +17,6 @@ use pst_sink::{Out, Sink, put_all};
 use pst_system::BoxedSystem;
 use pst_trial::Settings;
 use std::alloc::{AllocError, Global};
-use std::rt::Files;
 use std::sync::Wait;
 use std::thread::Threads;
 use std::time::Clock;
@@ -191,55 +189,10 @@ fn told<W: Sink, K: Watch + Sync, R: Threads + Wait + Sync + Eprint + Clock>(
     explained(rt, alloc, settings, systems, watch, is_terminal, input, out)
 }
 
-/// The words of a command before the file of a case that it drives on the same system.
-fn command(alloc: Global, words: &ArgMatches<'_>, name: &str) -> Result<String, AllocError> {
-    let mut command = String::from_str(alloc, "pst run ")?;
-    if name.contains(':') {
-        command.push_str("--client COMMAND")?;
-    } else {
-        command.push_str(name)?;
-    }
-    command.push_str(" --repeats 20 ")?;
-    let model = match words.get_strs("FILE") {
-        Some(&[model]) if model != STANDARD_INPUT => model,
-        _ => "MODEL",
-    };
-    command.push_str(model)?;
-    Ok(command)
-}
-
-/// Runs a campaign whose failures are saved in a folder. The status is `Lost` as well if one could not be saved.
-fn saving<W: Sink, R: Threads + Wait + Sync + Eprint + Files + Clock>(
-    rt: &R,
-    alloc: Global,
-    words: &ArgMatches<'_>,
-    name: &str,
-    systems: Vec<BoxedSystem>,
-    folder: &str,
-    is_terminal: bool,
-    input: &[u8],
-    out: &mut W,
-) -> Status
-    requires { W.broken out.old ≡ false }
-{
-    let Ok(command) = command(alloc, words, name) else {
-        return refuse_text(Absence::NoMemory, out);
-    };
-    let folder = match Folder::made(rt, alloc, folder, command) {
-        Ok(folder) => folder,
-        Err(error) => {
-            let _ = eprintln!(rt; "pst: cannot make {folder}: {error}");
-            return Status::Lost;
-        }
-    };
-    let status = told(rt, alloc, words, systems, &folder, is_terminal, input, out);
-    status.or_worse(folder.report(words.get_flag("quiet")))
-}
-
-/// Runs a campaign with a worker for each of the systems, if there are some, and saves its failures if the words ask for it.
+/// Runs a campaign with a worker for each of the systems, if there are some.
 /// Unless the words forbid it, a line on standard error, if that is a terminal, says how far the campaign is, and explanations of
 /// the least failure and of the first trial without a case are there in the end.
-pub fn campaign<W: Sink, R: Threads + Wait + Sync + Eprint + Files + Clock>(
+pub fn campaign<W: Sink, R: Threads + Wait + Sync + Eprint + Clock>(
     rt: &R,
     alloc: Global,
     words: &ArgMatches<'_>,
@@ -254,31 +207,14 @@ pub fn campaign<W: Sink, R: Threads + Wait + Sync + Eprint + Files + Clock>(
     if systems.is_empty() {
         return refuse_text(Absence::NoSystem(name), out);
     }
-    match words.get_str("save") {
-        Some(folder) => {
-            saving(
-                rt,
-                alloc,
-                words,
-                name,
-                systems,
-                folder,
-                is_terminal,
-                input,
-                out,
-            )
-        }
-        None => {
-            told(
-                rt,
-                alloc,
-                words,
-                systems,
-                &Unwatched,
-                is_terminal,
-                input,
-                out,
-            )
-        }
-    }
+    told(
+        rt,
+        alloc,
+        words,
+        systems,
+        &Unwatched,
+        is_terminal,
+        input,
+        out,
+    )
 }

@@ -60,7 +60,6 @@ pub const CAMPAIGN: &str = "\
 Examples:
   pst campaign --client ./client.py cache.model --trials 200
   pst campaign racy counter.model --seed 1
-  pst campaign --client ./client.py cache.model --save failures
 
 `--client COMMAND` stands in place of SYSTEM; with `--shared` one process has all branches.
 

@@ -20,11 +20,11 @@ mod noticed;
 mod overheard;
 mod progress;
 mod refused;
-mod saving;
 mod streaming;
 mod summary;
 mod systems;
 mod warned;
+mod watching;
 mod words;
 
 use campaigning::campaign;

@@ -109,7 +109,10 @@ fn stream<'a>(alloc: Global) -> Result<Arg<'a>, AllocError> {
         .long("stream")
         .action(ArgAction::SetTrue)
         .help("Judges the items on the lines of standard input as they come, one on each line")
-        .conflicts_with_all(&["keep-going", "failures", "all-messages", "format"])
+        .conflicts_with("keep-going")?
+        .conflicts_with("failures")?
+        .conflicts_with("all-messages")?
+        .conflicts_with("format")
 }
 
 /// The option that leaves out the items that are explained or valid.
@@ -143,14 +146,6 @@ fn repeats<'a>(alloc: Global) -> Arg<'a> {
         .value_parser(ValueParser::Unsigned(1, MOST_REPEATS))
         .allow_negative_numbers(true)
         .help("Drives each case N times, and prints how many of the drives failed")
-}
-
-/// The option that saves failures.
-fn save<'a>(alloc: Global) -> Arg<'a> {
-    Arg::new(alloc, "save")
-        .long("save")
-        .value_name("FOLDER")
-        .help("Saves each failure, shrunk, as a file in FOLDER that `run` and `judge` read")
 }
 
 /// `run`, with the name of a system.
@@ -295,7 +290,6 @@ fn campaign_command<'a>(alloc: Global) -> Result<Command<'a>, AllocError> {
     }
     command
         .arg(format_option(alloc))?
-        .arg(save(alloc))?
         .arg(output(alloc))?
         .arg(quiet(alloc))
 }
