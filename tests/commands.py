@@ -51,7 +51,8 @@ def main(program, *paths):
     with tempfile.TemporaryDirectory() as room:
         os.symlink(os.path.abspath(program), f"{room}/pst")
         os.mkdir(f"{room}/files")
-        env = {**os.environ, "PATH": f"{room}:{os.environ['PATH']}", "PST_ROOM": f"{room}/files"}
+        plain = {name: value for name, value in os.environ.items() if name not in ("COLUMNS", "NO_COLOR")}
+        env = {**plain, "PATH": f"{room}:{os.environ['PATH']}", "PST_ROOM": f"{room}/files"}
         for path in paths:
             for number, command, out, errors, (status,) in blocks(path):
                 ran = subprocess.run(["bash", "-c", command], cwd=TOP, env=env, stdin=subprocess.DEVNULL, capture_output=True, timeout=120)

@@ -212,7 +212,7 @@ class Text:
 
     def of_broken(self):
         call = self.calls[self.item["broken"]["call"]]
-        how = {"misfit": "it answered something else than", "failed": "the call was refused, and did not answer",
+        how = {"misfit": "it answered something else than", "failed": "it failed, or answered what is no value, in place of",
                "not-run": "it was not called, and did not answer"}[call["reply"]["text"]]
         self.add(f"{self.call(call)} has the reply {call['reply']['text']}: {how} a value of type {self.item['broken']['wanted']}.")
         self.add("The run, with * before this command:")

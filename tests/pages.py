@@ -156,7 +156,8 @@ def main(program, *pages):
             os.symlink(os.path.abspath(program), f"{room}/pst")
             for name in os.listdir(TOP):
                 os.symlink(os.path.join(TOP, name), os.path.join(folder, name))
-            env = {**os.environ, "PST_HOME": TOP, "PATH": f"{room}:{os.environ['PATH']}"}
+            plain = {name: value for name, value in os.environ.items() if name not in ("COLUMNS", "NO_COLOR")}
+            env = {**plain, "PST_HOME": TOP, "PATH": f"{room}:{os.environ['PATH']}"}
             page = Page(path, folder, env)
             for words, number, lines in blocks(page.lines):
                 page.block(words, number, lines)

@@ -45,6 +45,11 @@ def data_of(program):
         page = documents.of_program(program, runs)
         data[name] = documents.PAGE.DATA.search(page)[0]
         checks.want(page == documents.filled(template, data[name]), name, "is not assets/page.html with data")
+    for name, system in ("failed", "stuck"), ("passed", "counter"):
+        with tempfile.TemporaryDirectory() as folder:
+            page = documents.of_campaign(program, system, folder)
+        data[name] = documents.PAGE.DATA.search(page)[0]
+        checks.want(page == documents.filled(template, data[name]), name, "is not assets/page.html with data")
     data["long"] = documents.long_reply(data["lost"])
     data["many"] = documents.many(data["store"], 2000)
     return data

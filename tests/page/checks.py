@@ -268,4 +268,16 @@ def many_items(pages):
     want(time.time() - start < 10 and len(browser.texts("#list a")) == 250, len(browser.texts("#list a")))
 
 
-CHECKS = [headline, steps_by_keys, other_orders, finding, every_verdict, widths, hostile_texts, policy, quiet, style_first, long_texts, colors, printing, tabbing, many_items]
+def campaigns(pages):
+    """The page of a campaign says how many trials failed, and names the trial of each failure."""
+    facts, items = (json.loads(pages.data["failed"])[key] for key in ("campaign", "items"))
+    browser = pages.open("failed")
+    want(facts == {"seed": 0, "trials": 6, "failed": 6} and items, facts)
+    want(browser.text("#title") == "counter · 6 of 6 trials failed, seed 0", browser.text("#title"))
+    want("trial %d" % items[0]["trial"] in browser.text(".place"), browser.text(".place"))
+    browser = pages.open("passed")
+    want(browser.text("#title") == "counter · 0 of 6 trials failed, seed 0", browser.text("#title"))
+    want(browser.text("#main") == "No trial failed.", browser.text("#main"))
+
+
+CHECKS = [campaigns, headline, steps_by_keys, other_orders, finding, every_verdict, widths, hostile_texts, policy, quiet, style_first, long_texts, colors, printing, tabbing, many_items]

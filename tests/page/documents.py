@@ -52,6 +52,17 @@ def of_program(program, runs):
     return ran.stdout.decode()
 
 
+def of_campaign(program, system, folder):
+    """Returns the page that the program writes for a campaign of six trials on a system."""
+    path = os.path.join(folder, system + ".page.html")
+    words = [program, "campaign", system, "examples/counter.model", "--trials", "6", "--quiet", "--html", path]
+    ran = subprocess.run(words, cwd=TOP, capture_output=True, timeout=60)
+    if ran.returncode not in (0, 1):
+        raise RuntimeError("%s ends with %d: %s" % (" ".join(words), ran.returncode, ran.stderr.decode()))
+    with open(path, encoding="utf-8") as file:
+        return file.read()
+
+
 def long_reply(document):
     """Returns a document in which a reply and a state have 65,536 letters."""
     text = json.dumps("</script>" + "x" * 65527)

@@ -3,17 +3,28 @@ _pst() {
   local word="${COMP_WORDS[COMP_CWORD]}" command="${COMP_WORDS[1]-}" options=""
   COMPREPLY=()
   if [ "$COMP_CWORD" = 1 ]; then
-    COMPREPLY=($(compgen -W "campaign run judge explain check fmt new help --help --version" -- "$word"))
+    COMPREPLY=($(compgen -W "campaign run judge explain convert check generate fmt new help --help --version" -- "$word"))
     return
   fi
   case $command in
-    campaign) options="--client --shared --seed --trials --commands --branches --suffix --repeats --workers --limit --quiet --help" ;;
-    run) options="--client --shared --branches --quiet --help" ;;
-    judge) options="--keep-going --all-messages --failures --quiet --help" ;;
-    explain) options="--width --dot --item --failures --help" ;;
-    check | list) options="--quiet --help" ;;
+    campaign) options="--client --shared --seed --trials --commands --branches --suffix --repeats --workers --limit --max-failures --stop-file --save --html --format --output --quiet --help" ;;
+    run) options="--client --shared --branches --repeats --format --output --quiet --help" ;;
+    judge) options="--keep-going --all-messages --failures --stream --format --output --quiet --help" ;;
+    explain) options="--format --dot --all --width --color --item --failures --max --output --quiet --help" ;;
+    generate) options="--first --trials --seed --commands --branches --suffix --format --output --quiet --help" ;;
+    check) options="--format --output --quiet --help" ;;
+    convert) options="--to --output --quiet --help" ;;
+    list) options="--output --quiet --help" ;;
     fmt) options="--check --quiet --help" ;;
-    new) options="--client" ;;
+    new) options="--client --server" ;;
+  esac
+  case ${COMP_WORDS[COMP_CWORD - 1]} in
+    --color) COMPREPLY=($(compgen -W "auto always never" -- "$word")) && return ;;
+    --format)
+      local forms="text json"
+      [ "$command" != explain ] || forms="text json html dot"
+      COMPREPLY=($(compgen -W "$forms" -- "$word")) && return
+      ;;
   esac
   case $word in
     -*) COMPREPLY=($(compgen -W "$options" -- "$word")) ;;

@@ -1,4 +1,4 @@
-//! The arguments of the program: their words, help, and what is wrong with them.
+//! The arguments of the program: parsing, help, and messages on wrong arguments.
 
 use crate::{help, refused, words};
 use clap::error::ErrorKind;
@@ -8,12 +8,12 @@ use std::alloc::AllocError;
 use std::rt::Runtime;
 use std::{env, io};
 
-/// A tip that is no help here: no file or system of a user has a name like an option's.
+/// Returns whether a line is a tip that does not help here: no file or system of a user has a name like an option's.
 fn is_no_tip(line: &str) -> bool {
     line.starts_with("  tip: to pass '")
 }
 
-/// What is wrong with the arguments, without tips that are no help.
+/// Returns what is wrong with the arguments, without tips that do not help.
 fn text_of<R: AllocGlobal>(rt: &R, error: &Error) -> Result<String, AllocError> {
     let alloc = rt.alloc();
     let whole = format!(in alloc; "{error}")?;
@@ -30,8 +30,8 @@ fn text_of<R: AllocGlobal>(rt: &R, error: &Error) -> Result<String, AllocError> 
     Ok(text)
 }
 
-/// Prints help on standard output, or what is wrong with the arguments on standard error, and returns the status that the
-/// program ends with.
+/// Prints help on standard output, or what is wrong with the arguments on standard error, and returns the status that
+/// the program ends with.
 fn report<R: Runtime + AllocGlobal>(rt: &R, error: &Error) -> Status {
     if error.kind() == ErrorKind::OutOfMemory {
         return refused::memory(rt);
@@ -59,7 +59,8 @@ fn show<R: Runtime + AllocGlobal>(rt: &R, text: &str) -> Status {
     }
 }
 
-/// The arguments of the program, parsed. If they cannot be had or are wrong, the status that the program ends with.
+/// Parses the arguments of the program. If that fails, or nothing but a text is to be printed, the error is the status
+/// that the program ends with.
 pub fn parsed<'a, R: Runtime + AllocGlobal>(
     rt: &R,
     started: &'a [String],
@@ -76,7 +77,8 @@ pub fn parsed<'a, R: Runtime + AllocGlobal>(
     }
 }
 
-/// The words that the program was started with. If they cannot be had, the status that the program ends with.
+/// Returns the words that the program was started with. If they cannot be read, the error is the status that the
+/// program ends with.
 pub fn started_with<R: Runtime + AllocGlobal>(rt: &R) -> Result<Vec<String>, Status> {
     let words = match env::args(rt) {
         Ok(words) => words,

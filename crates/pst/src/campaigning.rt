@@ -3,26 +3,29 @@
 ghost use Rattle.std.specs.Prelude.{◌≡◌, false};
 ghost use Rattle.pst_trial.specs.Settings.{AreInRange};
 
+use crate::page::Page;
 use crate::progress::Progress;
+use crate::saving::Saving;
 use crate::watching::Both;
 use crate::{least, words};
 use clap::ArgMatches;
-use pst_campaign::{Unwatched, Watch};
+use pst_campaign::{EarlyEnd, Ending};
 use pst_cli::{
-    Absence, CampaignNotes, MEMORY_OBJECT, Status, campaign_noting, campaign_text, check_json,
-    refuse_text,
+    Absence, CampaignNotes, MEMORY_OBJECT, Status, campaign_noting, check_json, refuse_text,
 };
-use pst_objects::{Field, object_line};
-use pst_sink::{Out, Sink, put_all};
+use pst_json_verdicts::{Field, object_line};
+use pst_sexpr::{Out, Sink, put_all};
+use pst_sources::Input;
 use pst_system::BoxedSystem;
 use pst_trial::Settings;
 use std::alloc::{AllocError, Global};
+use std::rt::Files;
 use std::sync::Wait;
 use std::thread::Threads;
 use std::time::Clock;
 
-/// Runs a campaign. If standard error is a terminal, a line on it says how far the campaign is.
-fn watched<W: Sink, K: Watch + Sync, R: Threads + Wait + Sync + Eprint + Clock>(
+/// Runs a campaign. If standard error is a terminal, a line on it displays the progress.
+fn watched<W: Sink, K: Ending + Sync, R: Threads + Wait + Sync + Eprint + Clock>(
     rt: &R,
     alloc: Global,
     settings: Settings,
@@ -37,7 +40,7 @@ fn watched<W: Sink, K: Watch + Sync, R: Threads + Wait + Sync + Eprint + Clock>(
     requires stands { W.broken out.old ≡ false }
 {
     if is_terminal {
-        if let Ok(progress) = Progress::new(rt) {
+        if let Ok(progress) = Progress::new(rt, settings.trials as u64) {
             let both = Both {
                 first: &progress,
                 second: watch,
@@ -48,22 +51,23 @@ fn watched<W: Sink, K: Watch + Sync, R: Threads + Wait + Sync + Eprint + Clock>(
     campaign_noting(rt, alloc, input, settings, systems, watch, notes, out)
 }
 
-/// Runs a campaign whose report is written once it is whole. Explanations of its least failure and of its first trial without a
-/// case are on standard error in the end.
-fn explained<W: Sink, K: Watch + Sync, R: Threads + Wait + Sync + Eprint + Clock>(
+/// Runs a campaign and writes its report once it is complete. Then it writes explanations of the least failure and of
+/// the first trial without a case to standard error.
+fn explained<W: Sink, K: Ending + Sync, R: Threads + Wait + Sync + Eprint + Files + Clock>(
     rt: &R,
     alloc: Global,
     settings: Settings,
     systems: Vec<BoxedSystem>,
     watch: &K,
     is_terminal: bool,
+    page: Page<'_>,
     input: &[u8],
+    notes: &mut CampaignNotes,
     out: &mut W,
 ) -> Status
     requires ranges { AreInRange settings }
     requires stands { W.broken out.old ≡ false }
 {
-    let mut notes = CampaignNotes::new();
     let mut report = Out::new(Vec::new(alloc));
     let status = watched(
         rt,
@@ -73,7 +77,7 @@ fn explained<W: Sink, K: Watch + Sync, R: Threads + Wait + Sync + Eprint + Clock
         watch,
         is_terminal,
         input,
-        &mut notes,
+        notes,
         &mut report,
     );
     let report = report.into_inner();
@@ -84,11 +88,12 @@ fn explained<W: Sink, K: Watch + Sync, R: Threads + Wait + Sync + Eprint + Clock
     if put_all(report.as_slice(), out).is_err() {
         return Status::Lost;
     }
+    let status = status.or_worse(page.write(rt, alloc, input, notes));
     least::explain(rt, alloc, settings, input, notes);
     status
 }
 
-/// Writes the object of a campaign, or if none was begun that of the refusal of its model or of an allocation that failed.
+/// Writes the JSON object of a campaign, or that of the refusal of its model or of a failed allocation.
 fn write_object<W: Sink>(
     alloc: Global,
     status: Status,
@@ -117,9 +122,9 @@ fn write_object<W: Sink>(
     }
 }
 
-/// Runs a campaign whose report is written as a JSON object. Explanations are on standard error in the end, unless it is to be
-/// quiet.
-fn as_object<W: Sink, K: Watch + Sync, R: Threads + Wait + Sync + Eprint + Clock>(
+/// Runs a campaign and writes its report as a JSON object. Then it writes explanations to standard error, unless
+/// `is_quiet`.
+fn as_object<W: Sink, K: Ending + Sync, R: Threads + Wait + Sync + Eprint + Files + Clock>(
     rt: &R,
     alloc: Global,
     settings: Settings,
@@ -127,13 +132,14 @@ fn as_object<W: Sink, K: Watch + Sync, R: Threads + Wait + Sync + Eprint + Clock
     watch: &K,
     is_terminal: bool,
     is_quiet: bool,
+    page: Page<'_>,
     input: &[u8],
+    notes: &mut CampaignNotes,
     out: &mut W,
 ) -> Status
     requires ranges { AreInRange settings }
     requires stands { W.broken out.old ≡ false }
 {
-    let mut notes = CampaignNotes::new();
     let mut text = Out::new(Vec::new(alloc));
     let status = watched(
         rt,
@@ -143,32 +149,53 @@ fn as_object<W: Sink, K: Watch + Sync, R: Threads + Wait + Sync + Eprint + Clock
         watch,
         is_terminal && !is_quiet,
         input,
-        &mut notes,
+        notes,
         &mut text,
     );
     let status = write_object(alloc, status, input, notes.report.as_ref(), out);
+    let status = status.or_worse(page.write(rt, alloc, input, notes));
     if !is_quiet {
         least::explain(rt, alloc, settings, input, notes);
     }
     status
 }
 
-/// Runs a campaign that is watched, with messages on standard error unless the words forbid it.
-fn told<W: Sink, K: Watch + Sync, R: Threads + Wait + Sync + Eprint + Clock>(
+/// Runs a campaign and writes its report, and nothing to standard error.
+fn quietly<W: Sink, K: Ending + Sync, R: Threads + Wait + Sync + Eprint + Files>(
+    rt: &R,
+    alloc: Global,
+    settings: Settings,
+    systems: Vec<BoxedSystem>,
+    watch: &K,
+    page: Page<'_>,
+    input: &[u8],
+    notes: &mut CampaignNotes,
+    out: &mut W,
+) -> Status
+    requires ranges { AreInRange settings }
+    requires stands { W.broken out.old ≡ false }
+{
+    let status = campaign_noting(rt, alloc, input, settings, systems, watch, notes, out);
+    status.or_worse(page.write(rt, alloc, input, notes))
+}
+
+/// Runs a campaign with `watch`, and writes messages to standard error unless the arguments forbid it.
+fn told<W: Sink, K: Ending + Sync, R: Threads + Wait + Sync + Eprint + Files + Clock>(
     rt: &R,
     alloc: Global,
     words: &ArgMatches<'_>,
+    settings: Settings,
     systems: Vec<BoxedSystem>,
     watch: &K,
     is_terminal: bool,
+    page: Page<'_>,
     input: &[u8],
+    notes: &mut CampaignNotes,
     out: &mut W,
 ) -> Status
-    requires { W.broken out.old ≡ false }
+    requires ranges { AreInRange settings }
+    requires stands { W.broken out.old ≡ false }
 {
-    let Some(settings) = words::settings(words) else {
-        return Status::Refused;
-    };
     let is_quiet = words.get_flag("quiet");
     if words::is_json(words) {
         return as_object(
@@ -179,27 +206,88 @@ fn told<W: Sink, K: Watch + Sync, R: Threads + Wait + Sync + Eprint + Clock>(
             watch,
             is_terminal,
             is_quiet,
+            page,
             input,
+            notes,
             out,
         );
     }
     if is_quiet {
-        return campaign_text(rt, alloc, input, settings, systems, watch, out);
+        return quietly(rt, alloc, settings, systems, watch, page, input, notes, out);
     }
-    explained(rt, alloc, settings, systems, watch, is_terminal, input, out)
+    explained(
+        rt,
+        alloc,
+        settings,
+        systems,
+        watch,
+        is_terminal,
+        page,
+        input,
+        notes,
+        out,
+    )
 }
 
-/// Runs a campaign with a worker for each of the systems, if there are some.
-/// Unless the words forbid it, a line on standard error, if that is a terminal, says how far the campaign is, and explanations of
-/// the least failure and of the first trial without a case are there in the end.
-pub fn campaign<W: Sink, R: Threads + Wait + Sync + Eprint + Clock>(
+/// Saves the failures of a campaign that has ended, if they were kept.
+fn save<R: Eprint + Files + AllocGlobal>(
     rt: &R,
-    alloc: Global,
+    saving: &Saving<'_>,
+    notes: &CampaignNotes,
+    is_quiet: bool,
+) -> Status {
+    match notes.saved.as_ref() {
+        Some(failures) => saving.save(rt, failures.as_slice(), is_quiet),
+        None => Status::Accepted,
+    }
+}
+
+/// Runs a campaign and saves its failures in a folder. The status is `Lost` too if one cannot be saved.
+fn saved<W: Sink, R: Threads + Wait + Sync + Eprint + Files + Clock + AllocGlobal>(
+    rt: &R,
+    words: &ArgMatches<'_>,
+    settings: Settings,
+    systems: Vec<BoxedSystem>,
+    saving: &Saving<'_>,
+    ending: &EarlyEnd,
+    is_terminal: bool,
+    input: Input<'_>,
+    out: &mut W,
+) -> Status
+    requires ranges { AreInRange settings }
+    requires stands { W.broken out.old ≡ false }
+{
+    let alloc = rt.alloc();
+    let page = Page::chosen(words, input);
+    let Input { files: _, bytes } = input;
+    let mut notes = CampaignNotes::keeping(page.is_written(), true);
+    let status = told(
+        rt,
+        alloc,
+        words,
+        settings,
+        systems,
+        ending,
+        is_terminal,
+        page,
+        bytes,
+        &mut notes,
+        out,
+    );
+    status.or_worse(save(rt, saving, &notes, words.get_flag("quiet")))
+}
+
+/// Runs a campaign with a worker for each of the systems, if there are some, and saves its failures if the arguments say
+/// so. Unless the arguments forbid it, a line on standard error displays the progress, if that is a terminal, and
+/// explanations of the least failure and of the first trial without a case follow after the report.
+pub fn campaign<W: Sink, R: Threads + Wait + Sync + Eprint + Files + Clock + AllocGlobal>(
+    rt: &R,
     words: &ArgMatches<'_>,
     name: &str,
     systems: Vec<BoxedSystem>,
+    ending: &EarlyEnd,
     is_terminal: bool,
-    input: &[u8],
+    input: Input<'_>,
     out: &mut W,
 ) -> Status
     requires { W.broken out.old ≡ false }
@@ -207,14 +295,39 @@ pub fn campaign<W: Sink, R: Threads + Wait + Sync + Eprint + Clock>(
     if systems.is_empty() {
         return refuse_text(Absence::NoSystem(name), out);
     }
+    let Some(settings) = words::settings(words) else {
+        return Status::Refused;
+    };
+    if let Some(folder) = words.get_str("save") {
+        return match Saving::begin(rt, words, folder, settings.seed, name) {
+            Ok(saving) => saved(
+                rt,
+                words,
+                settings,
+                systems,
+                &saving,
+                ending,
+                is_terminal,
+                input,
+                out,
+            ),
+            Err(status) => status,
+        };
+    }
+    let page = Page::chosen(words, input);
+    let Input { files: _, bytes } = input;
+    let mut notes = CampaignNotes::keeping(page.is_written(), false);
     told(
         rt,
-        alloc,
+        rt.alloc(),
         words,
+        settings,
         systems,
-        &Unwatched,
+        ending,
         is_terminal,
-        input,
+        page,
+        bytes,
+        &mut notes,
         out,
     )
 }

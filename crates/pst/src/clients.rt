@@ -3,9 +3,8 @@
 use crate::systems::Unmade;
 use clap::ArgMatches;
 use pst_clients::{Clients, Folder, Notes, open_clients, result_types};
-use pst_items::Items;
 use pst_typing::load;
-use pst_value::Ty;
+use pst_value::{Items, Ty};
 use std::alloc::{AllocError, Global};
 use std::io::{BufReader, ErrorKind};
 use std::rt::Files;
@@ -14,13 +13,13 @@ use std::sync::{Arc, Wait};
 /// The notes of all clients, which their boxes and the program share.
 pub type Shared = Arc<Notes, Global>;
 
-/// A place for notes.
+/// Returns an empty list of notes.
 pub fn notes(alloc: Global) -> Result<Shared, AllocError> {
     Ok(Arc::new(alloc, Notes::new(alloc)?)?)
 }
 
-/// The result types of the operations of the model that the input begins with: none if it cannot be loaded, which is
-/// refused before anything is called.
+/// Returns the result types of the operations of the model at the beginning of `input`. There are no types if it cannot
+/// be loaded; such a model is refused before anything is called.
 fn types_in(alloc: Global, input: &[u8]) -> Result<Items<Ty>, AllocError> {
     match load(alloc, input)? {
         Ok(file) => result_types(alloc, file.typed.source().items.as_slice()),
@@ -28,8 +27,8 @@ fn types_in(alloc: Global, input: &[u8]) -> Result<Items<Ty>, AllocError> {
     }
 }
 
-/// The clients of worker number `worker`, from 0, whose pipes are in a folder. They answer calls of the model that the
-/// input begins with. If the pipes cannot be opened, standard error says why.
+/// Opens the clients of worker number `worker`, from 0, whose pipes are in `folder`. They answer calls of the model at
+/// the beginning of `input`. If the pipes cannot be opened, standard error says why.
 pub fn open<H: Wait + Drop, R: Files + Eprint + AllocGlobal>(
     handle: H,
     rt: &R,
@@ -52,7 +51,7 @@ pub fn open<H: Wait + Drop, R: Files + Eprint + AllocGlobal>(
     }
 }
 
-/// Writes what went wrong with clients to standard error, unless the words forbid it.
+/// Writes what went wrong with clients to standard error, unless the arguments forbid it.
 pub fn report<R: Eprint>(rt: &R, matches: &ArgMatches<'_>, notes: &Notes) {
     let Some((_, words)) = matches.subcommand() else {
         return;

@@ -1,18 +1,19 @@
 //! `pst run`.
 ghost use Rattle.std.specs.Prelude.{◌≡◌, false};
 
+use crate::words::is_json;
 use crate::{explained, overheard};
 use clap::ArgMatches;
 use pst_case::Run;
-use pst_cli::{Absence, Counts, Status, refuse_text, run_counting, run_repeatedly};
+use pst_cli::{Absence, Counts, Status, refuse_text, run_counting, run_json, run_repeatedly};
 use pst_driver::Misfits;
-use pst_sink::{Out, Sink, put_all};
+use pst_sexpr::{Out, Sink, put_all};
 use pst_system::BoxedSystem;
 use std::alloc::Global;
 use std::sync::Wait;
 use std::thread::Threads;
 
-/// Writes to standard error why the first broken run is broken, and how many others are.
+/// Writes to standard error why the first broken run is broken, and how many other runs are broken.
 fn explain_broken<R: Eprint>(rt: &R, alloc: Global, input: &[u8], counts: &mut Counts) {
     let Some((item, run)) = counts.first_broken.take() else {
         return;
@@ -39,19 +40,30 @@ fn explain_broken<R: Eprint>(rt: &R, alloc: Global, input: &[u8], counts: &mut C
     }
 }
 
-/// Drives the items of the input once each, or as often as is asked for.
+/// How items are driven and written.
+#[derive(Clone, Copy, Drop)]
+struct How {
+    /// How often each is driven; `None`: once, without a count of drives.
+    repeats: Option<u32>,
+    is_json: bool,
+}
+
+/// Drives each item of the input, and writes the runs and their verdicts.
 fn run_items<W: Sink, R: Threads + Wait>(
     rt: &R,
     alloc: Global,
     system: &mut BoxedSystem,
-    repeats: Option<u32>,
+    how: How,
     input: &[u8],
     counts: &mut Counts,
     out: &mut W,
 ) -> Status
     requires { W.broken out.old ≡ false }
 {
-    match repeats {
+    if how.is_json {
+        return run_json(rt, alloc, input, system, how.repeats, counts, out);
+    }
+    match how.repeats {
         Some(repeats) if repeats >= 1 => {
             run_repeatedly(rt, alloc, input, system, repeats, counts, out)
         }
@@ -59,13 +71,13 @@ fn run_items<W: Sink, R: Threads + Wait>(
     }
 }
 
-/// Drives the items of the input, and writes the report once it is whole. Then lines on standard error say what was answered
-/// where a reply is `misfit`, and why a run is broken.
+/// Drives the items of the input, and writes the report once it is complete. Then it writes to standard error what the
+/// system answered for each reply `misfit`, and why a run is broken.
 fn drive_and_explain<W: Sink, R: Threads + Wait + Sync + Eprint>(
     rt: &R,
     alloc: Global,
     system: &mut BoxedSystem,
-    repeats: Option<u32>,
+    how: How,
     misfits: &Misfits,
     input: &[u8],
     counts: &mut Counts,
@@ -75,9 +87,9 @@ fn drive_and_explain<W: Sink, R: Threads + Wait + Sync + Eprint>(
 {
     overheard::begin(alloc, misfits, input);
     let mut report = Out::new(Vec::new(alloc));
-    let status = run_items(rt, alloc, system, repeats, input, counts, &mut report);
+    let status = run_items(rt, alloc, system, how, input, counts, &mut report);
     let report = report.into_inner();
-    // Each status but `Accepted` has a line: there is none only if the buffer was refused memory.
+    // Each status but `Accepted` has a line: the report is empty only if an allocation of the buffer failed.
     if report.is_empty() && status != Status::Accepted {
         return refuse_text(Absence::NoMemory, out);
     }
@@ -89,8 +101,8 @@ fn drive_and_explain<W: Sink, R: Threads + Wait + Sync + Eprint>(
     status
 }
 
-/// Drives the items of the input on a system, if there is one. If misfits are kept, standard error says in the end what is
-/// wrong with the runs.
+/// Drives the items of the input on a system, if there is one. If there is a list of misfits, it then writes to
+/// standard error what is wrong with the runs.
 pub fn drive<W: Sink, R: Threads + Wait + Sync + Eprint>(
     rt: &R,
     alloc: Global,
@@ -107,11 +119,14 @@ pub fn drive<W: Sink, R: Threads + Wait + Sync + Eprint>(
     let Some(mut system) = systems.pop() else {
         return refuse_text(Absence::NoSystem(name), out);
     };
-    let repeats = words.get_one("repeats");
+    let how = How {
+        repeats: words.get_one("repeats"),
+        is_json: is_json(words),
+    };
     match misfits {
         Some(misfits) => {
-            drive_and_explain(rt, alloc, &mut system, repeats, misfits, input, counts, out)
+            drive_and_explain(rt, alloc, &mut system, how, misfits, input, counts, out)
         }
-        None => run_items(rt, alloc, &mut system, repeats, input, counts, out),
+        None => run_items(rt, alloc, &mut system, how, input, counts, out),
     }
 }

@@ -7,8 +7,8 @@ use std::alloc::Global;
 /// The width of lines.
 const WIDTH: usize = 80;
 
-/// Writes a heading and why no interleaving explains a run on the model that the input begins with. If an allocation fails or
-/// nothing can be written, the run and its verdict remain without it.
+/// Writes a heading and why no interleaving explains a run, to standard error. The model is at the beginning of
+/// `input`. If an allocation fails or the text cannot be written, the run and its verdict remain without it.
 pub fn report<R: Eprint>(
     rt: &R,
     alloc: Global,

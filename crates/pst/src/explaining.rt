@@ -1,28 +1,29 @@
-//! `pst explain`: its words, and what it writes.
+//! `pst explain`: its arguments and its output.
 
 ghost use Rattle.std.specs.Prelude.{◌≡◌, false};
 
-use crate::help;
+use crate::telling::Telling;
+use crate::terminal::{self, LEAST_WIDTH, MOST_WIDTH, Terminals};
+use crate::{help, words};
 use clap::builder::ValueParser;
 use clap::{Arg, ArgAction, ArgMatches, Command};
-use pst_cli::{Chosen, Explaining, ExplanationForm, Status, explain_text, graph_text};
-use pst_sexpr::MAX_BYTES;
-use pst_sink::Sink;
-use pst_sources::SourceFile;
+use pst_cli::{
+    Absence, Chosen, Explaining, ExplanationForm, Status, explain_counting, graph_text, refuse_text,
+};
+use pst_sexpr::{MAX_BYTES, Out, Sink, put_all};
+use pst_sources::Input;
 use std::alloc::{AllocError, Global};
+use std::rt::Env;
+use std::sync::Wait;
 use std::thread::Threads;
-
-/// The width of lines where none is given.
-const WIDTH: usize = 80;
 
 /// The option that gives the width of lines.
 fn width_option<'a>(alloc: Global) -> Arg<'a> {
     Arg::new(alloc, "width")
         .long("width")
         .value_name("N")
-        .value_parser(ValueParser::Unsigned(20, 1_000))
-        .default_value("80")
-        .help("The width of lines, from 20 to 1000")
+        .value_parser(ValueParser::Unsigned(LEAST_WIDTH, MOST_WIDTH))
+        .help("The width of lines, from 20 to 1000; else that of COLUMNS, or 80")
 }
 
 /// The forms of explanations.
@@ -41,7 +42,7 @@ fn format_option<'a>(alloc: Global) -> Arg<'a> {
         .hide_possible_values(true)
 }
 
-/// The option that asks for a graph.
+/// The option that selects a graph.
 fn dot_option<'a>(alloc: Global) -> Result<Arg<'a>, AllocError> {
     Arg::new(alloc, "dot")
         .long("dot")
@@ -50,7 +51,7 @@ fn dot_option<'a>(alloc: Global) -> Result<Arg<'a>, AllocError> {
         .conflicts_with("format")
 }
 
-/// The option that asks for the whole search of an explained run.
+/// The option that selects the whole search of an explained run.
 fn all_option<'a>(alloc: Global) -> Arg<'a> {
     Arg::new(alloc, "all")
         .long("all")
@@ -84,32 +85,25 @@ fn with_files<'a>(alloc: Global) -> Result<Command<'a>, AllocError> {
     Command::new(alloc, "explain")
         .about("Explains the verdicts on cases and recorded runs")
         .after_help(help::EXPLAIN)
-        .arg(crate::words::files(alloc))?
+        .arg(words::files(alloc))?
         .arg(format_option(alloc))?
         .arg(dot_option(alloc)?)?
         .arg(all_option(alloc))?
-        .arg(width_option(alloc))
+        .arg(width_option(alloc))?
+        .arg(terminal::color_option(alloc))
 }
 
 /// `explain`, with files, the form of explanations, and the items that are explained.
 pub fn command<'a>(alloc: Global) -> Result<Command<'a>, AllocError> {
     with_files(alloc)?
-        .arg(crate::words::failures(alloc))?
+        .arg(words::failures(alloc))?
         .arg(item_option(alloc)?)?
         .arg(max_option(alloc))?
-        .arg(crate::words::output(alloc))
+        .arg(words::output(alloc))?
+        .arg(words::quiet(alloc))
 }
 
-/// The width of lines that the words ask for.
-fn width(words: &ArgMatches<'_>) -> usize {
-    let width: Option<u64> = words.get_one("width");
-    match width {
-        Some(width) => width as usize,
-        None => WIDTH,
-    }
-}
-
-/// The number of the item that the words ask for, where they do.
+/// Returns the number of the item that the arguments choose, if they choose one.
 fn item(words: &ArgMatches<'_>) -> Option<usize> {
     let item: Option<u64> = words.get_one("item");
     match item {
@@ -118,7 +112,7 @@ fn item(words: &ArgMatches<'_>) -> Option<usize> {
     }
 }
 
-/// The items that the words choose to be explained.
+/// Returns the items to explain, by the arguments.
 fn chosen(words: &ArgMatches<'_>) -> Chosen {
     match item(words) {
         Some(number) => Chosen::Item(number),
@@ -127,7 +121,7 @@ fn chosen(words: &ArgMatches<'_>) -> Chosen {
     }
 }
 
-/// The most items that the words allow.
+/// Returns the maximum number of items that the arguments allow.
 fn most(words: &ArgMatches<'_>) -> usize {
     let most: Option<u64> = words.get_one("max");
     match most {
@@ -136,39 +130,94 @@ fn most(words: &ArgMatches<'_>) -> usize {
     }
 }
 
-/// The form of explanations that the words ask for; `None`: a graph.
-fn form(words: &ArgMatches<'_>) -> Option<ExplanationForm> {
-    if words.get_flag("dot") {
-        return None;
-    }
-    match words.get_str("format") {
-        Some("json") => Some(ExplanationForm::Json),
-        Some("html") => Some(ExplanationForm::Html),
-        Some("dot") => None,
-        _ => Some(ExplanationForm::Text(width(words))),
+/// Whether the words ask for graphs.
+fn is_dot(words: &ArgMatches<'_>) -> bool {
+    words.get_flag("dot") || words.get_str("format") == Some("dot")
+}
+
+/// The form of text: with colors, or without.
+fn text_form<R: Env + AllocGlobal>(
+    rt: &R,
+    words: &ArgMatches<'_>,
+    is_terminal: bool,
+) -> ExplanationForm {
+    let width = terminal::width(rt, words);
+    if terminal::has_colors(rt, words, is_terminal) {
+        ExplanationForm::Colored(width)
+    } else {
+        ExplanationForm::Text(width)
     }
 }
 
-/// Explains the chosen items of the input, which is the text of the files, or draws the search of one of them if the words
-/// ask for it.
-pub fn explain<W: Sink, R: Threads + Sync>(
+/// The form of explanations that the words ask for.
+fn form<R: Env + AllocGlobal>(
     rt: &R,
-    alloc: Global,
     words: &ArgMatches<'_>,
-    files: &[SourceFile<'_>],
-    input: &[u8],
-    out: &mut W,
-) -> Status
+    is_terminal: bool,
+) -> ExplanationForm {
+    if is_dot(words) {
+        return ExplanationForm::Dot {
+            is_whole: words.get_flag("all"),
+        };
+    }
+    match words.get_str("format") {
+        Some("json") => ExplanationForm::Json,
+        Some("html") => ExplanationForm::Html,
+        _ => text_form(rt, words, is_terminal),
+    }
+}
+
+/// Explains the chosen items, with a line on standard error that says how far it is if that is a terminal.
+fn explain_telling<
+    W: Sink,
+    R: Threads + Wait + Sync + Eprint + AllocGlobal + Copy + Drop + Send + 'static,
+>(rt: &R, input: &[u8], asked: Explaining<'_>, is_told: bool, out: &mut W) -> Status
     requires { W.broken out.old ≡ false }
 {
-    let Some(form) = form(words) else {
-        return graph_text(rt, alloc, input, item(words), words.get_flag("all"), out);
+    let alloc = rt.alloc();
+    let Ok(telling) = Telling::begin(rt, alloc, is_told, "explained") else {
+        return refuse_text(Absence::NoMemory, out);
     };
+    let mut text = Out::new(Vec::new(alloc));
+    let status = explain_counting(rt, alloc, input, asked, telling.steps(), &mut text);
+    telling.end(rt);
+    let text = text.into_inner();
+    // Each status but `Accepted` has a text: there is none only if an allocation of the buffer failed.
+    if text.is_empty() && status != Status::Accepted {
+        return refuse_text(Absence::NoMemory, out);
+    }
+    match put_all(text.as_slice(), out) {
+        Ok(()) => status,
+        Err(_) => Status::Lost,
+    }
+}
+
+/// Explains the chosen items of `input`, or draws their searches if the arguments choose graphs: that of one item, unless
+/// `--failures` or `--max` choose several.
+pub fn explain<
+    W: Sink,
+    R: Threads + Wait + Sync + Eprint + Env + AllocGlobal + Copy + Drop + Send + 'static,
+>(rt: &R, words: &ArgMatches<'_>, terminals: Terminals, input: Input<'_>, out: &mut W) -> Status
+    requires { W.broken out.old ≡ false }
+{
+    let Input { files, bytes } = input;
+    let is_one = !words.get_flag("failures") && words.get_str("max").is_none();
+    if is_dot(words) && is_one {
+        return graph_text(
+            rt,
+            rt.alloc(),
+            bytes,
+            item(words),
+            words.get_flag("all"),
+            out,
+        );
+    }
     let asked = Explaining {
         files,
         chosen: chosen(words),
         most: most(words),
-        form,
+        form: form(rt, words, terminals.output),
     };
-    explain_text(rt, alloc, input, asked, out)
+    let is_told = terminals.errors && !words.get_flag("quiet");
+    explain_telling(rt, bytes, asked, is_told, out)
 }

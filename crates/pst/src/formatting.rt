@@ -1,17 +1,17 @@
 //! `pst fmt`.
 
 use crate::input::{self, Reading, STANDARD_INPUT};
-use crate::{help, refused, words};
+use crate::{help, json_items, refused, words};
 use clap::{Arg, ArgAction, ArgMatches, Command};
 use pst_cli::{Status, refuse_text};
-use pst_layout::laid_out;
 use pst_messages::{Asked, message_of};
-use pst_sexpr::{FaultKind, SexprFault};
-use pst_sink::Out;
+use pst_print::laid_out;
+use pst_sexpr::{FaultKind, Out, SexprFault};
 use pst_sources::SourceFile;
 use pst_typing::Refusal;
 use std::alloc::{AllocError, Global};
-use std::io::{self, Write};
+use std::fs::{File, remove_file, write};
+use std::io::{self, ErrorKind, Write};
 use std::rt::{Files, Runtime};
 
 /// `fmt`, with its files.
@@ -47,11 +47,57 @@ fn print<R: Runtime>(rt: &R, text: &[u8]) -> Status {
     }
 }
 
-/// Writes the text of a file, first to another file beside it: if the disk is full, nothing is lost.
-fn write_both<R: Files>(rt: &R, name: &str, copy: &str, text: &[u8]) -> io::Result<()> {
-    std::fs::write(rt, copy, text)?;
-    std::fs::write(rt, name, text)?;
-    std::fs::remove_file(rt, copy)
+/// Why a file was not rewritten. All but the first leave its bytes as they were.
+#[derive(Drop)]
+enum Unwritten {
+    /// Its new bytes are in the copy alone, or it is rewritten and the copy is still there.
+    Kept(io::Error),
+    /// There was a file of the name of the copy, which is left as it is.
+    Taken,
+    /// The copy cannot be written.
+    NoCopy(io::Error),
+}
+
+/// Makes the copy, in which the bytes are before those of the file change: if the disk is full, nothing is lost.
+fn write_copy<R: Files>(rt: &R, copy: &str, text: &[u8]) -> Result<(), Unwritten> {
+    let mut file = match File::create_new(rt, copy) {
+        Ok(file) => file,
+        Err(error) if error.kind() == ErrorKind::AlreadyExists => return Err(Unwritten::Taken),
+        Err(error) => return Err(Unwritten::NoCopy(error)),
+    };
+    match file.write_all(text) {
+        Ok(()) => Ok(()),
+        Err(error) => {
+            let _ = remove_file(rt, copy);
+            Err(Unwritten::NoCopy(error))
+        }
+    }
+}
+
+/// Writes the bytes of a file, first to a copy, which is removed in the end.
+fn write_both<R: Files>(rt: &R, name: &str, copy: &str, text: &[u8]) -> Result<(), Unwritten> {
+    write_copy(rt, copy, text)?;
+    match write(rt, name, text) {
+        Ok(()) => {}
+        Err(error) => return Err(Unwritten::Kept(error)),
+    }
+    match remove_file(rt, copy) {
+        Ok(()) => Ok(()),
+        Err(error) => Err(Unwritten::Kept(error)),
+    }
+}
+
+/// Says why a file was not rewritten.
+fn report<R: Eprint>(rt: &R, name: &str, copy: &str, why: &Unwritten) {
+    let _ = match why {
+        Unwritten::Kept(error) => {
+            eprintln!(rt; "pst: cannot write {name}: {error}; its new text is in {copy}")
+        }
+        Unwritten::Taken => {
+            eprintln!(rt; "pst: cannot write {name}: there is a file {copy}, which would be lost")
+        }
+        Unwritten::NoCopy(error) => eprintln!(rt; "pst: cannot write {copy}: {error}"),
+    };
 }
 
 /// Rewrites a file.
@@ -61,14 +107,15 @@ fn rewrite<R: Runtime + AllocGlobal>(rt: &R, name: &str, text: &[u8]) -> Status 
     };
     match write_both(rt, name, copy.as_str(), text) {
         Ok(()) => Status::Accepted,
-        Err(error) => {
-            let _ = eprintln!(rt; "pst: cannot write {name}: {error}");
+        Err(why) => {
+            report(rt, name, copy.as_str(), &why);
             Status::Lost
         }
     }
 }
 
-/// Does what is asked with a file and its new text.
+/// Handles the new text of a file. If `how` only checks, it prints the file's name if the text differs. Otherwise it
+/// prints the text, for standard input, or rewrites the file if the text differs.
 fn finish<R: Runtime + AllocGlobal>(
     rt: &R,
     file: &SourceFile<'_>,
@@ -95,7 +142,7 @@ fn finish<R: Runtime + AllocGlobal>(
     }
 }
 
-/// Refuses a file that cannot be read, with a message unless it is to be quiet.
+/// Refuses a file that cannot be read, with a message unless `how` is quiet.
 fn refuse<R: Runtime + AllocGlobal>(
     rt: &R,
     files: &[SourceFile<'_>],
@@ -118,7 +165,7 @@ fn refuse<R: Runtime + AllocGlobal>(
     Status::Refused
 }
 
-/// Lays out the file of a name.
+/// Lays out the file `name`.
 fn lay_out_file<R: Runtime + AllocGlobal>(rt: &R, name: &str, how: How) -> Status {
     let files = match input::files(rt, &[name], how.reading) {
         Ok(files) => files,
@@ -128,14 +175,20 @@ fn lay_out_file<R: Runtime + AllocGlobal>(rt: &R, name: &str, how: How) -> Statu
         return Status::Accepted;
     };
     let bytes = file.bytes.as_slice();
+    if json_items::has_items(bytes) {
+        if !how.reading.is_quiet {
+            let _ = eprintln!(rt; "pst: there are items as JSON in {name}, so it stays as it is");
+        }
+        return finish(rt, file, bytes, how);
+    }
     match laid_out(rt.alloc(), bytes) {
         Ok(text) => finish(rt, file, text.as_slice(), how),
         Err(fault) => refuse(rt, files.as_slice(), bytes, fault, how),
     }
 }
 
-/// Lays out the files that the words name, or standard input. The status is the worst of the files: `Refused` if one cannot be
-/// read, `Lost` if one cannot be written, `Failed` if with `--check` one would change.
+/// Lays out the files that the arguments name, or standard input. The status is the worst of the files: `Refused` if
+/// one cannot be read, `Lost` if one cannot be written, `Failed` if one would change with `--check`.
 pub fn lay_out<R: Runtime + AllocGlobal>(
     rt: &R,
     words: &ArgMatches<'_>,

@@ -4,10 +4,10 @@ ghost use Rattle.std.specs.Prelude.{◌≡◌, false};
 use crate::words;
 use clap::ArgMatches;
 use pst_cli::{Status, generate_text};
-use pst_sink::Sink;
+use pst_sexpr::Sink;
 use std::thread::Threads;
 
-/// Writes the cases of the trials that the words ask for. Trials whose numbers do not fit 64 bits are left out.
+/// Writes the cases of the trials that the arguments choose. It leaves out trials whose numbers do not fit 64 bits.
 pub fn generate<W: Sink, R: Threads + Sync + AllocGlobal>(
     rt: &R,
     words: &ArgMatches<'_>,

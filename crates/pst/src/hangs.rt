@@ -9,7 +9,7 @@ use std::sync::{Arc, Wait};
 use std::thread::{Builder, JoinHandle, Parker, Threads};
 use std::time::Duration;
 
-/// After how many seconds without an answer a line is written. The next line comes after twice as many.
+/// The number of seconds without an answer after which a line is written. The next line follows after twice this time.
 const FIRST: u64 = 5;
 
 /// What the thread that watches clients shares with the one that ends it.
@@ -20,7 +20,7 @@ struct Watched {
     parker: Parker,
 }
 
-/// A client, as it was seen a second ago.
+/// A client, as it was a second ago.
 #[derive(Clone, Copy, Drop)]
 struct Seen {
     /// The line that it had not answered, if there was one.
@@ -56,7 +56,7 @@ impl Seen {
     }
 }
 
-/// Writes that a client does not answer.
+/// Writes to standard error that a client does not answer.
 fn say<R: Eprint>(rt: &R, place: usize, seconds: u64) {
     let (worker, branch) = Waits::client(place);
     let _ = eprintln!(rt; "pst: client {worker}-{branch} has not answered for {seconds} seconds");
@@ -125,7 +125,7 @@ impl Watch {
     }
 }
 
-/// Watches the clients that the arguments ask for, if they ask for some and standard error is wanted.
+/// Watches the clients that the arguments name, unless they name none or forbid messages.
 pub fn watch_clients<R: Threads + Wait + Eprint + Copy + Drop + Send + 'static>(
     rt: R,
     alloc: Global,

@@ -40,8 +40,17 @@ Examples:
   pst explain --failures cache.runs
   pst explain --format html cache.runs > cache.html
   pst explain --dot --item 2 cache.runs | dot -Tsvg > search.svg
+  pst explain --color always cache.runs | less -R
 
 Exit status: that of `pst judge`.";
+
+/// After the help of `convert`.
+pub const CONVERT: &str = "\
+Examples:
+  pst convert cache.model monday.runs > monday.json
+  pst convert --to trees cache.model monday.json
+
+Exit status: 0 if all items are read, 2 if the input is refused, 3 if an allocation failed or the output cannot be written.";
 
 /// After the help of `run`.
 pub const RUN: &str = "\
@@ -49,8 +58,9 @@ Examples:
   pst run counter counter.model cases.runs
   pst run --client ./client.py cache.model cases.runs
   pst run --client ./client.py --repeats 20 cache.model failures/*.runs
+  pst run --client ./client.py --format json cache.model cases.runs
 
-`--client COMMAND` stands in place of SYSTEM; with `--shared` one process has all branches.
+`--client COMMAND` takes the place of SYSTEM; with `--shared` one process has all branches.
 
 Exit status: 0 if all runs are explained, 1 if some run is not, 2 if the input is refused, 3 if a case could not be driven,
 an allocation failed or the output cannot be written.";
@@ -59,12 +69,17 @@ an allocation failed or the output cannot be written.";
 pub const CAMPAIGN: &str = "\
 Examples:
   pst campaign --client ./client.py cache.model --trials 200
+  pst campaign --client ./client.py cache.model --html failures.html
   pst campaign racy counter.model --seed 1
+  pst campaign --client ./client.py cache.model --save failures
 
-`--client COMMAND` stands in place of SYSTEM; with `--shared` one process has all branches.
+`--client COMMAND` takes the place of SYSTEM; with `--shared` one process has all branches.
 
-Exit status: 0 if all trials passed, 1 if some trial did not, 2 if the input is refused, 3 if a trial was lost,
-an allocation failed or the output cannot be written.";
+A campaign that ends early, by --max-failures, --stop-file or Ctrl-C, finishes the trials that run, and its report counts the
+others as undrawn.
+
+Exit status: 0 if all trials passed, 1 if some trial did not, 2 if the input is refused, 3 if a trial was lost, the campaign
+ended early and no trial failed, an allocation failed or the output cannot be written.";
 
 /// After the help of `generate`.
 pub const GENERATE: &str = "\
@@ -110,7 +125,7 @@ The report of a campaign:
   broken N              trials that failed by a broken run
   genfault N            trials for which the model faulted while a case was generated
   lost N                trials that could not be driven: ResetFailed, NoThread or NoMemory
-  undrawn N             trials that no worker has begun or finished
+  undrawn N             trials that no worker has begun, since the campaign ended early
   least N VERDICT       the failed trial with the smallest number
   from, to              its run before and after shrinking, and between them the number of steps and `minimal`, or
                         `stopped` if the limit was reached

@@ -18,15 +18,15 @@ pub struct Reading {
     pub is_terminal: bool,
 }
 
-/// A file that cannot be had: whether it could be opened, and the error.
+/// A file that cannot be read: whether it could be opened, and the error.
 #[derive(Drop)]
 struct Unread {
     was_opened: bool,
     error: io::Error,
 }
 
-/// The bytes of standard input, at most as many as the limit. If it is a terminal, and unless it is to be quiet, a line on
-/// standard error says that it is read.
+/// Reads at most `limit` bytes of standard input. If it is a terminal, a line on standard error says that it is read,
+/// unless `reading` is quiet.
 fn from_standard_input<R: Input + Eprint + AllocGlobal>(
     rt: &R,
     limit: u64,
@@ -45,7 +45,7 @@ fn from_standard_input<R: Input + Eprint + AllocGlobal>(
     }
 }
 
-/// The bytes of the file of that name, at most as many as the limit.
+/// Reads at most `limit` bytes of the file `name`.
 fn from_file<R: Files + AllocGlobal>(rt: &R, name: &str, limit: u64) -> Result<Vec<u8>, Unread> {
     let file = match std::fs::open(rt, name) {
         Ok(file) => file,
@@ -66,7 +66,7 @@ fn from_file<R: Files + AllocGlobal>(rt: &R, name: &str, limit: u64) -> Result<V
     }
 }
 
-/// Says on standard error which file cannot be had and why, unless it is to be quiet.
+/// Writes to standard error which file cannot be read and why, unless `is_quiet`.
 fn report<R: Eprint>(rt: &R, name: &str, unread: &Unread, is_quiet: bool) {
     if is_quiet {
         return;
@@ -90,7 +90,7 @@ fn report<R: Eprint>(rt: &R, name: &str, unread: &Unread, is_quiet: bool) {
     };
 }
 
-/// Why there is no input if a file cannot be had. Standard error says which file it is, unless it is to be quiet.
+/// Returns why there is no input if a file cannot be read. Standard error says which file it is, unless `is_quiet`.
 fn absence<R: Eprint>(rt: &R, name: &str, unread: &Unread, is_quiet: bool) -> Absence<'static> {
     if unread.error.kind() == ErrorKind::OutOfMemory {
         return Absence::NoMemory;
@@ -99,13 +99,13 @@ fn absence<R: Eprint>(rt: &R, name: &str, unread: &Unread, is_quiet: bool) -> Ab
     Absence::NoFile
 }
 
-/// Whether there is a file of that name that can be opened.
+/// Returns whether the file `name` can be opened.
 pub fn can_be_opened<R: Files>(rt: &R, name: &str) -> bool {
     std::fs::open(rt, name).is_ok()
 }
 
-/// Opens each of the files, and reads nothing. `NoFile`: one cannot be opened; standard error says which, unless it is to be
-/// quiet.
+/// Opens each of the files, and reads nothing. `NoFile` means that one cannot be opened; standard error says which,
+/// unless `is_quiet`.
 pub fn try_to_open<R: Files + Eprint>(
     rt: &R,
     names: &[&str],
@@ -126,9 +126,9 @@ pub fn try_to_open<R: Files + Eprint>(
     Ok(())
 }
 
-/// The files of these names, of which `-` is standard input; standard input if there is no name. At most one byte more than
-/// an input may have is read of all of them. `NoFile`: one cannot be opened or read; standard error says which, unless it is
-/// to be quiet. `NoMemory`: there is none for them.
+/// Reads the files `names`. `-` is standard input, which is also read if there is no name. In all, it reads at most one
+/// byte more than an input may have. `NoFile` means that a file cannot be opened or read; standard error says which,
+/// unless `reading` is quiet. `NoMemory` means that an allocation failed.
 pub fn files<'a, R: Files + Input + Eprint + AllocGlobal>(
     rt: &R,
     names: &[&'a str],

@@ -8,24 +8,25 @@ use pst_cli::{
     AnsweredFile, Counts, JudgedFile, Shown, Status, judge_file, judge_file_keeping_on, judge_json,
     judge_text, judge_text_keeping_on,
 };
-use pst_sink::Sink;
+use pst_sexpr::Sink;
 use pst_sources::{Input, SourceFile};
 use pst_warnings::{broken_answer, broken_run, warnings_on_answers, warnings_on_runs};
 use std::alloc::{AllocError, Global};
 use std::mem::forget;
 use std::thread::Threads;
 
-/// Writes messages to standard error. Where memory was refused for them or they cannot be written, nothing more is said.
+/// Writes `messages` to standard error. It does nothing if an allocation for them failed, and ignores failures to
+/// write.
 fn say<R: Eprint>(rt: &R, messages: Result<Option<String>, AllocError>) {
     if let Ok(Some(messages)) = messages {
         let _ = eprint!(rt; "{messages}");
     }
 }
 
-/// Writes why the first broken item of those that were judged is broken, and the warnings on them.
+/// Writes why the first broken item of the judged ones is broken, and the warnings on the judged items.
 ///
-/// The program ends behind this, and the system takes its memory back at once. So the items are not let go one by one:
-/// with many small items that would be an eighth of the instructions of the whole run.
+/// The program ends after this, and the system frees its memory at once. So the items are not dropped one by one: with
+/// many small items that would take an eighth of the instructions of the whole run.
 fn warn_on_runs<R: Eprint>(
     rt: &R,
     alloc: Global,
@@ -59,7 +60,7 @@ fn warn_on_runs<R: Eprint>(
     }
 }
 
-/// Writes why the first broken item of those to which there are answers is broken, and the warnings on them.
+/// Writes why the first broken item of the answered ones is broken, and the warnings on the answered items.
 fn warn_on_answers<R: Eprint>(
     rt: &R,
     alloc: Global,
@@ -87,7 +88,7 @@ fn warn_on_answers<R: Eprint>(
     }
 }
 
-/// The items whose lines the words ask for.
+/// Returns the items whose lines are written, by the arguments.
 fn shown(words: &ArgMatches<'_>) -> Shown {
     if words.get_flag("failures") {
         Shown::Failures
@@ -96,7 +97,7 @@ fn shown(words: &ArgMatches<'_>) -> Shown {
     }
 }
 
-/// Counts the items to which there are answers, and writes why the first broken one is broken and the warnings on them.
+/// Counts the answered items, and writes why the first broken one is broken and the warnings on them.
 fn count_and_warn<R: Eprint>(
     rt: &R,
     alloc: Global,
@@ -111,9 +112,8 @@ fn count_and_warn<R: Eprint>(
     warn_on_answers(rt, alloc, files, input, answered);
 }
 
-/// Judges the items of the input, up to the first that is refused, or all of them if the words ask for it or ask for JSON.
-/// After the lines on standard output messages may be on standard error, unless the words forbid it. Then the items are
-/// counted as well.
+/// Judges the items of the input, up to the first refused one, or all of them with `--keep-going` or JSON output.
+/// Unless the arguments forbid messages, it then counts the items, and may write messages to standard error.
 pub fn judge<W: Sink, R: Threads + Sync + Eprint>(
     rt: &R,
     alloc: Global,

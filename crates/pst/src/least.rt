@@ -1,14 +1,14 @@
-//! What is said of a campaign on standard error: why its least failure is one, and why its first trial without a case has
-//! none.
+//! Messages on a campaign, on standard error: why no interleaving explains its least failure, and why its first trial
+//! without a case has no case.
 ghost use Rattle.pst_trial.specs.Settings.{AreInRange};
 
-use crate::explained;
+use crate::beginning;
 use pst_cli::CampaignNotes;
 use pst_trial::Settings;
 use pst_warnings::genfault_text;
 use std::alloc::Global;
 
-/// Writes why the first trial without a case has none.
+/// Writes why trial `number` has no case.
 fn explain_genfault<R: Eprint>(
     rt: &R,
     alloc: Global,
@@ -30,27 +30,22 @@ fn explain_genfault<R: Eprint>(
     }
 }
 
-/// Writes to standard error why no interleaving explains the least failure of a campaign, and why its first trial without a
-/// case has none, if there are some. If an allocation fails or nothing can be written, the report and the status remain
-/// without it.
+/// Writes to standard error why no interleaving explains the least failure of a campaign, if it has a failure, and why
+/// its first trial without a case has no case, if it has such a trial. If an allocation fails or the text cannot be
+/// written, the report and the status remain without it.
 pub fn explain<R: Eprint>(
     rt: &R,
     alloc: Global,
     settings: Settings,
     input: &[u8],
-    notes: CampaignNotes,
+    notes: &mut CampaignNotes,
 )
     requires { AreInRange settings }
 {
-    let CampaignNotes {
-        least,
-        first_genfault,
-        report: _,
-    } = notes;
-    if let Some((case, history)) = least {
-        explained::report(rt, alloc, "the least failure:", input, case, history);
+    if let Some((case, history)) = notes.least.take() {
+        beginning::explain_least(rt, alloc, input, case, history);
     }
-    if let Some(number) = first_genfault {
+    if let Some(number) = notes.first_genfault {
         explain_genfault(rt, alloc, settings, input, number);
     }
 }

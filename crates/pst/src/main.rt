@@ -1,11 +1,13 @@
-//! The program: its words, its input, and one call of `pst_cli`.
+//! The program: its arguments, its input, and one call of `pst_cli`.
 #![tactic(auto)]
 
 ghost use Rattle.std.specs.Prelude.{◌≡◌, false};
 
 mod arguments;
+mod beginning;
 mod campaigning;
 mod clients;
+mod converting;
 mod driving;
 mod explained;
 mod explaining;
@@ -14,15 +16,23 @@ mod generating;
 mod hangs;
 mod help;
 mod input;
+mod interrupting;
+mod json_items;
 mod judging;
 mod least;
 mod noticed;
+mod outputs;
 mod overheard;
+mod page;
 mod progress;
+mod quoting;
 mod refused;
+mod saving;
 mod streaming;
 mod summary;
 mod systems;
+mod telling;
+mod terminal;
 mod warned;
 mod watching;
 mod words;
@@ -31,13 +41,15 @@ use campaigning::campaign;
 use clap::ArgMatches;
 use driving::drive;
 use input::Reading;
+use interrupting::StopFile;
 use judging::judge;
+use pst_campaign::EarlyEnd;
 use pst_cli::{
     Absence, Counts, KnownSystem, Status, check_json, check_text, list_text, refuse_text,
 };
 use pst_driver::{Misfits, Overheard};
 use pst_samples::{Counter, Meet, Queue, Racy, Registry, Stuck};
-use pst_sink::{Out, Sink};
+use pst_sexpr::{Out, Sink};
 use pst_sources::{Input, SourceFile, joined};
 use pst_system::BoxedSystem;
 use std::alloc::Global;
@@ -45,22 +57,25 @@ use std::io;
 use std::io::{IsTerminal, Write};
 use std::process::ExitCode;
 use std::rt::{Files, Runtime};
-use std::sync::Wait;
+use std::sync::{Arc, Wait};
 use std::thread::{Builder, Threads};
 use std::time::Clock;
 use systems::{Unmade, Wanted};
+use terminal::Terminals;
 
-/// Which streams of the program are terminals.
+/// What the threads that drive cases share.
 #[derive(Clone, Copy, Drop)]
-struct Terminals {
-    input: bool,
-    errors: bool,
+struct Shared<'a> {
+    /// The list of answers of a wrong type, if it is kept.
+    misfits: Option<&'a Misfits>,
+    /// When a campaign ends before all its trials have run.
+    ending: &'a EarlyEnd,
 }
 
-/// The systems that the words ask for.
+/// The systems that the arguments name.
 type Systems = Result<Vec<BoxedSystem>, Unmade>;
 
-/// The systems and one more.
+/// Adds a system to the systems.
 fn and_one(systems: Systems, system: Result<BoxedSystem, Unmade>) -> Systems {
     let mut systems = systems?;
     let system = system?;
@@ -70,14 +85,14 @@ fn and_one(systems: Systems, system: Result<BoxedSystem, Unmade>) -> Systems {
     }
 }
 
-/// Does what the word says that takes a system.
+/// Runs the subcommand on the systems, or refuses if they were not made.
 fn with_systems<W: Sink, R: Threads + Wait + Sync + Eprint + Files + Clock + AllocGlobal>(
     rt: &R,
     matches: &ArgMatches<'_>,
     systems: Systems,
-    misfits: Option<&Misfits>,
-    is_terminal: bool,
-    input: &[u8],
+    shared: Shared<'_>,
+    terminals: Terminals,
+    input: Input<'_>,
     counts: &mut Counts,
     out: &mut W,
 ) -> Status
@@ -90,21 +105,41 @@ fn with_systems<W: Sink, R: Threads + Wait + Sync + Eprint + Files + Clock + All
     let name = words.get_str("SYSTEM").unwrap_or("");
     match systems {
         Ok(systems) if word == "run" => {
-            drive(rt, alloc, words, name, systems, misfits, input, counts, out)
+            let Input { files: _, bytes } = input;
+            drive(
+                rt,
+                alloc,
+                words,
+                name,
+                systems,
+                shared.misfits,
+                bytes,
+                counts,
+                out,
+            )
         }
-        Ok(systems) => campaign(rt, alloc, words, name, systems, is_terminal, input, out),
+        Ok(systems) => campaign(
+            rt,
+            words,
+            name,
+            systems,
+            shared.ending,
+            terminals.errors,
+            input,
+            out,
+        ),
         Err(Unmade::NoMemory) => refuse_text(Absence::NoMemory, out),
         Err(Unmade::NoSystem) => refuse_text(Absence::NoSystem(name), out),
     }
 }
 
-/// Does what the words say of an input, on standard output, and counts what its items came to.
-fn answer<W: Sink, R: Threads + Wait + Sync + Eprint + Files + Clock + io::Input + AllocGlobal>(
+/// Runs the subcommand on an input, writes its output to `out`, and counts the results of its items.
+fn answer<W: Sink, R: Runtime + Threads + Wait + Sync + AllocGlobal + Copy + Drop + Send + 'static>(
     rt: &R,
     matches: &ArgMatches<'_>,
     systems: Systems,
-    misfits: Option<&Misfits>,
-    is_terminal: bool,
+    shared: Shared<'_>,
+    terminals: Terminals,
     input: Input<'_>,
     counts: &mut Counts,
     out: &mut W,
@@ -124,23 +159,17 @@ fn answer<W: Sink, R: Threads + Wait + Sync + Eprint + Files + Clock + io::Input
         "check" => check_text(alloc, bytes, out),
         "list" => list_text(alloc, bytes, out),
         "generate" => generating::generate(rt, words, bytes, out),
-        "judge" if words.get_flag("stream") => streaming::judge(rt, bytes, counts, out),
+        "convert" => converting::convert(alloc, words, bytes, out),
+        "judge" if words.get_flag("stream") => {
+            streaming::judge(rt, words, terminals, bytes, counts, out)
+        }
         "judge" => judge(rt, alloc, words, files, bytes, counts, out),
-        "explain" => explaining::explain(rt, alloc, words, files, bytes, out),
-        _ => with_systems(
-            rt,
-            matches,
-            systems,
-            misfits,
-            is_terminal,
-            bytes,
-            counts,
-            out,
-        ),
+        "explain" => explaining::explain(rt, words, terminals, input, out),
+        _ => with_systems(rt, matches, systems, shared, terminals, input, counts, out),
     }
 }
 
-/// Writes messages beside refusals, and warnings beside a model that `check` accepts, to standard error, unless the words
+/// Writes messages on refusals, and warnings on a model that `check` accepts, to standard error, unless the arguments
 /// forbid it.
 fn say<R: Eprint + AllocGlobal>(
     rt: &R,
@@ -162,7 +191,7 @@ fn say<R: Eprint + AllocGlobal>(
     }
 }
 
-/// Whether the words forbid what is on standard error.
+/// Returns whether the arguments forbid messages on standard error.
 fn is_quiet(matches: &ArgMatches<'_>) -> bool {
     match matches.subcommand() {
         Some((_, words)) => words.get_flag("quiet"),
@@ -170,7 +199,7 @@ fn is_quiet(matches: &ArgMatches<'_>) -> bool {
     }
 }
 
-/// The names of the files that the words give.
+/// Returns the file names in the arguments.
 fn names<'a>(matches: &'a ArgMatches<'_>) -> &'a [&'a str] {
     match matches.subcommand() {
         Some((_, words)) => words.get_strs("FILE").unwrap_or(&[]),
@@ -178,8 +207,8 @@ fn names<'a>(matches: &'a ArgMatches<'_>) -> &'a [&'a str] {
     }
 }
 
-/// The files that the words name. If there are none, or no system of the name that they give, or files are only laid out, the
-/// status that the program ends with.
+/// Reads the files that the arguments name. If that fails, or the arguments name an unknown system, or files are only
+/// laid out, the error is the status that the program ends with.
 fn read<'a, R: Runtime + AllocGlobal>(
     rt: &R,
     matches: &'a ArgMatches<'_>,
@@ -193,6 +222,9 @@ fn read<'a, R: Runtime + AllocGlobal>(
     if streaming::is_stream(matches) && !streaming::leaves_input(names(matches)) {
         return Err(streaming::refuse(rt, is_quiet, &mut out));
     }
+    let inputs = names(matches);
+    outputs::refuse_input(rt, inputs, "-o", output_name(matches), is_quiet)?;
+    outputs::refuse_input(rt, inputs, "--html", page::name(matches), is_quiet)?;
     let reading = Reading {
         is_quiet,
         is_terminal: terminals.input,
@@ -200,21 +232,28 @@ fn read<'a, R: Runtime + AllocGlobal>(
     if let Some(("fmt", words)) = matches.subcommand() {
         return Err(formatting::lay_out(rt, words, reading));
     }
-    match input::files(rt, names(matches), reading) {
+    let files = match input::files(rt, names(matches), reading) {
+        Ok(files) => files,
+        Err(why) => return Err(refuse_text(why, &mut out)),
+    };
+    match json_items::as_trees(rt.alloc(), files) {
         Ok(files) => Ok(files),
-        Err(why) => Err(refuse_text(why, &mut out)),
+        Err(_) => Err(refuse_text(Absence::NoMemory, &mut out)),
     }
 }
 
-/// Does what the words say, and writes it. Beside each refusal a message is on standard error, and warnings may be there beside
-/// a model that `check` accepts and after the lines of `judge`, unless the words forbid it. Last is a line that sums up the
+/// Runs the subcommand with its output to `writer`. Unless the arguments forbid it, standard error has a message on
+/// each refusal, and warnings on a model that `check` accepts and after the lines of `judge`. Its last line sums up the
 /// items of `judge` and `run`.
-fn run_to<W: Write + Drop, R: Runtime + AllocGlobal + Threads + Wait + Sync>(
+fn run_to<
+    W: Write + Drop,
+    R: Runtime + AllocGlobal + Threads + Wait + Sync + Copy + Drop + Send + 'static,
+>(
     rt: &R,
     matches: &ArgMatches<'_>,
     systems: Systems,
-    misfits: Option<&Misfits>,
-    is_terminal: bool,
+    shared: Shared<'_>,
+    terminals: Terminals,
     input: Input<'_>,
     writer: W,
 ) -> Status {
@@ -224,8 +263,8 @@ fn run_to<W: Write + Drop, R: Runtime + AllocGlobal + Threads + Wait + Sync>(
         rt,
         matches,
         systems,
-        misfits,
-        is_terminal,
+        shared,
+        terminals,
         input,
         &mut counts,
         &mut out,
@@ -237,27 +276,30 @@ fn run_to<W: Write + Drop, R: Runtime + AllocGlobal + Threads + Wait + Sync>(
     status
 }
 
-/// The name of the file that the words give for the output.
+/// Returns the name of the output file in the arguments, if there is one.
 fn output_name<'a>(matches: &ArgMatches<'a>) -> Option<&'a str> {
     let (_, words) = matches.subcommand()?;
     words.get_str("output")
 }
 
-/// Does what the words say, and writes it to the file that they name, or to standard output.
-fn run<R: Runtime + AllocGlobal + Threads + Wait + Sync>(
+/// Runs the subcommand with its output to the file that the arguments name, or to standard output.
+fn run<R: Runtime + AllocGlobal + Threads + Wait + Sync + Copy + Drop + Send + 'static>(
     rt: &R,
     matches: &ArgMatches<'_>,
     systems: Systems,
-    misfits: Option<&Misfits>,
-    is_terminal: bool,
+    shared: Shared<'_>,
+    terminals: Terminals,
     input: Input<'_>,
 ) -> Status {
     let Some(name) = output_name(matches) else {
         let writer = io::writer(rt);
-        return run_to(rt, matches, systems, misfits, is_terminal, input, writer);
+        return run_to(rt, matches, systems, shared, terminals, input, writer);
     };
     match std::fs::create(rt, name) {
-        Ok(file) => run_to(rt, matches, systems, misfits, is_terminal, input, file),
+        Ok(file) => {
+            let terminals = terminals.with_output_in_a_file();
+            run_to(rt, matches, systems, shared, terminals, input, file)
+        }
         Err(error) => {
             let _ = eprintln!(rt; "pst: cannot write {name}: {error}");
             Status::Lost
@@ -275,14 +317,14 @@ macro_rules! boxed {
     };
 }
 
-/// A system in a box whose misfits are kept if any are.
+/// A system in a box, which records its misfits if there is a list for them.
 macro_rules! overheard {
     ($alloc:expr, $misfits:expr, $system:expr) => {
         boxed!($alloc, Overheard::new($system, overheard::another(&$misfits)))
     };
 }
 
-/// A known system in a box, whose misfits are kept if any are.
+/// A known system in a box, which records its misfits if there is a list for them.
 macro_rules! known_system {
     ($rt:expr, $alloc:expr, $misfits:expr, $known:expr) => {
         match $known {
@@ -296,18 +338,19 @@ macro_rules! known_system {
     };
 }
 
-/// How many bytes of stack the program reserves. Evaluation by recursion takes a quarter of them on the deepest valid model:
-/// 64 functions, each applied at the bottom of 62 expressions in one another.
+/// The stack size of the program, in bytes. Evaluation by recursion takes a quarter of it on the deepest valid model:
+/// 64 functions, each applied at the bottom of 62 nested expressions.
 const STACK_BYTES: usize = 256 << 20;
 
 fn main(rt: HostRuntime) -> ExitCode {
-    // All work is done on a thread of a known stack: the system's limit for that of the first thread may be too low.
+    // All work is done on a thread with a known stack size: the system's limit for the first thread may be too low.
     let worker = Builder::new()
         .stack_size(STACK_BYTES)
         .spawn(&rt, move || -> u8 {
             let alloc = rt.alloc();
             let terminals = Terminals {
                 input: rt.stdin().is_terminal(),
+                output: rt.stdout().is_terminal(),
                 errors: rt.stderr().is_terminal(),
             };
             let started = match arguments::started_with(&rt) {
@@ -330,7 +373,7 @@ fn main(rt: HostRuntime) -> ExitCode {
                 files: files.as_slice(),
                 bytes: text.as_slice(),
             };
-            // Boxed systems are made here, since a function cannot hand one out.
+            // Boxed systems are made here, since a function cannot return one.
             let misfits = overheard::misfits_of(alloc, &matches);
             let mut systems: Systems = Ok(Vec::new(alloc));
             if let Some((wanted, count)) = systems::asked_for(&matches) {
@@ -352,17 +395,38 @@ fn main(rt: HostRuntime) -> ExitCode {
                     systems = and_one(systems, system);
                 }
             }
+            let Ok(has_appeared) = interrupting::first_look(&rt, alloc, &matches) else {
+                return refused::memory(&rt).code();
+            };
+            let watched = match &has_appeared {
+                Some(has_appeared) => interrupting::shared_watch(alloc, &matches, has_appeared),
+                None => None,
+            };
+            let stop_file = match watched {
+                Some(watched) => match Arc::try_clone(&watched) {
+                    Ok(own) => match Builder::new()
+                        .spawn(&rt, move || interrupting::look(&rt, &own))
+                        .ok()
+                    {
+                        Some(thread) => Some(StopFile::new(watched, thread)),
+                        None => None,
+                    },
+                    Err(_) => None,
+                },
+                None => None,
+            };
+            let ending = interrupting::early_end(&matches, has_appeared);
+            let shared = Shared {
+                misfits: misfits.as_deref(),
+                ending: &ending,
+            };
             let watch = hangs::watch_clients(rt, alloc, &matches, &notes);
-            let status = run(
-                &rt,
-                &matches,
-                systems,
-                misfits.as_deref(),
-                terminals.errors,
-                input,
-            );
+            let status = run(&rt, &matches, systems, shared, terminals, input);
             if let Some(watch) = watch {
                 watch.end(&rt);
+            }
+            if let Some(stop_file) = stop_file {
+                stop_file.end(&rt);
             }
             clients::report(&rt, &matches, &notes);
             status.code()

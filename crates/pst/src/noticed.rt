@@ -2,15 +2,14 @@
 
 use crate::words::is_json;
 use clap::ArgMatches;
-use pst_items::Text;
+use pst_json_verdicts::{Field, Name, add_number, add_words, object_line};
 use pst_messages::{Asked, errors_of};
-use pst_notices::{Notice, Notices, place_in};
-use pst_objects::{Field, Name, add_number, add_words, object_line};
-use pst_sources::Input;
+use pst_sources::{Input, Notice, Notices, place_in};
+use pst_value::Text;
 use pst_warnings::warnings_in;
 use std::alloc::{AllocError, Global};
 
-/// Texts of strings.
+/// Returns the strings as texts.
 fn texts(alloc: Global, strings: Vec<String>) -> Result<Vec<Text>, AllocError> {
     let mut texts = Vec::new(alloc);
     for string in strings {
@@ -19,7 +18,7 @@ fn texts(alloc: Global, strings: Vec<String>) -> Result<Vec<Text>, AllocError> {
     Ok(texts)
 }
 
-/// The object of an error or a warning: how serious it is, where it is, what is wrong, and notes.
+/// Returns the object of an error or a warning: its severity, its place, what is wrong, and notes.
 fn notice_object(alloc: Global, input: &Input<'_>, notice: Notice) -> Result<Vec<u8>, AllocError> {
     let place = place_in(alloc, input, &notice)?;
     let severity = if notice.is_warning {
@@ -49,7 +48,7 @@ fn notice_object(alloc: Global, input: &Input<'_>, notice: Notice) -> Result<Vec
     object_line(alloc, fields.as_slice())
 }
 
-/// The objects of errors and warnings on an input, a line each.
+/// Returns the objects of errors and warnings on an input, a line each.
 fn notice_objects(
     alloc: Global,
     input: &Input<'_>,
@@ -69,7 +68,7 @@ fn notice_objects(
     Ok(text)
 }
 
-/// The objects of the errors of a model, or of the warnings on it if it is accepted, a line each.
+/// Returns the objects of the errors of a model, or of the warnings on it if it is accepted, a line each.
 fn model_notices(alloc: Global, input: &Input<'_>) -> Result<Vec<u8>, AllocError> {
     let errors = errors_of(alloc, input, Asked::Model)?;
     if errors.all.is_empty() {
@@ -79,13 +78,13 @@ fn model_notices(alloc: Global, input: &Input<'_>) -> Result<Vec<u8>, AllocError
     }
 }
 
-/// Whether the errors and warnings are part of the output.
+/// Returns whether the errors and warnings are part of the output.
 pub fn are_written(word: &str, words: &ArgMatches<'_>) -> bool {
     word == "check" && is_json(words)
 }
 
-/// The objects of the errors and warnings on a model, a line each; none if the arguments forbid them, or if an allocation for
-/// them fails.
+/// Returns the objects of the errors and warnings on a model, a line each. There are no lines if the arguments forbid
+/// them, or if an allocation for them fails.
 pub fn lines(alloc: Global, words: &ArgMatches<'_>, input: &Input<'_>) -> Vec<u8> {
     if words.get_flag("quiet") {
         return Vec::new(alloc);

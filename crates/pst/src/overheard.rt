@@ -1,4 +1,4 @@
-//! What a system answered where the reply is `misfit`, on standard error.
+//! Messages on misfits, on standard error: what a system answered for each reply `misfit`.
 
 use clap::ArgMatches;
 use pst_driver::{Misfits, misfits_text};
@@ -9,8 +9,8 @@ use std::sync::Arc;
 /// The misfits of a system, which its box and the program share.
 pub type Shared = Arc<Misfits, Global>;
 
-/// A place for the misfits of `run`. There is none for other words, where the words forbid messages, and where memory is
-/// refused.
+/// Returns an empty list for the misfits of `run`. `None` for other commands, if the arguments forbid messages, and if
+/// an allocation fails.
 pub fn misfits_of(alloc: Global, matches: &ArgMatches<'_>) -> Option<Shared> {
     let (word, words) = matches.subcommand()?;
     if word != "run" || words.get_flag("quiet") {
@@ -19,20 +19,20 @@ pub fn misfits_of(alloc: Global, matches: &ArgMatches<'_>) -> Option<Shared> {
     Arc::new(alloc, Misfits::new(alloc).ok()?).ok()
 }
 
-/// Another owner of the misfits, if there are some.
+/// Returns another owner of the misfits, if there is a list of them.
 pub fn another(misfits: &Option<Shared>) -> Option<Shared> {
     misfits.as_ref()?.clone().ok()
 }
 
-/// From now on answers are compared with the model that the input begins with, if it can be loaded.
+/// Compares answers from now on with the model at the beginning of `input`, if it can be loaded.
 pub fn begin(alloc: Global, misfits: &Misfits, input: &[u8]) {
     if let Ok(Ok(file)) = load(alloc, input) {
         misfits.compare_with(file.typed);
     }
 }
 
-/// Writes a line for each misfit that is kept to standard error. Where memory is refused or the lines cannot be written,
-/// nothing more is said: the runs and their verdicts stand without them.
+/// Writes a line for each recorded misfit to standard error. If an allocation fails or the lines cannot be written, the
+/// runs and their verdicts remain without them.
 pub fn report<R: Eprint>(rt: &R, alloc: Global, misfits: &Misfits) {
     if let Ok(text) = misfits_text(alloc, misfits) {
         let _ = eprint!(rt; "{text}");

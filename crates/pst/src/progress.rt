@@ -1,4 +1,4 @@
-//! A line that tells how far a campaign is, on a terminal.
+//! A line that displays the progress of a campaign, on a terminal.
 
 use pst_campaign::Watch;
 use pst_ledger::Cause;
@@ -7,14 +7,16 @@ use std::io;
 use std::sync::atomic::{AtomicU64, Ordering};
 use std::time::{Clock, Instant};
 
-/// How many milliseconds pass at least before the line is written again.
+/// The minimum time between two updates of the line, in milliseconds.
 const PAUSE: u64 = 250;
 
-/// What came of the trials so far, and the line on standard error that says so.
+/// The results of the trials so far, and the line on standard error that displays them.
 #[derive(Drop)]
 pub struct Progress<'a, R> {
     rt: &'a R,
     began: Instant,
+    /// How many trials there are.
+    all: u64,
     done: AtomicU64,
     failed: AtomicU64,
     lost: AtomicU64,
@@ -22,7 +24,7 @@ pub struct Progress<'a, R> {
     written: AtomicU64,
 }
 
-/// Whether the record is one of a trial that did not pass.
+/// Returns whether the trial did not pass.
 fn has_failed(record: &Record) -> bool {
     match record.outcome() {
         TrialOutcome::Passed { .. } => false,
@@ -31,11 +33,12 @@ fn has_failed(record: &Record) -> bool {
 }
 
 impl<'a, R: Eprint + Clock> Progress<'a, R> {
-    /// The progress of a campaign that begins now. An error where the clock cannot be read.
-    pub fn new(rt: &'a R) -> io::Result<Progress<'a, R>> {
+    /// Returns the progress of a campaign of `all` trials that begins now, or an error if the clock cannot be read.
+    pub fn new(rt: &'a R, all: u64) -> io::Result<Progress<'a, R>> {
         Ok(Progress {
             rt,
             began: Instant::now(rt)?,
+            all,
             done: AtomicU64::new(0),
             failed: AtomicU64::new(0),
             lost: AtomicU64::new(0),
@@ -43,15 +46,19 @@ impl<'a, R: Eprint + Clock> Progress<'a, R> {
         })
     }
 
-    /// Writes the line, so many milliseconds after the beginning. Where it cannot be written the campaign goes on.
+    /// Writes the line, `milliseconds` after the beginning. If it cannot be written, the campaign continues.
     fn write_line(&self, milliseconds: u64) {
         let done = self.done.load(Ordering::SeqCst);
         let failed = self.failed.load(Ordering::SeqCst);
         let lost = self.lost.load(Ordering::SeqCst);
-        let ended = done.saturating_add(lost).saturating_mul(1000);
-        let rate = ended.checked_div(milliseconds).unwrap_or(0);
+        let ended = done.saturating_add(lost);
+        let thousands = ended.saturating_mul(1000);
+        let rate = thousands.checked_div(milliseconds).unwrap_or(0);
+        let all = self.all;
+        let left = all.saturating_sub(ended).saturating_mul(milliseconds);
+        let seconds = left.checked_div(thousands).unwrap_or(0);
         let _ = eprint!(self.rt;
-            "\r\x1b[K{done} done, {failed} failed, {lost} lost, {rate} a second"
+            "\r\x1b[K{done} of {all} done, {failed} failed, {lost} lost, {rate} a second, {seconds} s left"
         );
     }
 

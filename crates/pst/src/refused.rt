@@ -1,10 +1,10 @@
-//! The messages beside refusals, on standard error.
+//! The messages on refusals, on standard error.
 
 use crate::words::is_json;
 use clap::ArgMatches;
 use pst_cli::{Absence, Status, refuse_text};
 use pst_messages::{Asked, message_of};
-use pst_sink::Out;
+use pst_sexpr::Out;
 use pst_sources::SourceFile;
 use std::io;
 use std::rt::Runtime;
@@ -14,7 +14,7 @@ pub fn memory<R: Runtime>(rt: &R) -> Status {
     refuse_text(Absence::NoMemory, &mut Out::new(io::writer(rt)))
 }
 
-/// What messages are written for, by the word that the program was given and the words behind it.
+/// Returns what to write messages for, by the command `word` and its arguments.
 fn asked(word: &str, words: &ArgMatches<'_>) -> Asked {
     match word {
         "judge" if words.get_flag("keep-going") || is_json(words) => {
@@ -24,14 +24,13 @@ fn asked(word: &str, words: &ArgMatches<'_>) -> Asked {
                 Asked::EachItem
             }
         }
-        "judge" | "run" | "explain" => Asked::FirstItem,
+        "judge" | "run" | "explain" | "convert" => Asked::FirstItem,
         _ => Asked::Model,
     }
 }
 
-/// Writes the messages beside the refusals of an input to standard error, for the word that the program was given.
-/// Where memory is refused or a message cannot be written, nothing more is said: the lines of the refusals and the
-/// status stand without it.
+/// Writes the messages on the refusals of an input to standard error, for the command `word`. If an allocation fails or
+/// a message cannot be written, the lines of the refusals and the status remain without it.
 pub fn report<R: Eprint + AllocGlobal>(
     rt: &R,
     word: &str,

@@ -2,13 +2,16 @@
 ghost use Rattle.std.specs.Prelude.{◌≡◌, false};
 
 use crate::input::STANDARD_INPUT;
+use crate::telling::Telling;
+use crate::terminal::Terminals;
 use clap::ArgMatches;
 use pst_cli::{Absence, Counts, Status, judge_stream, refuse_text};
-use pst_sink::Sink;
+use pst_sexpr::Sink;
 use std::io::Input;
+use std::sync::Wait;
 use std::thread::Threads;
 
-/// Whether the words ask for the items of a stream.
+/// Returns whether the arguments select a stream of items.
 pub fn is_stream(matches: &ArgMatches<'_>) -> bool {
     match matches.subcommand() {
         Some((word, words)) => word == "judge" && words.get_flag("stream"),
@@ -16,12 +19,12 @@ pub fn is_stream(matches: &ArgMatches<'_>) -> bool {
     }
 }
 
-/// Whether the names of files leave standard input to the items of a stream.
+/// Returns whether the file names leave standard input to the items of a stream.
 pub fn leaves_input(names: &[&str]) -> bool {
     !names.is_empty() && !names.iter().any(|name| *name == STANDARD_INPUT)
 }
 
-/// Says on standard error that standard input has the items of a stream, unless it is to be quiet, and refuses the input.
+/// Refuses the input. Unless `is_quiet`, it writes to standard error that standard input has the items of a stream.
 pub fn refuse<W: Sink, R: Eprint>(rt: &R, is_quiet: bool, out: &mut W) -> Status
     requires { W.broken out.old ≡ false }
 {
@@ -33,14 +36,28 @@ pub fn refuse<W: Sink, R: Eprint>(rt: &R, is_quiet: bool, out: &mut W) -> Status
     refuse_text(Absence::NoFile, out)
 }
 
-/// Judges the items of standard input, one on each line, over the model that the input begins with.
-pub fn judge<W: Sink, R: Threads + Sync + Input + AllocGlobal>(
+/// Judges the items of standard input, one on each line, by the model at the beginning of `input`. If standard error is a
+/// terminal, and standard output, on which the verdicts come meanwhile, is none, a line says how many are judged.
+pub fn judge<
+    W: Sink,
+    R: Threads + Wait + Sync + Input + Eprint + AllocGlobal + Copy + Drop + Send + 'static,
+>(
     rt: &R,
+    words: &ArgMatches<'_>,
+    terminals: Terminals,
     input: &[u8],
     counts: &mut Counts,
     out: &mut W,
 ) -> Status
     requires { W.broken out.old ≡ false }
 {
-    judge_stream(rt, rt.alloc(), input, &mut rt.reader(), counts, out)
+    let alloc = rt.alloc();
+    let is_told = terminals.errors && !terminals.output && !words.get_flag("quiet");
+    let Ok(telling) = Telling::begin(rt, alloc, is_told, "judged") else {
+        return refuse_text(Absence::NoMemory, out);
+    };
+    let steps = telling.steps();
+    let status = judge_stream(rt, alloc, input, &mut rt.reader(), counts, steps, out);
+    telling.end(rt);
+    status
 }

@@ -1,9 +1,9 @@
-//! The line that sums up what items came to, on standard error.
+//! The line that sums up the results of items, on standard error.
 
 use pst_cli::Counts;
 use std::alloc::{AllocError, Global};
 
-/// How many items each word is said of, in the order of the line.
+/// Returns the number of items with each result, in the order of the line.
 fn each_count(counts: &Counts) -> [(usize, &'static str); 9] {
     [
         (counts.explained, "explained"),
@@ -19,7 +19,7 @@ fn each_count(counts: &Counts) -> [(usize, &'static str); 9] {
 }
 
 /// Adds a number to a text, with a comma between thousands, as `16,002`.
-fn add_number(text: &mut String, alloc: Global, number: usize) -> Result<(), AllocError> {
+pub fn add_number(text: &mut String, alloc: Global, number: usize) -> Result<(), AllocError> {
     let digits = format!(in alloc; "{number}")?;
     let mut left = digits.len();
     for digit in digits.as_str().chars() {
@@ -32,7 +32,7 @@ fn add_number(text: &mut String, alloc: Global, number: usize) -> Result<(), All
     Ok(())
 }
 
-/// The line for more than one item, as `pst: 3 items: 2 explained, 1 unexplained`. There is none for fewer.
+/// Returns the line for two or more items, as `pst: 3 items: 2 explained, 1 unexplained`. `None` for fewer items.
 fn line_of(alloc: Global, counts: &Counts) -> Result<Option<String>, AllocError> {
     let each = each_count(counts);
     let mut total = 0usize;
@@ -58,8 +58,8 @@ fn line_of(alloc: Global, counts: &Counts) -> Result<Option<String>, AllocError>
     Ok(Some(line))
 }
 
-/// Writes a line to standard error that sums up what the items came to, if there is more than one. If it cannot be written,
-/// nothing more is said.
+/// Writes a line to standard error that sums up the results of the items, if there is more than one item. It ignores
+/// failures.
 pub fn report<R: Eprint + AllocGlobal>(rt: &R, counts: &Counts) {
     if let Ok(Some(line)) = line_of(rt.alloc(), counts) {
         let _ = eprintln!(rt; "{line}");

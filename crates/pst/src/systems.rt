@@ -1,4 +1,4 @@
-//! The systems that the words ask for.
+//! The systems that the arguments name.
 
 ghost use Rattle.std.specs.Prelude.{◌≡◌, false};
 
@@ -7,14 +7,14 @@ use clap::ArgMatches;
 use pst_cli::{Absence, KnownSystem, Status, refuse_text};
 use pst_clients::Folder;
 use pst_problems::NearestName;
-use pst_sink::Sink;
+use pst_sexpr::Sink;
 use std::alloc::AllocError;
 use std::rt::Files;
 
 /// The systems that the program makes.
 pub const SYSTEMS: [&str; 6] = ["counter", "racy", "stuck", "registry", "queue", "meet"];
 
-/// The systems that the words ask for, each for a worker.
+/// The systems that the arguments name, one for each worker.
 #[derive(Clone, Copy, Debug, PartialEq, Eq, Drop)]
 pub enum Wanted<'a> {
     /// Sample systems that the program makes.
@@ -26,13 +26,13 @@ pub enum Wanted<'a> {
 /// Why a system was not made.
 #[derive(Clone, Copy, Debug, PartialEq, Eq, Drop)]
 pub enum Unmade {
-    /// There is none of the name that the words give.
+    /// No system has the name in the arguments.
     NoSystem,
-    /// There is no memory for it.
+    /// An allocation failed.
     NoMemory,
 }
 
-/// The systems of a name, if there are some.
+/// Returns the systems with the name `name`, if there are some.
 fn named(name: &str) -> Option<Wanted<'_>> {
     if let Some(folder) = Folder::named(name) {
         return Some(Wanted::Clients(folder));
@@ -40,7 +40,7 @@ fn named(name: &str) -> Option<Wanted<'_>> {
     Some(Wanted::Known(KnownSystem::named(name)?))
 }
 
-/// The systems that the words ask for, and how many.
+/// Returns the systems that the arguments name, and how many of them are needed.
 pub fn asked_for<'a>(matches: &ArgMatches<'a>) -> Option<(Wanted<'a>, u64)> {
     let (word, words) = matches.subcommand()?;
     let wanted = named(words.get_str("SYSTEM")?)?;
@@ -50,7 +50,7 @@ pub fn asked_for<'a>(matches: &ArgMatches<'a>) -> Option<(Wanted<'a>, u64)> {
     }
 }
 
-/// The name of a system that the words give, if there is none of that name.
+/// Returns the name of a system in the arguments, if no system has this name.
 pub fn unknown<'a>(matches: &ArgMatches<'a>) -> Option<&'a str> {
     let (_, words) = matches.subcommand()?;
     let name = words.get_str("SYSTEM")?;
@@ -61,7 +61,7 @@ pub fn unknown<'a>(matches: &ArgMatches<'a>) -> Option<&'a str> {
     }
 }
 
-/// What to do about a name that no system has: what a file of that name needs, or the nearest name.
+/// Returns a hint on a name that no system has: what a file of that name needs, or the nearest name.
 fn hint<R: Files + AllocGlobal>(rt: &R, name: &str) -> Result<Option<String>, AllocError> {
     let alloc = rt.alloc();
     if input::can_be_opened(rt, name) {
@@ -80,8 +80,8 @@ fn hint<R: Files + AllocGlobal>(rt: &R, name: &str) -> Result<Option<String>, Al
     }
 }
 
-/// Writes `refused system NAME`, or `refused file` if one of the files cannot be opened. Beside it standard error has the
-/// systems that there are, unless it is to be quiet. Nothing is read.
+/// Writes `refused system NAME`, or `refused file` if one of the files cannot be opened. It reads nothing. Unless
+/// `is_quiet`, a message on standard error says what is wrong; for an unknown system it lists the known ones.
 pub fn refuse<W: Sink, R: Files + Eprint + AllocGlobal>(
     rt: &R,
     name: &str,

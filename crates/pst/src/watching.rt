@@ -1,10 +1,10 @@
-//! Several who watch a campaign.
+//! Several watchers of a campaign.
 
-use pst_campaign::Watch;
+use pst_campaign::{Ending, Watch};
 use pst_ledger::Cause;
 use pst_trial::Record;
 
-/// Two who watch a campaign.
+/// Two watchers of a campaign.
 #[derive(Clone, Copy, Drop)]
 pub struct Both<'a, J, K> {
     pub first: &'a J,
@@ -20,5 +20,13 @@ impl<'a, J: Watch, K: Watch> Watch for Both<'a, J, K> {
     fn campaign_ended(&self) {
         self.first.campaign_ended();
         self.second.campaign_ended();
+    }
+}
+
+impl<'a, J: Watch, K: Ending> Ending for Both<'a, J, K> {
+    ghost may_end = { λ b. K.may_end b.second.now };
+
+    fn is_over(&self) -> bool {
+        self.second.is_over()
     }
 }

@@ -3,7 +3,7 @@
 ghost use Rattle.std.specs.Prelude.{IfSome};
 ghost use Rattle.pst_trial.specs.Settings.{AreInRange};
 
-use crate::help;
+use crate::{help, page};
 use clap::builder::ValueParser;
 use clap::{Arg, ArgAction, ArgMatches, Command};
 use pst_trial::{
@@ -11,7 +11,7 @@ use pst_trial::{
 };
 use std::alloc::{AllocError, Global};
 
-/// The most drives of a case of `run`.
+/// The maximum number of drives of a case of `run`.
 const MOST_REPEATS: u64 = 1_000_000;
 
 /// The file of a model.
@@ -26,7 +26,7 @@ pub fn files<'a>(alloc: Global) -> Arg<'a> {
     )
 }
 
-/// The name of a system behind a word of the program.
+/// The argument that names a system.
 fn system<'a>(alloc: Global) -> Arg<'a> {
     Arg::new(alloc, "SYSTEM").required(true).help(
         "A sample system: counter, racy, stuck, registry, queue or meet. Or clients whose pipes are in a folder: clients:FOLDER, shared:FOLDER",
@@ -65,7 +65,7 @@ fn list_command<'a>(alloc: Global) -> Result<Command<'a>, AllocError> {
     .alias("disasm")
 }
 
-/// The forms of what is written of verdicts.
+/// The forms of the output.
 const FORMS: [&str; 2] = ["text", "json"];
 
 /// The option that chooses between lines of text and JSON.
@@ -79,7 +79,7 @@ fn format_option<'a>(alloc: Global) -> Arg<'a> {
         .hide_possible_values(true)
 }
 
-/// Whether the arguments ask for JSON.
+/// Returns whether the arguments select JSON output.
 pub fn is_json(words: &ArgMatches<'_>) -> bool {
     words.get_str("format") == Some("json")
 }
@@ -148,6 +148,32 @@ fn repeats<'a>(alloc: Global) -> Arg<'a> {
         .help("Drives each case N times, and prints how many of the drives failed")
 }
 
+/// The option that ends a campaign after some failures.
+fn max_failures<'a>(alloc: Global) -> Arg<'a> {
+    Arg::new(alloc, "max-failures")
+        .long("max-failures")
+        .value_name("N")
+        .value_parser(ValueParser::Unsigned(1, MAX_TRIALS as u64))
+        .allow_negative_numbers(true)
+        .help("Ends the campaign once N trials did not pass; without it all trials run")
+}
+
+/// The option that ends a campaign when a file appears.
+fn stop_file<'a>(alloc: Global) -> Arg<'a> {
+    Arg::new(alloc, "stop-file")
+        .long("stop-file")
+        .value_name("FILE")
+        .help("Ends the campaign, with its report, once there is a FILE; Ctrl-C makes one")
+}
+
+/// The option that saves failures.
+fn save<'a>(alloc: Global) -> Arg<'a> {
+    Arg::new(alloc, "save")
+        .long("save")
+        .value_name("FOLDER")
+        .help("Saves each failure, shrunk, as a file in FOLDER that `run` and `judge` read")
+}
+
 /// `run`, with the name of a system.
 fn run_command<'a>(alloc: Global) -> Result<Command<'a>, AllocError> {
     Command::new(alloc, "run")
@@ -156,11 +182,12 @@ fn run_command<'a>(alloc: Global) -> Result<Command<'a>, AllocError> {
         .arg(system(alloc))?
         .arg(files(alloc))?
         .arg(repeats(alloc))?
+        .arg(format_option(alloc))?
         .arg(output(alloc))?
         .arg(quiet(alloc))
 }
 
-/// A number of a campaign's plan, which an option of its name gives.
+/// A number of a campaign's plan. An option with the same name sets it.
 struct PlanNumber {
     name: &'static str,
     least: u64,
@@ -289,7 +316,11 @@ fn campaign_command<'a>(alloc: Global) -> Result<Command<'a>, AllocError> {
         command = command.arg(plan_option(alloc, number))?;
     }
     command
+        .arg(max_failures(alloc))?
+        .arg(stop_file(alloc))?
+        .arg(save(alloc))?
         .arg(format_option(alloc))?
+        .arg(page::option(alloc))?
         .arg(output(alloc))?
         .arg(quiet(alloc))
 }
@@ -328,7 +359,8 @@ fn with_models<'a>(alloc: Global, command: Command<'a>) -> Result<Command<'a>, A
 fn with_items<'a>(alloc: Global, command: Command<'a>) -> Result<Command<'a>, AllocError> {
     command
         .subcommand(judge_command(alloc)?)?
-        .subcommand(crate::explaining::command(alloc)?)
+        .subcommand(crate::explaining::command(alloc)?)?
+        .subcommand(crate::converting::command(alloc)?)
 }
 
 /// `verdicts`, which prints what verdicts, reports and exit statuses mean.

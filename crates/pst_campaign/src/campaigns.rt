@@ -2,8 +2,9 @@
 ghost use Rattle.std.specs.Prelude.{◌≡◌, ◌≤◌, length, IfOk, IfErr};
 ghost use Rattle.std.specs.Arc.{arc_value};
 ghost use Rattle.pst_campaign.specs.Entries.{MayGive};
-ghost use Rattle.pst_campaign.specs.Working.{AllGiven, HasWorkers, IsCampaignFault};
+ghost use Rattle.pst_campaign.specs.Working.{AllGiven, AllGivenUnless, HasWorkers, IsCampaignFault};
 
+use crate::ending::{Ending, ToTheEnd};
 use crate::fault::CampaignFault;
 use crate::plans::Watched;
 use crate::runner::TrialRunner;
@@ -16,10 +17,10 @@ use std::alloc::Global;
 use std::sync::{Arc, Wait};
 use std::thread::Threads;
 
-/// The most systems of a campaign.
+/// The maximum number of systems of a campaign.
 const MAX_SYSTEMS: usize = 16;
 
-/// Runs all trials, with one worker for each system.
+/// Runs all trials, with one worker for each system, unless they are over before.
 pub(crate) fn campaign_with<
     R: Numbered + Sync,
     S: Drop + Send,
@@ -29,7 +30,8 @@ pub(crate) fn campaign_with<
     requires { (trials ≤ 100000) × (trials ≡ P.trials plan.now) }
     ensures number { IfOk result (λ closed. HasWorkers (length systems.items)) }
     ensures count { IfOk result (λ closed. length closed ≡ trials) }
-    ensures given { IfOk result (λ closed. AllGiven (P.may_give plan.now) systems.items closed) }
+    ensures given { IfOk result (λ closed.
+        AllGivenUnless (P.may_end plan.now) (P.may_give plan.now) systems.items closed) }
     ensures fault { IfErr result (IsCampaignFault (length systems.items)) }
 {
     let workers = systems.len();
@@ -47,13 +49,13 @@ pub(crate) fn campaign_with<
     }
 }
 
-/// Runs all trials of a plan, with one worker for each system: each worker has a thread of its own, and one for which no
-/// thread can be started works on the calling thread. They share one ledger. Which worker runs which trial is left open.
-/// The systems are dropped at the end. The call waits for as long as the calls of the systems do. `watch` is called
-/// for each trial that has ended, and when all have.
+/// Runs all trials of a plan, with one worker for each system. Each worker has a thread of its own; one whose
+/// thread cannot be started works on the calling thread. They share one ledger, and any worker may run any
+/// trial. The systems are dropped at the end. The call waits for as long as the calls of the systems do.
+/// `watch` is called for each trial that has ended, and once all have.
 ///
-/// `NoSystem` if no system is handed in, and `TooMany` if more than 16 are: no report is given then. `NoMemory` if an allocation
-/// fails before the first trial. A trial that has a fault leaves its number `Lost`.
+/// `NoSystem` if there is no system, and `TooMany` if there are more than 16: there is no report then.
+/// `NoMemory` if an allocation fails before the first trial. A trial that has a fault leaves its number `Lost`.
 pub fn campaign<K: Watch + Sync, H: Threads + Wait + Sync>(
     rt: &H,
     alloc: Global,
@@ -69,10 +71,33 @@ pub fn campaign<K: Watch + Sync, H: Threads + Wait + Sync>(
         systems.items) }
     ensures fault { IfErr result (IsCampaignFault (length systems.items)) }
 {
+    campaign_until(rt, alloc, plan, systems, &ToTheEnd { watch })
+}
+
+/// Does what [`campaign`] does until `ending` says that the campaign is over: no worker draws a number from then on, trials that
+/// have begun are run to their end, and the numbers that were not drawn are `Undrawn`.
+pub fn campaign_until<K: Ending + Sync, H: Threads + Wait + Sync>(
+    rt: &H,
+    alloc: Global,
+    plan: Arc<Plan>,
+    systems: Vec<BoxedSystem>,
+    ending: &K,
+) -> Result<Closed<Record>, CampaignFault>
+    ensures number { IfOk result (λ closed. HasWorkers (length systems.items)) }
+    ensures count { IfOk result (λ closed. length closed ≡ (arc_value plan).settings.trials) }
+    ensures given { IfOk result (AllGivenUnless (K.may_end ending.now)
+        (λ s. MayGive ((System-box s).answers s.value) ((System-box s).fails s.value)
+        ((System-box s).reset_fails s.value) (arc_value plan))
+        systems.items) }
+    ensures fault { IfErr result (IsCampaignFault (length systems.items)) }
+{
     let trials = plan.settings().trials as u64;
     may_share_records();
-    let watched = Watched { plan: &plan, watch };
+    let watched = Watched {
+        plan: &plan,
+        watch: ending,
+    };
     let ended = campaign_with(rt, alloc, &watched, trials, systems);
-    watch.campaign_ended();
+    ending.campaign_ended();
     ended
 }

@@ -14,7 +14,7 @@ pub enum CampaignFault {
     /// More than 16 systems were handed in.
     #[error("there are more than 16 systems")]
     TooMany,
-    /// Memory was refused.
+    /// An allocation failed.
     #[error("memory was refused")]
     NoMemory,
 }

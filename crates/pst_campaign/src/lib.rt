@@ -2,6 +2,7 @@
 #![tactic(auto)]
 
 mod campaigns;
+mod ending;
 mod fault;
 mod plans;
 mod runner;
@@ -9,7 +10,8 @@ mod threads;
 mod watch;
 mod working;
 
-pub use campaigns::campaign;
+pub use campaigns::{campaign, campaign_until};
+pub use ending::{EarlyEnd, Ending, ToTheEnd};
 pub use fault::CampaignFault;
 pub use watch::{Unwatched, Watch};
 pub use working::work;

@@ -1,12 +1,12 @@
 //! Plans, as what workers run.
-ghost use Rattle.std.specs.Prelude.{◌≡◌, ◌<◌, IfOk, IfErr};
+ghost use Rattle.std.specs.Prelude.{◌≡◌, ◌<◌, IsTrue, IfOk, IfErr};
 ghost use Rattle.std.specs.Arc.{arc_value};
 ghost use Rattle.pst_campaign.specs.Entries.{MayGive, cause_of};
 ghost use Rattle.pst_ledger.specs.declared.entry.Entry.TheVariants.{Done, Lost};
 ghost use Rattle.pst_system.specs.Kept.{AreKept};
 
+use crate::ending::Ending;
 use crate::runner::TrialRunner;
-use crate::watch::Watch;
 use pst_ledger::Cause;
 use pst_system::{BoxedSystem, System};
 use pst_trial::{Plan, Record, TrialFault, trial};
@@ -25,7 +25,7 @@ fn cause_of(fault: TrialFault) -> Cause
     }
 }
 
-/// Runs the trial of a number, with its fault as a cause.
+/// Runs trial `number`, with its fault as a cause.
 #[tactic(auto, using(crate::specs::Moving::gives_loss))]
 fn run_trial<H: Threads + Wait>(
     rt: &H,
@@ -56,7 +56,7 @@ pub(crate) struct Watched<'a, K> {
     pub watch: &'a K,
 }
 
-impl<'a, K: Watch> TrialRunner<Record, BoxedSystem> for Watched<'a, K> {
+impl<'a, K: Ending> TrialRunner<Record, BoxedSystem> for Watched<'a, K> {
     ghost use Rattle.std.specs.Arc.{arc_value};
     ghost use Rattle.pst_campaign.specs.Moving.{gives_before};
     ghost use Rattle.pst_campaign.specs.Entries.{MayGive};
@@ -67,6 +67,8 @@ impl<'a, K: Watch> TrialRunner<Record, BoxedSystem> for Watched<'a, K> {
 
     ghost may_give = { λ w s k e. MayGive ((System-box s).answers s.value) ((System-box s).fails s.value)
         ((System-box s).reset_fails s.value) (arc_value w.plan.now) k e };
+
+    ghost may_end = { λ w. K.may_end w.watch.now };
 
     ghost keeps = { λ s t. AreKept ((System-box t).answers t.value) ((System-box s).answers s.value)
         ((System-box t).fails t.value) ((System-box s).fails s.value)
@@ -82,6 +84,12 @@ impl<'a, K: Watch> TrialRunner<Record, BoxedSystem> for Watched<'a, K> {
         let ended = run_trial(rt, alloc, self.plan, number, system);
         self.watch.trial_ended(&ended);
         ended
+    }
+
+    fn is_over(&self) -> bool
+        ensures { IsTrue result → K.may_end self.now.watch.now }
+    {
+        self.watch.is_over()
     }
 
     ghost keeps_refl = { λ s. kept_same _ _ _ };

@@ -10,19 +10,22 @@ use std::thread::Threads;
 
 /// What runs trials on systems, such as a plan.
 pub(crate) trait TrialRunner<R: Numbered, S> {
-    ghost use Rattle.std.specs.Prelude.{ℕ};
+    ghost use Rattle.std.specs.Prelude.{ℕ, IsTrue};
     ghost use Rattle.pst_ledger.specs.declared.entry.Entry.{Entry};
 
     /// The number of trials.
     ghost trials: { Self → ℕ };
 
-    /// The entries that the trial of a number may come to on a system.
+    /// The entries that a trial may have on a system, by the trial's number.
     ghost may_give: { Self → S → ℕ → Entry R → Type 0 };
+
+    /// That its trials may end before all numbers are drawn.
+    ghost may_end: { Self → Type 0 };
 
     /// What a trial leaves of a system as it was, as a relation of the system before and after it.
     ghost keeps: { S → S → Type 0 };
 
-    /// Runs the trial of a number on a system: the record of that number, or why there is none.
+    /// Runs trial `number` on a system. Returns its record, or why it has no record.
     fn run<H: Threads + Wait + Sync>(
         &self,
         rt: &H,
@@ -35,6 +38,10 @@ pub(crate) trait TrialRunner<R: Numbered, S> {
         ensures record_given { IfOk result (λ r. may_give self.now system.old number (Done r)) }
         ensures loss_given { IfErr result (λ c. may_give self.now system.old number (Lost c)) }
         ensures keeps { keeps system.old system.new };
+
+    /// Whether no further trial is to run.
+    fn is_over(&self) -> bool
+        ensures { IsTrue result → may_end self.now };
 
     /// A system that does not change keeps everything.
     ghost keeps_refl: { (s : S) → keeps s s };

@@ -24,11 +24,11 @@ struct WorkPromise<'a, R: Numbered, S, P> {
 impl<'a, R: Numbered, S, P: TrialRunner<R, S>> Promise<Seat<R>> for WorkPromise<'a, R, S, P> {
     ghost use Rattle.pst_campaign.specs.Workers.{IsWorked};
 
-    ghost kept_by = { λ p t. IsWorked (P.may_give p.plan.now p.system.value) p.ledger.now.table t };
+    ghost kept_by = { λ p t. IsWorked (P.may_end p.plan.now) (P.may_give p.plan.now p.system.value) p.ledger.now.table t };
 }
 
-/// Starts the thread of each worker, from the last on, and joins it when the others have ended. A worker for which no
-/// thread can be started works on this thread when the others have ended.
+/// Starts the thread of each worker, from the last on, and joins it once the others have ended. A worker whose
+/// thread cannot be started works on this thread once the others have ended.
 fn work_in_threads<
     's,
     E,
@@ -48,7 +48,7 @@ fn work_in_threads<
     requires fresh { All (IsFresh ledger.now.table) seats.items }
     requires trials { ledger.now.table.slots ≡ P.trials plan.now }
     requires pairs { length seats.items ≡ length systems.items }
-    ensures worked { AllZip (λ (s : S) (t : SeatView R). IsWorked (P.may_give plan.now s) ledger.now.table t)
+    ensures worked { AllZip (λ (s : S) (t : SeatView R). IsWorked (P.may_end plan.now) (P.may_give plan.now s) ledger.now.table t)
         systems.items result.items }
     ensures room { vec_capacity result ≡ vec_capacity seats }
 {
@@ -65,7 +65,7 @@ fn work_in_threads<
     };
     let run = move || -> Seat<R>
         requires { IsFresh ledger.now.table seat × (ledger.now.table.slots ≡ P.trials plan.now) }
-        ensures { IsWorked (P.may_give plan.entry.now system) ledger.entry.now.table result }
+        ensures { IsWorked (P.may_end plan.entry.now) (P.may_give plan.entry.now system) ledger.entry.now.table result }
     { work_alone(rt, alloc, plan, ledger, seat, system) };
     match scope.spawn_with(promise, run) {
         Ok(child) => {
@@ -84,8 +84,8 @@ fn work_in_threads<
     }
 }
 
-/// Has all workers work at once, each in a thread of its own where one can be started. The seats come back in the order
-/// of the systems.
+/// Runs all workers at once, each in a thread of its own if one can be started. The seats come back in the
+/// order of the systems.
 pub(crate) fn work_at_once<
     R: Numbered + Sync,
     S: Drop + Send,
@@ -102,7 +102,7 @@ pub(crate) fn work_at_once<
     requires fresh { All (IsFresh ledger.now.table) seats.items }
     requires trials { ledger.now.table.slots ≡ P.trials plan.now }
     requires pairs { length seats.items ≡ length systems.items }
-    ensures { AllZip (λ (s : S) (t : SeatView R). IsWorked (P.may_give plan.now s) ledger.now.table t)
+    ensures { AllZip (λ (s : S) (t : SeatView R). IsWorked (P.may_end plan.now) (P.may_give plan.now s) ledger.now.table t)
         systems.items result.items }
 {
     thread::scope(
@@ -113,7 +113,7 @@ pub(crate) fn work_at_once<
                 × (ledger.now.table.slots ≡ P.trials plan.now)
                 × (length seats.items ≡ length systems.items) }
             ensures { AllZip
-                (λ (s : S) (t : SeatView R). IsWorked (P.may_give plan.entry.now s) ledger.entry.now.table t)
+                (λ (s : S) (t : SeatView R). IsWorked (P.may_end plan.entry.now) (P.may_give plan.entry.now s) ledger.entry.now.table t)
                 systems.items result.items }
         { work_in_threads(rt, scope, alloc, plan, ledger, seats, systems) },
     )

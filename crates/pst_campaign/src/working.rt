@@ -2,10 +2,11 @@
 ghost use Rattle.std.specs.Prelude.{◌≡◌, true, None};
 ghost use Rattle.std.specs.Arc.{arc_value};
 ghost use Rattle.pst_campaign.specs.Entries.{MayGive};
-ghost use Rattle.pst_campaign.specs.Workers.{IsFresh, IsWorked};
+ghost use Rattle.pst_campaign.specs.Workers.{IsFresh, IsMarked, IsWorked};
 ghost use Rattle.pst_campaign.specs.Working.{Adds};
 ghost use Rattle.pst_system.specs.Kept.{AreKept};
 
+use crate::ending::ToTheEnd;
 use crate::plans::Watched;
 use crate::runner::TrialRunner;
 use crate::watch::Unwatched;
@@ -16,7 +17,8 @@ use std::alloc::Global;
 use std::sync::{Arc, Wait};
 use std::thread::Threads;
 
-/// Claims numbers until there is none left, runs the trial of each, and deposits its record or gives the number up.
+/// Claims numbers until none is left or the plan is over, runs the trial of each, and deposits its record or gives the
+/// number up.
 pub(crate) fn work_with<R: Numbered, S: Drop, P: TrialRunner<R, S>, H: Threads + Wait + Sync>(
     rt: &H,
     alloc: Global,
@@ -29,12 +31,15 @@ pub(crate) fn work_with<R: Numbered, S: Drop, P: TrialRunner<R, S>, H: Threads +
     requires idle { seat.old.held ≡ None }
     requires trials { ledger.now.table.slots ≡ P.trials plan.now }
     ensures place { seat.new.table ≡ seat.old.table }
-    ensures marked { seat.new.marked ≡ true }
+    ensures marked { IsMarked (P.may_end plan.now) seat.new }
     ensures rests { seat.new.held ≡ None }
     ensures ends { Adds (P.may_give plan.now system.old) seat.old.ends seat.new.ends }
     ensures keeps { P.keeps system.old system.new }
 {
     for _ in rt.forever() {
+        if plan.is_over() {
+            return;
+        }
         let Some(number) = ledger.claim(seat) else {
             return;
         };
@@ -50,7 +55,7 @@ pub(crate) fn work_with<R: Numbered, S: Drop, P: TrialRunner<R, S>, H: Threads +
     unreachable!()
 }
 
-/// The same with a fresh seat and a system of its own, for a thread, which hands the seat back.
+/// Does what `work_with` does, with a fresh seat and a system of its own for a thread, and returns the seat.
 pub(crate) fn work_alone<R: Numbered, S: Drop, P: TrialRunner<R, S>, H: Threads + Wait + Sync>(
     rt: &H,
     alloc: Global,
@@ -61,15 +66,15 @@ pub(crate) fn work_alone<R: Numbered, S: Drop, P: TrialRunner<R, S>, H: Threads 
 ) -> Seat<R>
     requires fresh { IsFresh ledger.now.table seat }
     requires trials { ledger.now.table.slots ≡ P.trials plan.now }
-    ensures { IsWorked (P.may_give plan.now system) ledger.now.table result }
+    ensures { IsWorked (P.may_end plan.now) (P.may_give plan.now system) ledger.now.table result }
 {
     work_with(rt, alloc, plan, ledger, &mut seat, &mut system);
     seat
 }
 
-/// Works at a seat of a ledger until the seat is answered `None`: claims a number, runs its trial of the plan on the system,
-/// and deposits the record. A number whose trial has a fault is given up for the cause of that name. The call waits for as
-/// long as the calls of the system do.
+/// Works at a seat of a ledger until no number is left: claims a number, runs its trial of the plan on the
+/// system, and deposits the record. A number whose trial has a fault is given up for the cause of that name.
+/// The call waits for as long as the calls of the system do.
 pub fn work<H: Threads + Wait + Sync>(
     rt: &H,
     alloc: Global,
@@ -93,7 +98,7 @@ pub fn work<H: Threads + Wait + Sync>(
     may_share_records();
     let watched = Watched {
         plan,
-        watch: &Unwatched,
+        watch: &ToTheEnd { watch: &Unwatched },
     };
     work_with(rt, alloc, &watched, ledger, seat, system)
 }

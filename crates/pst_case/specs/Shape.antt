@@ -6,7 +6,7 @@ use Rattle.pst_case.specs.declared.case.Command.{Command}
 use Rattle.pst_case.specs.declared.fault.CaseFault.{CaseFault}
 use Rattle.pst_case.specs.declared.fault.CaseFaultKind.{CaseFaultKind}
 use Rattle.pst_case.specs.declared.fault.CaseFaultKind.TheVariants.{UnknownOp, BadArgument, ForwardVar, CrossVar, OverLimit}
-use Rattle.pst_rules.specs.Fitting.{args_fit}
+use Rattle.pst_model.specs.Fitting.{args_fit}
 use Rattle.pst_model.specs.Parts.{operation_of}
 use Rattle.pst_model.specs.declared.model.Op.{Op}
 use Rattle.pst_model.specs.declared.model.Source.{Source}

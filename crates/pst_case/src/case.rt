@@ -1,9 +1,8 @@
 //! Commands and cases.
 ghost use Rattle.std.specs.Prelude.{◌≡◌, IfOk, None};
 
-use pst_items::Items;
 use pst_model::Source;
-use pst_value::Value;
+use pst_value::{Items, Value};
 use std::alloc::{AllocError, Global};
 use std::fmt::{Debug, Error, Formatter, Write};
 use std::marker::Model;
@@ -17,9 +16,8 @@ pub struct Command {
     pub args: Items<Value>,
 }
 
-/// A symbolic test case: a prefix that runs first, branches that run at once after it, and a suffix that runs
-/// when all branches have ended. Commands are numbered from 1: the prefix, then each branch in turn, then the
-/// suffix.
+/// A symbolic test case: a prefix that runs first, branches that run concurrently after it, and a suffix that runs when
+/// all branches have ended. Commands are numbered from 1: the prefix, then each branch in turn, then the suffix.
 #[derive(Debug, PartialEq, Eq, Drop)]
 pub struct Case {
     pub prefix: Items<Command>,
@@ -125,7 +123,7 @@ impl Shaped {
         &self.case
     }
 
-    /// The case, out of its `Shaped`.
+    /// Takes the case out of its `Shaped`.
     pub fn into_case(self) -> Case
         ensures { result ≡ self.case }
     {
@@ -133,7 +131,7 @@ impl Shaped {
         case
     }
 
-    /// An equal shaped case. It takes the model, of which nothing is read: contracts alone keep it.
+    /// An equal shaped case. Only contracts read `model`.
     pub fn copy(&self, alloc: Global, model: &Source) -> Result<Shaped, AllocError>
         requires { self.now.model ≡ model.now }
         ensures { IfOk result (λ copy. copy ≡ self.now) }

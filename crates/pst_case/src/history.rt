@@ -1,13 +1,12 @@
-//! What was recorded of a case.
+//! The replies recorded for a case.
 ghost use Rattle.std.specs.Prelude.{◌≡◌, IfOk};
 
 use crate::case::Shaped;
-use pst_items::Items;
 use pst_model::Source;
-use pst_value::Value;
+use pst_value::{Items, Value};
 use std::alloc::{AllocError, Global};
 
-/// What a system answered to a command.
+/// What a system replied to a command.
 #[derive(Debug, PartialEq, Eq, Drop)]
 pub enum Reply {
     /// A value of the operation's result type.
@@ -16,7 +15,7 @@ pub enum Reply {
     Misfit,
     /// The call failed.
     Failed,
-    /// The command was not called, since one before it failed.
+    /// The command was not called, since an earlier one failed.
     NotRun,
 }
 
@@ -28,7 +27,7 @@ pub struct History {
     pub suffix: Items<Reply>,
 }
 
-/// A case, with what was recorded of it where it was run.
+/// A case, with its recorded history if it was run.
 #[derive(Debug, Drop)]
 pub struct Run {
     pub shaped: Shaped,
@@ -77,7 +76,7 @@ impl History {
 }
 
 impl Run {
-    /// An equal run. It takes the model, of which nothing is read.
+    /// An equal run. Only contracts read `model`.
     pub fn copy(&self, alloc: Global, model: &Source) -> Result<Run, AllocError>
         requires { self.now.shaped.model ≡ model.now }
         ensures shaped { IfOk result (λ copy. copy.shaped ≡ self.now.shaped) }

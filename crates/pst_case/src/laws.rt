@@ -1,7 +1,7 @@
 //! Laws of renumbering.
 ghost use Rattle.pst_case.specs.Laws.{NumbersThatStay};
 
-/// Where no number changes, no value and no command does.
+/// If renumbering changes no number, it changes no value and no command.
 pub fn numbers_that_stay()
     ensures { NumbersThatStay }
 {}

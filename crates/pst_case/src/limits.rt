@@ -3,7 +3,7 @@ ghost use Rattle.std.specs.Prelude.{◌≡◌, ◌<◌, ◌^◌, ◌&&◌, lengt
 ghost use Rattle.std.specs.List.{list_all};
 ghost use Rattle.pst_case.specs.Shape as spec;
 
-use pst_items::Items;
+use pst_value::Items;
 
 /// The most commands of the prefix.
 pub const MAX_PREFIX: usize = 64;
@@ -17,7 +17,7 @@ pub const MAX_TOGETHER: usize = 16;
 /// The most commands of the suffix.
 pub const MAX_SUFFIX: usize = 8;
 
-/// Whether the commands of all branches are at most so many.
+/// Whether the branches have at most `room` commands together.
 fn are_within<C>(branches: &[Items<C>], room: usize) -> bool
     ensures { result ≡ nat_le (length (spec.joined branches.now)) room }
 {
@@ -42,8 +42,8 @@ fn are_two_to_four<C>(branches: &[Items<C>]) -> bool
     2 <= branches.len() && branches.len() <= 4
 }
 
-/// Whether a case of these commands is over a limit: `MAX_PREFIX`, `MAX_BRANCH`, `MAX_TOGETHER`,
-/// `MAX_SUFFIX`, or another number of branches than two to four.
+/// Whether a case of these commands is over a limit: `MAX_PREFIX`, `MAX_BRANCH`, `MAX_TOGETHER`, `MAX_SUFFIX`, or two
+/// to four branches.
 pub fn are_over_limit<C>(prefix: &[C], branches: &[Items<C>], suffix: &[C]) -> bool
     ensures { result ≡ spec.are_over_limit prefix.now branches.now suffix.now }
 {

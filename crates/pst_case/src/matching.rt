@@ -2,17 +2,15 @@
 ghost use Rattle.std.specs.Prelude.{◌≡◌, []};
 ghost use Rattle.pst_case.specs.Matches as spec;
 ghost use Rattle.pst_case.specs.Shape.{result_type};
-ghost use Rattle.pst_rules.specs.Fitting.{fits_in};
-ghost use Rattle.pst_rules.specs.WellTyped.{WellModel};
+ghost use Rattle.pst_model.specs.Fitting.{fits_in};
+ghost use Rattle.pst_model.specs.WellTyped.{WellModel};
 ghost use Rattle.pst_value.specs.declared.ty.Ty.TheVariants as ty;
 
 use crate::case::{Command, Shaped};
 use crate::history::{History, Reply};
 use crate::types::each_has_type;
-use pst_items::Items;
-use pst_model::{Source, operation_of};
-use pst_rules::Typed;
-use pst_value::Value;
+use pst_model::{Source, Typed, operation_of};
+use pst_value::{Items, Value};
 
 /// Whether the value is a call of an operation of the model, with values of its parameters' types.
 #[tactic(auto, using(crate::proofs::Operations::calls))]
@@ -83,8 +81,8 @@ fn branches_match(model: &Source, branches: &[Items<Command>], replies: &[Items<
 }
 
 impl Command {
-    /// Whether the value, in which no variable and no reference may stand, is of the type of the command's
-    /// result. Takes no memory.
+    /// Whether the value has the type of the command's result. A value with a variable or a reference has no type here.
+    /// Allocates nothing.
     pub fn admits(&self, typed: &Typed, value: &Value) -> bool
         ensures { result ≡ fits_in typed.now [] [] value.now (result_type typed.now self.now) }
     {
@@ -93,8 +91,8 @@ impl Command {
 }
 
 impl History {
-    /// Whether it has as many replies as the case has commands in each part, and each value is of its
-    /// operation's result type. Takes no memory.
+    /// Whether it has as many replies in each part as the case has commands, and each value has the result type of its
+    /// operation. Allocates nothing.
     #[tactic(auto, unfolding(crate::specs::Matches::matches))]
     pub fn matches(&self, typed: &Typed, shaped: &Shaped) -> bool
         ensures { result ≡ spec.matches typed.now shaped.now.case self.now }

@@ -4,11 +4,10 @@ ghost use Rattle.pst_case.specs.Recorded.{recorded, result_of};
 ghost use Rattle.pst_case.specs.Shape.{joined};
 
 use crate::history::{History, Reply};
-use pst_items::Items;
-use pst_value::Value;
+use pst_value::{Items, Value};
 use std::alloc::{AllocError, Global};
 
-/// The results that replies record, after others.
+/// Appends the results that `replies` record to `results`.
 fn with_part(
     alloc: Global,
     mut results: Vec<Option<Value>>,
@@ -25,8 +24,7 @@ fn with_part(
     Ok(results)
 }
 
-/// The results that the replies of one part record: `None` where the reply is no value. `AllocError` where
-/// memory is refused.
+/// The results that the replies of one part record: `None` if the reply is no value.
 pub fn results_of(alloc: Global, replies: &[Reply]) -> Result<Vec<Option<Value>>, AllocError>
     ensures { IfOk result (λ results. results.items ≡ map result_of replies.now) }
 {
@@ -39,7 +37,7 @@ fn split_first(branches: &[Items<Reply>]) -> Option<(&Items<Reply>, &[Items<Repl
     branches.split_first()
 }
 
-/// The results that the replies of branches record, after others.
+/// Appends the results that the replies of the branches record to `results`.
 fn with_branches(
     alloc: Global,
     results: Vec<Option<Value>>,
@@ -55,8 +53,7 @@ fn with_branches(
 }
 
 impl History {
-    /// The recorded results, by the numbers of the commands from 1: `None` where the reply is no value.
-    /// `AllocError` where memory is refused.
+    /// The recorded results, in the order of the command numbers, from 1: `None` if the reply is no value.
     pub fn recorded(&self, alloc: Global) -> Result<Vec<Option<Value>>, AllocError>
         ensures { IfOk result (λ results. results.items ≡ recorded self.now) }
     {

@@ -1,13 +1,12 @@
-//! Values and commands, renumbered.
+//! Renumbers values and commands.
 ghost use Rattle.std.specs.Prelude.{◌≡◌, IfOk, map};
 ghost use Rattle.pst_case.specs.Renumber.{new_number, renumbered, renumbered_command};
 
 use crate::case::Command;
-use pst_items::{Boxed, Items};
-use pst_value::{Value, copy_keys};
+use pst_value::{Boxed, Items, Value, copy_keys};
 use std::alloc::{AllocError, Global};
 
-/// The new number of a command.
+/// The new number of command `number`; `number` itself if `numbers` has none.
 fn new_number(numbers: &[u32], number: u32) -> u32
     ensures { result ≡ new_number numbers.now number }
 {
@@ -20,8 +19,8 @@ fn new_number(numbers: &[u32], number: u32) -> u32
     }
 }
 
-/// The value with new numbers in its variables and references, at every depth: `numbers` has those of
-/// commands 1, 2, and so on, and a number of no command stays. `AllocError` where memory is refused.
+/// The value with its variables and references renumbered at every depth. `numbers` has the new numbers of commands 1,
+/// 2, and so on; other numbers stay.
 #[cycle(renumber_value)]
 #[tactic(auto, using(crate::proofs::Renumbering::renumbering))]
 pub fn renumber_value(alloc: Global, value: &Value, numbers: &[u32]) -> Result<Value, AllocError>
@@ -67,8 +66,7 @@ fn renumber_values(
     Ok(all)
 }
 
-/// The command with new numbers in its arguments, as `renumber_value` gives them. `AllocError` where memory
-/// is refused.
+/// The command with its arguments renumbered, as `renumber_value` does.
 pub fn renumber_command(
     alloc: Global,
     command: &Command,
@@ -82,8 +80,7 @@ pub fn renumber_command(
     })
 }
 
-/// The commands with new numbers in their arguments, as `renumber_value` gives them. `AllocError` where
-/// memory is refused.
+/// The commands with their arguments renumbered, as `renumber_value` does.
 pub fn renumber_commands(
     alloc: Global,
     commands: &[Command],

@@ -1,30 +1,28 @@
-//! Testing the shape of a case.
+//! Checks the shape of a case.
 ghost use Rattle.std.specs.Prelude.{◌≡◌, ◌<◌, ◌+◌, ◌^◌, ◌⊎◌, IfOk, IfErr, length, Some, not, ◌||◌};
 ghost use Rattle.std.specs.List.{list_any};
-ghost use Rattle.pst_rules.specs.Fitting.{args_fit};
+ghost use Rattle.pst_model.specs.Fitting.{args_fit};
 ghost use Rattle.pst_model.specs.Parts.{operation_of};
 ghost use Rattle.pst_case.specs.Shape as spec;
 ghost use Rattle.pst_case.specs.Refusal.{no_memory};
-ghost use Rattle.pst_rules.specs.WellTyped.{WellModel};
+ghost use Rattle.pst_model.specs.WellTyped.{WellModel};
 
 use crate::banned::{Banned, any_banned, any_refers};
 use crate::case::{Case, Command, Shaped};
 use crate::fault::{CaseFault, CaseFaultKind};
 use crate::limits::{are_over_limit, joined_len};
 use crate::types::{each_has_type, result_types};
-use pst_items::Items;
-use pst_model::{Op, Source, operation_of};
-use pst_rules::Typed;
-use pst_value::Ty;
+use pst_model::{Op, Source, Typed, operation_of};
+use pst_value::{Items, Ty};
 use std::alloc::{AllocError, Global};
 
-/// What the commands of a case are tested by.
+/// The rules for the commands of a case.
 #[derive(Drop)]
 struct Rules<'a> {
     model: &'a Source,
     /// The types of the results of all commands.
     vars: &'a [Ty],
-    /// How many commands stand in the prefix.
+    /// How many commands the prefix has.
     prefix: u32,
 }
 
@@ -38,7 +36,7 @@ fn is_over_limit(case: &Case) -> bool
     )
 }
 
-/// Whether the arguments are not those of the operation, or hold a reference.
+/// Whether the arguments do not fit the operation, or hold a reference.
 #[tactic(auto, using(crate::proofs::Operations::args_fit_known))]
 fn is_bad(rules: &Rules<'_>, operation: &Op, command: &Command) -> bool
     requires well { WellModel rules.now.model.now }
@@ -52,7 +50,8 @@ fn is_bad(rules: &Rules<'_>, operation: &Op, command: &Command) -> bool
     !each_has_type(args, operation.params.as_slice(), rules.vars) || any_refers(args)
 }
 
-/// What is wrong with the command of a number, where so many stand before its part.
+/// The fault of command `number`. `before` is the number of commands before its branch, and 0 in the prefix and the
+/// suffix.
 fn command_fault(
     rules: &Rules<'_>,
     before: u32,
@@ -80,7 +79,7 @@ fn command_fault(
     None
 }
 
-/// The first fault of a part whose first command has the number.
+/// The first fault of a part whose first command is `number`.
 fn part_fault(
     rules: &Rules<'_>,
     before: u32,
@@ -102,7 +101,7 @@ fn part_fault(
     }
 }
 
-/// The first fault of branches before which so many commands stand.
+/// The first fault of the branches, which have `before` commands before them.
 fn branches_fault(rules: &Rules<'_>, before: u32, branches: &[Items<Command>]) -> Option<CaseFault>
     requires well { WellModel rules.now.model.now }
     requires few { before + length (spec.joined branches.now) + 1 < 2 ^ 32 }
@@ -116,7 +115,7 @@ fn branches_fault(rules: &Rules<'_>, before: u32, branches: &[Items<Command>]) -
     }
 }
 
-/// The first fault of the commands of a case, by their numbers.
+/// The first fault of the commands of a case, in the order of their numbers.
 fn commands_fault(rules: &Rules<'_>, case: &Case) -> Option<CaseFault>
     requires well { WellModel rules.now.model.now }
     requires prefix { rules.now.prefix ≡ length case.now.prefix }
@@ -154,8 +153,8 @@ fn first_fault(alloc: Global, model: &Source, case: &Case) -> Result<Option<Case
     Ok(commands_fault(&rules, case))
 }
 
-/// A case that keeps the shape of the model. Where it does not, or memory is refused, the case comes back
-/// with its first fault.
+/// Returns the case as a `Shaped` if it has the shape of the model, and otherwise the case with its first fault. If an
+/// allocation fails, the fault is `NoMemory`.
 pub fn shape(alloc: Global, typed: &Typed, case: Case) -> Result<Shaped, (Case, CaseFault)>
     ensures shaped { IfOk result (λ shaped. shaped ≡ record { model = typed.now; case = case }) }
     ensures refused { IfErr result (λ r.

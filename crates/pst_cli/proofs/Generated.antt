@@ -19,7 +19,7 @@ use Rattle.pst_cli.specs.declared.stream.Cut.TheVariants as cut
 use Rattle.pst_typing.specs.Loading.{Holds}
 use Rattle.pst_model.specs.declared.model.Source.{Source}
 use Rattle.pst_sexpr.specs.declared.form.Form.{Form}
-use Rattle.pst_sink.specs.Writing.{WritesAll, WritesPart}
+use Rattle.pst_sexpr.specs.Writing.{WritesAll, WritesPart}
 use Rattle.pst_trial.specs.PlanView.{PlanView}
 use Rattle.pst_trial.specs.declared.settings.Settings.{Settings}
 

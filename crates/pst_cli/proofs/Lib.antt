@@ -12,3 +12,4 @@ pub mod Reporting
 pub mod Rows
 pub mod Streamed
 pub mod Streaming
+pub mod ToTheEnd

@@ -22,7 +22,7 @@ use Rattle.pst_judge.specs.declared.verdicts.Verdict.TheVariants.{Explained, Fau
 use Rattle.pst_judge.specs.declared.why.Why.{Why}
 use Rattle.pst_judge.specs.declared.why.Why.TheVariants.{PreFalse, CallbackFault, NoMemory}
 use Rattle.pst_model.specs.declared.model.Source.{Source}
-use Rattle.pst_rules.specs.WellTyped.{WellModel}
+use Rattle.pst_model.specs.WellTyped.{WellModel}
 use Rattle.pst_runs.specs.Items.{runs_of}
 use Rattle.pst_sexpr.specs.Reading.{max_bytes, Spells, IsFault}
 use Rattle.pst_sexpr.specs.declared.fault.SexprFault.{SexprFault}

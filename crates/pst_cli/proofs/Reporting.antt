@@ -2,12 +2,16 @@
 use Rattle.std.proofs.Common.{◌≡◌, ◌≤◌, ◌<◌, ◌+◌, ◌++◌, ℕ, suc, List, [], ◌∷◌, Result, Ok, Err, IfOk, true, length, get_or, drop, sym, ap, ◌∙◌, subst, add-one, drop-cons, append_assoc}
 use Rattle.std.proofs.Math.ListN.{drop_of_length-le}
 use Rattle.std.proofs.lemmas.List.{append-nil}
+use Rattle.pst_case.specs.declared.case.Case.{Case}
 use Rattle.pst_case.specs.declared.history.Run.{Run}
 use Rattle.pst_case.specs.Matches.{matches}
 use Rattle.pst_case.specs.OfModel.{OfModel}
 use Rattle.pst_case.specs.declared.history.History.{History}
-use Rattle.pst_cli.specs.RunOutput.{IsReported, AreReported, ReportsRun, run_with, driven, none, next}
-use Rattle.pst_cli.specs.declared.output.Output.{Output}
+use Rattle.pst_cli.specs.ItemReports.{IsItemReport, IsRunReport, report_status, report_text}
+use Rattle.pst_cli.specs.Output.{item_line}
+use Rattle.pst_cli.specs.RunOutput.{IsReported, AreReported, run_with, driven, invalid, lost, none, next}
+use Rattle.pst_cli.specs.declared.item_report.ItemReport.{ItemReport}
+use Rattle.pst_cli.specs.declared.item_report.ItemReport.TheVariants as became
 use Rattle.pst_driver.specs.Driven.{IsDriven}
 use Rattle.pst_judge.specs.Validity.{IsValid}
 use Rattle.pst_cli.specs.Status.{or_worse}
@@ -44,14 +48,26 @@ module _ (m : Source) (A : Answers) (F : Fails) (R : ResetFails) (runs : List Ru
       let OfText : List ℕ → Type 0 = λ t. AreReported m A F R first so_far runs t worst in
       subst OfText (append-nil text) (f [] worst (subst OfRuns (sym left) (none (i + 1) worst)))
 
--- the report of a valid case that was driven
-pub driven_report : {E : Type 0} (m : Source) (A : Answers) (F : Fails) (R : ResetFails) (number : ℕ) (v : OfModel) (h : History)
+-- a valid case that was driven
+pub driven_item : {E : Type 0} (m : Source) (A : Answers) (F : Fails) (R : ResetFails) (v : OfModel) (h : History)
     → v.model ≡ m → IsValid v.model v.case → matches m v.case h ≡ true → IsDriven m A F v.case h
-    → (r : Result Output E) → IfOk r (λ o. ReportsRun m number (run_with v h) o.text.items o.status)
-    → IfOk r (λ o. IsReported m A F R number v.case o.text.items o.status)
-driven_report m A F R number v h e valid same real (Err refused) report = tt
-driven_report m A F R number v h e valid same real (Ok o) report =
-    let OfModel' : OfModel → Type 0 = λ w. ReportsRun m number (run_with w h) o.text.items o.status in
+    → (r : Result ItemReport E) → IfOk r (IsRunReport m (run_with v h)) → IfOk r (IsItemReport m A F R v.case)
+driven_item m A F R v h e valid same real (Err refused) is = tt
+driven_item m A F R v h e valid same real (Ok (became.Invalid why)) is = absurd is
+driven_item m A F R v h e valid same real (Ok (became.Lost fault)) is = absurd is
+driven_item m A F R v h e valid same real (Ok (became.Driven line judged)) is =
+    let OfRun : OfModel → Type 0 = λ w. IsRunReport m (run_with w h) (became.Driven line judged) in
     let named : v ≡ record { model = m; case = v.case } = ap (λ n. let w : OfModel = record { model = n; case = v.case } in w) e in
     let Valid : Source → Type 0 = λ n. IsValid n v.case in
-    driven (subst Valid e valid) h same real (subst OfModel' named report)
+    let so = subst OfRun named is in
+    record { history = h; valid = subst Valid e valid; matching = same; driven = real; lines = so.0; judgement = so.1 }
+
+-- what became of a case is reported by its text and its status
+pub reported_so : (m : Source) (A : Answers) (F : Fails) (R : ResetFails) (number : ℕ) (c : Case) (r : ItemReport) (text : List ℕ) (status : Status)
+    → IsItemReport m A F R c r → text ≡ report_text number r → status ≡ report_status r → IsReported m A F R number c text status
+reported_so m A F R number c (became.Driven line judged) text status is t s =
+    let so = is.lines in
+    driven is.valid is.history is.matching is.driven
+    (record { judged = judged; judgement = is.judgement; lines = t ∙ ap (λ l. l ++ item_line number judged) so; ending = s })
+reported_so m A F R number c (became.Invalid why) text status is t s = invalid why is t s
+reported_so m A F R number c (became.Lost fault) text status is t s = lost is.0 fault is.1 t s

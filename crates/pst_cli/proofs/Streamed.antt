@@ -11,9 +11,9 @@ use Rattle.pst_cli.specs.declared.status.Status.TheVariants.{Lost}
 use Rattle.pst_cli.specs.declared.stream.Cut.{Cut}
 use Rattle.pst_cli.specs.declared.stream.Cut.TheVariants as cut
 use Rattle.pst_model.specs.declared.model.Source.{Source}
+use Rattle.pst_rejudge.specs.StreamAnswers.{IsLineAnswer}
+use Rattle.pst_sexpr.specs.Writing.{WritesAll, WritesPart}
 use Rattle.pst_sexpr.specs.declared.form.Form.{Form}
-use Rattle.pst_sink.specs.Writing.{WritesAll, WritesPart}
-use Rattle.pst_stream.specs.Answers.{IsLineAnswer}
 use Rattle.pst_typing.specs.Loading.{Holds}
 
 pub all_after : {before mid after : Option (List ℕ)} {mid_broken broken : Bool} {one two : List ℕ} → WritesAll before mid mid_broken one

@@ -16,12 +16,12 @@ use Rattle.pst_cli.specs.declared.stream.Written.{Written}
 use Rattle.pst_rejudge.specs.declared.each.Answer.{Answer}
 use Rattle.pst_model.specs.declared.model.Source.{Source}
 use Rattle.pst_sexpr.specs.Reading.{max_bytes}
-use Rattle.pst_sink.specs.Writing.{WritesAll, WritesPart}
-use Rattle.pst_stream.specs.Answers.{IsLineAnswer}
-use Rattle.pst_stream.specs.Blocks.{IsBlock, IsMiddleBlock, IsLastBlock}
-use Rattle.pst_stream.specs.Lines.{begun, ended, last_line, lines_of}
-use Rattle.pst_stream.specs.declared.blocks.StreamFault.{StreamFault}
-use Rattle.pst_stream.specs.declared.blocks.StreamFault.TheVariants as fault
+use Rattle.pst_sexpr.specs.Writing.{WritesAll, WritesPart}
+use Rattle.pst_rejudge.specs.StreamAnswers.{IsLineAnswer}
+use Rattle.pst_rejudge.specs.Blocks.{IsBlock, IsMiddleBlock, IsLastBlock}
+use Rattle.pst_rejudge.specs.Lines.{begun, ended, last_line, lines_of}
+use Rattle.pst_rejudge.specs.declared.blocks.StreamFault.{StreamFault}
+use Rattle.pst_rejudge.specs.declared.blocks.StreamFault.TheVariants as fault
 
 -- ---- lines of bytes that follow others
 

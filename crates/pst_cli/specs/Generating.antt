@@ -6,7 +6,7 @@ use Rattle.pst_cli.specs.declared.output.Output.{Output}
 use Rattle.pst_cli.specs.declared.status.Status.{Status}
 use Rattle.pst_cli.specs.declared.status.Status.TheVariants.{Accepted}
 use Rattle.pst_cli.specs.declared.stream.Cut.{Cut}
-use Rattle.pst_sink.specs.Writing.{WritesAll}
+use Rattle.pst_sexpr.specs.Writing.{WritesAll}
 use Rattle.pst_trial.specs.PlanView.{PlanView}
 
 -- the output is the line of a number

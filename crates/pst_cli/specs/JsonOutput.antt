@@ -10,7 +10,7 @@ use Rattle.pst_cli.specs.declared.status.Status.TheVariants.{Accepted, Refused}
 use Rattle.pst_rejudge.specs.Answers.{IsAnswer}
 use Rattle.pst_rejudge.specs.declared.each.Answer.{Answer}
 use Rattle.pst_rejudge.specs.declared.each.Answer.TheVariants as answer
-use Rattle.pst_objects.specs.Objects.{object_line}
+use Rattle.pst_json_verdicts.specs.Objects.{object_line}
 use Rattle.pst_json_verdicts.specs.Verdicts.{accepted_fields, judged_fields, refusal_fields, refused_fields}
 use Rattle.pst_typing.specs.Loading.{Holds, items_of, IsRefusal}
 use Rattle.pst_typing.specs.declared.load_refusal.Refusal.{Refusal}

@@ -2,6 +2,8 @@
 pub mod Absent
 pub mod CampaignOutput
 pub mod ChosenItem
+pub mod ConvertOutput
+pub mod EarlyOutput
 pub mod ExplainOutput
 pub mod GenerateOutput
 pub mod GraphOutput
@@ -20,6 +22,7 @@ pub mod StreamOutput
 pub mod Head
 -- what the contracts within the crate cite
 pub mod Generating
+pub mod ItemReports
 pub mod Kept
 pub mod Outputs
 pub mod Rows

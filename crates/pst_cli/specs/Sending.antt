@@ -3,7 +3,7 @@ use Rattle.std.specs.Prelude.{◌≡◌, ◌⊎◌, ◌++◌, ℕ, Bool, true, L
 use Rattle.pst_cli.specs.Head.{line_end}
 use Rattle.pst_cli.specs.declared.status.Status.{Status}
 use Rattle.pst_cli.specs.declared.status.Status.TheVariants.{Lost}
-use Rattle.pst_sink.specs.Writing.{WritesAll, WritesPart}
+use Rattle.pst_sexpr.specs.Writing.{WritesAll, WritesPart}
 
 -- the text was written whole, and its status is the answer; or the writer failed, a beginning of the text
 -- went out, and Lost is the answer

@@ -11,8 +11,8 @@ use Rattle.pst_typing.specs.Loading.{Holds, IsRefusal, items_of}
 use Rattle.pst_typing.specs.declared.load_refusal.Refusal.{Refusal}
 use Rattle.pst_model.specs.declared.model.Source.{Source}
 use Rattle.pst_sexpr.specs.declared.form.Form.{Form}
-use Rattle.pst_stream.specs.Answers.{IsLineAnswer, SpellsItem}
-use Rattle.pst_stream.specs.Lines.{lines_of}
+use Rattle.pst_rejudge.specs.StreamAnswers.{IsLineAnswer, SpellsItem}
+use Rattle.pst_rejudge.specs.Lines.{lines_of}
 
 -- the line after the last one where the reader fails
 abbrev pub unread_line : List ℕ
@@ -40,6 +40,6 @@ pub data IsStreamOutput (input bytes text : List ℕ) (status : Status) : Type 0
 abbrev pub StreamsAreFiles : Type 0
 StreamsAreFiles =
     (input bytes : List ℕ) (m : Source) (trees : List Form) (answers : List Answer)
-    → Holds input m trees → AllZip SpellsItem (lines_of bytes) (items_of trees)
+    → Holds input m trees → AllZip (SpellsItem m) (lines_of bytes) (items_of trees)
     → AllZip (IsLineAnswer m) (lines_of bytes) answers
     → IsKeepingOnOutput input (answer_lines 1 answers) (worst_status Accepted answers)

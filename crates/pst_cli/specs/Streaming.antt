@@ -9,11 +9,11 @@ use Rattle.pst_cli.specs.declared.stream.Cut.TheVariants.{Unread, NoMemory, Unwr
 use Rattle.pst_cli.specs.declared.stream.Written.{Written}
 use Rattle.pst_rejudge.specs.declared.each.Answer.{Answer}
 use Rattle.pst_model.specs.declared.model.Source.{Source}
-use Rattle.pst_sink.specs.Writing.{WritesAll, WritesPart}
-use Rattle.pst_stream.specs.Answers.{IsLineAnswer}
-use Rattle.pst_stream.specs.Lines.{lines_of}
-use Rattle.pst_stream.specs.declared.blocks.StreamFault.{StreamFault}
-use Rattle.pst_stream.specs.declared.blocks.StreamFault.TheVariants as fault
+use Rattle.pst_sexpr.specs.Writing.{WritesAll, WritesPart}
+use Rattle.pst_rejudge.specs.StreamAnswers.{IsLineAnswer}
+use Rattle.pst_rejudge.specs.Lines.{lines_of}
+use Rattle.pst_rejudge.specs.declared.blocks.StreamFault.{StreamFault}
+use Rattle.pst_rejudge.specs.declared.blocks.StreamFault.TheVariants as fault
 
 -- why the lines end where a block cannot be had
 abbrev pub cut_of : StreamFault → Cut

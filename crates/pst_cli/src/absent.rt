@@ -1,25 +1,25 @@
-//! Inputs that cannot be read, and systems that there are none of.
+//! Inputs that cannot be read, and systems that do not exist.
 ghost use Rattle.std.specs.Prelude.{◌≡◌, false};
 ghost use Rattle.pst_cli.specs.Absent.{absence_line, absence_status};
 ghost use Rattle.pst_cli.specs.Sending.{Sends};
-ghost use Rattle.pst_sink.specs.Writing.{joined};
+ghost use Rattle.pst_sexpr.specs.Writing.{joined};
 
 use crate::output::send;
 use crate::status::Status;
-use pst_sink::{Sink, put_each};
+use pst_sexpr::{Sink, put_each};
 
-/// Why there is nothing to begin with.
+/// Why the program has nothing to begin with.
 #[derive(Clone, Copy, Debug, PartialEq, Eq, Drop)]
 pub enum Absence<'a> {
     /// The file cannot be opened or read.
     NoFile,
-    /// There is no system of that name.
+    /// No system has this name.
     NoSystem(&'a str),
     /// There is no memory for the bytes of the file, or for the system.
     NoMemory,
 }
 
-/// Writes the parts of a refusal, and answers its status. `Lost` where the writer failed.
+/// Writes the parts of a refusal, and returns its status, or `Lost` if the writer failed.
 fn send_parts<W: Sink>(parts: &[&[u8]], sink: &mut W) -> Status
     requires { W.broken sink.old ≡ false }
     ensures { Sends (W.taken sink.old) (W.taken sink.new) (W.broken sink.new) result (joined parts.now)
@@ -31,7 +31,7 @@ fn send_parts<W: Sink>(parts: &[&[u8]], sink: &mut W) -> Status
     }
 }
 
-/// Writes `refused file`, `refused system NAME` or `refused memory`, and answers the status.
+/// Writes `refused file`, `refused system NAME` or `refused memory`, and returns the status.
 pub fn refuse_text<W: Sink>(why: Absence<'_>, sink: &mut W) -> Status
     requires { W.broken sink.old ≡ false }
     ensures { Sends (W.taken sink.old) (W.taken sink.new) (W.broken sink.new) result (absence_line why.entry)

@@ -4,11 +4,12 @@ ghost use Rattle.std.specs.Arc.{arc_value};
 ghost use Rattle.pst_campaign.specs.Entries.{MayGive};
 ghost use Rattle.pst_campaign.specs.declared.fault.CampaignFault.TheVariants as kind;
 ghost use Rattle.pst_cli.specs.CampaignOutput as spec;
-ghost use Rattle.pst_cli.specs.CampaignOutput.{IsCampaignOutput, IsOutputFor, plan_of};
+ghost use Rattle.pst_cli.specs.CampaignOutput.{IsCampaignOutput, plan_of};
+ghost use Rattle.pst_cli.specs.EarlyOutput.{IsEarlyOutput, IsEarlyOutputFor};
 ghost use Rattle.pst_cli.specs.Sending.{Prints};
 ghost use Rattle.pst_cli.specs.declared.status.Status.TheVariants as status;
 ghost use Rattle.pst_report.specs.InOrder.{AreOf};
-ghost use Rattle.pst_report.specs.Status.{campaign_status};
+ghost use Rattle.pst_report.specs.Status.{ended_status};
 ghost use Rattle.pst_report.specs.Text.{report_text};
 ghost use Rattle.pst_trial.specs.Settings.{AreInRange};
 
@@ -16,11 +17,11 @@ use crate::notes::CampaignNotes;
 use crate::output::{Output, send};
 use crate::refusal::refusal_output;
 use crate::status::Status;
-use pst_campaign::{CampaignFault, Watch, campaign};
+use pst_campaign::{CampaignFault, Ending, ToTheEnd, Watch, campaign_until};
 use pst_ledger::Closed;
-use pst_report::{CampaignStatus, campaign_status, report};
-use pst_rules::Typed;
-use pst_sink::{Out, Sink};
+use pst_model::Typed;
+use pst_report::{CampaignStatus, ended_status, report};
+use pst_sexpr::{Out, Sink};
 use pst_system::{BoxedSystem, System};
 use pst_trial::{Plan, Record, Settings};
 use pst_typing::{ModelFile, load};
@@ -36,7 +37,7 @@ fn campaign_line(alloc: Global, fault: CampaignFault) -> Result<String, AllocErr
     format!(in alloc; "refused campaign {name}\n")
 }
 
-/// The line of a campaign that did not start, and how the program ends then.
+/// The line of a campaign that did not start, and the status.
 fn not_started(alloc: Global, fault: CampaignFault) -> Result<Output, AllocError>
     ensures reason { OnOk result (fault ≡ kind.NoMemory → ⊥) }
     ensures text { IfOk result (λ output. output.text.items ≡ spec.campaign_line fault) }
@@ -50,7 +51,7 @@ fn not_started(alloc: Global, fault: CampaignFault) -> Result<Output, AllocError
     }
 }
 
-/// How the program ends after a campaign.
+/// The status after a campaign.
 fn status_after(ended: CampaignStatus) -> Status
     ensures { result ≡ spec.status_after ended }
 {
@@ -61,7 +62,7 @@ fn status_after(ended: CampaignStatus) -> Status
     }
 }
 
-/// The report of a campaign, and how the program ends then. The records are noted before.
+/// The report of a campaign, and the status. Adds the records to `notes` first.
 fn report_output(
     alloc: Global,
     plan: &Plan,
@@ -71,20 +72,20 @@ fn report_output(
     requires trials { length closed.now ≡ plan.now.settings.trials }
     requires records { AreOf plan.now 0 closed.now }
     ensures text { IfOk result (λ output. output.text.items ≡ report_text plan.now closed.now) }
-    ensures status { IfOk result (λ output. output.status ≡ spec.status_after (campaign_status closed.now)) }
+    ensures status { IfOk result (λ output. output.status ≡ spec.status_after (ended_status closed.now)) }
 {
     notes.add(alloc, plan, closed)?;
     let mut out = Out::new(Vec::new(alloc));
     match report(alloc, plan, closed, &mut out) {
         Ok(()) => Ok(Output {
             text: out.into_inner(),
-            status: status_after(campaign_status(closed)),
+            status: status_after(ended_status(closed)),
         }),
         Err(_) => Err(AllocError),
     }
 }
 
-/// The plan of a model with the settings.
+/// The plan for a model and settings.
 fn plan_of(alloc: Global, typed: Typed, settings: Settings) -> Result<Arc<Plan>, AllocError>
     requires { AreInRange settings }
     ensures { IfOk result (λ plan. arc_value plan ≡ plan_of typed settings) }
@@ -95,8 +96,8 @@ fn plan_of(alloc: Global, typed: Typed, settings: Settings) -> Result<Arc<Plan>,
     }
 }
 
-/// Runs the trials of a model, and gives the report of what came of each number, or why the campaign did not start.
-fn output_for<K: Watch + Sync, R: Threads + Wait + Sync>(
+/// Runs the trials of a model, and returns the report, or the line that says why the campaign did not start.
+fn output_for<K: Ending + Sync, R: Threads + Wait + Sync>(
     rt: &R,
     alloc: Global,
     typed: Typed,
@@ -106,20 +107,20 @@ fn output_for<K: Watch + Sync, R: Threads + Wait + Sync>(
     notes: &mut CampaignNotes,
 ) -> Result<Output, AllocError>
     requires { AreInRange settings }
-    ensures { IfOk result (λ output. IsOutputFor
+    ensures { IfOk result (λ output. IsEarlyOutputFor (K.may_end watch.now)
         (λ s. MayGive ((System-box s).answers s.value) ((System-box s).fails s.value)
         ((System-box s).reset_fails s.value))
         settings systems.items typed output.text.items output.status) }
 {
     let plan = plan_of(alloc, typed, settings)?;
-    match campaign(rt, alloc, plan.clone()?, systems, watch) {
+    match campaign_until(rt, alloc, plan.clone()?, systems, watch) {
         Ok(closed) => report_output(alloc, &plan, &closed, notes),
         Err(fault) => not_started(alloc, fault),
     }
 }
 
-/// The output for the model that the input begins with, or the first refusal.
-fn campaign_output<K: Watch + Sync, R: Threads + Wait + Sync>(
+/// The output for the model at the start of the input, or the first refusal.
+fn campaign_output<K: Ending + Sync, R: Threads + Wait + Sync>(
     rt: &R,
     alloc: Global,
     input: &[u8],
@@ -129,7 +130,7 @@ fn campaign_output<K: Watch + Sync, R: Threads + Wait + Sync>(
     notes: &mut CampaignNotes,
 ) -> Result<Output, AllocError>
     requires { AreInRange settings }
-    ensures { IfOk result (λ output. IsCampaignOutput
+    ensures { IfOk result (λ output. IsEarlyOutput (K.may_end watch.now)
         (λ s. MayGive ((System-box s).answers s.value) ((System-box s).fails s.value)
         ((System-box s).reset_fails s.value))
         settings systems.items input.now output.text.items output.status) }
@@ -143,16 +144,15 @@ fn campaign_output<K: Watch + Sync, R: Threads + Wait + Sync>(
     }
 }
 
-/// Runs the trials of the model that the input begins with, with one worker for each system, and answers the
-/// status. It writes the report of what came of each number; where the input is refused, its first refusal
-/// alone; where the campaign is refused for the number of its systems, `refused campaign KIND` alone; where
-/// memory is refused to it, or to the campaign before its first trial, `refused memory` alone. The trees behind
-/// the model are not read. The systems are dropped at the end. `watch` is called for each trial that has ended,
-/// and when all have, before anything is written.
+/// Runs the trials of the model at the start of the input, with one worker for each system, and returns the status.
+/// Writes the report of all trials. If the input is refused, writes its first refusal alone; if the campaign is refused
+/// for the number of its systems, `refused campaign KIND` alone; if an allocation fails here, or in the campaign before
+/// its first trial, `refused memory` alone. Ignores the trees after the model. Drops the systems at the end. Calls
+/// `watch` for each trial that has ended, and when all have, before it writes anything.
 ///
-/// The settings must be in their ranges. The status is `Lost` where a number is lost, else `Failed` where a
-/// trial did not pass, else `Accepted`; `Refused` where the input is refused; `Lost` where the campaign or
-/// memory was refused or the writer failed. The call waits for as long as the calls of the systems do.
+/// The settings must be in their ranges. The status is `Lost` if a trial is lost, else `Failed` if a trial did not
+/// pass, else `Accepted`; `Refused` if the input is refused; `Lost` if the campaign is refused, an allocation failed or
+/// the writer failed. The call waits for as long as the calls of the systems do.
 pub fn campaign_text<W: Sink, K: Watch + Sync, R: Threads + Wait + Sync>(
     rt: &R,
     alloc: Global,
@@ -170,12 +170,22 @@ pub fn campaign_text<W: Sink, K: Watch + Sync, R: Threads + Wait + Sync>(
         (W.taken sink.old) (W.taken sink.new) (W.broken sink.new) result }
 {
     let mut notes = CampaignNotes::new();
-    campaign_noting(rt, alloc, input, settings, systems, watch, &mut notes, sink)
+    campaign_noting(
+        rt,
+        alloc,
+        input,
+        settings,
+        systems,
+        &ToTheEnd { watch },
+        &mut notes,
+        sink,
+    )
 }
 
-/// Does what [`campaign_text`] does, and notes the least failure and the first trial without a case. If memory is refused some
-/// of it may be missing.
-pub fn campaign_noting<W: Sink, K: Watch + Sync, R: Threads + Wait + Sync>(
+/// Does what [`campaign_text`] does until `watch` says that the campaign is over, and notes what is wanted beside the report.
+/// If the campaign ends early, the status is `Failed` if a trial did not pass and none is lost, and else `Lost`. If an
+/// allocation fails, notes may be missing.
+pub fn campaign_noting<W: Sink, K: Ending + Sync, R: Threads + Wait + Sync>(
     rt: &R,
     alloc: Global,
     input: &[u8],
@@ -188,7 +198,7 @@ pub fn campaign_noting<W: Sink, K: Watch + Sync, R: Threads + Wait + Sync>(
     requires ranges { AreInRange settings }
     requires stands { W.broken sink.old ≡ false }
     ensures { Prints
-        (IsCampaignOutput (λ s. MayGive ((System-box s).answers s.value) ((System-box s).fails s.value)
+        (IsEarlyOutput (K.may_end watch.now) (λ s. MayGive ((System-box s).answers s.value) ((System-box s).fails s.value)
         ((System-box s).reset_fails s.value)) settings systems.items input.now)
         (W.taken sink.old) (W.taken sink.new) (W.broken sink.new) result }
 {

@@ -6,8 +6,8 @@ ghost use Rattle.pst_cli.specs.Sending.{Prints};
 use crate::output::{Output, send};
 use crate::refusal::refusal_output;
 use crate::status::Status;
-use pst_rules::Typed;
-use pst_sink::Sink;
+use pst_model::Typed;
+use pst_sexpr::Sink;
 use pst_typing::{load, model_name};
 use std::alloc::{AllocError, Global};
 
@@ -29,8 +29,8 @@ fn check_output(alloc: Global, input: &[u8]) -> Result<Output, AllocError>
     }
 }
 
-/// Writes `ok NAME` where the first tree of the input is a well-typed model, and else its first refusal, and answers the status.
-/// Where memory is refused, `refused memory` alone is written.
+/// Writes `ok NAME` if the first tree of the input is a well-typed model, else the first refusal of the input, and
+/// returns the status. If an allocation fails, writes `refused memory` alone.
 pub fn check_text<W: Sink>(alloc: Global, input: &[u8], sink: &mut W) -> Status
     requires { W.broken sink.old ≡ false }
     ensures { Prints (IsCheckOutput input.now) (W.taken sink.old) (W.taken sink.new) (W.broken sink.new)

@@ -1,4 +1,4 @@
-//! Which items are explained, and what is written if there is no such item.
+//! Which items to explain, and what to write if there is no such item.
 ghost use Rattle.std.specs.Prelude.{◌≡◌, IfOk, IsTrue, ◌↔◌, string_bytes};
 ghost use Rattle.pst_cli.specs.ChosenItem.{IsItem, no_item_line};
 ghost use Rattle.pst_cli.specs.declared.status.Status.TheVariants.{Refused};
@@ -9,19 +9,19 @@ use crate::status::Status;
 use pst_judge::Judged;
 use std::alloc::{AllocError, Global};
 
-/// Which items are explained.
+/// Which items to explain.
 #[derive(Clone, Copy, Debug, PartialEq, Eq, Drop)]
 pub enum Chosen {
     /// All of them.
     All,
     /// Those that are neither explained nor valid.
     Failures,
-    /// The item of the number, from 1.
+    /// The item with this number, from 1.
     Item(usize),
 }
 
 impl Chosen {
-    /// Whether the item of the number, with this judgement, is explained.
+    /// Whether to explain item `number`, with this judgement.
     pub(crate) fn includes(self, number: usize, judged: &Judged) -> bool {
         match self {
             Chosen::All => true,
@@ -31,7 +31,7 @@ impl Chosen {
     }
 }
 
-/// Whether there is an item of the number, from 1, among the judged ones.
+/// Whether the judged items have an item `number`, from 1.
 pub(crate) fn is_item(number: usize, all: &[Judged]) -> bool
     ensures { IsTrue result ↔ IsItem number all.now }
 {
@@ -45,7 +45,7 @@ fn no_item_line(alloc: Global, number: usize, count: usize) -> Result<String, Al
     format!(in alloc; "refused item {number} of {count}\n")
 }
 
-/// The line of an item that there is none of, and how the program ends then.
+/// The line for an item that does not exist, and the status.
 pub(crate) fn refused_item(alloc: Global, number: usize, count: usize) -> Result<Output, AllocError>
     ensures text { IfOk result (λ output. output.text.items ≡ no_item_line number count) }
     ensures status { IfOk result (λ output. output.status ≡ Refused) }

@@ -1,4 +1,4 @@
-//! The compiled model that an input begins with.
+//! Loads and compiles the model at the start of an input.
 ghost use Rattle.std.specs.Prelude.{◌≡◌, IfOk, MatchResult};
 ghost use Rattle.pst_typing.specs.Loading.{Holds, IsRefusal};
 
@@ -7,7 +7,7 @@ use pst_sexpr::Tree;
 use pst_typing::{ModelFile, Refusal, load};
 use std::alloc::{AllocError, Global};
 
-/// A file of trees, of which the first spells a well-typed model, with that model compiled.
+/// A file of trees whose first tree is a well-typed model, and that model, compiled.
 #[derive(Drop)]
 pub struct CompiledFile {
     /// The model.
@@ -16,8 +16,8 @@ pub struct CompiledFile {
     pub trees: Vec<Tree>,
 }
 
-/// The compiled model that an input begins with, and all trees of the input; or its first refusal.
-/// `AllocError` where memory is refused.
+/// Compiles the model at the start of the input, and returns it with all trees of the input; or returns the first
+/// refusal.
 pub fn load_compiled(
     alloc: Global,
     input: &[u8],

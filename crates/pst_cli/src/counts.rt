@@ -1,17 +1,17 @@
-//! How many items came to what.
+//! How many items had each result.
 
 use pst_case::Run;
 use pst_judge::{Judged, Verdict, Why};
 use pst_rejudge::Answer;
 
-/// How many items came to what. The names are those of the lines that are written.
+/// How many items had each result. The fields are named after the lines that the program writes.
 #[derive(Drop)]
 pub struct Counts {
     /// Runs that some interleaving explains.
     pub explained: usize,
-    /// Runs that none explains.
+    /// Runs that no interleaving explains.
     pub unexplained: usize,
-    /// Runs that none explains, where a callback faults in some.
+    /// Runs that no interleaving explains and in which a callback faults in some interleaving.
     pub fault: usize,
     /// Runs with a reply that is no value.
     pub broken: usize,
@@ -25,7 +25,7 @@ pub struct Counts {
     pub refused: usize,
     /// Items that could not be driven.
     pub lost: usize,
-    /// The first run with a reply that is no value among those that were driven, and the number of its item, from 1.
+    /// The first driven run with a reply that is no value, and the number of its item, from 1.
     pub first_broken: Option<(usize, Run)>,
 }
 
@@ -63,7 +63,7 @@ impl Counts {
         }
     }
 
-    /// Keeps a run that was driven if it is the first with a reply that is no value.
+    /// Keeps a driven run if it is the first with a reply that is no value.
     pub(crate) fn keep_broken(&mut self, number: usize, run: Run, judged: &Judged) {
         if let Judged::Verdict(Verdict::Broken(_)) = judged {
             if self.first_broken.is_none() {
@@ -88,7 +88,7 @@ impl Counts {
         }
     }
 
-    /// Counts items to which there are answers.
+    /// Counts the items by their answers.
     pub fn add_answers(&mut self, answers: &[Answer]) {
         for answer in answers {
             match answer {
@@ -98,7 +98,7 @@ impl Counts {
         }
     }
 
-    /// Adds other counts, and keeps their first broken run if there is none yet.
+    /// Adds the counts of `other`, and takes its first broken run if this one has no broken run yet.
     pub(crate) fn add_counts(&mut self, other: Counts) {
         self.explained = self.explained.saturating_add(other.explained);
         self.unexplained = self.unexplained.saturating_add(other.unexplained);

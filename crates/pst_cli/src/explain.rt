@@ -3,7 +3,8 @@ ghost use Rattle.std.specs.Prelude.{◌≡◌, false, IfOk};
 ghost use Rattle.pst_cli.specs.ExplainOutput.{IsExplainOutput, IsExplanation};
 ghost use Rattle.pst_cli.specs.Output.{AreJudged};
 ghost use Rattle.pst_cli.specs.Sending.{Prints};
-ghost use Rattle.pst_runs.specs.Lawful.{AreLawful};
+ghost use Rattle.pst_judge.specs.Judgement.{IsJudgement};
+ghost use Rattle.pst_runs.specs.Lawful.{AreLawful, IsLawful};
 
 use crate::chosen::{Chosen, is_item, refused_item};
 use crate::form::ExplanationForm;
@@ -12,29 +13,62 @@ use crate::judged::{JudgedFile, joined, judged_file};
 use crate::kept::Keep;
 use crate::output::{Output, send};
 use crate::status::Status;
+use crate::steps::Steps;
 use pst_case::Run;
 use pst_compile::Compiled;
-use pst_explain::{TreePlace, explain_item, first_places};
+use pst_explain::{TreePlace, explain_item, first_places, graph_item};
 use pst_judge::Judged;
-use pst_sink::Sink;
+use pst_sexpr::Sink;
 use pst_sources::SourceFile;
 use std::alloc::{AllocError, Global};
 use std::thread::Threads;
 
-/// What is explained of an input, and in which form.
+/// What to explain of an input, and in which form.
 #[derive(Clone, Copy, Drop)]
 pub struct Explaining<'a> {
     /// The files of the input; none if it is one text.
     pub files: &'a [SourceFile<'a>],
-    /// Which items are explained.
+    /// Which items to explain.
     pub chosen: Chosen,
-    /// The most items that are explained: the first ones of those that are chosen.
+    /// How many of the chosen items to explain, at most: the first ones.
     pub most: usize,
-    /// In which form.
+    /// The form of the explanations.
     pub form: ExplanationForm,
 }
 
-/// The explanations of the chosen items, which are numbered from 1: `places` says where the items begin.
+/// The explanation of an item in a form. `number` is its number, and `place` where it begins.
+fn item_text(
+    alloc: Global,
+    compiled: &Compiled,
+    form: ExplanationForm,
+    run: &Run,
+    judged: &Judged,
+    number: usize,
+    place: Option<TreePlace<'_>>,
+) -> Result<Vec<u8>, AllocError>
+    requires lawful { IsLawful compiled.now run.now }
+    requires judged { IsJudgement compiled.now run.now judged.now }
+{
+    let typed = compiled.typed();
+    if let ExplanationForm::Dot { is_whole } = form {
+        return graph_item(compiled, alloc, typed, run, judged, number, is_whole);
+    }
+    let explanation = explain_item(compiled, alloc, typed, run, judged, number, place)?;
+    form.item(alloc, &explanation)
+}
+
+/// How many of the judged items are explained.
+fn chosen_count(asked: Explaining<'_>, all: &[Judged]) -> usize {
+    let mut count = 0usize;
+    for (index, judged) in all.iter().enumerate() {
+        if asked.chosen.includes(index + 1, judged) {
+            count = count.saturating_add(1);
+        }
+    }
+    count.min(asked.most)
+}
+
+/// The explanations of the chosen items, numbered from 1. `places` says where the items begin.
 fn explanations(
     alloc: Global,
     compiled: &Compiled,
@@ -42,12 +76,14 @@ fn explanations(
     places: &[TreePlace<'_>],
     runs: &[Run],
     all: &[Judged],
+    steps: &Steps,
 ) -> Result<Vec<u8>, AllocError>
     requires lawful { AreLawful compiled.now runs.now }
     requires judged { AreJudged compiled.now runs.now all.now }
 {
     let typed = compiled.typed();
     let form = asked.form;
+    steps.expect(chosen_count(asked, all));
     let mut text = form.start(alloc, asked.files, typed.source())?;
     let mut number: usize = 0;
     let mut count: usize = 0;
@@ -63,10 +99,10 @@ fn explanations(
             if count > 0 {
                 text.extend_from_slice(form.between().as_bytes())?;
             }
-            let explanation = explain_item(compiled, alloc, typed, run, judged, number, place)?;
-            let item = form.item(alloc, &explanation)?;
+            let item = item_text(alloc, compiled, form, run, judged, number, place)?;
             text.extend_from_slice(item.as_slice())?;
             count = count.saturating_add(1);
+            steps.add(1);
         }
         rest = later;
         left = others;
@@ -75,8 +111,7 @@ fn explanations(
     Ok(text)
 }
 
-/// What is written of the chosen items among those that were judged: their explanations, or the refusal of an item that
-/// there is none of.
+/// The output for the chosen items: their explanations, or the refusal of an item that does not exist.
 fn chosen_output(
     alloc: Global,
     compiled: &Compiled,
@@ -84,6 +119,7 @@ fn chosen_output(
     places: &[TreePlace<'_>],
     runs: &[Run],
     all: &[Judged],
+    steps: &Steps,
 ) -> Result<Output, AllocError>
     requires lawful { AreLawful compiled.now runs.now }
     requires judged { AreJudged compiled.now runs.now all.now }
@@ -95,17 +131,18 @@ fn chosen_output(
         }
     }
     Ok(Output {
-        text: explanations(alloc, compiled, asked, places, runs, all)?,
+        text: explanations(alloc, compiled, asked, places, runs, all, steps)?,
         status: status_of(all),
     })
 }
 
-/// The explanations of the chosen items behind the model, or the first refusal.
+/// The explanations of the chosen items after the model, or the first refusal.
 fn explain_output<R: Threads + Sync>(
     rt: &R,
     alloc: Global,
     input: &[u8],
     asked: Explaining<'_>,
+    steps: &Steps,
 ) -> Result<Output, AllocError>
     ensures { IfOk result (λ output. IsExplainOutput input.now asked.entry.chosen output.text.items output.status) }
 {
@@ -126,14 +163,16 @@ fn explain_output<R: Threads + Sync>(
         places.get(1..).unwrap_or(&[]),
         runs.as_slice(),
         judged.as_slice(),
+        steps,
     )
 }
 
-/// Explains the verdicts on the chosen items after the model that the input begins with, in the order of the items and in the
-/// form that is asked for: for each the line of its verdict, where it begins, and why the verdict is so. Or writes the first
-/// refusal alone, as `judge_text` does. If the chosen item is not there, `refused item N of COUNT` alone is written. If the
-/// input is the text of several files, a place has the name of the file. The status is that of `judge_text`, whichever items
-/// are explained. If memory is refused, `refused memory` alone is written.
+/// Explains the verdicts on the chosen items after the model at the start of the input. In the order of the items and
+/// in the chosen form, writes for each the line of its verdict, its place in the input, and the reason. If the input is
+/// refused, writes its first refusal alone, as `judge_text` does. If the chosen item does not exist, writes
+/// `refused item N of COUNT` alone, with the status `Refused`. Otherwise the status is that of `judge_text`, whichever
+/// items are explained. If the input is the text of several files, a place has the name of its file. If an allocation
+/// fails, writes `refused memory` alone.
 pub fn explain_text<W: Sink, R: Threads + Sync>(
     rt: &R,
     alloc: Global,
@@ -145,7 +184,23 @@ pub fn explain_text<W: Sink, R: Threads + Sync>(
     ensures { Prints (IsExplainOutput input.now asked.entry.chosen)
         (W.taken sink.old) (W.taken sink.new) (W.broken sink.new) result }
 {
-    match explain_output(rt, alloc, input, asked) {
+    explain_counting(rt, alloc, input, asked, &Steps::new(), sink)
+}
+
+/// Does what [`explain_text`] does, and counts the items that are explained in `steps`.
+pub fn explain_counting<W: Sink, R: Threads + Sync>(
+    rt: &R,
+    alloc: Global,
+    input: &[u8],
+    asked: Explaining<'_>,
+    steps: &Steps,
+    sink: &mut W,
+) -> Status
+    requires { W.broken sink.old ≡ false }
+    ensures { Prints (IsExplainOutput input.now asked.entry.chosen)
+        (W.taken sink.old) (W.taken sink.new) (W.broken sink.new) result }
+{
+    match explain_output(rt, alloc, input, asked, steps) {
         Ok(output) => send(output.text.as_slice(), output.status, sink),
         Err(AllocError) => send(b"refused memory\n", Status::Lost, sink),
     }

@@ -1,4 +1,4 @@
-//! The explanation of a run that a command drove.
+//! Explains a driven run.
 ghost use Rattle.std.specs.Prelude.{◌≡◌, IfOk, IfSome};
 ghost use Rattle.pst_runs.specs.Lawful.{IsLawful};
 
@@ -7,10 +7,10 @@ use crate::judge::is_good;
 use pst_case::{Case, CaseFaultKind, History, Run, Shaped, shape};
 use pst_explain::{explain_item, reason_text};
 use pst_judge::judge_one;
-use pst_rules::Typed;
+use pst_model::Typed;
 use std::alloc::{AllocError, Global};
 
-/// The run of a case of the model and its history, if the history matches the case.
+/// The run of a case of the model with its history, if the history matches the case.
 fn matching_run(typed: &Typed, shaped: Shaped, history: History) -> Option<Run>
     requires { shaped.model ≡ typed.now }
     ensures { IfSome result (IsLawful typed.now) }
@@ -24,8 +24,8 @@ fn matching_run(typed: &Typed, shaped: Shaped, history: History) -> Option<Run>
     })
 }
 
-/// The run of a case and its history, if it is one of the model.
-fn run_of(
+/// The run of a case with its history, if it is a run of the model.
+pub(crate) fn run_of(
     alloc: Global,
     typed: &Typed,
     case: Case,
@@ -42,8 +42,8 @@ fn run_of(
     }
 }
 
-/// Why no interleaving explains a recorded run on the model that the input begins with, in lines of at most `width` bytes.
-/// `None`: it is explained, or the input is refused, or the run is not one of the model.
+/// Explains why no interleaving explains a recorded run on the model at the start of the input, in lines of at most
+/// `width` bytes. Returns `None` if the run is explained or is no run of the model, or the input is refused.
 pub fn explain_run(
     alloc: Global,
     input: &[u8],

@@ -1,21 +1,26 @@
-//! In which form explanations are written.
+//! The forms of explanations.
 
-use pst_explain::{Explanation, explanation_text};
-use pst_json::{AFTER_ITEMS, AFTER_NO_ITEM, BETWEEN_ITEMS, document_start, item_json};
+use pst_explain::{Explanation, colored_text, explanation_text};
+use pst_json::{
+    AFTER_DATA, AFTER_ITEMS, AFTER_NO_ITEM, BEFORE_DATA, BETWEEN_ITEMS, document_start, item_json,
+};
 use pst_model::Source;
-use pst_page::{AFTER_DATA, BEFORE_DATA};
 use pst_sources::SourceFile;
 use std::alloc::{AllocError, Global};
 
-/// In which form explanations are written.
+/// The form of explanations.
 #[derive(Clone, Copy, Debug, PartialEq, Eq, Drop)]
 pub enum ExplanationForm {
     /// As text in lines of this width, with an empty line between two items.
     Text(usize),
+    /// As text in lines of this width, in the colors of a terminal.
+    Colored(usize),
     /// As JSON: a line for the model, and one for each item.
     Json,
-    /// As a page for a browser, which has the JSON in it.
+    /// As a page for a browser, with the JSON in it.
     Html,
+    /// As graphs for Graphviz. Of an explained run the whole search is drawn only if `is_whole` says so.
+    Dot { is_whole: bool },
 }
 
 impl ExplanationForm {
@@ -27,7 +32,8 @@ impl ExplanationForm {
         model: &Source,
     ) -> Result<Vec<u8>, AllocError> {
         match self {
-            ExplanationForm::Text(_) => Ok(Vec::new(alloc)),
+            ExplanationForm::Text(_) | ExplanationForm::Colored(_) | ExplanationForm::Dot { .. } =>
+                Ok(Vec::new(alloc)),
             ExplanationForm::Json => document_start(alloc, files, model),
             ExplanationForm::Html => {
                 let mut text = Vec::from_slice(alloc, BEFORE_DATA.as_bytes())?;
@@ -40,12 +46,13 @@ impl ExplanationForm {
     /// What comes between two items.
     pub(crate) fn between(self) -> &'static str {
         match self {
-            ExplanationForm::Text(_) => "\n",
+            ExplanationForm::Text(_) | ExplanationForm::Colored(_) => "\n",
             ExplanationForm::Json | ExplanationForm::Html => BETWEEN_ITEMS,
+            ExplanationForm::Dot { .. } => "",
         }
     }
 
-    /// An item.
+    /// An item, but for a graph.
     pub(crate) fn item(
         self,
         alloc: Global,
@@ -53,11 +60,13 @@ impl ExplanationForm {
     ) -> Result<Vec<u8>, AllocError> {
         match self {
             ExplanationForm::Text(width) => explanation_text(alloc, explanation, width),
+            ExplanationForm::Colored(width) => colored_text(alloc, explanation, width),
             ExplanationForm::Json | ExplanationForm::Html => item_json(alloc, explanation),
+            ExplanationForm::Dot { .. } => Ok(Vec::new(alloc)),
         }
     }
 
-    /// Adds what comes after so many items.
+    /// Adds what comes after `count` items.
     pub(crate) fn add_end(self, text: &mut Vec<u8>, count: usize) -> Result<(), AllocError> {
         let end = if count == 0 {
             AFTER_NO_ITEM
@@ -65,7 +74,8 @@ impl ExplanationForm {
             AFTER_ITEMS
         };
         match self {
-            ExplanationForm::Text(_) => Ok(()),
+            ExplanationForm::Text(_) | ExplanationForm::Colored(_) | ExplanationForm::Dot { .. } =>
+                Ok(()),
             ExplanationForm::Json => text.extend_from_slice(end.as_bytes()),
             ExplanationForm::Html => {
                 text.extend_from_slice(end.as_bytes())?;

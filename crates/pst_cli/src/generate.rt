@@ -13,7 +13,7 @@ use crate::status::Status;
 use crate::stream::Cut;
 use pst_case::Run;
 use pst_eval::Place;
-use pst_sink::{Sink, WriteFailed, put_all};
+use pst_sexpr::{Sink, WriteFailed, put_all};
 use pst_trial::{Plan, Settings, may_share_records, trial_case};
 use pst_typing::{ModelFile, load};
 use rayon::prelude::*;
@@ -36,7 +36,8 @@ fn genfault_line(alloc: Global, number: u64, place: &Place) -> Result<String, Al
     Ok(line)
 }
 
-/// The line of the case of a trial, or of the fault for which it has none. The status is `Failed` at a fault.
+/// The line of the case of trial `number`, or of the fault that leaves it without a case. The status is `Failed` at a
+/// fault.
 fn case_output(alloc: Global, plan: &Plan, number: u64) -> Result<Output, AllocError>
     ensures { IfOk result (IsLineOf plan.now number) }
 {
@@ -56,7 +57,7 @@ fn case_output(alloc: Global, plan: &Plan, number: u64) -> Result<Output, AllocE
     }
 }
 
-/// The lines of the trials of several numbers, which several threads generate at once.
+/// The lines of the trials from `first` on, which several threads generate at once.
 fn case_outputs<R: Threads + Sync>(
     rt: &R,
     alloc: Global,
@@ -80,7 +81,7 @@ fn case_outputs<R: Threads + Sync>(
         .collect::<Result<Vec<Output>, AllocError>>(rt, alloc)?
 }
 
-/// Writes the lines of the trials of several numbers, and gives the worst of a status and theirs.
+/// Writes the lines of the trials from `first` on, and returns the worst of `so_far` and their statuses.
 fn write_lines<W: Sink, R: Threads + Sync>(
     rt: &R,
     alloc: Global,
@@ -107,7 +108,7 @@ fn write_lines<W: Sink, R: Threads + Sync>(
     }
 }
 
-/// Writes the lines of the trials from a number on, and gives the worst of their statuses.
+/// Writes the lines of the trials from `first` on, and returns the worst of their statuses.
 fn write_cases<W: Sink, R: Threads + Sync>(
     rt: &R,
     alloc: Global,
@@ -134,13 +135,14 @@ fn write_cases<W: Sink, R: Threads + Sync>(
     Ok(status)
 }
 
-/// Writes the cases of the trials of a model, from the number `first` on, `count` of them, a line each: the case as a tree, or
-/// `genfault NUMBER COMMAND CALLBACK KIND` where a callback faults and there is none. The case of a number is the one that a
-/// campaign with these settings tries in the trial of this number. Lines are written as cases are generated, several at once.
+/// Writes the cases of `count` trials of a model, from trial `first` on, a line each: the case as a tree, or
+/// `genfault NUMBER COMMAND CALLBACK KIND` if a callback fault leaves the trial without a case. A campaign with these
+/// settings tries the same case in the trial of the same number. Generates several cases at once, and writes lines as
+/// it goes.
 ///
-/// The status is `Failed` where a callback faults, else `Accepted`. Where the model is refused, its refusal is written alone, with
-/// the status `Refused`; where an allocation fails, `refused memory` after the lines so far, with the status `Lost`. `Lost` as
-/// well where the writer fails.
+/// The status is `Failed` if a callback faults, else `Accepted`. If the model is refused, writes its refusal alone,
+/// with the status `Refused`. If an allocation fails, writes `refused memory` after the lines so far, with the status
+/// `Lost`. The status is also `Lost` if the writer fails.
 pub fn generate_text<W: Sink, R: Threads + Sync>(
     rt: &R,
     alloc: Global,

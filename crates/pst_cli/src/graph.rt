@@ -14,13 +14,13 @@ use crate::output::{Output, send};
 use crate::status::Status;
 use pst_case::Run;
 use pst_compile::Compiled;
-use pst_graph::graph_item;
+use pst_explain::graph_item;
 use pst_judge::Judged;
-use pst_sink::Sink;
+use pst_sexpr::Sink;
 use std::alloc::{AllocError, Global};
 use std::thread::Threads;
 
-/// The number, from 1, of the first item that is neither explained nor valid; 1 where there is none.
+/// The number, from 1, of the first item that is neither explained nor valid; 1 if all are.
 fn first_failed(all: &[Judged]) -> usize
     ensures { result ≡ first_failed 1 all.now }
 {
@@ -32,8 +32,7 @@ fn first_failed(all: &[Judged]) -> usize
     1
 }
 
-/// The number of the item that is drawn: the one that is asked for, or else the first that is neither
-/// explained nor valid.
+/// The number of the item to draw: `item`, or else the first that is neither explained nor valid, or else 1.
 fn drawn_number(item: Option<usize>, all: &[Judged]) -> usize
     ensures { result ≡ drawn_number item all.now }
 {
@@ -43,7 +42,7 @@ fn drawn_number(item: Option<usize>, all: &[Judged]) -> usize
     }
 }
 
-/// The graph of the item of the number, from 1, if there is one.
+/// The graph of item `number`, from 1, if it exists.
 fn item_graph(
     alloc: Global,
     compiled: &Compiled,
@@ -78,7 +77,7 @@ fn item_graph(
     Ok(Some(graph))
 }
 
-/// The graph of the item that is asked for, or the refusal where there is none.
+/// The graph of the chosen item, or the refusal of an item that does not exist.
 fn chosen_graph(
     alloc: Global,
     compiled: &Compiled,
@@ -101,7 +100,7 @@ fn chosen_graph(
     }
 }
 
-/// The graph of the item that is asked for, or the first refusal.
+/// The graph of the chosen item, or the first refusal.
 fn graph_output<R: Threads + Sync>(
     rt: &R,
     alloc: Global,
@@ -130,12 +129,12 @@ fn graph_output<R: Threads + Sync>(
     )
 }
 
-/// Draws the search of an item behind the model that the input begins with: writes it as a graph for
-/// Graphviz. `item` is its number, from 1; where it is absent, the first item is drawn that is neither
-/// explained nor valid, and item 1 where there is none. Of an explained run the interleaving and its dead ends are drawn, and
-/// with `whole` all positions. Where there is no such item, `refused item N of
-/// COUNT` alone is written, and else the first refusal alone, as `judge_text` does. The status is that of
-/// `judge_text`. Where memory is refused, `refused memory` alone is written.
+/// Draws the search of an item after the model at the start of the input, as a graph for Graphviz. `item` is its
+/// number, from 1; without it, draws the first item that is neither explained nor valid, or item 1 if all are. For an
+/// explained run, draws the interleaving and its dead ends, or all positions if `whole` is true. If the item does not
+/// exist, writes `refused item N of COUNT` alone, with the status `Refused`. If the input is refused, writes its first
+/// refusal alone, as `judge_text` does. Otherwise the status is that of `judge_text`. If an allocation fails, writes
+/// `refused memory` alone.
 pub fn graph_text<W: Sink, R: Threads + Sync>(
     rt: &R,
     alloc: Global,

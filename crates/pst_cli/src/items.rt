@@ -1,4 +1,4 @@
-//! The model that an input begins with, and the runs behind it.
+//! Reads the model at the start of an input, and the runs after it.
 ghost use Rattle.std.specs.Prelude.{◌≡◌, IfOk, MatchResult};
 ghost use Rattle.pst_cli.specs.Output.{HoldsRuns, IsFirstRefusal};
 
@@ -11,7 +11,7 @@ use pst_compile::Compiled;
 use pst_typing::items_of;
 use std::alloc::{AllocError, Global};
 
-/// A model, and the runs behind it.
+/// A model, and the runs after it.
 #[derive(Drop)]
 pub struct ModelAndRuns {
     /// The model.
@@ -20,8 +20,8 @@ pub struct ModelAndRuns {
     pub runs: Vec<Run>,
 }
 
-/// The model and the runs of an input, which is read from its first byte to its last, or what is said of its first
-/// refusal. `AllocError` where memory is refused.
+/// Reads the input from its first byte to its last, and returns the model and the runs, or the output for the first
+/// refusal.
 pub fn read_in_order(
     alloc: Global,
     input: &[u8],

@@ -17,14 +17,13 @@ use crate::shown::Shown;
 use crate::status::Status;
 use pst_case::{CaseFaultKind, Run};
 use pst_judge::{Judged, Verdict};
-use pst_rules::Typed;
+use pst_model::Typed;
 use pst_runs::{RunFault, RunFaultKind, read_runs};
-use pst_sexpr::Tree;
-use pst_sink::Sink;
+use pst_sexpr::{Sink, Tree};
 use std::alloc::{AllocError, Global};
 use std::thread::Threads;
 
-/// The runs that trees spell, or why the first refused one is refused.
+/// The runs that the trees spell, or the fault of the first refused one.
 pub fn runs_in(
     alloc: Global,
     typed: &Typed,
@@ -62,7 +61,7 @@ fn are_good(all: &[Judged]) -> bool
     all.iter().all(|judged| is_good(judged))
 }
 
-/// Accepted where all items are explained or valid, and else failed.
+/// `Accepted` if all items are explained or valid, else `Failed`.
 pub fn status_of(all: &[Judged]) -> Status
     ensures { result ≡ status_of all.now }
 {
@@ -80,7 +79,7 @@ pub fn run_line(alloc: Global, fault: &RunFault) -> Result<String, AllocError>
     format!(in alloc; "refused run {fault}\n")
 }
 
-/// The line of a refused item, and how the program ends then.
+/// The line of a refused item, and the status.
 pub fn refused_run(alloc: Global, fault: &RunFault) -> Result<Output, AllocError>
     ensures text { IfOk result (λ output. output.text.items ≡ run_line fault.now) }
     ensures status { IfOk result (λ output. output.status ≡ Refused) }
@@ -88,7 +87,7 @@ pub fn refused_run(alloc: Global, fault: &RunFault) -> Result<Output, AllocError
     Ok(Output::new(run_line(alloc, fault)?, Status::Refused))
 }
 
-/// The lines of the items behind the model, and the items, as far as they are kept; or the first refusal.
+/// The lines of the items after the model, and the items as far as `keep` says; or the first refusal.
 fn judge_output<R: Threads + Sync>(
     rt: &R,
     alloc: Global,
@@ -111,7 +110,7 @@ fn judge_output<R: Threads + Sync>(
     Ok((output, Some(file)))
 }
 
-/// Does what [`judge_file`] does, with the items that are kept.
+/// Does what [`judge_file`] does, and keeps the items as `keep` says.
 fn judge_keeping<W: Sink, R: Threads + Sync>(
     rt: &R,
     alloc: Global,
@@ -134,10 +133,10 @@ fn judge_keeping<W: Sink, R: Threads + Sync>(
     }
 }
 
-/// Does what [`judge_text`] does, or with [`Shown::Failures`] writes only the lines of items that are neither explained nor
-/// valid, with the same status. Gives back the judgements where all items were judged, with the items where the
-/// precondition of some operation is another expression than `true`. Over any other model no item is worth a warning, and
-/// each thread lets the items go that it judged.
+/// Does what [`judge_text`] does, but with [`Shown::Failures`] writes only the lines of items that are neither
+/// explained nor valid, with the same status. Returns the judgements if all items were judged, and with them the items
+/// if the precondition of some operation is another expression than `true`. Over any other model no item is worth a
+/// warning, and each thread drops the items that it judged.
 pub fn judge_file<W: Sink, R: Threads + Sync>(
     rt: &R,
     alloc: Global,
@@ -156,9 +155,9 @@ pub fn judge_file<W: Sink, R: Threads + Sync>(
     judge_keeping(rt, alloc, input, shown, Keep::ForWarnings, sink)
 }
 
-/// Judges the items behind the model that the input begins with, several at once: writes a line `NUMBER VERDICT`
-/// for each, from 1, in the order of the items, or the first refusal alone, and answers the status. Nothing is
-/// written before all items are judged: where memory is refused to any of them, `refused memory` stands alone.
+/// Judges the items after the model at the start of the input, several at once, and returns the status. Writes a line
+/// `NUMBER VERDICT` for each, from 1, in the order of the items, or the first refusal alone. Writes nothing before all
+/// items are judged. If an allocation fails, writes `refused memory` alone.
 pub fn judge_text<W: Sink, R: Threads + Sync>(
     rt: &R,
     alloc: Global,

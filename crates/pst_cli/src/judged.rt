@@ -1,4 +1,4 @@
-//! The items behind the model that an input begins with, and the judgements on them.
+//! Judges the items after the model at the start of an input.
 ghost use Rattle.std.specs.Prelude.{◌≡◌, true, IfOk, IfSome, MatchResult};
 ghost use Rattle.pst_cli.specs.Kept.{HoldsJudged, keeps_all};
 ghost use Rattle.pst_cli.specs.Output.{IsFirstRefusal};
@@ -17,20 +17,21 @@ use pst_sexpr::MAX_BYTES;
 use std::alloc::{AllocError, Global};
 use std::thread::Threads;
 
-/// A model, the items behind it, and the judgement on each.
+/// A model, the items after it, and the judgement on each.
 #[derive(Drop)]
 pub struct JudgedFile {
     /// The model.
     pub compiled: Compiled,
-    /// The items behind the model, in the parts in which they were read, where they are kept.
+    /// The items after the model, in the parts in which they were read, if they are kept.
     pub runs: Vec<Vec<Run>>,
     /// Their judgements, in the order of the items.
     pub judged: Vec<Judged>,
 }
 
-/// The items of an input, of which several threads read and judge parts at once, or `None`, which says nothing of the
-/// input. Of a part only the judgements are kept, and its runs as `keep` says. The answer is `None` where the model does not stand
-/// alone before the first line behind it that begins with a bracket, or some part of the rest is not read by itself.
+/// Reads and judges parts of the input on several threads at once. Keeps the judgements of each part, and its runs as
+/// `keep` says. Returns `None`, which says nothing about the input, if the input is over `MAX_BYTES`, if it does not
+/// begin with a well-typed model alone before the next line that begins with a bracket, or if some part of the rest
+/// cannot be read by itself.
 fn judged_at_once<R: Threads + Sync>(
     rt: &R,
     alloc: Global,
@@ -73,7 +74,7 @@ fn in_one_part(alloc: Global, runs: Vec<Run>) -> Result<Vec<Vec<Run>>, AllocErro
     Ok(parts)
 }
 
-/// The runs of all parts, one behind the other.
+/// The runs of all parts, in order.
 pub fn joined(alloc: Global, parts: Vec<Vec<Run>>) -> Result<Vec<Run>, AllocError>
     ensures { IfOk result (λ runs. runs.items ≡ joined parts.items) }
 {
@@ -84,8 +85,8 @@ pub fn joined(alloc: Global, parts: Vec<Vec<Run>>) -> Result<Vec<Run>, AllocErro
     Ok(runs)
 }
 
-/// The items of an input, which is read from its first byte to its last and then judged, several items at once, or what
-/// is said of its first refusal.
+/// Reads the input from its first byte to its last and then judges its items, several at once. Returns the items and
+/// judgements, or the output for the first refusal.
 fn judged_in_order<R: Threads + Sync>(
     rt: &R,
     alloc: Global,
@@ -109,8 +110,8 @@ fn judged_in_order<R: Threads + Sync>(
     }))
 }
 
-/// The judgements on the items of an input, several judged at once, or what is said of its first refusal. `keep` says which
-/// items are kept; more may be. `AllocError` where memory is refused.
+/// The judgements on the items of an input, several judged at once, or the output for the first refusal. `keep` says
+/// which items to keep; more may be kept.
 pub fn judged_file<R: Threads + Sync>(
     rt: &R,
     alloc: Global,

@@ -27,7 +27,7 @@ use crate::shown::Shown;
 use crate::status::Status;
 use pst_rejudge::{Answer, judge_each};
 use pst_runs::RunFault;
-use pst_sink::Sink;
+use pst_sexpr::Sink;
 use pst_typing::items_of;
 use std::alloc::{AllocError, Global};
 use std::thread::Threads;
@@ -103,7 +103,7 @@ fn failed_lines(alloc: Global, answers: &[Answer]) -> Result<String, AllocError>
     Ok(text)
 }
 
-/// The lines of the items that are shown, numbered from 1.
+/// The lines of the displayed items, numbered from 1.
 fn shown_lines(alloc: Global, shown: Shown, answers: &[Answer]) -> Result<String, AllocError>
     ensures { IfOk result (λ text. string_bytes text ≡ shown_answer_lines shown answers.now) }
 {
@@ -113,7 +113,7 @@ fn shown_lines(alloc: Global, shown: Shown, answers: &[Answer]) -> Result<String
     }
 }
 
-/// Refused where the item is, and else as the judgement on it says.
+/// `Refused` if the item is refused, else the status of its judgement.
 pub(crate) fn answer_status(answer: &Answer) -> Status
     ensures { result ≡ answer_status answer.now }
 {
@@ -134,7 +134,7 @@ pub fn worst_status(answers: &[Answer]) -> Status
     status
 }
 
-/// What is answered of each item behind a model.
+/// A file, and the answer to each item after its model.
 #[derive(Drop)]
 pub struct AnsweredFile {
     /// The model, and all trees of the input.
@@ -143,7 +143,7 @@ pub struct AnsweredFile {
     pub answers: Vec<Answer>,
 }
 
-/// The lines of the items behind the model that are shown, and all answers; or the refusal of the model.
+/// The lines of the displayed items after the model, and all answers; or the refusal of the model.
 fn keeping_on_output<R: Threads + Sync>(
     rt: &R,
     alloc: Global,
@@ -166,8 +166,8 @@ fn keeping_on_output<R: Threads + Sync>(
     Ok((output, Some(AnsweredFile { file, answers })))
 }
 
-/// Does what [`judge_text_keeping_on`] does, or with [`Shown::Failures`] writes only the lines of items that are refused, or
-/// neither explained nor valid, with the same status. Gives back the answers where there are some.
+/// Does what [`judge_text_keeping_on`] does, but with [`Shown::Failures`] writes only the lines of items that are
+/// refused, or neither explained nor valid, with the same status. Returns the answers if the items were judged.
 pub fn judge_file_keeping_on<W: Sink, R: Threads + Sync>(
     rt: &R,
     alloc: Global,
@@ -187,15 +187,14 @@ pub fn judge_file_keeping_on<W: Sink, R: Threads + Sync>(
     }
 }
 
-/// Judges each item behind the model that the input begins with, also where others are refused, several at once: writes
-/// for each, in their order, a line `NUMBER VERDICT`, or `refused run NUMBER command C KIND` where it is refused, and
-/// answers the status. Where the input is no file of trees, or the model is refused, that refusal is written alone.
-/// Nothing is written before all items are judged: where memory is refused to any of them, `refused memory` stands
-/// alone.
+/// Judges each item after the model at the start of the input, several at once, even if other items are refused. Writes
+/// a line for each, in their order, and returns the status: `NUMBER VERDICT`, or `refused run NUMBER command C KIND` if
+/// the item is refused. If the input is no file of trees, or the model is refused, writes that refusal alone. Writes
+/// nothing before all items are judged. If an allocation fails, writes `refused memory` alone.
 ///
-/// The status is `Refused` where an item is refused, else `Failed` where one is not explained or not valid, else
-/// `Accepted`; `Refused` where the model is refused; `Lost` where memory was refused or the writer failed. Where no item
-/// is refused, the lines and the status are those of `judge_text`.
+/// The status is `Refused` if an item is refused, else `Failed` if one is not explained or not valid, else `Accepted`;
+/// `Refused` if the model is refused; `Lost` if an allocation or the writer failed. If no item is refused, the lines
+/// and the status are those of `judge_text`.
 pub fn judge_text_keeping_on<W: Sink, R: Threads + Sync>(
     rt: &R,
     alloc: Global,

@@ -1,16 +1,15 @@
-//! Which runs are kept beside the judgements on them.
+//! Which runs to keep beside their judgements.
 ghost use Rattle.std.specs.Prelude.{◌≡◌, true};
 ghost use Rattle.pst_cli.specs.Kept.{keeps_all};
 
-use pst_model::{Expr, Item};
-use pst_rules::Typed;
+use pst_model::{Expr, Item, Typed};
 
-/// Which runs of an input are kept beside the judgements on them.
+/// Which runs of an input to keep beside their judgements.
 #[derive(Clone, Copy, Drop)]
 pub(crate) enum Keep {
     /// All of them.
     All,
-    /// All of them where the precondition of some operation is another expression than `true`, and else none.
+    /// All of them if the precondition of some operation is another expression than `true`, else none.
     ForWarnings,
     /// None of them.
     Nothing,
@@ -25,7 +24,7 @@ fn asks_precondition(item: &Item) -> bool {
 }
 
 impl Keep {
-    /// Whether runs over a model are kept.
+    /// Whether to keep runs over a model.
     pub(crate) fn keeps(self, typed: &Typed) -> bool
         ensures { keeps_all self ≡ true → result ≡ true }
     {

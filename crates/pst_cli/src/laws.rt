@@ -1,14 +1,15 @@
-//! An input has one output, keeping on changes none where no item is refused, and a stream of items has that of a file of them.
+//! An input has one output, keeping on changes nothing if no item is refused, and a stream of items has the output of a
+//! file of them.
 ghost use Rattle.pst_cli.specs.KeepingOn.{KeepsJudgements};
 ghost use Rattle.pst_cli.specs.OneOutput.{OneCheckOutput, OneJudgeOutput};
 ghost use Rattle.pst_cli.specs.StreamOutput.{StreamsAreFiles};
 
 use pst_judge::one_judgement;
+use pst_rejudge::lines_are_items;
 use pst_sexpr::laws::{one_fault, one_reading, trees_have_no_fault};
-use pst_stream::lines_are_items;
 use pst_typing::{ill_is_not_well, one_is_ill};
 
-/// The definitions of what `check_text` and `judge_text` write have one text and one status for an input, at most.
+/// `check_text` and `judge_text` have at most one text and one status for an input, by their definitions.
 pub fn one_output()
     ensures check { OneCheckOutput }
     ensures judge { OneJudgeOutput }
@@ -21,12 +22,13 @@ pub fn one_output()
     one_judgement();
 }
 
-/// Where no item is refused, `judge_text_keeping_on` writes and answers what `judge_text` does.
+/// If no item is refused, `judge_text_keeping_on` writes and returns what `judge_text` does.
 pub fn keeps_judgements()
     ensures { KeepsJudgements }
 {}
 
-/// The lines and the status of a stream with one item on each line are those of `judge_text_keeping_on` for a file of these items.
+/// A stream with one item on each line has the lines and the status of `judge_text_keeping_on` for a file of these
+/// items.
 pub fn streams_are_files()
     ensures { StreamsAreFiles }
 {

@@ -1,4 +1,4 @@
-//! What the program writes for its input.
+//! The subcommands: what the program writes for its input. `AllocError` means that an allocation failed.
 #![tactic(auto)]
 
 mod absent;
@@ -6,12 +6,15 @@ mod campaign;
 mod check;
 mod chosen;
 mod compiled;
+mod convert;
 mod counts;
 mod explain;
 mod explained_run;
+mod failure_page;
 mod form;
 mod generate;
 mod graph;
+mod item_report;
 mod items;
 mod judge;
 mod judged;
@@ -27,9 +30,11 @@ mod output;
 mod refusal;
 mod repeat;
 mod run;
+mod run_objects;
 mod sharing;
 mod shown;
 mod status;
+mod steps;
 mod stream;
 
 pub use absent::{Absence, refuse_text};
@@ -37,9 +42,11 @@ pub use campaign::{campaign_noting, campaign_text};
 pub use check::check_text;
 pub use chosen::Chosen;
 pub use compiled::CompiledFile;
+pub use convert::{ItemForm, convert_text};
 pub use counts::Counts;
-pub use explain::{Explaining, explain_text};
+pub use explain::{Explaining, explain_counting, explain_text};
 pub use explained_run::explain_run;
+pub use failure_page::{CampaignFailures, campaign_page};
 pub use form::ExplanationForm;
 pub use generate::generate_text;
 pub use graph::graph_text;
@@ -53,6 +60,8 @@ pub use notes::CampaignNotes;
 pub use objects::{MEMORY_OBJECT, check_json, judge_json};
 pub use repeat::run_repeatedly;
 pub use run::{run_counting, run_text};
+pub use run_objects::run_json;
 pub use shown::Shown;
 pub use status::Status;
+pub use steps::Steps;
 pub use stream::judge_stream;

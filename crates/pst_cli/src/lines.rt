@@ -1,4 +1,4 @@
-//! The lines of items that were judged.
+//! The lines of judged items.
 ghost use Rattle.std.specs.Prelude.{◌≡◌, ◌++◌, IfOk, OnOk, string_bytes};
 ghost use Rattle.pst_cli.specs.Output.{failure_line, failure_lines, item_line, item_lines, shown_lines};
 ghost use Rattle.pst_cli.specs.Rows.{IsRow, first_of};
@@ -11,7 +11,7 @@ use rayon::prelude::*;
 use std::alloc::{AllocError, Global};
 use std::thread::Threads;
 
-/// How many items a row has, but for the last.
+/// How many items a row has; the last row may have fewer.
 const ROW: usize = 512;
 
 /// Adds the line `NUMBER VERDICT` to a text.
@@ -30,7 +30,7 @@ pub fn item_line(alloc: Global, number: usize, judged: &Judged) -> Result<String
     Ok(line)
 }
 
-/// How many of so many items stand before a row, which has a number from 0.
+/// How many of `count` items come before `row`, counted from 0.
 fn first_of(row: usize, count: usize) -> usize
     ensures { result ≡ first_of row count }
 {
@@ -49,7 +49,7 @@ fn row_lines(alloc: Global, all: &[Judged], row: usize) -> Result<String, AllocE
     Ok(text)
 }
 
-/// The lines of all items, numbered from 1. Several threads write rows of them at once.
+/// The lines of all items, numbered from 1. Several threads write rows at once.
 fn item_lines<R: Threads + Sync>(
     rt: &R,
     alloc: Global,
@@ -92,7 +92,7 @@ fn failure_lines(alloc: Global, all: &[Judged]) -> Result<String, AllocError>
     Ok(text)
 }
 
-/// The lines of the items that are shown, numbered from 1.
+/// The lines of the displayed items, numbered from 1.
 pub fn shown_lines<R: Threads + Sync>(
     rt: &R,
     alloc: Global,

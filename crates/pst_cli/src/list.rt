@@ -8,7 +8,7 @@ use crate::output::{Output, send};
 use crate::refusal::refusal_output;
 use crate::status::Status;
 use pst_compile::listing;
-use pst_sink::Sink;
+use pst_sexpr::Sink;
 use std::alloc::{AllocError, Global};
 
 /// The listing of the model, or the first refusal.
@@ -27,9 +27,8 @@ fn list_output(alloc: Global, input: &[u8]) -> Result<Output, AllocError>
     }
 }
 
-/// Writes the listing of the well-typed model that the input begins with, a line for each instruction of its
-/// code, or else the first refusal of the input, and answers the status. Where memory is refused,
-/// `refused memory` alone is written.
+/// Writes the listing of the well-typed model at the start of the input, a line for each instruction of its code, or
+/// else the first refusal of the input, and returns the status. If an allocation fails, writes `refused memory` alone.
 pub fn list_text<W: Sink>(alloc: Global, input: &[u8], sink: &mut W) -> Status
     requires { W.broken sink.old ≡ false }
     ensures { Prints (IsListOutput input.now)

@@ -13,8 +13,8 @@ ghost use Rattle.pst_cli.specs.JsonOutput.{
 ghost use Rattle.pst_cli.specs.KeepingOn.{HoldsAnswers};
 ghost use Rattle.pst_cli.specs.Sending.{PrintsElse};
 ghost use Rattle.pst_cli.specs.declared.status.Status.TheVariants.{Refused};
+ghost use Rattle.pst_json_verdicts.specs.Objects.{object_line};
 ghost use Rattle.pst_json_verdicts.specs.Verdicts.{accepted_fields};
-ghost use Rattle.pst_objects.specs.Objects.{object_line};
 
 use crate::compiled::load_compiled;
 use crate::keep::{AnsweredFile, is_good_answer, worst_status};
@@ -22,11 +22,12 @@ use crate::output::{Output, send};
 use crate::sharing::may_share_compiled;
 use crate::shown::Shown;
 use crate::status::Status;
-use pst_json_verdicts::{accepted_fields, judged_fields, refusal_fields, refused_fields};
-use pst_objects::object_line;
+use pst_json_verdicts::{
+    accepted_fields, judged_fields, object_line, refusal_fields, refused_fields,
+};
+use pst_model::Typed;
 use pst_rejudge::{Answer, judge_each};
-use pst_rules::Typed;
-use pst_sink::Sink;
+use pst_sexpr::Sink;
 use pst_typing::{Refusal, items_of, load, model_name};
 use std::alloc::{AllocError, Global};
 use std::thread::Threads;
@@ -42,7 +43,7 @@ fn answer_object(alloc: Global, number: usize, answer: &Answer) -> Result<Vec<u8
     object_line(alloc, fields.as_slice())
 }
 
-/// Adds the object of an item, if it is shown.
+/// Adds the object of an item, if `shown` includes it.
 fn add_shown(
     alloc: Global,
     text: &mut Vec<u8>,
@@ -59,7 +60,7 @@ fn add_shown(
     text.extend_from_slice(line.as_slice())
 }
 
-/// The objects of the items that are shown, numbered from 1.
+/// The objects of the displayed items, numbered from 1.
 fn shown_objects(alloc: Global, shown: Shown, answers: &[Answer]) -> Result<Vec<u8>, AllocError>
     ensures { IfOk result (λ text. text.items ≡ shown_objects shown 1 answers.now) }
 {
@@ -70,8 +71,8 @@ fn shown_objects(alloc: Global, shown: Shown, answers: &[Answer]) -> Result<Vec<
     Ok(text)
 }
 
-/// The object of a refusal, and how the program ends then.
-fn refusal_object(alloc: Global, refusal: &Refusal) -> Result<Output, AllocError>
+/// The object of a refusal, and the status.
+pub(crate) fn refusal_object(alloc: Global, refusal: &Refusal) -> Result<Output, AllocError>
     ensures text { IfOk result (λ output. output.text.items ≡ refusal_object refusal.now) }
     ensures status { IfOk result (λ output. output.status ≡ Refused) }
 {
@@ -82,7 +83,7 @@ fn refusal_object(alloc: Global, refusal: &Refusal) -> Result<Output, AllocError
     })
 }
 
-/// The objects of the items behind the model that are shown, and all answers; or the object of the model's refusal.
+/// The objects of the displayed items after the model, and all answers; or the object of the model's refusal.
 fn judge_output<R: Threads + Sync>(
     rt: &R,
     alloc: Global,
@@ -106,14 +107,14 @@ fn judge_output<R: Threads + Sync>(
     Ok((output, Some(AnsweredFile { file, answers })))
 }
 
-/// Judges each item behind the model that the input begins with, several at once, and writes an object for each that is
-/// shown, a line each, in the order of the items: its number and its verdict, or why it is refused. If the input is no file
-/// of trees, or the model is refused, the object of that refusal is written alone. Nothing is written before all items are
-/// judged; if an allocation fails, the object of that is written alone. Returns the status, and the answers if there are
-/// some.
+/// Judges each item after the model at the start of the input, several at once, and writes a line with an object for
+/// each displayed item, in the order of the items: its number and its verdict, or why it is refused. If the input is no
+/// file of trees, or the model is refused, writes the object of that refusal alone. Writes nothing before all items are
+/// judged. If an allocation fails, writes [`MEMORY_OBJECT`] alone. Returns the status, and the answers if the items
+/// were judged.
 ///
-/// The status is `Refused` if an item or the model is refused, else `Failed` if an item is not explained or not valid, else
-/// `Accepted`; `Lost` if an allocation or the writer failed.
+/// The status is `Refused` if an item or the model is refused, else `Failed` if an item is not explained or not valid,
+/// else `Accepted`; `Lost` if an allocation or the writer failed.
 pub fn judge_json<W: Sink, R: Threads + Sync>(
     rt: &R,
     alloc: Global,
@@ -133,10 +134,10 @@ pub fn judge_json<W: Sink, R: Threads + Sync>(
     }
 }
 
-/// The object that is written if an allocation fails, on its line.
+/// The line that the program writes if an allocation fails.
 pub const MEMORY_OBJECT: &[u8] = b"{\"verdict\":\"refused\",\"stage\":\"memory\"}\n";
 
-/// The object of a model that is accepted.
+/// The object of an accepted model.
 fn accepted_object(alloc: Global, typed: &Typed) -> Result<Vec<u8>, AllocError>
     ensures { IfOk result (λ line. line.items ≡ object_line (accepted_fields typed.now.name)) }
 {
@@ -157,7 +158,7 @@ fn model_object(alloc: Global, input: &[u8]) -> Result<Output, AllocError>
     }
 }
 
-/// The object of a well-typed model, or of its first refusal, and the notices.
+/// The object of a well-typed model, or of its first refusal, followed by the notices.
 fn check_output(alloc: Global, input: &[u8], notices: &[u8]) -> Result<Output, AllocError>
     ensures { IfOk result (λ output. IsCheckJson input.now notices.now output.text.items output.status) }
 {
@@ -166,9 +167,9 @@ fn check_output(alloc: Global, input: &[u8], notices: &[u8]) -> Result<Output, A
     Ok(Output { text, status })
 }
 
-/// Writes the object of the well-typed model that the input begins with, or else that of its first refusal, on a line, and
-/// after it the notices, which are lines of objects. Returns the status. If an allocation fails, the object of that is
-/// written alone.
+/// Writes a line with the object of the well-typed model at the start of the input, or else of its first refusal, and
+/// then the notices, which are lines of objects. Returns the status. If an allocation fails, writes [`MEMORY_OBJECT`]
+/// alone.
 pub fn check_json<W: Sink>(alloc: Global, input: &[u8], notices: &[u8], sink: &mut W) -> Status
     requires { W.broken sink.old ≡ false }
     ensures { PrintsElse memory_object (IsCheckJson input.now notices.now)

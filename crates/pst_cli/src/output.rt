@@ -1,13 +1,13 @@
-//! What is written, and how the program ends then.
+//! The text that the program writes, and its status.
 ghost use Rattle.std.specs.Prelude.{◌≡◌, false, IfOk, string_bytes};
 ghost use Rattle.pst_cli.specs.Outputs.{joined, worst_of};
 ghost use Rattle.pst_cli.specs.Sending.{Sends};
 
 use crate::status::Status;
-use pst_sink::{Sink, put_all};
+use pst_sexpr::{Sink, put_all};
 use std::alloc::{AllocError, Global};
 
-/// A text to be written, and how the program ends.
+/// A text to write, and the status of the program.
 #[derive(Debug, Drop)]
 pub struct Output {
     pub text: Vec<u8>,
@@ -15,7 +15,7 @@ pub struct Output {
 }
 
 impl Output {
-    /// The text, and how the program ends. Takes no memory.
+    /// An output of this text and status. Allocates nothing.
     pub fn new(text: String, status: Status) -> Output
         ensures text { result.text.items ≡ string_bytes text }
         ensures status { result.status ≡ status }
@@ -25,7 +25,7 @@ impl Output {
     }
 }
 
-/// Writes the text and answers its status. `Lost` where the writer failed.
+/// Writes the text and returns its status, or `Lost` if the writer failed.
 pub fn send<W: Sink>(text: &[u8], status: Status, sink: &mut W) -> Status
     requires { W.broken sink.old ≡ false }
     ensures { Sends (W.taken sink.old) (W.taken sink.new) (W.broken sink.new) result text.now status }
@@ -36,7 +36,7 @@ pub fn send<W: Sink>(text: &[u8], status: Status, sink: &mut W) -> Status
     }
 }
 
-/// The texts of outputs, one after another, and the worst of a status and theirs.
+/// The texts of the outputs, one after another, and the worst of `so_far` and their statuses.
 pub(crate) fn joined(
     alloc: Global,
     so_far: Status,

@@ -8,7 +8,7 @@ use crate::status::Status;
 use pst_typing::Refusal;
 use std::alloc::{AllocError, Global};
 
-/// `refused read KIND at PLACE`, `refused model KIND item I` or `refused type item I`, and how the program ends then.
+/// `refused read KIND at PLACE`, `refused model KIND item I` or `refused type item I`, and the status.
 pub fn refusal_output(alloc: Global, refusal: &Refusal) -> Result<Output, AllocError>
     ensures text { IfOk result (λ output. output.text.items ≡ refusal_line refusal.now) }
     ensures status { IfOk result (λ output. output.status ≡ Refused) }

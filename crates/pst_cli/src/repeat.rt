@@ -15,14 +15,14 @@ use crate::status::Status;
 use pst_case::{Run, Shaped};
 use pst_compile::Compiled;
 use pst_judge::{Valid, valid};
-use pst_sink::Sink;
+use pst_sexpr::Sink;
 use pst_system::{BoxedSystem, System};
 use pst_typing::items_of;
 use std::alloc::{AllocError, Global};
 use std::sync::Wait;
 use std::thread::Threads;
 
-/// Whether a drive is explained.
+/// Whether a drive with this status is explained.
 fn is_accepted(status: Status) -> bool
     ensures { result ≡ is_accepted status }
 {
@@ -32,7 +32,7 @@ fn is_accepted(status: Status) -> bool
     }
 }
 
-/// The report that is shown of a case after one more drive: the first that is not accepted, or else the last.
+/// The report to display for a case after one more drive: the first that is not accepted, or else the last.
 fn shown_after(shown: Option<Output>, output: Output) -> Option<Output>
     ensures { result ≡ shown_after shown output }
 {
@@ -48,7 +48,7 @@ fn shown_after(shown: Option<Output>, output: Output) -> Option<Output>
     }
 }
 
-/// How many drives failed after one more.
+/// How many drives failed after one more with `status`.
 fn failed_after(failed: u32, status: Status) -> u32
     requires { failed + 1 < 2 ^ 32 }
     ensures { result ≡ (if is_accepted status then failed else failed + 1) }
@@ -60,12 +60,12 @@ fn failed_after(failed: u32, status: Status) -> u32
     }
 }
 
-/// What the report that is shown of a case counts for after one more drive, where so many failed before it.
-fn counts_after(failed: u32, own: Counts, drive: Counts) -> Counts {
+/// The counts of the displayed report after one more drive: `drive` if no earlier drive failed, else `own`.
+pub(crate) fn counts_after(failed: u32, own: Counts, drive: Counts) -> Counts {
     if failed == 0 { drive } else { own }
 }
 
-/// The report that is shown of a case, and behind it the line `NUMBER drives N failed K`.
+/// The displayed report of a case, followed by the line `NUMBER drives N failed K`.
 fn with_drives(
     alloc: Global,
     number: usize,
@@ -83,7 +83,7 @@ fn with_drives(
     Ok(Output { text, status })
 }
 
-/// The report of an item whose case is valid: it is driven several times, unless a drive is lost.
+/// Drives a valid case `repeats` times, or until a drive is lost, and returns the report of its item.
 fn repeated_report<R: Threads + Wait>(
     rt: &R,
     alloc: Global,
@@ -214,7 +214,7 @@ fn all_reports<R: Threads + Wait>(
     joined(alloc, Status::Accepted, reports.as_slice())
 }
 
-/// The reports of the items behind the model, or the first refusal.
+/// The reports of the items after the model, or the first refusal.
 fn repeat_output<R: Threads + Wait>(
     rt: &R,
     alloc: Global,
@@ -251,13 +251,13 @@ fn repeat_output<R: Threads + Wait>(
     }
 }
 
-/// Drives the case of each item behind the model that the input begins with on the system, `repeats` times, and answers the status.
-/// For each item, from 1, it writes the run of the first drive that is not explained, or else of the last drive, as one tree, a
-/// line `NUMBER VERDICT`, and a line `NUMBER drives N failed K`, where `K` of the `N` drives are not explained. Of a case that is
-/// not valid it writes a line with the reason alone, and if a drive is lost a line `NUMBER lost KIND` alone, and the case is driven
-/// no more. Refusals and the status are those of `run_text`.
+/// Drives the case of each item after the model at the start of the input `repeats` times on the system, and returns
+/// the status. For each item, from 1, writes the run of the first drive that is not explained, or else of the last
+/// drive, as one tree, a line `NUMBER VERDICT`, and a line `NUMBER drives N failed K`: `K` of the `N` drives are not
+/// explained. For a case that is not valid, writes a line with the reason alone. If a drive is lost, writes a line
+/// `NUMBER lost KIND` alone and drives the case no more. Refusals and the status are those of `run_text`.
 ///
-/// Each item is counted once, by what is shown of it.
+/// Counts each item once, by its displayed report.
 pub fn run_repeatedly<W: Sink, R: Threads + Wait>(
     rt: &R,
     alloc: Global,

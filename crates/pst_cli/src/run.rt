@@ -1,8 +1,7 @@
 //! `pst run`.
-ghost use Rattle.std.specs.Prelude.{◌≡◌, false, true, IfOk, OnOk, string_bytes};
-ghost use Rattle.pst_case.specs.Matches.{matches};
+ghost use Rattle.std.specs.Prelude.{◌≡◌, false, IfOk, OnOk, string_bytes};
 ghost use Rattle.pst_cli.specs.Output.{item_line};
-ghost use Rattle.pst_cli.specs.RunOutput.{AreReported, IsReported, IsRunOutput, ReportsRun, lost_line, run_with, status_of_one};
+ghost use Rattle.pst_cli.specs.RunOutput.{AreReported, IsReported, IsRunOutput, status_of_one};
 ghost use Rattle.pst_cli.specs.Sending.{Prints};
 ghost use Rattle.pst_cli.specs.declared.status.Status.TheVariants.{Accepted};
 ghost use Rattle.pst_judge.specs.declared.judgement.Judged.TheVariants as kind;
@@ -10,24 +9,23 @@ ghost use Rattle.pst_judge.specs.declared.why.Why.TheVariants as reasons;
 ghost use Rattle.pst_runs.specs.Lawful.{AreLawful, IsLawful};
 ghost use Rattle.pst_runs.specs.Lines.{line_of};
 ghost use Rattle.pst_runs.specs.Written.{run_form};
-ghost use Rattle.pst_sink.specs.Writing.{Writes};
+ghost use Rattle.pst_sexpr.specs.Writing.{Writes};
 ghost use Rattle.pst_system.specs.Kept.{AreKept};
 
 use crate::compiled::load_compiled;
 use crate::counts::Counts;
+use crate::item_report::{drive_item, report_output};
 use crate::judge::{is_good, refused_run, runs_in};
 use crate::lines::item_line;
 use crate::output::{Output, send};
 use crate::refusal::refusal_output;
 use crate::status::Status;
-use pst_case::{History, Run, Shaped};
+use pst_case::{Run, Shaped};
 use pst_compile::Compiled;
-use pst_driver::DriveFault;
-use pst_judge::{Judged, Valid, Why, judge_one, valid};
-use pst_rules::Typed;
+use pst_judge::{Judged, Valid, Why, valid};
+use pst_model::Typed;
 use pst_runs::run_tree;
-use pst_sexpr::{Tree, write};
-use pst_sink::{Out, Sink, WriteFailed, put_all};
+use pst_sexpr::{Out, Sink, Tree, WriteFailed, put_all, write};
 use pst_system::{BoxedSystem, System};
 use pst_typing::items_of;
 use std::alloc::{AllocError, Global};
@@ -56,7 +54,7 @@ pub(crate) fn tree_line(alloc: Global, typed: &Typed, run: &Run) -> Result<Vec<u
     }
 }
 
-/// Accepted where it is explained or valid, and else failed.
+/// `Accepted` if the item is explained or valid, else `Failed`.
 pub fn status_of_one(judged: &Judged) -> Status
     ensures { result ≡ status_of_one judged.now }
 {
@@ -65,44 +63,6 @@ pub fn status_of_one(judged: &Judged) -> Status
     } else {
         Status::Failed
     }
-}
-
-/// The report of a case that was driven: the run as a tree, and the line of the verdict on it.
-fn run_report(
-    alloc: Global,
-    compiled: &Compiled,
-    number: usize,
-    shaped: Shaped,
-    history: History,
-    counts: &mut Counts,
-) -> Result<Output, AllocError>
-    requires model { shaped.model ≡ compiled.now }
-    requires matches { matches compiled.now shaped.case history ≡ true }
-    ensures { IfOk result (λ output.
-        ReportsRun compiled.now number (run_with shaped history) output.text.items output.status) }
-{
-    let run = Run {
-        shaped,
-        history: Some(history),
-    };
-    let mut text = tree_line(alloc, compiled.typed(), &run)?;
-    let judged = judge_one(compiled, alloc, &run)?;
-    counts.add(&judged);
-    let line = item_line(alloc, number, &judged)?;
-    text.extend_from_slice(line.as_bytes())?;
-    let status = status_of_one(&judged);
-    counts.keep_broken(number, run, &judged);
-    Ok(Output { text, status })
-}
-
-/// `NUMBER lost KIND`.
-fn lost_line(alloc: Global, number: usize, fault: DriveFault) -> Result<String, AllocError>
-    ensures { IfOk result (λ line. string_bytes line ≡ lost_line number fault) }
-{
-    let mut line = format!(in alloc; "{number} lost ")?;
-    line.push_str(fault.name())?;
-    line.push_str("\n")?;
-    Ok(line)
 }
 
 /// `NUMBER` and the reason why the case is not valid.
@@ -116,7 +76,7 @@ pub(crate) fn why_line(alloc: Global, number: usize, why: Why) -> Result<String,
     }
 }
 
-/// The report of an item whose case is valid: it is driven once.
+/// Drives a valid case once, and returns the report of its item.
 pub(crate) fn valid_report<R: Threads + Wait>(
     rt: &R,
     alloc: Global,
@@ -133,24 +93,8 @@ pub(crate) fn valid_report<R: Threads + Wait>(
     ensures kept { AreKept (answers system.new) (answers system.old) (fails system.new) (fails system.old)
         (reset_fails system.new) (reset_fails system.old) }
 {
-    let _shaped = valid.shaped();
-    match pst_driver::run(rt, alloc, compiled.typed(), system, &valid) {
-        Ok(history) => {
-            run_report(
-                alloc,
-                compiled,
-                number,
-                valid.into_shaped(),
-                history,
-                counts,
-            )
-        }
-        Err(fault) => {
-            counts.add_lost();
-            let line = lost_line(alloc, number, fault)?;
-            Ok(Output::new(line, Status::Lost))
-        }
-    }
+    let report = drive_item(rt, alloc, compiled, system, number, valid, counts)?;
+    report_output(alloc, number, report)
 }
 
 /// The report of an item.
@@ -207,7 +151,7 @@ fn item_reports<R: Threads + Wait>(
     Ok(Output { text, status })
 }
 
-/// The reports of the items behind the model, or the first refusal.
+/// The reports of the items after the model, or the first refusal.
 fn run_output<R: Threads + Wait>(
     rt: &R,
     alloc: Global,
@@ -232,13 +176,15 @@ fn run_output<R: Threads + Wait>(
     }
 }
 
-/// Drives the case of each item behind the model that the input begins with once on the system, where its replies are ignored,
-/// and answers the status. For each item, from 1, it writes the run as one tree and a line `NUMBER VERDICT`; of a case that is
-/// not valid a line with the reason alone; of one that could not be driven a line `NUMBER lost KIND`. Where the input is refused,
-/// its first refusal alone is written; where memory is refused outside the driver, `refused memory` alone.
+/// Drives the case of each item after the model at the start of the input once on the system, and returns the status.
+/// Ignores the replies in the input. For each item, from 1, writes the run as one tree and a line `NUMBER VERDICT`; for
+/// a case that is not valid, a line with the reason alone; for one that could not be driven, a line `NUMBER lost KIND`.
+/// If the input is refused, writes its first refusal alone; if an allocation outside the driver fails, `refused memory`
+/// alone.
 ///
-/// The status is `Lost` where an item was lost, else `Failed` where one is not explained or not valid, else `Accepted`;
-/// `Refused` where the input is refused; `Lost` where memory was refused or the writer failed. The relations of the system stay.
+/// The status is `Lost` if an item was lost, else `Failed` if one is not explained or not valid, else `Accepted`;
+/// `Refused` if the input is refused; `Lost` if an allocation or the writer failed. The relations of the system stay
+/// the same.
 pub fn run_text<W: Sink, R: Threads + Wait>(
     rt: &R,
     alloc: Global,
@@ -256,8 +202,8 @@ pub fn run_text<W: Sink, R: Threads + Wait>(
     run_counting(rt, alloc, input, system, &mut Counts::new(), sink)
 }
 
-/// Does what [`run_text`] does, and adds to the counts what each item that was reported came to. Where memory is refused
-/// outside the driver nothing is counted.
+/// Does what [`run_text`] does, and adds the result of each reported item to `counts`. If an allocation outside the
+/// driver fails, sets all counts to zero.
 pub fn run_counting<W: Sink, R: Threads + Wait>(
     rt: &R,
     alloc: Global,

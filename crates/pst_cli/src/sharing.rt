@@ -1,5 +1,5 @@
-//! What threads may share: compiled models and judgements. The functions do nothing, and their contracts say it of the
-//! parts.
+//! What threads may share: compiled models and judgements. The functions do nothing; their contracts say that the types
+//! are `Sync`.
 ghost use Rattle.std.specs.Thread.{IsSync};
 ghost use Rattle.pst_compile.specs.contracts.compiled.Compiled.{the_row as compiled_row};
 ghost use Rattle.pst_judge.specs.contracts.judgement.Judged.{the_row as judged_row};
@@ -7,14 +7,14 @@ ghost use Rattle.pst_judge.specs.contracts.judgement.Judged.{the_row as judged_r
 use pst_compile::Compiled;
 use pst_judge::Judged;
 use pst_machine::Code;
-use pst_rules::Typed;
+use pst_model::Typed;
 
-/// What is `Sync` may be shared by threads.
+/// Threads may share a `Sync` type.
 fn may_share<T: Sync>()
     ensures { IsSync T.row }
 {}
 
-/// Compiled models may be shared by threads.
+/// Threads may share compiled models.
 pub(crate) fn may_share_compiled()
     ensures { IsSync compiled_row }
 {
@@ -23,7 +23,7 @@ pub(crate) fn may_share_compiled()
     may_share::<Compiled>()
 }
 
-/// Judgements may be shared by threads.
+/// Threads may share judgements.
 pub(crate) fn may_share_judged()
     ensures { IsSync judged_row }
 {

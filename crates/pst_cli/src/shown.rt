@@ -1,6 +1,6 @@
 //! Which items have a line.
 
-/// Which items have a line in what is written of judgements.
+/// Which items have a line in the output.
 #[derive(Clone, Copy, Debug, PartialEq, Eq, Drop)]
 pub enum Shown {
     /// All of them.

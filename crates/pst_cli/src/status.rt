@@ -1,15 +1,15 @@
-//! How the program ends.
+//! The status of the program.
 
-/// How the program ends.
+/// The status of the program.
 #[derive(Clone, Copy, Debug, PartialEq, Eq, Drop)]
 pub enum Status {
     /// All is accepted, explained or valid.
     Accepted = 0,
-    /// Something is not.
+    /// Something is not accepted, explained or valid.
     Failed = 1,
-    /// The input or the words are refused.
+    /// The input or the arguments are refused.
     Refused = 2,
-    /// Something was lost: memory was refused, or the writer failed.
+    /// An allocation or the writer failed.
     Lost = 3,
 }
 
@@ -29,7 +29,7 @@ impl Status {
         }
     }
 
-    /// Of two endings the one with the greater code.
+    /// The status with the greater code.
     pub fn or_worse(self, other: Status) -> Status
         ensures { result ≡ or_worse self other }
     {

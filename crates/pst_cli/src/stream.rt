@@ -12,10 +12,10 @@ use crate::output::send;
 use crate::refusal::refusal_output;
 use crate::sharing::may_share_compiled;
 use crate::status::Status;
+use crate::steps::Steps;
 use pst_compile::Compiled;
-use pst_rejudge::Answer;
-use pst_sink::{Sink, WriteFailed, put_all};
-use pst_stream::{StreamFault, next_block};
+use pst_rejudge::{Answer, StreamFault, next_block};
+use pst_sexpr::{Sink, WriteFailed, put_all};
 use std::alloc::{AllocError, Global};
 use std::io::Read;
 use std::thread::Threads;
@@ -34,14 +34,14 @@ pub(crate) enum Cut {
     Unwritten,
 }
 
-/// The lines that were written: how many, and the worst of their statuses.
+/// How many lines were written, and the worst of their statuses.
 #[derive(Clone, Copy, Debug, PartialEq, Eq, Drop)]
 pub(crate) struct Written {
     pub count: usize,
     pub status: Status,
 }
 
-/// The lines of answers, of which the first has the number after `count`.
+/// The lines of the answers, numbered from `count + 1` on.
 fn lines_after(alloc: Global, count: usize, answers: &[Answer]) -> Result<String, AllocError>
     ensures { IfOk result (λ text. string_bytes text ≡ answer_lines (count + 1) answers.now) }
 {
@@ -57,7 +57,7 @@ fn lines_after(alloc: Global, count: usize, answers: &[Answer]) -> Result<String
     Ok(text)
 }
 
-/// The worst of a status and those of answers.
+/// The worst of `so_far` and the statuses of the answers.
 fn worst_after(so_far: Status, answers: &[Answer]) -> Status
     ensures { result ≡ worst_status so_far answers.now }
 {
@@ -68,7 +68,7 @@ fn worst_after(so_far: Status, answers: &[Answer]) -> Status
     status
 }
 
-/// Writes the lines of the answers to a block, after those that were written.
+/// Writes the lines of the answers to a block, after the lines so far.
 fn write_block<W: Sink>(
     alloc: Global,
     written: Written,
@@ -94,7 +94,7 @@ fn write_block<W: Sink>(
     }
 }
 
-/// Why the lines end where a block cannot be had.
+/// Why the lines end if no block can be read.
 fn cut_by(fault: StreamFault) -> Cut
     ensures { result ≡ cut_of fault }
 {
@@ -104,14 +104,15 @@ fn cut_by(fault: StreamFault) -> Cut
     }
 }
 
-/// Writes the line of each item of a reader, as they come, and gives the worst of their statuses; or why the lines end before
-/// the reader does.
+/// Writes the line of each item of the reader as it comes, and returns the worst of their statuses; or why the lines
+/// end before the reader does.
 fn write_stream<I: Read, W: Sink, R: Threads + Sync>(
     rt: &R,
     alloc: Global,
     compiled: &Compiled,
     reader: &mut I,
     counts: &mut Counts,
+    steps: &Steps,
     sink: &mut W,
 ) -> Result<Status, Cut>
     requires { W.broken sink.old ≡ false }
@@ -142,6 +143,7 @@ fn write_stream<I: Read, W: Sink, R: Threads + Sync>(
         };
         let answers = block.answers.as_slice();
         counts.add_answers(answers);
+        steps.add(answers.len());
         written = match write_block(alloc, written, answers, sink) {
             Ok(written) => written,
             Err(cut) => return Err(cut),
@@ -153,20 +155,23 @@ fn write_stream<I: Read, W: Sink, R: Threads + Sync>(
     Err(Cut::NoMemory)
 }
 
-/// Judges the items of a reader, one on each line, over the model that the input begins with. For each line, from 1, it writes
-/// `NUMBER VERDICT`, or `refused run NUMBER command C KIND`; a line that spells no item, or more than one, or that is longer than
-/// a file may be, is refused as `BadForm`. All lines that end in what one read of the reader gives are judged and written before
-/// the next read, several at once, and no more of the reader is kept in memory. Items behind the model are not judged.
+/// Judges the items of a reader, one on each line, over the model at the start of the input. For each line, from 1,
+/// writes `NUMBER VERDICT`, or `refused run NUMBER command C KIND`. Refuses a line as `BadForm` if it spells no item or
+/// more than one, or is longer than a file may be. Judges all lines that end within one read of the reader, several at
+/// once, and writes their verdicts before the next read; keeps no more of the reader in memory. Ignores the items after
+/// the model in the input.
 ///
-/// The status is that of `judge_text_keeping_on`: the worst of all lines. Where the model is refused, its refusal is written
-/// alone. Where the reader fails, `refused file` is written after the lines so far, with the status `Refused`; where an
-/// allocation fails, `refused memory`, with the status `Lost`. `Lost` as well where the writer fails.
+/// The status is the worst of all lines, as in `judge_text_keeping_on`. If the model is refused, writes its refusal
+/// alone. If the reader fails, writes `refused file` after the lines so far, with the status `Refused`. If an
+/// allocation fails, writes `refused memory` after them, with the status `Lost`. The status is also `Lost` if the
+/// writer fails.
 pub fn judge_stream<I: Read, W: Sink, R: Threads + Sync>(
     rt: &R,
     alloc: Global,
     input: &[u8],
     reader: &mut I,
     counts: &mut Counts,
+    steps: &Steps,
     sink: &mut W,
 ) -> Status
     requires { W.broken sink.old ≡ false }
@@ -183,7 +188,7 @@ pub fn judge_stream<I: Read, W: Sink, R: Threads + Sync>(
         }
         Err(AllocError) => return send(b"refused memory\n", Status::Lost, sink),
     };
-    match write_stream(rt, alloc, &file.compiled, reader, counts, sink) {
+    match write_stream(rt, alloc, &file.compiled, reader, counts, steps, sink) {
         Ok(status) => status,
         Err(Cut::Unread) => send(b"refused file\n", Status::Refused, sink),
         Err(Cut::NoMemory) => send(b"refused memory\n", Status::Lost, sink),

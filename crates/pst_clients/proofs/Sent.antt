@@ -7,7 +7,7 @@ use mir.Raw.{raw}
 use Rattle.pst_clients.proofs.connection.Connection.TheSendSync as connection
 use Rattle.pst_clients.proofs.notes.Notes.TheSendSync as note
 use Rattle.pst_clients.specs.contracts.clients.Clients as clients
-use Rattle.pst_items.proofs.items.Items.TheSendSync as lists
+use Rattle.pst_value.proofs.items.Items.TheSendSync as lists
 use Rattle.pst_value.proofs.ty.Ty.TheLaws.TheKnot as types
 use Rattle.std.proofs.Crossing.{crosses}
 

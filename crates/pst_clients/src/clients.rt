@@ -5,21 +5,41 @@ ghost use Rattle.pst_clients.specs.Answering.{Answered};
 use crate::answers::{Answer, answer_of};
 use crate::calls::call_line;
 use crate::connection::{Connection, LostAnswer, State};
-use crate::notes::{Client, Kind, Notes};
-use pst_items::Items;
+use crate::notes::{Client, Kind, Notes, Wrong};
 use pst_system::{CallFault, RealCall, System};
-use pst_value::{Ty, Value};
+use pst_value::{Items, Ty, Value};
 use std::alloc::{AllocError, Global};
 use std::io::{Read, Write};
 use std::sync::{Arc, Mutex, Wait};
 
-/// The line that asks a client to take the system to its initial state.
+/// The line that makes a client reset the system to its initial state.
 const RESET: &str = "[\"reset\"]\n";
+
+/// What to answer in place of a line that is no value.
+fn value_hint(answer: &str) -> &'static str {
+    match answer.trim() {
+        "null" => "; for an option answer [] or [x] (docs/language.md, Patterns)",
+        _ => "",
+    }
+}
+
+/// What to answer where a type is wanted.
+fn type_hint(ty: &Ty) -> &'static str {
+    match ty {
+        Ty::Int => "; type int is a number such as 7",
+        Ty::Bool => "; type bool is true or false",
+        Ty::Text => "; type text is a string such as \"a\"",
+        Ty::Tuple(_) => "; a tuple is an array of its parts",
+        Ty::List(_) => "; a list is an array of its items",
+        Ty::Map(..) => "; a map is an object such as {\"a\":1}",
+        _ => "",
+    }
+}
 
 /// The clients of one worker, one for each branch.
 ///
-/// Each call of a branch is a line to the branch's client, and its answer is the value that the next line of that client
-/// spells. Nothing is known of a client but its lines.
+/// Each call of a branch is a line to the branch's client, and its answer is the value that the next line of
+/// that client spells. Only the lines of a client are known.
 #[derive(Drop)]
 pub struct Clients<R: Wait, I: Read, O: Write> {
     rt: R,
@@ -47,8 +67,8 @@ fn has_any<I: Read, O: Write>(
     false
 }
 
-/// Has the clients started again that are known to have ended. If one process has them all, that waits until all are known
-/// to have ended, and cannot be once a pipe is closed.
+/// Has the clients restarted that are known to have ended. If one process has them all, this waits until all
+/// are known to have ended, and is impossible once a pipe is closed.
 fn revive<I: Read, O: Write>(connections: &mut Vec<Mutex<Connection<I, O>>>, is_shared: bool) {
     if !has_any(connections, State::Ended) || is_shared && has_any(connections, State::Closed) {
         return;
@@ -104,9 +124,15 @@ impl<R: Wait, I: Read + Drop, O: Write + Drop> Clients<R, I, O> {
         }
     }
 
-    /// Notes what went wrong with a line that a branch's client was asked.
-    fn note(&self, kind: Kind, branch: u32, line: &[u8], answer: &str) {
-        self.notes.note(kind, self.client(branch), line, answer)
+    /// Notes what went wrong with a line for a branch's client.
+    fn note(&self, branch: u32, kind: Kind, line: &[u8], answer: &str, hint: &'static str) {
+        let wrong = Wrong {
+            kind,
+            line,
+            answer,
+            hint,
+        };
+        self.notes.note(self.client(branch), &wrong)
     }
 
     /// Notes why a line was not answered.
@@ -119,7 +145,7 @@ impl<R: Wait, I: Read + Drop, O: Write + Drop> Clients<R, I, O> {
             LostAnswer::NoText => (Kind::NoValue, "no UTF-8"),
             LostAnswer::NoMemory => return,
         };
-        self.note(kind, branch, line, why)
+        self.note(branch, kind, line, why, "")
     }
 
     /// The line with which a branch's client answers a line.
@@ -134,7 +160,8 @@ impl<R: Wait, I: Read + Drop, O: Write + Drop> Clients<R, I, O> {
         answer
     }
 
-    /// The line with which a branch's client answers a line. If there is none, it notes why.
+    /// Returns the line with which a branch's client answers `line`. If the client does not answer, it notes
+    /// why.
     fn ask(&self, branch: u32, line: &[u8]) -> Result<String, CallFault> {
         match self.ask_client(branch, line) {
             Ok(answer) => Ok(answer),
@@ -159,7 +186,7 @@ impl<R: Wait, I: Read + Drop, O: Write + Drop> Clients<R, I, O> {
             }
         };
         if answer.as_bytes().starts_with(b"failed") {
-            self.note(Kind::Failed, branch, line, answer.as_str());
+            self.note(branch, Kind::Failed, line, answer.as_str(), "");
             return Err(CallFault::Refused);
         }
         Ok(())
@@ -169,7 +196,7 @@ impl<R: Wait, I: Read + Drop, O: Write + Drop> Clients<R, I, O> {
     fn note_misfit(&self, branch: u32, line: &[u8], text: &str, value: &Value, ty: Option<&Ty>) {
         if let Some(ty) = ty {
             if !value.has_type(ty, &[], &[]) {
-                self.note(Kind::Misfit, branch, line, text)
+                self.note(branch, Kind::Misfit, line, text, type_hint(ty))
             }
         }
     }
@@ -190,11 +217,11 @@ impl<R: Wait, I: Read + Drop, O: Write + Drop> Clients<R, I, O> {
                 Ok(value)
             }
             Ok(Answer::Failed) => {
-                self.note(Kind::Failed, branch, line, text);
+                self.note(branch, Kind::Failed, line, text, "");
                 Err(CallFault::Refused)
             }
             Ok(Answer::NoValue) => {
-                self.note(Kind::NoValue, branch, line, text);
+                self.note(branch, Kind::NoValue, line, text, value_hint(text));
                 Err(CallFault::Refused)
             }
             Err(AllocError) => Err(CallFault::NoMemory),
@@ -210,7 +237,7 @@ impl<R: Wait + Drop + Send + Sync, I: Read + Drop + Send, O: Write + Drop + Send
 
     ghost reset_fails = { λ _ _. ⊤ };
 
-    /// Has clients that ended started again, and then asks each client in turn.
+    /// Restarts clients that ended, and then resets through each client in turn.
     fn reset(&mut self) -> Result<(), CallFault> {
         revive(&mut self.connections, self.is_shared);
         let mut branch = 0u32;

@@ -5,14 +5,14 @@ ghost use Rattle.std.specs.Io.KnownBytes.{Appends, Consumes};
 use std::alloc::Global;
 use std::io::{self, Read, Write};
 
-/// The most bytes of a line of a client, its end not counted.
+/// The maximum number of bytes of a line of a client, its end not counted.
 pub const MAX_LINE: usize = 1_048_576;
 
-/// The line that asks the launcher to start a client again.
+/// The line that makes the launcher restart a client.
 const REVIVE: &str = "[\"revive\"]\n";
 
-/// The character before what the launcher says of a client. The client may have begun a line before it ended. No JSON
-/// holds this character.
+/// The character before what the launcher reports of a client. The client may have begun a line before it
+/// ended. No JSON contains this character.
 const MARK: char = '\x18';
 
 /// Why a line was not answered.

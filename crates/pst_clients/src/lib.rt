@@ -1,4 +1,5 @@
-//! A system of clients: programs in any language, each of which reads a call a line and prints an answer a line.
+//! A system of clients: programs in any language, each of which reads one call per line and prints one answer
+//! per line.
 //!
 //! Nothing here starts a client. Each is at the other end of two pipes, which a launcher has made.
 #![tactic(auto)]

@@ -5,13 +5,13 @@ use std::alloc::{AllocError, Global};
 use std::sync::OnceLock;
 use std::sync::atomic::{AtomicU64, Ordering};
 
-/// The most notes of a kind that are kept.
+/// How many notes of a kind are kept at most.
 pub const MOST_NOTES: usize = 8;
 
-/// The most characters that are shown of a line.
+/// How many characters of a line a note shows at most.
 const MOST_SHOWN: usize = 100;
 
-/// What went wrong with a line that a client was asked.
+/// What went wrong with a line for a client.
 #[derive(Clone, Copy, Debug, PartialEq, Eq, Drop)]
 pub(crate) enum Kind {
     NotAsked,
@@ -31,7 +31,7 @@ const KINDS: [Kind; 5] = [
 ];
 
 impl Kind {
-    /// What is said of the line.
+    /// What the note says about the line.
     fn what(self) -> &'static str {
         match self {
             Kind::NotAsked => "was not asked:",
@@ -43,17 +43,38 @@ impl Kind {
     }
 }
 
+/// A note, as it is printed.
+#[derive(Drop)]
+struct Note {
+    /// The operation and the answer. Other notes of the same kind on the same topic say nothing new.
+    topic: String,
+    text: String,
+}
+
 /// The notes of one kind.
 #[derive(Drop)]
 struct Kept {
     /// How many there were.
     count: AtomicU64,
-    /// A place for each of the first.
-    notes: Vec<OnceLock<String>>,
+    /// How many places are taken, and how many notes came when none was left.
+    taken: AtomicU64,
+    /// A place for each of the first on different topics.
+    notes: Vec<OnceLock<Note>>,
 }
 
-/// The first notes of each kind, and how many others there were. The threads that ask clients may note at once; they do
-/// not wait for one another.
+/// What went wrong with a line, and the line.
+#[derive(Clone, Copy, Drop)]
+pub(crate) struct Wrong<'a> {
+    pub(crate) kind: Kind,
+    pub(crate) line: &'a [u8],
+    /// The line that answers it, or why there is none.
+    pub(crate) answer: &'a str,
+    /// What to answer instead, or nothing.
+    pub(crate) hint: &'static str,
+}
+
+/// The first notes of each kind, and how many others there were. Threads may note at once; they do not wait for
+/// one another.
 #[derive(Drop)]
 pub struct Notes {
     alloc: Global,
@@ -98,22 +119,47 @@ impl Kept {
         }
         Ok(Kept {
             count: AtomicU64::new(0),
+            taken: AtomicU64::new(0),
             notes,
         })
     }
 
-    /// The place of one more note, if one is left.
-    fn place(&self) -> Option<&OnceLock<String>> {
-        let before = self.count.fetch_add(1, Ordering::SeqCst);
-        self.notes.get(usize::try_from(before).ok()?)
+    /// Whether all places are taken.
+    fn is_full(&self) -> bool {
+        self.taken.load(Ordering::SeqCst) >= MOST_NOTES as u64
     }
 
-    /// Adds the notes to a text, and how many others there were.
+    /// Whether a note on the topic is kept.
+    fn has_topic(&self, topic: &str) -> bool {
+        for place in &self.notes {
+            if let Some(note) = place.get() {
+                if note.topic.as_str() == topic {
+                    return true;
+                }
+            }
+        }
+        false
+    }
+
+    /// Keeps a note, if a place is left and no other is on its topic.
+    fn keep(&self, note: Note) {
+        if self.has_topic(note.topic.as_str()) {
+            return;
+        }
+        let before = self.taken.fetch_add(1, Ordering::SeqCst);
+        if let Ok(number) = usize::try_from(before) {
+            if let Some(place) = self.notes.get(number) {
+                let _ = place.try_set(note);
+            }
+        }
+    }
+
+    /// Adds the notes to `text`, and how many others there were.
     fn add_to(&self, alloc: Global, text: &mut String) -> Result<(), AllocError> {
         let mut others = self.count.load(Ordering::SeqCst);
         for place in &self.notes {
             if let Some(note) = place.get() {
-                text.push_str(note.as_str())?;
+                text.push_str(note.text.as_str())?;
                 others = others.saturating_sub(1);
             }
         }
@@ -153,27 +199,30 @@ impl Notes {
         }
     }
 
-    fn text_of(
-        &self,
-        kind: Kind,
-        client: Client,
-        line: &[u8],
-        answer: &str,
-    ) -> Result<String, AllocError> {
-        let line = shown(self.alloc, std::str::from_utf8(line).unwrap_or(""))?;
-        let answer = shown(self.alloc, answer)?;
+    fn note_of(&self, client: Client, wrong: &Wrong<'_>) -> Result<Note, AllocError> {
+        let line = shown(self.alloc, std::str::from_utf8(wrong.line).unwrap_or(""))?;
+        let answer = shown(self.alloc, wrong.answer)?;
+        let (operation, _) = line.as_str().split_once(',').unwrap_or((line.as_str(), ""));
         let worker = client.worker.saturating_add(1);
         let branch = client.branch.saturating_add(1);
-        let what = kind.what();
-        format!(in self.alloc; "client {worker}-{branch}: {line} {what} {answer}\n")
+        let (what, hint) = (wrong.kind.what(), wrong.hint);
+        Ok(Note {
+            topic: format!(in self.alloc; "{operation} {answer}")?,
+            text: format!(in self.alloc;
+                "client {worker}-{branch}: {line} {what} {answer}{hint}\n"
+            )?,
+        })
     }
 
-    /// Notes what went wrong with a line that a client was asked, and what was answered, or why nothing was.
-    pub(crate) fn note(&self, kind: Kind, client: Client, line: &[u8], answer: &str) {
-        if let Some(place) = self.of_kind(kind).place() {
-            if let Ok(note) = self.text_of(kind, client, line, answer) {
-                let _ = place.try_set(note);
-            }
+    /// Notes what went wrong with a client's line.
+    pub(crate) fn note(&self, client: Client, wrong: &Wrong<'_>) {
+        let kept = self.of_kind(wrong.kind);
+        kept.count.fetch_add(1, Ordering::SeqCst);
+        if kept.is_full() {
+            return;
+        }
+        if let Ok(note) = self.note_of(client, wrong) {
+            kept.keep(note)
         }
     }
 

@@ -1,10 +1,9 @@
-//! Clients behind named pipes.
+//! Opens clients at named pipes.
 
 use crate::clients::Clients;
 use crate::connection::Connection;
 use crate::notes::Notes;
-use pst_items::Items;
-use pst_value::Ty;
+use pst_value::{Items, Ty};
 use std::alloc::Global;
 use std::fs::OpenOptions;
 use std::io::{self, BufReader};

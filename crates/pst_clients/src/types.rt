@@ -2,9 +2,8 @@
 ghost use Rattle.std.specs.Prelude.{◌≡◌, IfOk, map};
 ghost use Rattle.pst_model.specs.Parts.{operations_of};
 
-use pst_items::{Boxed, Items};
 use pst_model::Item;
-use pst_value::Ty;
+use pst_value::{Boxed, Items, Ty};
 use std::alloc::{AllocError, Global};
 
 /// An equal type.

@@ -4,21 +4,21 @@ use crate::notes::Client;
 use std::alloc::{AllocError, Global};
 use std::sync::atomic::{AtomicU64, Ordering};
 
-/// The most branches of a worker that are watched.
+/// The maximum number of branches of a worker that are watched.
 const MOST_BRANCHES: usize = 4;
 
-/// The most clients that are watched.
+/// The maximum number of clients that are watched.
 const MOST_CLIENTS: usize = 16 * MOST_BRANCHES;
 
-/// For each client how many lines it was asked and how many of them it is done with, added up. The sum is odd while it has a
-/// line that it has not answered.
+/// For each client how many lines it got and how many of them it is done with, added up. The sum is odd while
+/// it has a line that it has not answered.
 #[derive(Drop)]
 pub struct Waits {
     sums: Vec<AtomicU64>,
 }
 
 impl Waits {
-    /// No client was asked a line.
+    /// No client has got a line.
     pub(crate) fn new(alloc: Global) -> Result<Waits, AllocError> {
         let mut sums = Vec::with_capacity(alloc, MOST_CLIENTS)?;
         for _ in 0..MOST_CLIENTS {
@@ -27,7 +27,7 @@ impl Waits {
         Ok(Waits { sums })
     }
 
-    /// Counts that a client is asked a line, or is done with it.
+    /// Counts that a client gets a line, or is done with it.
     pub(crate) fn count(&self, client: Client) {
         let Ok(worker) = usize::try_from(client.worker) else {
             return;
@@ -46,7 +46,8 @@ impl Waits {
         self.sums.len()
     }
 
-    /// A number that tells the line at which the client of a place is from its other lines, if it has not answered that line.
+    /// A number that tells the current line of the client at `place` from its other lines, if the client has
+    /// not answered that line.
     pub fn unanswered(&self, place: usize) -> Option<u64> {
         let sum = self.sums.get(place)?.load(Ordering::SeqCst);
         if sum % 2 == 1 { Some(sum) } else { None }

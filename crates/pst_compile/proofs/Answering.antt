@@ -7,13 +7,13 @@ use Rattle.pst_model.specs.declared.model.Op.{Op}
 use Rattle.pst_model.specs.declared.model.Param.{Param}
 use Rattle.pst_model.specs.declared.model.Source.{Source}
 use Rattle.pst_operators.specs.Outcome.{Gives, Faults, Stuck}
-use Rattle.pst_rules.specs.WellTyped.{name_s, name_r, WellModel}
+use Rattle.pst_model.specs.WellTyped.{name_s, name_r, WellModel}
 use Rattle.pst_value.specs.Fits.{fit_each}
 use Rattle.pst_value.specs.declared.ty.Ty.{Ty}
 use Rattle.pst_value.specs.declared.value.Value.{Value}
-use Rattle.pst_meaning.specs.Meaning.{Env, frame}
+use Rattle.pst_eval.specs.Meaning.{Env, frame}
 use Rattle.pst_eval.specs.Callbacks.{max_turns, at_names, init_of, command_of, pre_of, next_of, post_of, PreFits, NextFits, PostFits, Says}
-use Rattle.pst_rules.specs.Fitting.{is_state, args_fit, args_fit_in}
+use Rattle.pst_model.specs.Fitting.{is_state, args_fit, args_fit_in}
 use Rattle.pst_eval.proofs.Calls.{init_is, init_starts, command_is, command_starts, pre_is, pre_starts, next_is, next_starts, post_is, post_starts}
 use Rattle.pst_eval.proofs.Table.{the_operation}
 use Rattle.pst_machine.specs.declared.instruction.FunCode.{FunCode}

@@ -9,7 +9,7 @@ use Rattle.pst_model.specs.declared.expr.Expr.{Expr}
 use Rattle.pst_model.specs.declared.model.Item.{Item}
 use Rattle.pst_model.specs.declared.model.Param.{Param}
 use Rattle.pst_value.specs.declared.value.Value.{Value}
-use Rattle.pst_meaning.specs.Meaning.{Env, Mean, Run, Called, ◌>>=◌, ◌>>◌, lift, frame, bound, applied, all}
+use Rattle.pst_eval.specs.Meaning.{Env, Mean, Run, Called, ◌>>=◌, ◌>>◌, lift, frame, bound, applied, all}
 use Rattle.pst_operators.specs.Outcome.{Outcome, Gives, Faults, Stuck, and_then, or_stuck, turn}
 use Rattle.pst_machine.specs.declared.instruction.Instr.{Instr}
 use Rattle.pst_machine.specs.declared.instruction.Instr.TheVariants.{Apply, Return}

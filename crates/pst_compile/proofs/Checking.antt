@@ -8,7 +8,7 @@ use Rattle.pst_model.specs.declared.expr.Expr.{Expr}
 use Rattle.pst_model.specs.declared.model.Item.{Item}
 use Rattle.pst_model.specs.declared.model.Item.TheVariants as item
 use Rattle.pst_model.specs.declared.model.Op.{Op}
-use Rattle.pst_rules.specs.WellTyped.{name_s}
+use Rattle.pst_model.specs.WellTyped.{name_s}
 use Rattle.pst_machine.specs.declared.instruction.FunCode.{FunCode}
 use Rattle.pst_machine.specs.declared.instruction.Instr.{Instr}
 use Rattle.pst_machine.specs.declared.instruction.Instr.TheVariants.{Return}

@@ -4,7 +4,7 @@ use Rattle.std.specs.Prelude.{Bool, true, false, if◌then◌else◌}
 use Rattle.pst_model.specs.Parts.{Name}
 use Rattle.pst_model.specs.declared.expr.Binary.{Binary as BinaryOperator}
 use Rattle.pst_value.specs.declared.value.Value.{Value}
-use Rattle.pst_meaning.specs.Meaning.{Env, looked_up, Mean, Run, ◌>>=◌, lift, pure, truth}
+use Rattle.pst_eval.specs.Meaning.{Env, looked_up, Mean, Run, ◌>>=◌, lift, pure, truth}
 use Rattle.pst_operators.specs.Maps as maps
 use Rattle.pst_operators.specs.Operators.{truth_of, bool, binary}
 use Rattle.pst_operators.specs.Outcome.{Outcome, Gives, Faults, Stuck, and_then}

@@ -4,7 +4,7 @@ use Rattle.std.specs.Prelude.{Bool, true, false, if◌then◌else◌}
 use Rattle.std.specs.Str.{bytes_eq}
 use Rattle.pst_model.specs.Parts.{Name}
 use Rattle.pst_value.specs.declared.value.Value.{Value}
-use Rattle.pst_meaning.specs.Meaning.{Env, looked_up, Mean, lift}
+use Rattle.pst_eval.specs.Meaning.{Env, looked_up, Mean, lift}
 use Rattle.pst_operators.specs.Outcome.{Outcome, Gives, Faults, Stuck}
 use Rattle.pst_machine.specs.declared.instruction.FunCode.{FunCode}
 use Rattle.pst_machine.specs.declared.machine.Frame.{Frame}

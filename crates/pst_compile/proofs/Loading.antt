@@ -2,7 +2,7 @@
 use Rattle.std.proofs.Common.{◌≡◌, ℕ, ◌+◌, ◌<◌, List, [], ◌∷◌, ◌++◌, length, map, drop, get_or, sym, ap, ◌∙◌, append_assoc}
 use Rattle.pst_model.specs.declared.expr.Expr.{Expr}
 use Rattle.pst_machine.specs.declared.instruction.Instr.{Instr}
-use Rattle.pst_meaning.proofs.Steps.{split_at}
+use Rattle.pst_eval.proofs.Steps.{split_at}
 use Rattle.pst_compile.specs.Code.{Scope, Coded, load, at, load_all, all_at}
 
 pub code_next : (m : Expr → Coded) (es : List Expr) (i : ℕ) (e : Expr) (sc : Scope) (r p r' p' : ℕ) (done more code whole : List Instr) → i < length es → e ≡ get_or es i e → done ++ load_all (map m (drop i es)) sc r p ≡ whole → code ≡ load (m e) sc r p → r' ≡ r + 1 → p' ≡ p + length code → more ≡ done ++ code → more ++ load_all (map m (drop (i + 1) es)) sc r' p' ≡ whole

@@ -8,7 +8,7 @@ use Rattle.pst_model.specs.declared.expr.Expr.{Expr, Expr-F, map-Expr, roll-Expr
 use Rattle.pst_model.specs.declared.model.Item.{Item}
 use Rattle.pst_model.specs.declared.model.Item.TheVariants as item
 use Rattle.pst_value.specs.declared.value.Value.{Value}
-use Rattle.pst_meaning.specs.Meaning.{Mean, Part, Run, Called, called, applied, mean, part, mean_at, part_at}
+use Rattle.pst_eval.specs.Meaning.{Mean, Part, Run, Called, called, applied, mean, part, mean_at, part_at}
 use Rattle.pst_operators.specs.Maps.{map_of}
 use Rattle.pst_operators.specs.Operators.{int, bool, text, list, tuple, item as item_of, unary}
 use Rattle.pst_machine.specs.declared.instruction.Instr.TheVariants.{Unary, At, Tuple, List as MakeList}

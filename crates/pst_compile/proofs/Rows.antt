@@ -2,7 +2,7 @@
 use Rattle.std.proofs.Common.{◌≡◌, ℕ, ◌+◌, ◌^◌, List, [], ◌∷◌, ◌++◌, Option, Some, None, refl, sym, ap, ◌∙◌, append_assoc}
 use Rattle.std.specs.Prelude.{Bool, true, false, if◌then◌else◌, nat_lt}
 use Rattle.pst_value.specs.declared.value.Value.{Value}
-use Rattle.pst_meaning.specs.Meaning.{Env, Mean, ◌>>=◌, lift, pure, all, all_from, call_of}
+use Rattle.pst_eval.specs.Meaning.{Env, Mean, ◌>>=◌, lift, pure, all, all_from, call_of}
 use Rattle.pst_operators.specs.Operators.{call}
 use Rattle.pst_operators.specs.Outcome.{Gives, Stuck, and_then}
 use Rattle.pst_machine.specs.declared.instruction.Instr.{Instr}

@@ -4,7 +4,7 @@ use Rattle.std.specs.Prelude.{Bool, true, false, if◌then◌else◌, slice_get,
 use Rattle.std.proofs.Math.Seq.{get_or-append_seam}
 use Rattle.std.proofs.lemmas.Option.{slice_get-get_or, slice_get_past}
 use Rattle.pst_value.specs.declared.value.Value.{Value}
-use Rattle.pst_meaning.specs.Meaning.{lift}
+use Rattle.pst_eval.specs.Meaning.{lift}
 use Rattle.pst_operators.specs.Operators.{truth_of, items_of, int, list}
 use Rattle.pst_operators.specs.Outcome.{Outcome, Gives, Faults, Stuck, and_then, turn}
 use Rattle.pst_machine.specs.declared.instruction.Instr.TheVariants.{Jump, Unless, Loop}

@@ -4,7 +4,7 @@ use Rattle.std.specs.Prelude.{Bool, if◌then◌else◌, pos}
 use Rattle.pst_model.specs.Parts.{Name}
 use Rattle.pst_model.specs.declared.expr.Clause.{Clause-F}
 use Rattle.pst_value.specs.declared.value.Value.{Value}
-use Rattle.pst_meaning.specs.Meaning.{Env, Mean, Part, Run, ◌>>=◌, lift, pure, visit, visit_each, comprehension, fold_over}
+use Rattle.pst_eval.specs.Meaning.{Env, Mean, Part, Run, ◌>>=◌, lift, pure, visit, visit_each, comprehension, fold_over}
 use Rattle.pst_operators.specs.Operators.{truth_of, items_of, append, int, list}
 use Rattle.pst_operators.specs.Outcome.{Outcome, Gives, Faults, Stuck, and_then, turn}
 use Rattle.pst_machine.specs.declared.instruction.Instr.TheVariants.{Const, Take, Append}

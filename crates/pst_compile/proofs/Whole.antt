@@ -3,7 +3,7 @@ use Rattle.std.proofs.Common.{◌≡◌, ℕ, ◌-◌, List, [], ◌++◌, lengt
 use Rattle.pst_model.specs.declared.expr.Expr.{Expr}
 use Rattle.pst_model.specs.declared.model.Item.{Item}
 use Rattle.pst_value.specs.declared.value.Value.{Value}
-use Rattle.pst_meaning.specs.Meaning.{Env, called, mean}
+use Rattle.pst_eval.specs.Meaning.{Env, called, mean}
 use Rattle.pst_operators.specs.Outcome.{Gives, Faults, Stuck, or_stuck}
 use Rattle.pst_machine.specs.declared.instruction.Instr.TheVariants.{Return}
 use Rattle.pst_machine.specs.declared.instruction.FunCode.{FunCode}

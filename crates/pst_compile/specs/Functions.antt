@@ -7,7 +7,7 @@ use Rattle.pst_model.specs.declared.model.Item.{Item}
 use Rattle.pst_model.specs.declared.model.Item.TheVariants as item
 use Rattle.pst_model.specs.declared.model.Op.{Op}
 use Rattle.pst_model.specs.declared.model.Param.{Param}
-use Rattle.pst_rules.specs.WellTyped.{name_s, name_r}
+use Rattle.pst_model.specs.WellTyped.{name_s, name_r}
 use Rattle.pst_machine.specs.declared.instruction.FunCode.{FunCode}
 use Rattle.pst_machine.specs.declared.instruction.Instr.{Instr}
 use Rattle.pst_machine.specs.declared.instruction.Instr.TheVariants.{Const, Move, Take, Unary, Binary, Put, At, Tuple, List as MakeList, Call, Append, Jump, Unless, Apply, Loop, Return}

@@ -7,15 +7,14 @@ ghost use Rattle.pst_operators.specs.Operators.{int};
 ghost use Rattle.pst_compile.specs.Code as spec;
 
 use crate::target::{Target, register_after};
-use pst_items::{Boxed, Items};
 use pst_machine::Instr;
-use pst_value::Value;
+use pst_value::{Boxed, Items, Value};
 use std::alloc::{AllocError, Global};
 
-/// Code, unless memory is refused.
+/// Code, or `AllocError`.
 pub type Block = Result<Items<Instr>, AllocError>;
 
-/// The place so many instructions further on.
+/// The place `count` instructions after `place`.
 fn place_after(place: usize, count: usize) -> Result<usize, AllocError>
     ensures { IfOk result (λ after. after ≡ place + count) }
 {
@@ -69,7 +68,7 @@ pub fn ended(code: Items<Instr>, instr: Instr) -> Block
     Ok(all)
 }
 
-/// The code, which is passed where the register is false. The jump stands at the place.
+/// The code, with a jump at `place` that skips it if the register is false.
 pub fn skipped_unless(alloc: Global, register: u32, code: Items<Instr>, place: usize) -> Block
     ensures { IfOk result (λ all. all ≡ spec.skipped_unless register code place) }
 {
@@ -77,7 +76,7 @@ pub fn skipped_unless(alloc: Global, register: u32, code: Items<Instr>, place: u
     headed(alloc, Instr::Unless(register, after), code)
 }
 
-/// The first code, or the second where the register is false. The jump to the second stands at the place.
+/// Code that runs `first`, or `second` if the register is false. The jump to `second` is at `place`.
 pub fn either(
     alloc: Global,
     register: u32,

@@ -9,14 +9,13 @@ ghost use Rattle.pst_compile.specs.Functions.{listing_of};
 use crate::functions::whole_code;
 use crate::names::functions;
 use pst_eval::Callbacks;
-use pst_items::Items;
 use pst_machine::{Code, Outcome};
-use pst_rules::Typed;
-use pst_value::{Fault, Value};
+use pst_model::Typed;
+use pst_value::{Fault, Items, Value};
 use std::alloc::{AllocError, Global};
 use std::marker::Model;
 
-/// What a callback answers: a value and the turns left, or a fault, unless memory is refused.
+/// What a callback returns: a value and the turns left, or a fault; or `AllocError`.
 type Answer = Result<Result<(Value, u32), Fault>, AllocError>;
 
 /// The turns that a callback starts with.
@@ -29,7 +28,7 @@ const MAX_TURNS: u32 = 1_000_000;
 pub struct Compiled {
     typed: Typed,
     code: Code,
-    /// How many functions stand before the callbacks.
+    /// How many functions come before the callbacks.
     base: usize,
 }
 
@@ -60,7 +59,7 @@ impl Compiled {
 
 /// Compiles a well-typed model.
 ///
-/// `AllocError`, with the model handed back: memory was refused, or the code has more registers or places
+/// `AllocError`, with the model handed back: an allocation failed, or the code has more registers or places
 /// than there are numbers.
 #[tactic(auto, using(crate::proofs::Checking::whole_fits))]
 pub fn compile(alloc: Global, typed: Typed) -> Result<Compiled, (Typed, AllocError)>
@@ -77,18 +76,16 @@ pub fn compile(alloc: Global, typed: Typed) -> Result<Compiled, (Typed, AllocErr
     }
 }
 
-/// The bytes of the text of its code: a line for each instruction, with the number of its function, its
-/// place, its name and its operands, with single spaces. The functions of the model come in their order,
-/// then `init` and `command`, and then `pre`, `next` and `post` of each operation.
-///
-/// `AllocError`: memory was refused.
+/// Returns the text of the compiled code as bytes: a line for each instruction, with the number of its
+/// function, its place, its name and its operands, with single spaces. The functions of the model come in their
+/// order, then `init` and `command`, and then `pre`, `next` and `post` of each operation.
 pub fn listing(alloc: Global, compiled: &Compiled) -> Result<Items<u8>, AllocError>
     ensures { IfOk result (λ text. text ≡ listing_of compiled.now.items) }
 {
     compiled.code.listing(alloc)
 }
 
-/// What a function of the code answers on lent arguments: those of `first`, and then those of `rest`. Each of its runs
+/// Runs a function of the code on lent arguments: those of `first`, and then those of `rest`. Each of its runs
 /// has one end, which is not stuck.
 fn answer(code: &Code, alloc: Global, fun: usize, first: &[&Value], rest: &[Value]) -> Answer
     requires { (o : End) × DoesOnly code.now fun (map (λ v. v.now) first.now ++ rest.now) o }
@@ -102,8 +99,8 @@ fn answer(code: &Code, alloc: Global, fun: usize, first: &[&Value], rest: &[Valu
     }
 }
 
-/// The number of a callback's function: behind the functions stand `init` and `command`, and then three
-/// for each operation.
+/// The number of a callback's function: `init` and `command` come after the functions, and then three for each
+/// operation.
 fn function_number(base: usize, op: u32, callback: usize) -> Result<usize, AllocError>
     ensures { IfOk result (λ number. number ≡ base + 3 * op + callback) }
 {

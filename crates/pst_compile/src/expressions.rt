@@ -10,11 +10,10 @@ use crate::loops::{put_fold, put_for};
 use crate::names::Names;
 use crate::operands::{Operand, Operands, apply_to, call_to, own_register, put_name};
 use crate::target::Target;
-use pst_items::{Boxed, Items, Text};
+use pst_eval::Context;
 use pst_machine::Instr;
-use pst_meaning::Context;
 use pst_model::{Binary, Expr, Unary};
-use pst_value::Value;
+use pst_value::{Boxed, Items, Text, Value};
 use std::alloc::AllocError;
 
 /// The code of an expression, which leaves its value in the target's register.

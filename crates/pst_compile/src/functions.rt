@@ -10,16 +10,16 @@ use crate::expressions::load;
 use crate::frame_size::{frame_size, larger};
 use crate::names::Names;
 use crate::target::{Target, register_after};
-use pst_items::Items;
+use pst_eval::Context;
 use pst_machine::{FunCode, Instr};
-use pst_meaning::Context;
 use pst_model::{Expr, Fun, Item, Op, calls_of, opening_of};
+use pst_value::Items;
 use std::alloc::{AllocError, Global};
 
-/// The code of functions, unless memory is refused.
+/// The code of functions, or `AllocError`.
 type Functions = Result<Items<FunCode>, AllocError>;
 
-/// The function of an expression, whose names have so many registers.
+/// The function of an expression whose names have the first `count` registers.
 fn fun_code(
     expr: &Expr,
     context: &Context<'_>,
@@ -85,7 +85,7 @@ fn functions_code(alloc: Global, items: &[Item]) -> Functions
     Ok(all)
 }
 
-/// The code of an expression, where there is one.
+/// The code of an expression, or an empty function if there is no expression.
 fn optional_code(
     expr: Option<&Expr>,
     context: &Context<'_>,

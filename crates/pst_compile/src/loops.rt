@@ -10,11 +10,10 @@ use crate::names::Names;
 use crate::operands::split_first;
 use crate::overwriting::overwrite;
 use crate::target::Target;
-use pst_items::{Boxed, Items, Text};
+use pst_eval::Context;
 use pst_machine::Instr;
-use pst_meaning::Context;
 use pst_model::{Clause, Expr};
-use pst_value::Value;
+use pst_value::{Boxed, Items, Text, Value};
 
 /// The code of a comprehension, which appends to the list in the target's register.
 #[cycle(put)]
@@ -120,7 +119,7 @@ fn visit_in(
     )
 }
 
-/// The code of the other clauses and the body where a test is true.
+/// The code that runs the other clauses and the body if a test is true.
 #[cycle(put)]
 fn visit_when(
     test: &Expr,

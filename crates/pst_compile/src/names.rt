@@ -17,7 +17,7 @@ pub enum Names<'a> {
     With(&'a [u8], u32, &'a Names<'a>),
 }
 
-/// The register of a parameter, where they have the registers from the first on.
+/// The register of the parameter `name`, if there is one. The parameters have the registers from `first` on.
 fn parameter_register(params: &[Param], first: u32, name: &[u8]) -> Result<Option<u32>, AllocError>
     ensures { IfOk result (λ r. r ≡ spec.find (spec.parameter_scope params.now first) name.now) }
 {
@@ -31,7 +31,7 @@ fn parameter_register(params: &[Param], first: u32, name: &[u8]) -> Result<Optio
     Ok(None)
 }
 
-/// The register of a name.
+/// The register of `name`, if it has one.
 pub fn register_of(names: &Names<'_>, name: &[u8]) -> Result<Option<u32>, AllocError>
     ensures { IfOk result (λ r. r ≡ spec.find (scope_of names.now) name.now) }
 {
@@ -80,7 +80,7 @@ pub fn functions(items: &[Item]) -> usize
     count
 }
 
-/// The number of the last function of a name.
+/// The number of the last function called `name`, if there is one.
 #[tactic(auto, using(crate::proofs::Earlier::earlier_next))]
 pub fn number(items: &[Item], name: &[u8]) -> Option<usize>
     ensures { result ≡ spec.number (reverse items.now) name.now }

@@ -8,10 +8,10 @@ ghost use Rattle.pst_model.specs.Parts.{number_of};
 use crate::blocks::{Block, one};
 use crate::names::{Names, number, register_of};
 use crate::target::Target;
-use pst_items::{Items, Text};
+use pst_eval::Context;
 use pst_machine::Instr;
-use pst_meaning::Context;
 use pst_model::{Clause, Expr, number_of};
+use pst_value::{Items, Text};
 use std::alloc::{AllocError, Global};
 
 /// The code of an operand, and the register of its value.
@@ -59,7 +59,7 @@ pub fn own_register(
     }
 }
 
-/// The value of a name. A name that is not known gets code that is stuck.
+/// Code that puts the value of `name` into the target. An unknown name gets code that is stuck.
 pub fn put_name(name: &Text, alloc: Global, names: &Names<'_>, target: Target) -> Block
     ensures { IfOk result (λ code. code ≡
         spec.name_code name.now (scope_of names.now) target.register target.place) }

@@ -1,7 +1,7 @@
 //! The code of expressions whose value goes to a register in place of what it holds.
 //!
 //! A fold keeps what it has built in one register, which its body may read. Each turn overwrites that register
-//! by its last instruction, so that the machine changes a map or a list in place where it is the first operand.
+//! by its last instruction, so that the machine changes a map or a list in place if it is the first operand.
 
 ghost use Rattle.std.specs.Prelude.{◌≡◌, IfOk};
 ghost use Rattle.pst_compile.specs.Code as spec;
@@ -12,10 +12,10 @@ use crate::expressions::{load, put, put_binary, put_entry};
 use crate::names::Names;
 use crate::operands::put_name;
 use crate::target::Target;
-use pst_items::{Boxed, Text};
+use pst_eval::Context;
 use pst_machine::Instr;
-use pst_meaning::Context;
 use pst_model::Expr;
+use pst_value::{Boxed, Text};
 
 /// The code of an expression, which leaves its value in the register `dest` in place of what that held. It
 /// changes no other register below the target's.

@@ -1,4 +1,4 @@
-//! Where code stands, and where its value goes.
+//! The place of code, and the register of its value.
 
 ghost use Rattle.std.specs.Prelude.{◌≡◌, ◌+◌, IfOk};
 
@@ -23,9 +23,9 @@ impl Target {
         }
     }
 
-    /// At a place so many instructions further on.
+    /// The target `count` instructions later.
     ///
-    /// `AllocError`: such a place has no number, and no memory holds such code.
+    /// `AllocError`: the place has no number, and no memory holds such code.
     pub fn after(self, count: usize) -> Result<Target, AllocError>
         ensures register { IfOk result (λ target. target.register ≡ self.register) }
         ensures place { IfOk result (λ target. target.place ≡ self.place + count) }
@@ -39,9 +39,9 @@ impl Target {
         }
     }
 
-    /// With a register so many further on.
+    /// The target with the register `count` further on.
     ///
-    /// `AllocError`: such a register has no number.
+    /// `AllocError`: the register has no number.
     pub fn above(self, count: u32) -> Result<Target, AllocError>
         ensures register { IfOk result (λ target. target.register ≡ self.register + count) }
         ensures place { IfOk result (λ target. target.place ≡ self.place) }
@@ -53,7 +53,7 @@ impl Target {
     }
 }
 
-/// The register so many further on.
+/// The register `count` after `register`.
 ///
 /// `AllocError`: it has no number.
 pub fn register_after(register: u32, count: u32) -> Result<u32, AllocError>

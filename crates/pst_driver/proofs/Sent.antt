@@ -5,8 +5,8 @@ use denote.Param.Send.{IsSend, IsSync, arg_send, arg_sync, view_send, view_sync,
 use denote.Param.SendFields.{declared_send, declared_sync, variants_send, variants_sync}
 use denote.RattleType.{RattleType}
 use mir.Raw.{raw}
-use Rattle.pst_items.proofs.items.Items.TheSendSync as lists
-use Rattle.pst_items.proofs.text.Text.TheSendSync as texts
+use Rattle.pst_value.proofs.items.Items.TheSendSync as lists
+use Rattle.pst_value.proofs.text.Text.TheSendSync as texts
 use Rattle.pst_driver.specs.contracts.misfits.Misfit as misfit
 use Rattle.pst_driver.specs.contracts.misfits.Misfits as misfits
 use Rattle.pst_driver.specs.contracts.overheard.Overheard as overheard
@@ -17,8 +17,8 @@ use Rattle.pst_model.specs.contracts.model.Item as item
 use Rattle.pst_model.specs.contracts.model.Op as op
 use Rattle.pst_model.specs.contracts.model.Param as param
 use Rattle.pst_model.specs.contracts.model.Source as source
-use Rattle.pst_rules.specs.contracts.typed.Typed as typed
-use Rattle.pst_rules.specs.contracts.typed.Typed.TheInside as inside
+use Rattle.pst_model.specs.contracts.typed.Typed as typed
+use Rattle.pst_model.specs.contracts.typed.Typed.TheInside as inside
 use Rattle.pst_value.proofs.ty.Ty.TheLaws.TheKnot as types
 use Rattle.pst_value.specs.contracts.ty.Ty as ty
 use Rattle.pst_value.proofs.value.Value.TheLaws.TheKnot as values

@@ -8,7 +8,7 @@ use Rattle.pst_case.specs.declared.history.Reply.{Reply}
 use Rattle.pst_case.specs.declared.history.Reply.TheVariants.{Value as Answered, Misfit, Failed, NotRun}
 use Rattle.pst_driver.specs.declared.fault.DriveFault.{DriveFault}
 use Rattle.pst_driver.specs.declared.fault.DriveFault.TheVariants.{ResetFailed, NoThread, NoMemory}
-use Rattle.pst_rules.specs.Fitting.{fits_in}
+use Rattle.pst_model.specs.Fitting.{fits_in}
 use Rattle.pst_case.specs.Recorded.{recorded}
 use Rattle.pst_model.specs.Parts.{operation_of}
 use Rattle.pst_model.specs.declared.model.Op.{Op}

@@ -13,10 +13,10 @@ use crate::fault::DriveFault;
 use crate::part::{run_part, skip};
 use crate::subject::Subject;
 use pst_case::{Case, Command, History, Reply, results_of};
-use pst_items::Items;
 use pst_judge::Valid;
-use pst_rules::Typed;
+use pst_model::Typed;
 use pst_system::{BoxedSystem, System};
+use pst_value::Items;
 use std::alloc::{AllocError, Global};
 use std::sync::Wait;
 use std::thread::Threads;
@@ -73,7 +73,7 @@ fn skip_all(alloc: Global, branches: &[Items<Command>]) -> Result<Items<Items<Re
     Ok(all)
 }
 
-/// The replies of the branches, which are run at once where the whole prefix has values, and else not at all.
+/// The replies of the branches, which run at once if the whole prefix has values, and else not at all.
 fn run_branches<S: Subject, R: Threads + Wait>(
     rt: &R,
     alloc: Global,
@@ -96,7 +96,7 @@ fn run_branches<S: Subject, R: Threads + Wait>(
     run_at_once(rt, alloc, typed, system, branches, known)
 }
 
-/// The replies of the suffix, which is run where each reply before it is a value, and else not at all.
+/// The replies of the suffix, which runs if each reply before it is a value, and else not at all.
 fn run_suffix<S: Subject>(
     alloc: Global,
     typed: &Typed,
@@ -168,17 +168,17 @@ fn drive<S: Subject, R: Threads + Wait>(
 }
 
 /// Drives a valid case on a system: resets it, calls the commands of the prefix, runs the branches at once,
-/// each that is not empty on a thread of its own, and calls the commands of the suffix when all branches have
-/// ended. The history is what was answered. The arguments of each call are plain, with recorded results for
-/// variables. After an answer that is no value of the result type, or a call that failed, the rest of its
-/// part is not run; after one in the prefix no branch is, and after one anywhere the suffix is not.
+/// each that is not empty on a thread of its own, and calls the commands of the suffix once all branches have
+/// ended. Returns the history of the replies. The arguments of each call are plain, with recorded results for
+/// variables. After an answer that is no value of the result type, or a call that failed, the rest of its part
+/// does not run; after one in the prefix no branch does, and after one anywhere the suffix does not.
 ///
-/// `ResetFailed` where the reset fails; `NoThread` where the thread of a branch cannot be started (those that
-/// were started are joined first); `NoMemory` where memory is refused. The call waits for as long as the
-/// calls of the system do.
+/// `ResetFailed`: the reset failed. `NoThread`: the thread of a branch could not be started; those that were
+/// started are joined first. `NoMemory`: an allocation failed. The call waits for as long as the calls of the
+/// system do.
 ///
-/// The threads of the branches wait for one another for a bounded number of looks before their first calls,
-/// so that these come close together. Nothing is proved of time.
+/// The threads of the branches wait for one another for a bounded number of looks before their first calls, so
+/// that these come close together. No contract promises any timing.
 pub fn run<R: Threads + Wait>(
     rt: &R,
     alloc: Global,

@@ -14,7 +14,7 @@ pub enum DriveFault {
     /// The thread of a branch could not be started.
     #[error("a thread could not be started")]
     NoThread,
-    /// Memory was refused.
+    /// An allocation failed.
     #[error("memory was refused")]
     NoMemory,
 }

@@ -8,10 +8,10 @@ use pst_system::RealCall;
 use pst_value::Ty;
 use std::alloc::{AllocError, Global};
 
-/// The most characters that are shown of a call, and of an answer.
+/// How many characters of a call or of an answer a line shows at most.
 const MOST_SHOWN: usize = 60;
 
-/// The beginning of a spelling on one line, where control characters stand as `\x0a`.
+/// The beginning of a spelling on one line, with control characters as `\x0a`.
 fn shown(alloc: Global, spelling: &[u8]) -> Result<String, AllocError> {
     let mut shown = String::new(alloc);
     let Ok(text) = std::str::from_utf8(spelling) else {
@@ -64,8 +64,8 @@ fn line_of(alloc: Global, model: &Source, misfit: &Misfit) -> Result<String, All
     }
 }
 
-/// A line for each misfit that is kept, as `misfit: (get) answered "x", wanted int`, and the line `misfit: 3 more` where
-/// there were others. No text where there were none.
+/// A line such as `misfit: (get) answered "x", wanted int` for each misfit in `misfits`. If there were others,
+/// a line such as `misfit: 3 more` follows. The text is empty if there were none.
 pub fn misfits_text(alloc: Global, misfits: &Misfits) -> Result<String, AllocError> {
     let mut text = String::new(alloc);
     let Some(model) = misfits.model() else {

@@ -1,23 +1,20 @@
-//! What a system answers that is not of the result type of the operation that was called.
+//! Misfits: answers of a system that are not of the result type of the called operation.
 //!
-//! A driver replies `misfit` to such an answer and does not keep it. A system that is overheard (`Overheard`) answers
-//! as before, and the first of these answers are kept beside it (`Misfits`), for lines that people read
-//! (`misfits_text`).
+//! A driver replies `misfit` to such an answer and does not keep it. A system in `Overheard` answers as before,
+//! and `Misfits` keeps the first of these answers, for lines that people read (`misfits_text`).
 ghost use Rattle.std.specs.Prelude.{◌≡◌, [], IfOk};
 ghost use Rattle.pst_case.specs.Shape.{result_type};
-ghost use Rattle.pst_rules.specs.Fitting.{fits_in};
+ghost use Rattle.pst_model.specs.Fitting.{fits_in};
 
 use pst_case::Command;
-use pst_items::Items;
-use pst_model::Source;
-use pst_rules::Typed;
+use pst_model::{Source, Typed};
 use pst_system::RealCall;
-use pst_value::Value;
+use pst_value::{Items, Value};
 use std::alloc::{AllocError, Global};
 use std::sync::OnceLock;
 use std::sync::atomic::{AtomicU64, Ordering};
 
-/// The most misfits that are kept.
+/// How many misfits are kept at most.
 pub const MOST_KEPT: usize = 8;
 
 /// A call, and the answer to it, which is not of the operation's result type.
@@ -27,8 +24,8 @@ pub struct Misfit {
     pub answer: Value,
 }
 
-/// What a system answered that is not of the result type of the operation: the first of these answers with their calls,
-/// and the number of all. The threads that call a system may note answers at once; they do not wait for one another.
+/// The first misfits of a system, with their calls, and how many there were. The threads that call a system may
+/// note answers at once; they do not wait for one another.
 #[derive(Drop)]
 pub struct Misfits {
     alloc: Global,
@@ -36,7 +33,7 @@ pub struct Misfits {
     typed: OnceLock<Typed>,
     /// How many there were.
     count: AtomicU64,
-    /// A place for each of the first, which stays empty where memory for a copy was refused.
+    /// A place for each of the first, which stays empty if there is no memory for a copy.
     kept: Vec<OnceLock<Misfit>>,
 }
 
@@ -101,7 +98,7 @@ impl Misfits {
         })
     }
 
-    /// From now on answers are compared with the result types of the model. The first model stays.
+    /// Compares answers from now on with the result types of the model. The first model stays.
     pub fn compare_with(&self, typed: Typed) {
         let _ = self.typed.try_set(typed);
     }
@@ -114,7 +111,7 @@ impl Misfits {
         }
     }
 
-    /// Keeps a copy of an answer and of its call, if a place is left and memory is not refused.
+    /// Keeps a copy of an answer and of its call, if a place is left and no allocation fails.
     fn keep(&self, call: &RealCall, answer: &Value) {
         let before = self.count.fetch_add(1, Ordering::SeqCst);
         let Ok(place) = usize::try_from(before) else {
@@ -128,7 +125,7 @@ impl Misfits {
         }
     }
 
-    /// Notes an answer to a call, where it is not of the result type of the operation.
+    /// Notes the answer to a call, if it is not of the operation's result type.
     pub fn note(&self, call: &RealCall, answer: &Value) {
         if let Some(typed) = self.typed.get() {
             if !is_of_result_type(self.alloc, typed, call, answer) {
@@ -142,7 +139,7 @@ impl Misfits {
         self.kept.get(place)?.get()
     }
 
-    /// How many misfits there were, those that are not kept among them.
+    /// How many misfits there were, kept or not.
     pub fn count(&self) -> u64 {
         self.count.load(Ordering::SeqCst)
     }

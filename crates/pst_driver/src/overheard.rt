@@ -7,7 +7,7 @@ use pst_value::Value;
 use std::alloc::Global;
 use std::sync::Arc;
 
-/// A system whose answers are noted where they are misfits, and else the same system.
+/// Wraps a system to note its misfits: answers of the wrong type. It answers as the system does.
 #[derive(Drop)]
 pub struct Overheard<S: System> {
     system: S,
@@ -15,8 +15,8 @@ pub struct Overheard<S: System> {
 }
 
 impl<S: System> Overheard<S> {
-    /// The system, whose misfits are noted there, or nowhere. What it may answer, and how its calls and its resets may
-    /// fail, stays.
+    /// Wraps a system, and notes its misfits in `misfits`, if it is given. What the system may answer, and how
+    /// its calls and its resets may fail, stays.
     pub fn new(system: S, misfits: Option<Arc<Misfits, Global>>) -> Overheard<S>
         ensures { AreKept
             (⟦<Overheard<S> as System>⟧.answers result) (S.answers system)

@@ -2,20 +2,20 @@
 use Rattle.std.proofs.Common.{◌≡◌, ◌≢◌, ℕ, true, List, [], ◌∷◌, Some, Result, Ok, Err, sym, ap, subst}
 use Rattle.std.specs.Prelude.{IfOk}
 use Rattle.std.specs.declared.alloc.AllocError.{AllocError}
-use Rattle.pst_meaning.specs.Meaning.{frame}
+use Rattle.pst_eval.specs.Meaning.{frame}
 use Rattle.pst_model.specs.Parts.{opening_of, calls_of, operation_of, parameters_of}
 use Rattle.pst_model.specs.declared.expr.Expr.{Expr}
 use Rattle.pst_model.specs.declared.model.Op.{Op}
 use Rattle.pst_model.specs.declared.model.Source.{Source}
 use Rattle.pst_operators.specs.Outcome.{Outcome, Stuck}
-use Rattle.pst_rules.specs.WellTyped.{name_s, name_r, WellModel}
+use Rattle.pst_model.specs.WellTyped.{name_s, name_r, WellModel}
 use Rattle.pst_value.specs.Fits.{fits}
 use Rattle.pst_value.specs.declared.fault.Fault.{Fault}
 use Rattle.pst_value.specs.declared.ty.Ty.{Ty}
 use Rattle.pst_value.specs.declared.ty.Ty.TheVariants as ty
 use Rattle.pst_value.specs.declared.value.Value.{Value}
 use Rattle.pst_eval.specs.Callbacks.{at_names, of_expr, init_of, command_of, pre_in, pre_of, next_in, next_of, post_in, post_of, PreFits, NextFits, PostFits, Says, Given, GivenState}
-use Rattle.pst_rules.specs.Fitting.{is_state}
+use Rattle.pst_model.specs.Fitting.{is_state}
 use Rattle.pst_eval.proofs.Fitting.{Fit, fit_bool}
 use Rattle.pst_eval.proofs.Forms.{bool_form}
 use Rattle.pst_eval.proofs.Table.{init_by, command_by, pre_by, next_by, post_by, by_not_stuck, given_by, state_given}

@@ -10,8 +10,8 @@ use Rattle.pst_model.specs.Parts.{Name, types_of}
 use Rattle.pst_model.specs.declared.model.Param.{Param}
 use Rattle.pst_operators.specs.Operators.{int, bool, text, list, tuple, call}
 use Rattle.pst_operators.specs.Outcome.{Gives}
-use Rattle.pst_meaning.specs.Meaning.{Env, looked_up, frame}
-use Rattle.pst_rules.specs.Rules.{Context, context_of, type_named}
+use Rattle.pst_eval.specs.Meaning.{Env, looked_up, frame}
+use Rattle.pst_model.specs.Rules.{Context, context_of, type_named}
 use Rattle.pst_value.specs.Fits.{fit_each, fit_params, fits, fits_level}
 use Rattle.pst_value.specs.Subst.{numbered}
 use Rattle.pst_value.specs.Text.{is_i64, is_text, limit}
@@ -19,7 +19,7 @@ use Rattle.pst_value.specs.declared.ty.Ty.{Ty}
 use Rattle.pst_value.specs.declared.ty.Ty.TheVariants as ty
 use Rattle.pst_value.specs.declared.value.Value.{Value}
 use Rattle.pst_value.specs.declared.value.Value.TheOpen.{Value-F}
-use Rattle.pst_rules.proofs.Rolled.{fits-roll}
+use Rattle.pst_model.proofs.Rolled.{fits-roll}
 
 pub both : (x y : Bool) → (x && y) ≡ true → (x ≡ true) × (y ≡ true)
 both true y h = (refl, h)

@@ -2,7 +2,7 @@
 use Rattle.std.proofs.Common.{◌≡◌, ℕ, zero, suc, ℤ, Bool, true, ◌&&◌, nat_le, length, Some, List, [], map, refl, sym, ap, ◌∙◌}
 use Rattle.std.specs.List.{list_all}
 use Rattle.std.proofs.lemmas.List.{length-map}
-use Rattle.pst_items.proofs.Exact.{both_second}
+use Rattle.pst_value.proofs.ItemsExact.{both_second}
 use Rattle.pst_value.specs.declared.value.Value.{Value, roll-Value, out-Value, roll-out-Value, map-Value}
 use Rattle.pst_value.specs.declared.value.Value.TheOpen.{Value-F}
 use Rattle.pst_value.specs.declared.value.Value.TheVariants as value
@@ -17,8 +17,8 @@ use Rattle.pst_value.specs.declared.key.Key.TheVariants as key
 use Rattle.pst_value.specs.declared.key.KeyTy.{KeyTy}
 use Rattle.pst_value.specs.declared.key.KeyTy.TheVariants as kind
 use Rattle.pst_value.proofs.Typing.{list_all-map}
-use Rattle.pst_rules.proofs.Rolled.{fits-roll}
-use Rattle.pst_rules.specs.Rules.{key_type}
+use Rattle.pst_model.proofs.Rolled.{fits-roll}
+use Rattle.pst_model.specs.Rules.{key_type}
 use Rattle.pst_operators.specs.Maps.{map_of, value_of}
 use Rattle.pst_operators.specs.Operators.{int, bool, text, list, tuple, number_at, number_of}
 

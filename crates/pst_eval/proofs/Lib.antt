@@ -6,3 +6,11 @@ pub mod Operating
 pub mod Sound
 pub mod Table
 pub mod Calls
+pub mod Means
+pub mod Steps
+pub mod Weights
+pub mod Commutes
+pub mod Mapping
+pub mod Operands
+pub mod SymbolicTable
+pub mod Values

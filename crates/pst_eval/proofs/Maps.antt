@@ -13,7 +13,7 @@ use Rattle.pst_operators.proofs.Putting.{put-keeps-keys}
 use Rattle.pst_operators.specs.Maps.{map_of, key_at, key_of, value_of, beside, with_key, with_value, without_key, without_value, get, has, put_key, put_at, put, del, keys}
 use Rattle.pst_operators.specs.Operators.{bool, list, unary, unary_at, binary, binary_at}
 use Rattle.pst_operators.specs.Outcome.{Gives, and_then}
-use Rattle.pst_rules.specs.Rules.{key_type}
+use Rattle.pst_model.specs.Rules.{key_type}
 use Rattle.pst_value.proofs.Typing.{fits-Map-Map}
 use Rattle.pst_value.specs.Equality.{same_key}
 use Rattle.pst_value.specs.Fits.{fits}

@@ -16,7 +16,7 @@ use Rattle.pst_model.specs.declared.expr.Unary.TheVariants.{Deref}
 use Rattle.pst_operators.specs.Maps.{beside, with_key, get, has, put_key, put}
 use Rattle.pst_operators.specs.Operators.{int, integer, truth_of, truth_at, items_of, items_at, unary, binary, binary_at, divided, joined_texts, joined_lists, nth, range, append}
 use Rattle.pst_operators.specs.Outcome.{Outcome, Gives, Faults, Stuck, and_then, or_fault, turn}
-use Rattle.pst_rules.specs.Rules.{OperatesOnOne, operates_not, operates_len_text, operates_len_list, operates_deref, operates_keys, OperatesOnTwo, operates_arithmetic, operates_order_int, operates_order_text, operates_equal, operates_same, operates_append_text, operates_append_list, operates_nth, operates_get, operates_has, operates_del, operates_range, key_type, is_arithmetic, is_order}
+use Rattle.pst_model.specs.Rules.{OperatesOnOne, operates_not, operates_len_text, operates_len_list, operates_deref, operates_keys, OperatesOnTwo, operates_arithmetic, operates_order_int, operates_order_text, operates_equal, operates_same, operates_append_text, operates_append_list, operates_nth, operates_get, operates_has, operates_del, operates_range, key_type, is_arithmetic, is_order}
 use Rattle.pst_value.specs.Equality.{same_value}
 use Rattle.pst_value.specs.Fits.{fits}
 use Rattle.pst_value.specs.Keys.{is_key, most}

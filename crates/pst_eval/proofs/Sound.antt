@@ -10,9 +10,9 @@ use Rattle.pst_model.specs.declared.model.Item.{Item}
 use Rattle.pst_model.specs.declared.model.Op.{Op}
 use Rattle.pst_operators.specs.Operators.{bool}
 use Rattle.pst_operators.specs.Outcome.{Outcome, Gives, Faults, Stuck, and_then, turn}
-use Rattle.pst_meaning.specs.Meaning.{Run, pure, ◌>>=◌, Env, Called, applied, Mean, Part, part_at, mean_at, mean, part, truth, all_from as all_of, visit, visit_each, fold_over}
-use Rattle.pst_meaning.proofs.Means.{part_in, part_when, mean_for}
-use Rattle.pst_rules.specs.Rules.{signature, key_type, Judgement, Has, Have, AllHave, Builds, Typed, typed_int, typed_bool, typed_text, typed_name, typed_let, typed_if, typed_and, typed_or, typed_unary, typed_binary, typed_tuple, typed_at, typed_list, typed_map, typed_put, typed_for, typed_fold, typed_call, typed_apply, typed_none, typed_more, typed_empty, typed_each, typed_body, typed_in, typed_when}
+use Rattle.pst_eval.specs.Meaning.{Run, pure, ◌>>=◌, Env, Called, applied, Mean, Part, part_at, mean_at, mean, part, truth, all_from as all_of, visit, visit_each, fold_over}
+use Rattle.pst_eval.proofs.Means.{part_in, part_when, mean_for}
+use Rattle.pst_model.specs.Rules.{signature, key_type, Judgement, Has, Have, AllHave, Builds, Typed, typed_int, typed_bool, typed_text, typed_name, typed_let, typed_if, typed_and, typed_or, typed_unary, typed_binary, typed_tuple, typed_at, typed_list, typed_map, typed_put, typed_for, typed_fold, typed_call, typed_apply, typed_none, typed_more, typed_empty, typed_each, typed_body, typed_in, typed_when}
 use Rattle.pst_value.specs.Text.{limit}
 use Rattle.pst_value.specs.declared.ty.Ty.{Ty}
 use Rattle.pst_value.specs.declared.ty.Ty.TheVariants as ty

@@ -3,7 +3,7 @@ use Rattle.std.proofs.Common.{◌≡◌, ◌≢◌, ◌||◌, not, ℕ, Bool, tr
 use Rattle.std.proofs.lemmas.Bool.{cases_Bool}
 use Rattle.std.proofs.lemmas.List.{reverse-append}
 use Rattle.std.specs.Str.{bytes_eq}
-use Rattle.pst_meaning.specs.Meaning.{Env, applied, called, frame, mean}
+use Rattle.pst_eval.specs.Meaning.{Env, applied, called, frame, mean}
 use Rattle.pst_model.specs.Parts.{opening_of, calls_of, operation_of, parameters_of, types_of}
 use Rattle.pst_model.specs.declared.expr.Expr.{Expr}
 use Rattle.pst_model.specs.declared.model.Fun.{Fun}
@@ -12,15 +12,15 @@ use Rattle.pst_model.specs.declared.model.Item.TheVariants as item
 use Rattle.pst_model.specs.declared.model.Op.{Op}
 use Rattle.pst_model.specs.declared.model.Source.{Source}
 use Rattle.pst_operators.specs.Outcome.{Outcome, Gives, Faults, Stuck, turn}
-use Rattle.pst_rules.proofs.Operations.{well_operation}
-use Rattle.pst_rules.specs.Rules.{Context, context_of, Has, Typed}
-use Rattle.pst_rules.specs.WellTyped.{name_s, name_r, pre_context, next_context, post_context, WellItem, WellItems, WellModel}
+use Rattle.pst_model.proofs.Operations.{well_operation}
+use Rattle.pst_model.specs.Rules.{Context, context_of, Has, Typed}
+use Rattle.pst_model.specs.WellTyped.{name_s, name_r, pre_context, next_context, post_context, WellItem, WellItems, WellModel}
 use Rattle.pst_value.specs.declared.fault.Fault.{Fault}
 use Rattle.pst_value.specs.declared.ty.Ty.{Ty}
 use Rattle.pst_value.specs.declared.ty.Ty.TheVariants as ty
 use Rattle.pst_value.specs.declared.value.Value.{Value}
 use Rattle.pst_eval.specs.Callbacks.{max_turns, at_names, of_expr, init_of, command_of, pre_in, pre_of, next_in, next_of, post_in, post_of, PreFits, NextFits, PostFits, Says, Given, GivenState}
-use Rattle.pst_rules.specs.Fitting.{is_state, is_state_in, args_fit, args_fit_in, ref_fits, ref_fits_in, result_fits, result_fits_in}
+use Rattle.pst_model.specs.Fitting.{is_state, is_state_in, args_fit, args_fit_in, ref_fits, ref_fits_in, result_fits, result_fits_in}
 use Rattle.pst_eval.proofs.Fitting.{Fit, FitAll, all_from, Agrees, frame_agrees}
 use Rattle.pst_eval.proofs.Operating.{By, by_path, by_then, turn_by}
 use Rattle.pst_eval.proofs.Sound.{FunctionsFit, sound}

@@ -1,13 +1,13 @@
 -- What each callback of a model means, and which calls of it are lawful.
 use Rattle.std.specs.Prelude.{◌≡◌, ℕ, ⊤, true, List, [], ◌∷◌, reverse, Option, Some, None, Result, Ok, Err}
-use Rattle.pst_meaning.specs.Meaning.{Env, called, mean, frame}
+use Rattle.pst_eval.specs.Meaning.{Env, called, mean, frame}
+use Rattle.pst_model.specs.Fitting.{fits_in, is_state, args_fit, result_fits, ref_fits}
 use Rattle.pst_model.specs.Parts.{opening_of, calls_of, operation_of}
+use Rattle.pst_model.specs.WellTyped.{name_s, name_r}
 use Rattle.pst_model.specs.declared.expr.Expr.{Expr}
 use Rattle.pst_model.specs.declared.model.Op.{Op}
 use Rattle.pst_model.specs.declared.model.Source.{Source}
 use Rattle.pst_operators.specs.Outcome.{Outcome, Gives, Faults, Stuck}
-use Rattle.pst_rules.specs.Fitting.{fits_in, is_state, args_fit, result_fits, ref_fits}
-use Rattle.pst_rules.specs.WellTyped.{name_s, name_r}
 use Rattle.pst_value.specs.declared.fault.Fault.{Fault}
 use Rattle.pst_value.specs.declared.ty.Ty.{Ty}
 use Rattle.pst_value.specs.declared.value.Value.{Value}

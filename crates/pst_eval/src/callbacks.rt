@@ -1,7 +1,7 @@
 //! The callbacks of a model, whoever evaluates them.
 ghost use Rattle.std.specs.Prelude.{◌≡◌, true, [], List, IfOk};
 ghost use Rattle.pst_eval.specs.Callbacks.{Says, Given, GivenState, PreFits, NextFits, PostFits, init_of, command_of, pre_of, next_of, post_of};
-ghost use Rattle.pst_rules.specs.Fitting.{is_state};
+ghost use Rattle.pst_model.specs.Fitting.{is_state};
 ghost use Rattle.pst_model.specs.declared.model.Source.{Source};
 ghost use Rattle.pst_value.specs.declared.ty.Ty.{Ty};
 ghost use Rattle.pst_value.specs.declared.ty.Ty.TheVariants as ty;
@@ -9,18 +9,19 @@ ghost use Rattle.pst_value.specs.declared.ty.Ty.TheVariants as ty;
 use pst_value::{Fault, Value};
 use std::alloc::{AllocError, Global};
 
-/// What a callback answers: a value with the turns left of 1,000,000, or a fault, unless memory is refused.
+/// What a callback returns: a value with the turns left of 1,000,000, or a fault; or `AllocError` if an
+/// allocation fails.
 pub type Answer = Result<Result<(Value, u32), Fault>, AllocError>;
 
-/// The five callbacks of a model (of `eqc_statem`). Each answers what the model's expression means.
+/// The five callbacks of a model (of `eqc_statem`). Each returns what the model's expression means.
 ///
-/// In contracts `free` has the result types of the commands whose variables may stand open in the values, and `vars` those of the commands whose
-/// results may stand in them. Operations are numbered from 0.
+/// In contracts `free` has the result types of the commands whose variables may be free in the values, and `vars`
+/// those of the commands whose results may occur in them. Operations are numbered from 0.
 pub trait Callbacks {
     /// The model, as its name and items.
     ghost model: { Self → Source };
 
-    /// The opening state.
+    /// The initial state.
     fn init(&self, alloc: Global) -> Answer
         ensures says { IfOk result (λ a. Says (init_of (model self.now)) a) }
         ensures fits { IfOk result (λ a. (free vars : List Ty) → GivenState (model self.now) free vars a) };
@@ -34,14 +35,14 @@ pub trait Callbacks {
             (λ a. (free vars : List Ty) → is_state (model self.now) free vars state.now ≡ true
             → Given (model self.now) free vars (ty.List ty.Call) a) };
 
-    /// The precondition of a call in a state, as a truth value.
+    /// The precondition of a call in a state, as a bool.
     fn pre(&self, alloc: Global, op: u32, state: &Value, arguments: &[Value]) -> Answer
         requires { (free : List Ty) × (vars : List Ty)
             × PreFits (model self.now) op state.now arguments.now free vars }
         ensures says { IfOk result (λ a. Says (pre_of (model self.now) op state.now arguments.now) a) }
         ensures fits { IfOk result (λ a. Given (model self.now) [] [] ty.Bool a) };
 
-    /// The state after a call, where `r` is the variable of the call or the reference to its result.
+    /// The state after a call. `r` is the variable of the call or the reference to its result.
     fn next(&self, alloc: Global, op: u32, state: &Value, arguments: &[Value], r: &Value) -> Answer
         requires { (free : List Ty) × (vars : List Ty)
             × NextFits (model self.now) op state.now arguments.now r.now free vars }
@@ -50,7 +51,8 @@ pub trait Callbacks {
             (λ a. (free vars : List Ty) → NextFits (model self.now) op state.now arguments.now r.now free vars
             → GivenState (model self.now) free vars a) };
 
-    /// The postcondition of a call, on the state before it and its plain result, as a truth value. No variable stands open in the values.
+    /// The postcondition of a call, on the state before it and its plain result, as a bool. No variable is free
+    /// in the values.
     fn post(&self, alloc: Global, op: u32, state: &Value, arguments: &[Value], r: &Value) -> Answer
         requires { (vars : List Ty) × PostFits (model self.now) op state.now arguments.now r.now vars }
         ensures says { IfOk result (λ a. Says (post_of (model self.now) op state.now arguments.now r.now) a) }

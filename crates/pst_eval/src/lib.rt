@@ -1,10 +1,21 @@
-//! The callbacks of a well-typed model, and their plain evaluation.
+//! The meaning of expressions and its evaluator; the callbacks of a well-typed model, and their plain evaluation; and
+//! the laws that evaluating with results in place of variables is evaluating with variables.
 #![tactic(auto)]
 
 mod callbacks;
+mod context;
+mod env;
+mod evaluation;
 mod place;
 mod plain;
+mod symbolic;
 
 pub use callbacks::Callbacks;
+pub use context::Context;
+pub use env::Env;
+pub use evaluation::eval;
 pub use place::{Callback, Place};
 pub use plain::Plain;
+pub use symbolic::{
+    command_is_real, init_is_real, next_is_real, pre_is_real, symbolic_equals_real,
+};

@@ -34,10 +34,10 @@ impl Callback {
     }
 }
 
-/// Where a callback faults.
+/// The place of a callback's fault.
 #[derive(Clone, Copy, Debug, PartialEq, Eq, Drop)]
 pub struct Place {
-    /// The number of the command, from 1; 0 stands for the initial state.
+    /// The number of the command, from 1, or 0 for the initial state.
     pub command: u32,
     /// The callback that faults.
     pub callback: Callback,

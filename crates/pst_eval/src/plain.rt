@@ -1,14 +1,15 @@
 //! The callbacks by recursion on a borrowed model.
 ghost use Rattle.std.specs.Prelude.{◌≡◌, ◌≢◌, IfOk};
 ghost use Rattle.pst_eval.specs.Callbacks.{Says, at_names};
-ghost use Rattle.pst_meaning.specs.Env.{env_of};
+ghost use Rattle.pst_eval.specs.Env.{env_of};
 ghost use Rattle.pst_operators.specs.Outcome.{Stuck};
 
 use crate::callbacks::{Answer, Callbacks};
-use pst_meaning::{Context, Env, eval};
-use pst_model::{Expr, Source, calls_of, opening_of, operation_of};
+use crate::context::Context;
+use crate::env::Env;
+use crate::evaluation::eval;
+use pst_model::{Expr, Source, Typed, calls_of, opening_of, operation_of};
 use pst_operators::Stop;
-use pst_rules::Typed;
 use pst_value::Value;
 use std::alloc::{AllocError, Global};
 

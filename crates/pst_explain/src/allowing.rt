@@ -5,15 +5,15 @@ ghost use Rattle.pst_case.specs.Recorded.{recorded};
 ghost use Rattle.pst_judge.specs.Verdict.{first_broken};
 
 use pst_case::{History, Reply};
-use pst_eval::Callbacks;
-use pst_evidence::wanted_reply;
-use pst_meaning::Env;
+use pst_eval::{Callbacks, Env};
 use pst_reasons::{AllowedValues, Candidates, allowed, merge_beyond, without};
-use pst_scene::{Call, Falsity, Scene, arguments, falsity_of, operation, state_before};
+use pst_scene::{
+    Call, Falsity, Scene, arguments, falsity_of, operation, state_before, wanted_reply,
+};
 use pst_value::Value;
 use std::alloc::{AllocError, Global};
 
-/// The most allowed values that are found.
+/// The maximum number of allowed values to find.
 const MOST: u32 = 8;
 
 /// Why an answer is wrong in an interleaving in which the rest of the core is right.
@@ -26,14 +26,14 @@ pub struct WrongIn<'a> {
     pub falsity: Falsity<'a>,
 }
 
-/// Proposes, for an interleaving, the reply that the postcondition of a command wants there.
+/// Proposes, for an interleaving, the reply that the postcondition of a command requires there.
 #[derive(Drop)]
 struct Wanted<'s, 'a> {
     scene: &'s Scene<'a>,
     call: &'s Call<'a>,
 }
 
-/// The other truth value, where the command answered one.
+/// Returns the opposite bool, if the command answered a bool.
 fn opposite(call: &Call<'_>) -> Option<Value> {
     match call.reply {
         Some(Reply::Value(Value::Bool(truth))) => Some(Value::Bool(!*truth)),
@@ -41,7 +41,7 @@ fn opposite(call: &Call<'_>) -> Option<Value> {
     }
 }
 
-/// A reply that may be right on the state before the command.
+/// Returns a reply that may be right on `state`, the state before the command.
 fn reply_on(
     alloc: Global,
     scene: &Scene<'_>,
@@ -69,7 +69,8 @@ impl<'s, 'a> Candidates for Wanted<'s, 'a> {
     }
 }
 
-/// Why the postcondition of a command is not true in an interleaving. `None`: a callback faults before the command.
+/// Returns why the postcondition of a command is not true in the interleaving `word`. `None` if a callback faults
+/// before the command.
 fn wrong_by<'a>(
     alloc: Global,
     scene: &Scene<'a>,
@@ -87,8 +88,8 @@ fn wrong_by<'a>(
     }))
 }
 
-/// Why the postcondition of a command is not true in the least interleaving in which the rest of the core is right and it is
-/// not, if there is one.
+/// Returns why the postcondition of a command is not true in the lexicographically first interleaving in which the rest
+/// of the core is right and it is not, if there is one.
 pub fn wrong_without<'a, C: Callbacks>(
     callbacks: &C,
     alloc: Global,
@@ -122,8 +123,9 @@ pub fn wrong_without<'a, C: Callbacks>(
     }
 }
 
-/// What the model allows in place of the answer of a command of a core, in the interleavings in which the rest of the core is
-/// right. The postcondition is evaluated by recursion: the deepest valid model takes some tens of MiB of stack.
+/// Returns what the model allows in place of the answer of a command of a core, in the interleavings in which the rest
+/// of the core is right. It evaluates the postcondition by recursion: the deepest valid model takes some tens of MiB of
+/// stack.
 pub fn allowed_of<C: Callbacks>(
     callbacks: &C,
     alloc: Global,

@@ -1,25 +1,24 @@
-//! Replies that are no value.
+//! Replies that are not values.
 
 use pst_case::{Reply, Run};
-use pst_model::Source;
+use pst_model::{Source, Typed};
 use pst_print::ty_form;
-use pst_rules::Typed;
 use pst_scene::{Call, Scene, add, add_form, call_numbered, operation, scene_of};
 use pst_value::Ty;
 use std::alloc::{AllocError, Global};
 
-/// A reply that is no value.
+/// A reply that is not a value.
 #[derive(Drop)]
 pub struct BrokenReply<'a> {
     /// The number of the command.
     pub number: u32,
-    /// The command, if there is one of the number.
+    /// The command, if there is one with this number.
     pub call: Option<Call<'a>>,
-    /// The type that was wanted.
+    /// The expected type.
     pub wanted: Option<&'a Ty>,
 }
 
-/// The reply of the command of a number, which is no value.
+/// Returns the reply of command `number`, which is not a value.
 pub fn broken_reply<'a>(scene: &Scene<'a>, number: u32) -> BrokenReply<'a> {
     let call = call_numbered(scene.all.as_slice(), number);
     let wanted = match &call {
@@ -36,17 +35,18 @@ pub fn broken_reply<'a>(scene: &Scene<'a>, number: u32) -> BrokenReply<'a> {
     }
 }
 
-/// What the reply says of a command.
+/// Returns what the reply says about a command.
 fn meaning(reply: &Reply) -> &'static str {
     match reply {
         Reply::Value(_) => "has a value",
         Reply::Misfit => "has the reply misfit: it answered something else than",
-        Reply::Failed => "has the reply failed: the call was refused, and did not answer",
+        Reply::Failed =>
+            "has the reply failed: it failed, or answered what is no value, in place of",
         Reply::NotRun => "has the reply not-run: it was not called, and did not answer",
     }
 }
 
-/// Which reply a command has, and the type that was wanted. `None`: there is no reply.
+/// Returns a sentence on the reply of a command and the expected type. `None` if there is no reply.
 pub fn broken_sentence(
     alloc: Global,
     model: &Source,
@@ -68,9 +68,11 @@ pub fn broken_sentence(
     Ok(Some(text))
 }
 
-/// Which reply of a recorded run makes it broken, and the type that was wanted, as
-/// `P1 (inc) has the reply failed: the call was refused, and did not answer a value of type int`. `number` is that of the
-/// command. `None`: the run has no such reply.
+/// Returns a sentence on the reply of command `number` that makes a recorded run broken, and the expected type. `None`
+/// if the run has no such reply.
+///
+/// `P1 (inc) has the reply failed: it failed, or answered what is no value, in place of a value of type int` is an
+/// example.
 pub fn broken_text(
     alloc: Global,
     typed: &Typed,

@@ -6,8 +6,8 @@ use crate::parts::add_parts;
 use pst_model::Source;
 use pst_reasons::AllowedValues;
 use pst_scene::{
-    Call, Page, Scene, Table, add, add_reply, add_value, add_word, expression_text, falsity_text,
-    joined, operation, text_of, two, value_text,
+    Call, Cell, Page, Scene, Style, Table, add, add_reply, add_value, add_word, expression_text,
+    falsity_text, joined, operation, text_of, value_text,
 };
 use std::alloc::{AllocError, Global};
 
@@ -35,7 +35,7 @@ fn postcondition_text(
     Ok(text)
 }
 
-/// The allowed values in one text, and `..` if there may be others.
+/// Returns the allowed values in one text, and `..` if there may be others.
 fn values_text(
     alloc: Global,
     model: &Source,
@@ -56,24 +56,25 @@ fn values_text(
 
 /// Adds a cell for each allowed value, and one of `..` if there may be others.
 fn add_each_value(
-    row: &mut Vec<Vec<u8>>,
+    row: &mut Vec<Cell>,
     alloc: Global,
     model: &Source,
     found: &AllowedValues,
 ) -> Result<(), AllocError> {
     for value in found.values.as_slice() {
         let value = value_text(alloc, model, value)?;
-        row.push(joined(alloc, &[b"allowed: ", value.as_slice()])?)?;
+        let text = joined(alloc, &[b"allowed: ", value.as_slice()])?;
+        row.push(Cell::styled(Style::Right, text))?;
     }
     if !found.all {
-        row.push(text_of(alloc, "..")?)?;
+        row.push(Cell::styled(Style::Right, text_of(alloc, "..")?))?;
     }
     Ok(())
 }
 
 /// Adds a cell of the allowed values, if there are some, or a cell for each if one has more bytes than a line.
 fn add_values(
-    row: &mut Vec<Vec<u8>>,
+    row: &mut Vec<Cell>,
     alloc: Global,
     model: &Source,
     found: &AllowedValues,
@@ -86,11 +87,11 @@ fn add_values(
     if text.len() > line {
         return add_each_value(row, alloc, model, found);
     }
-    row.push(text)?;
+    row.push(Cell::styled(Style::Right, text))?;
     Ok(())
 }
 
-/// Why an answer is wrong in an interleaving, and which that is.
+/// Returns why an answer is wrong in an interleaving, and names the interleaving.
 fn wrong_text(alloc: Global, model: &Source, wrong: &WrongIn<'_>) -> Result<Vec<u8>, AllocError> {
     let mut text = falsity_text(alloc, model, &wrong.falsity)?;
     if !wrong.word.is_empty() {
@@ -100,22 +101,25 @@ fn wrong_text(alloc: Global, model: &Source, wrong: &WrongIn<'_>) -> Result<Vec<
     Ok(text)
 }
 
-/// The row of an answer: what it is, its postcondition, for one that gives no single reply the part of it that is false, and
-/// what the model allows in its place. `line` is how many bytes a line has room for.
+/// Returns the row of an answer: the answer, the postcondition, why it is wrong if that is needed, and what the model
+/// allows in its place. A line has room for `line` bytes.
 fn answer_row(
     alloc: Global,
     scene: &Scene<'_>,
     answer: &CoreAnswer<'_>,
     line: usize,
-) -> Result<Vec<Vec<u8>>, AllocError> {
+) -> Result<Vec<Cell>, AllocError> {
     let model = scene.model;
     let left = answered(alloc, model, &answer.call)?;
-    let mut row = two(alloc, left, postcondition_text(alloc, scene, &answer.call)?)?;
+    let post = postcondition_text(alloc, scene, &answer.call)?;
+    let mut row = Vec::new(alloc);
+    row.push(Cell::styled(Style::Wrong, left))?;
+    row.push(Cell::plain(post))?;
     if answer.asks_why() {
-        row.push(match &answer.wrong {
+        row.push(Cell::plain(match &answer.wrong {
             Some(wrong) => wrong_text(alloc, model, wrong)?,
             None => Vec::new(alloc),
-        })?;
+        }))?;
     }
     add_values(&mut row, alloc, model, &answer.allowed, line)?;
     Ok(row)

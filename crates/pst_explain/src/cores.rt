@@ -8,9 +8,8 @@ ghost use Rattle.pst_reasons.specs.Reasons.{IsUnexplained};
 use crate::allowing::{WrongIn, allowed_of, wrong_without};
 use pst_case::History;
 use pst_eval::Callbacks;
-use pst_evidence::wants_one_reply;
 use pst_reasons::{AllowedValues, core};
-use pst_scene::{Call, Part, Scene, call_numbered, operation};
+use pst_scene::{Call, Part, Scene, call_numbered, operation, wants_one_reply};
 use std::alloc::{AllocError, Global};
 
 /// An answer of a core.
@@ -22,20 +21,20 @@ pub struct CoreAnswer<'a> {
     pub allowed: AllowedValues,
     /// Whether the form of its postcondition is that one answer alone is right on a state.
     pub has_one_reply: bool,
-    /// Why it is wrong in the least interleaving in which the rest of the core is right, if it has no single reply or none
-    /// is known to be allowed.
+    /// Why it is wrong in the first interleaving in which the rest of the core is right, if it has no single reply or
+    /// no allowed reply is known.
     pub wrong: Option<WrongIn<'a>>,
 }
 
-/// The answers of an item that cannot all be right, while without any one of them the others can. There are none if the model
-/// faults in every interleaving, whatever is answered.
+/// The answers of an item that cannot all be right, while without any one of them the others can. There are none if the
+/// model faults in every interleaving, whatever is answered.
 #[derive(Drop)]
 pub struct Core<'a> {
     pub answers: Vec<CoreAnswer<'a>>,
 }
 
 impl<'a> CoreAnswer<'a> {
-    /// Whether it is asked why the answer is wrong.
+    /// Returns whether the explanation has to say why the answer is wrong.
     pub fn asks_why(&self) -> bool {
         self.allowed.values.is_empty() || !self.has_one_reply
     }
@@ -67,7 +66,7 @@ impl<'a> Core<'a> {
     }
 }
 
-/// Whether the postcondition of a command is that it gives one reply.
+/// Returns whether the postcondition of a command requires one single reply.
 fn has_one_reply(alloc: Global, scene: &Scene<'_>, call: &Call<'_>) -> Result<bool, AllocError> {
     match operation(scene, call) {
         Some(operation) => wants_one_reply(alloc, &operation.post),

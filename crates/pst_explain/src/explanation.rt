@@ -13,21 +13,21 @@ use crate::walks::{Walk, explaining_walk, furthest_walk};
 use pst_case::{History, Run};
 use pst_eval::{Callback, Callbacks, Place};
 use pst_judge::{Judged, Verdict, Why, verdict_with_interleaving};
-use pst_rules::Typed;
+use pst_model::Typed;
 use pst_scene::{Part, Scene, call_numbered, scene_of};
 use std::alloc::{AllocError, Global};
 
-/// Why the judgement of an item is as it is.
+/// The reason of the judgement of an item.
 #[derive(Drop)]
 pub enum Reason<'a> {
     /// The interleaving explains it.
     Explained(Walk<'a>),
     /// No interleaving explains it, and none faults.
     Unexplained {
-        /// How many commands are right, in the interleaving that comes furthest, before a wrong one.
+        /// How many commands are right before a wrong one, in the interleaving that gets furthest.
         far: usize,
         core: Core<'a>,
-        /// The interleaving that comes furthest.
+        /// The interleaving that gets furthest.
         furthest: Walk<'a>,
     },
     /// No interleaving explains it, and a callback faults in one.
@@ -35,7 +35,7 @@ pub enum Reason<'a> {
         failure: Failure<'a>,
         core: Core<'a>,
     },
-    /// A reply is no value.
+    /// A reply is not a value.
     Broken(BrokenReply<'a>),
     /// A case is not valid.
     Invalid(Failure<'a>),
@@ -76,7 +76,7 @@ impl<'a> Reason<'a> {
 pub struct Explanation<'a> {
     /// The number of the item, from 1.
     pub number: usize,
-    /// Where the item begins in the input, if that is known.
+    /// The place in the input at which the item begins, if it is known.
     pub place: Option<TreePlace<'a>>,
     pub judged: &'a Judged,
     /// The item and its model.
@@ -84,7 +84,7 @@ pub struct Explanation<'a> {
     pub reason: Reason<'a>,
 }
 
-/// The first fault of an item that no interleaving explains, and a core.
+/// Returns the first fault of an item that no interleaving explains, and a core.
 fn faulted<'a, C: Callbacks>(
     callbacks: &C,
     alloc: Global,
@@ -109,7 +109,7 @@ fn faulted<'a, C: Callbacks>(
     Ok(Reason::Faulted { failure, core })
 }
 
-/// A core of an item that no interleaving explains, and the interleaving that comes furthest.
+/// Returns a core of an item that no interleaving explains, and the interleaving that gets furthest.
 fn unexplained<'a, C: Callbacks>(
     callbacks: &C,
     alloc: Global,
@@ -132,7 +132,7 @@ fn unexplained<'a, C: Callbacks>(
     })
 }
 
-/// Why the verdict on a history is as it is.
+/// Returns the reason of the verdict on a history.
 fn of_verdict<'a, C: Callbacks>(
     callbacks: &C,
     alloc: Global,
@@ -157,7 +157,7 @@ fn of_verdict<'a, C: Callbacks>(
     }
 }
 
-/// Why a case is not valid.
+/// Returns the reason why a case is not valid.
 fn of_invalid<'a>(alloc: Global, scene: &Scene<'a>, why: &Why) -> Result<Reason<'a>, AllocError> {
     match why {
         Why::PreFalse { command, merge } => {
@@ -176,7 +176,8 @@ fn of_invalid<'a>(alloc: Global, scene: &Scene<'a>, why: &Why) -> Result<Reason<
     }
 }
 
-/// Explains an item of a model: `judged` is its judgement, `number` its number, and `place` where it begins in the input.
+/// Explains an item of a model: `judged` is its judgement, `number` its number, and `place` where it begins in the
+/// input.
 pub fn explain_item<'a, C: Callbacks>(
     callbacks: &C,
     alloc: Global,

@@ -78,7 +78,7 @@ fn add_call(
     out.extend_from_slice(text.as_slice())
 }
 
-/// Whether the word has a letter for each command of the branches.
+/// Returns whether `word` has a letter for each command of the branches.
 fn is_whole(scene: &Scene<'_>, word: &[usize]) -> bool {
     let mut count = 0usize;
     for branch in &scene.calls.branches {
@@ -87,7 +87,7 @@ fn is_whole(scene: &Scene<'_>, word: &[usize]) -> bool {
     word.len() == count
 }
 
-/// Which callback of a command faults, and in which interleaving.
+/// Returns a sentence that says which callback of a command faults, and in which interleaving.
 fn call_sentence(
     alloc: Global,
     scene: &Scene<'_>,
@@ -117,7 +117,7 @@ fn call_sentence(
     Ok(text)
 }
 
-/// That a callback of no command faults.
+/// Returns a sentence that says which callback faults, if it belongs to no command.
 fn model_sentence(alloc: Global, callback: Callback, fault: Fault) -> Result<Vec<u8>, AllocError> {
     let mut text = text_of(
         alloc,
@@ -131,7 +131,7 @@ fn model_sentence(alloc: Global, callback: Callback, fault: Fault) -> Result<Vec
     Ok(text)
 }
 
-/// That the precondition of a command is false in an interleaving.
+/// Returns a sentence that says that the precondition of a command is false in an interleaving.
 fn false_sentence(
     alloc: Global,
     model: &Source,
@@ -148,7 +148,7 @@ fn false_sentence(
     Ok(text)
 }
 
-/// What fails.
+/// Returns a sentence that says what fails.
 fn failure_sentence(
     alloc: Global,
     scene: &Scene<'_>,

@@ -2,15 +2,13 @@
 
 use crate::walks::{Walk, empty_walk, stopped_after, walk_along};
 use pst_case::Reply;
-use pst_eval::{Callback, Place};
-use pst_evidence::{Binding, FaultyPart, bindings_of, faulty_part, words_of};
-use pst_items::Items;
-use pst_meaning::Env;
+use pst_eval::{Callback, Env, Place};
 use pst_model::{Expr, calls_of, opening_of};
 use pst_scene::{
-    Call, Scene, arguments, call_numbered, calls_before, operation, reference, states_along,
+    Binding, Call, FaultyPart, Scene, arguments, bindings_of, call_numbered, calls_before,
+    faulty_part, operation, reference, states_along, words_of,
 };
-use pst_value::{Fault, Value};
+use pst_value::{Fault, Items, Value};
 use std::alloc::{AllocError, Global};
 
 /// An expression with the values of its names.
@@ -42,7 +40,7 @@ pub struct Failure<'a> {
     pub callback: Callback,
     /// The command whose callback it is; `None` for `init` and `command`.
     pub call: Option<Call<'a>>,
-    /// With what it faults; `None` if it is a precondition that is false.
+    /// Its fault; `None` if it is a precondition that is false.
     pub fault: Option<Fault>,
     /// Its expression. `None` if the model has none, or there is no state before the command.
     pub expression: Option<Expression<'a>>,
@@ -50,7 +48,7 @@ pub struct Failure<'a> {
     pub walk: Walk<'a>,
 }
 
-/// The value of a name, the inner one if it has several.
+/// Returns the value of `name`, the inner one if it has several.
 fn value_of<'a>(bindings: &'a [Binding], name: &[u8]) -> Option<&'a Value> {
     for binding in bindings {
         if binding.name.as_slice() == name {
@@ -60,7 +58,7 @@ fn value_of<'a>(bindings: &'a [Binding], name: &[u8]) -> Option<&'a Value> {
     None
 }
 
-/// An expression, and the names in it with their values.
+/// Returns an expression, and the names in it with their values.
 fn with_values<'a>(
     alloc: Global,
     expr: &'a Expr,
@@ -79,7 +77,7 @@ fn with_values<'a>(
     Ok(Evaluated { expr, names })
 }
 
-/// The part of an expression that faults, if it is not the whole.
+/// Returns the part of an expression that faults, if it is not the whole.
 fn failing_part<'a>(
     alloc: Global,
     whole: &Expr,
@@ -94,7 +92,7 @@ fn failing_part<'a>(
     }))
 }
 
-/// An expression of the model in an environment, and the part of it that faults.
+/// Returns an expression of the model with its values in `env`, and the part of it that faults.
 fn expression_in<'a>(
     alloc: Global,
     scene: &Scene<'a>,
@@ -110,7 +108,7 @@ fn expression_in<'a>(
     Ok(Some(Expression { whole, part }))
 }
 
-/// The expression of the initial state.
+/// Returns the expression of the initial state.
 fn of_init<'a>(alloc: Global, scene: &Scene<'a>) -> Result<Option<Expression<'a>>, AllocError> {
     match opening_of(scene.model.items.as_slice()) {
         Some(expr) => expression_in(alloc, scene, expr, &Env::Frame(&[], &[])),
@@ -118,7 +116,7 @@ fn of_init<'a>(alloc: Global, scene: &Scene<'a>) -> Result<Option<Expression<'a>
     }
 }
 
-/// The expression of the calls to pick from in a state.
+/// Returns the expression of the calls to pick from in `state`.
 fn of_command<'a>(
     alloc: Global,
     scene: &Scene<'a>,
@@ -133,7 +131,7 @@ fn of_command<'a>(
     }
 }
 
-/// The expression of a callback of a command on the state before it.
+/// Returns the expression of a callback of a command on `state`, the state before it.
 fn of_callback<'a>(
     alloc: Global,
     scene: &Scene<'a>,
@@ -165,8 +163,8 @@ fn of_callback<'a>(
     }
 }
 
-/// The failure of a callback of a command in the interleaving of the word. `fault` is with what it faults; `None`: it is a
-/// precondition that is false.
+/// Returns the failure of a callback of a command in the interleaving `word`. `fault` is its fault, or `None` if it is
+/// a precondition that is false.
 pub fn failure_at<'a>(
     alloc: Global,
     scene: &Scene<'a>,
@@ -194,7 +192,7 @@ pub fn failure_at<'a>(
     })
 }
 
-/// The failure at a place in the interleaving of the word.
+/// Returns the failure at `place` in the interleaving `word`.
 pub fn failure_in<'a>(
     alloc: Global,
     scene: &Scene<'a>,
@@ -214,7 +212,7 @@ pub fn failure_in<'a>(
     })
 }
 
-/// The failure of the calls to pick from after the commands of a script, which are all of the item.
+/// Returns the failure of the calls to pick from after a script, whose commands are all commands of the item.
 pub fn script_failure<'a>(
     alloc: Global,
     scene: &Scene<'a>,

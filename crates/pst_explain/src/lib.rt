@@ -1,23 +1,31 @@
-//! Why a verdict is as it is: explanations as data, and their text.
+//! Explains verdicts: explanations as data, their text, and the graph of the search.
 //!
-//! `explain_item` explains one item, whose judgement is known, and `explanation_text` writes the explanation as `pst explain`
-//! prints it. `first_places` finds where the trees of an input begin, `explain_script` says why no case can be generated, and
-//! `broken_text` which reply makes a run broken. Cores come from `pst_reasons`, the interleavings from `pst_judge`, and their
-//! states from `pst_reasons`; what else is in an explanation, and its text, is tested and not proved. `AllocError` is out of
-//! memory.
+//! `explain_item` explains one item, whose judgement is known. `explanation_text` writes the explanation in the form of
+//! `pst explain`. `first_places` finds where the trees of an input begin, `explain_script` explains why no case can be
+//! generated, and `broken_text` which reply makes a run broken. Cores and the states of interleavings are from
+//! `pst_reasons`, the interleavings from `pst_judge`. The rest of an explanation, and its text, is tested and not
+//! proved.
+//!
+//! `AllocError` means that an allocation failed.
 #![tactic(auto)]
 
 mod allowing;
 mod breaking;
 mod core_text;
 mod cores;
+mod drawing;
 mod explanation;
 mod failure_text;
 mod failures;
+mod graph;
+mod labels;
 mod lines;
 mod parts;
+mod path;
 mod places;
+mod position;
 mod scripts;
+mod search;
 mod text;
 mod walk_text;
 mod walks;
@@ -27,7 +35,10 @@ pub use breaking::{BrokenReply, broken_text};
 pub use cores::{Core, CoreAnswer};
 pub use explanation::{Explanation, Reason, explain_item};
 pub use failures::{Evaluated, Expression, FailingPart, Failure};
+pub use graph::graph_item;
 pub use places::{TreePlace, first_places};
+pub use position::Position;
 pub use scripts::explain_script;
-pub use text::{explanation_text, reason_text};
+pub use search::{Move, Search, Target, whole_search};
+pub use text::{colored_text, explanation_text, reason_text};
 pub use walks::{Step, Stopped, Walk};

@@ -2,20 +2,20 @@
 
 use std::alloc::{AllocError, Global};
 
-/// Where a byte stands.
+/// What a byte is part of.
 #[derive(Clone, Copy, Debug, Drop, PartialEq, Eq)]
 enum Mode {
     /// Between trees or in a word.
     Plain,
     /// In a text.
     Quoted,
-    /// In a text, behind `\`.
+    /// In a text, after a `\`.
     Escaped,
     /// In a comment.
     Comment,
 }
 
-/// Where the byte behind this one stands.
+/// Returns the mode after `byte`.
 fn mode_after(mode: Mode, byte: u8) -> Mode {
     match mode {
         Mode::Plain => match byte {
@@ -36,8 +36,7 @@ fn mode_after(mode: Mode, byte: u8) -> Mode {
     }
 }
 
-/// For each node that stands in no other, in a file that is read without a fault, the line on which it begins, from 1.
-/// `AllocError` where memory is refused.
+/// Returns the line, from 1, on which each top-level node begins. The file must have no fault.
 pub fn first_lines(alloc: Global, bytes: &[u8]) -> Result<Vec<usize>, AllocError> {
     let mut lines = Vec::new(alloc);
     let mut mode = Mode::Plain;

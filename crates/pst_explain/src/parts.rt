@@ -1,12 +1,12 @@
 //! The run of an item in columns.
 
-use pst_scene::{Call, Page, Scene, Table};
+use pst_scene::{Call, Cell, Page, Scene, Style, Table};
 use std::alloc::{AllocError, Global};
 
-/// Branches stand side by side where each may have so many bytes.
+/// Branches are side by side if each may have this many bytes.
 const LEAST_COLUMN: usize = 16;
 
-/// Whether the number is among the marked ones.
+/// Returns whether `number` is one of the marked numbers.
 fn is_marked(marked: &[u32], number: u32) -> bool {
     for other in marked {
         if *other == number {
@@ -22,16 +22,17 @@ fn cell(
     scene: &Scene<'_>,
     marked: &[u32],
     call: &Call<'_>,
-) -> Result<Vec<u8>, AllocError> {
-    let mut cell = Vec::new(alloc);
-    cell.push(if is_marked(marked, call.number) {
-        b'*'
+) -> Result<Cell, AllocError> {
+    let (mark, style) = if is_marked(marked, call.number) {
+        (b'*', Style::Wrong)
     } else {
-        b' '
-    })?;
-    let text = call.with_reply(alloc, scene.model)?;
-    cell.extend_from_slice(text.as_slice())?;
-    Ok(cell)
+        (b' ', Style::Plain)
+    };
+    let mut text = Vec::new(alloc);
+    text.push(mark)?;
+    let call = call.with_reply(alloc, scene.model)?;
+    text.extend_from_slice(call.as_slice())?;
+    Ok(Cell::styled(style, text))
 }
 
 /// Adds a part as lines.
@@ -44,29 +45,29 @@ fn add_part(
 ) -> Result<(), AllocError> {
     for call in calls {
         let cell = cell(alloc, scene, marked, call)?;
-        page.add_line(alloc, 3, cell.as_slice())?;
+        page.add_styled_line(alloc, 3, cell.style, cell.text.as_slice())?;
     }
     Ok(())
 }
 
-/// The row of the branches' commands of an index, from 0: an empty cell where a branch has none.
+/// Returns the row of command `index`, from 0, of each branch, with an empty cell for a branch without this command.
 fn branch_row(
     alloc: Global,
     scene: &Scene<'_>,
     marked: &[u32],
     index: usize,
-) -> Result<Vec<Vec<u8>>, AllocError> {
+) -> Result<Vec<Cell>, AllocError> {
     let mut row = Vec::new(alloc);
     for branch in &scene.calls.branches {
         match branch.get(index) {
             Some(call) => row.push(cell(alloc, scene, marked, call)?)?,
-            None => row.push(Vec::new(alloc))?,
+            None => row.push(Cell::plain(Vec::new(alloc)))?,
         }
     }
     Ok(row)
 }
 
-/// How many commands the longest branch has.
+/// Returns how many commands the longest branch has.
 fn longest(scene: &Scene<'_>) -> usize {
     let mut most = 0usize;
     for branch in &scene.calls.branches {
@@ -75,7 +76,7 @@ fn longest(scene: &Scene<'_>) -> usize {
     most
 }
 
-/// Adds the branches side by side; one below another where columns would be narrow.
+/// Adds the branches side by side, or one below another if columns would be too narrow.
 fn add_branches(
     page: &mut Page,
     alloc: Global,

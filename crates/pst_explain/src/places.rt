@@ -1,10 +1,10 @@
-//! Where the trees of an input begin.
+//! The places at which the trees of an input begin.
 
 use crate::lines::first_lines;
 use pst_sources::SourceFile;
 use std::alloc::{AllocError, Global};
 
-/// Where a tree begins in an input.
+/// The place at which a tree begins in an input.
 #[derive(Clone, Copy, Debug, Drop)]
 pub struct TreePlace<'a> {
     /// The name of its file; `None` if the input is not from files.
@@ -26,7 +26,7 @@ impl<'a> TreePlace<'a> {
     }
 }
 
-/// How many lines of the text of an input are lines of the file.
+/// Returns how many lines of the text of an input are lines of the file.
 fn line_count(file: &SourceFile<'_>) -> usize {
     let mut count = 1usize;
     for byte in &file.bytes {
@@ -37,7 +37,7 @@ fn line_count(file: &SourceFile<'_>) -> usize {
     count
 }
 
-/// How many lines of the text of an input are lines of each file.
+/// Returns how many lines of the text of an input are lines of each file.
 fn line_counts(alloc: Global, files: &[SourceFile<'_>]) -> Result<Vec<usize>, AllocError> {
     let mut counts = Vec::new(alloc);
     for file in files {
@@ -46,7 +46,7 @@ fn line_counts(alloc: Global, files: &[SourceFile<'_>]) -> Result<Vec<usize>, Al
     Ok(counts)
 }
 
-/// The place of a line of the text of an input.
+/// Returns the place of line `line` of the text of an input.
 fn place_of<'a>(files: &[SourceFile<'a>], counts: &[usize], line: usize) -> TreePlace<'a> {
     let has_others = files.len() > 1;
     let mut rest = line;
@@ -67,8 +67,8 @@ fn place_of<'a>(files: &[SourceFile<'a>], counts: &[usize], line: usize) -> Tree
     }
 }
 
-/// Where each tree of an input begins. The input is read without a fault; `text` is the text of its files, of which there may
-/// be none.
+/// Returns the place at which each tree of an input begins. The input must be read without a fault. `text` is the text
+/// of `files`, which may be empty if the input is not from files.
 pub fn first_places<'a>(
     alloc: Global,
     files: &[SourceFile<'a>],

@@ -4,9 +4,9 @@ use crate::failure_text::add_failure;
 use crate::failures::{failure_in, script_failure};
 use pst_case::{Case, CaseFaultKind, Command, Run, shape};
 use pst_eval::{Callback, Place};
-use pst_items::Items;
-use pst_rules::Typed;
+use pst_model::Typed;
 use pst_scene::{Page, scene_of};
+use pst_value::Items;
 use std::alloc::{AllocError, Global};
 
 /// The case whose prefix are the commands, with two empty branches, if it has the shape of the model.
@@ -35,10 +35,10 @@ fn run_of(
     }
 }
 
-/// Why no case can be generated, in lines of at most `width` bytes as far as sentences allow: the callback that faults, its
-/// expression with the values of its names, the part of it that faults, and the states before. `commands` are those of the
-/// script so far; where `pre` or `next` faults its command is the last of them. `None`: they are no script of the model.
-/// `AllocError`: memory was refused.
+/// Returns why no case can be generated, in lines of at most `width` bytes as far as sentences allow: the callback that
+/// faults, its expression with the values of its names, the part of it that faults, and the states before. `commands`
+/// are those of the script so far; if `pre` or `next` faults, the last of them is its command. `None` if they are no
+/// script of the model.
 pub fn explain_script(
     alloc: Global,
     typed: &Typed,
@@ -56,6 +56,5 @@ pub fn explain_script(
     };
     let mut page = Page::new(alloc, width);
     add_failure(&mut page, alloc, &scene, &failure)?;
-    let Page { text, width: _ } = page;
-    Ok(Some(text))
+    Ok(Some(page.into_text()))
 }

@@ -7,11 +7,20 @@ use crate::failure_text::add_failure;
 use crate::parts::add_parts;
 use crate::walk_text::{add_explained, add_states, add_stopped};
 use crate::walks::Walk;
+use pst_judge::{Judged, Verdict};
 use pst_model::Source;
-use pst_scene::{Page, Scene, add, add_number, add_word, text_of};
+use pst_scene::{Page, Scene, Style, add, add_number, add_word, text_of};
 use std::alloc::{AllocError, Global};
 
-/// The first line of an item: what `pst judge` says of it, and where it begins.
+/// The style of a judgement: that of something wrong, unless the item is explained or valid.
+fn judgement_style(judged: &Judged) -> Style {
+    match judged {
+        Judged::Verdict(Verdict::Explained(_)) | Judged::Valid => Style::Plain,
+        Judged::Verdict(_) | Judged::Invalid(_) => Style::Wrong,
+    }
+}
+
+/// Adds the first line of an item: its number, its judgement as `pst judge` prints it, and the place where it begins.
 fn add_heading(
     page: &mut Page,
     alloc: Global,
@@ -28,10 +37,12 @@ fn add_heading(
         add(&mut heading, place.as_str())?;
     }
     add(&mut heading, ")")?;
-    page.add_heading(alloc, heading.as_slice())
+    let style = judgement_style(explanation.judged);
+    page.add_heading(alloc, style, heading.as_slice())
 }
 
-/// How far the interleaving comes whose first letters the word has.
+/// Returns a sentence on how many events are true before a false one: `far`, as in an interleaving that begins with
+/// `word`.
 fn far_sentence(alloc: Global, far: usize, word: &[usize]) -> Result<Vec<u8>, AllocError> {
     let mut text = match far {
         0 => return text_of(alloc, "No event is true before a false one:"),
@@ -51,7 +62,7 @@ fn far_sentence(alloc: Global, far: usize, word: &[usize]) -> Result<Vec<u8>, Al
     Ok(text)
 }
 
-/// Adds the interleaving that comes furthest, and why none of the next commands can come.
+/// Adds the interleaving that gets furthest, and why no command can come next.
 fn add_furthest(
     page: &mut Page,
     alloc: Global,
@@ -65,7 +76,7 @@ fn add_furthest(
     add_stopped(page, alloc, model, walk.stopped.as_slice())
 }
 
-/// Adds which reply is no value, and the run.
+/// Adds which reply is not a value, and the run.
 fn add_broken(
     page: &mut Page,
     alloc: Global,
@@ -80,7 +91,7 @@ fn add_broken(
     add_parts(page, alloc, scene, &[broken.number])
 }
 
-/// Adds why the judgement is as it is.
+/// Adds the reason of the judgement.
 fn add_reason(
     page: &mut Page,
     alloc: Global,
@@ -107,7 +118,7 @@ fn add_reason(
     }
 }
 
-/// Why the judgement is as it is, as `explanation_text` has it after the first line.
+/// Returns the reason of the judgement, which `explanation_text` writes after the first line.
 pub fn reason_text(
     alloc: Global,
     explanation: &Explanation<'_>,
@@ -115,19 +126,39 @@ pub fn reason_text(
 ) -> Result<Vec<u8>, AllocError> {
     let mut page = Page::new(alloc, width);
     add_reason(&mut page, alloc, &explanation.scene, &explanation.reason)?;
-    let Page { text, width: _ } = page;
-    Ok(text)
+    Ok(page.into_text())
 }
 
-/// An explanation in lines of at most `width` bytes: what is longer than a line is cut in the middle with `..`.
+/// Adds an explanation to a page.
+fn add_explanation(
+    page: &mut Page,
+    alloc: Global,
+    explanation: &Explanation<'_>,
+) -> Result<(), AllocError> {
+    add_heading(page, alloc, explanation)?;
+    add_reason(page, alloc, &explanation.scene, &explanation.reason)
+}
+
+/// Returns the text of an explanation in lines of at most `width` bytes. Parts that are longer than a line are cut in
+/// the middle with `..`.
 pub fn explanation_text(
     alloc: Global,
     explanation: &Explanation<'_>,
     width: usize,
 ) -> Result<Vec<u8>, AllocError> {
     let mut page = Page::new(alloc, width);
-    add_heading(&mut page, alloc, explanation)?;
-    add_reason(&mut page, alloc, &explanation.scene, &explanation.reason)?;
-    let Page { text, width: _ } = page;
-    Ok(text)
+    add_explanation(&mut page, alloc, explanation)?;
+    Ok(page.into_text())
+}
+
+/// An explanation as `explanation_text` gives it, in the colors of a terminal: the core is red, and the answers that the model
+/// allows are green.
+pub fn colored_text(
+    alloc: Global,
+    explanation: &Explanation<'_>,
+    width: usize,
+) -> Result<Vec<u8>, AllocError> {
+    let mut page = Page::colored(alloc, width);
+    add_explanation(&mut page, alloc, explanation)?;
+    Ok(page.into_text())
 }

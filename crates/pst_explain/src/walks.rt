@@ -19,7 +19,7 @@ use std::alloc::{AllocError, Global};
 #[derive(Drop)]
 pub struct Step<'a> {
     pub call: Call<'a>,
-    /// What its precondition is on the state before it.
+    /// The result of its precondition on the state before it.
     pub precondition: PreAnswer,
     /// The state after it.
     pub state: Value,
@@ -32,7 +32,7 @@ pub struct Stopped<'a> {
     pub why: DeadEnd<'a>,
 }
 
-/// An interleaving as far as it goes.
+/// An interleaving, up to the first command that cannot come next.
 #[derive(Drop)]
 pub struct Walk<'a> {
     /// The branches, from 0, of the letters that name the interleaving.
@@ -58,7 +58,7 @@ impl<'a> Walk<'a> {
     }
 }
 
-/// The walk of an interleaving without a state.
+/// Returns the walk of the interleaving `word`, without any state.
 pub fn empty_walk<'a>(alloc: Global, word: &[usize]) -> Result<Walk<'a>, AllocError> {
     Ok(Walk {
         word: Vec::from_slice(alloc, word)?,
@@ -68,7 +68,7 @@ pub fn empty_walk<'a>(alloc: Global, word: &[usize]) -> Result<Walk<'a>, AllocEr
     })
 }
 
-/// The walk along the commands, as far as there are states: the initial one, and one after each command in turn.
+/// Returns the walk along `calls`, as far as `states` has states: the initial one, and one after each command in turn.
 pub fn walk_along<'a>(
     alloc: Global,
     scene: &Scene<'_>,
@@ -93,7 +93,7 @@ pub fn walk_along<'a>(
     Ok(walk)
 }
 
-/// The branches of the commands that are in branches.
+/// Returns the branch of each command that is in a branch.
 fn word_of(alloc: Global, calls: &[Call<'_>]) -> Result<Vec<usize>, AllocError> {
     let mut word = Vec::new(alloc);
     for call in calls {
@@ -104,7 +104,7 @@ fn word_of(alloc: Global, calls: &[Call<'_>]) -> Result<Vec<usize>, AllocError> 
     Ok(word)
 }
 
-/// Each command that may come after these and cannot. `state` is the state after them.
+/// Returns each command that comes next in its part after `calls` but cannot on `state`, the state after them.
 pub fn stopped_after<'a>(
     alloc: Global,
     scene: &Scene<'a>,
@@ -122,7 +122,7 @@ pub fn stopped_after<'a>(
     Ok(stopped)
 }
 
-/// The interleaving of the word, which explains the item.
+/// Returns the walk of the interleaving `word`, which explains the item.
 pub fn explaining_walk<'a, C: Callbacks>(
     callbacks: &C,
     alloc: Global,
@@ -140,7 +140,7 @@ pub fn explaining_walk<'a, C: Callbacks>(
     walk_along(alloc, scene, word, order.as_slice(), states.as_slice())
 }
 
-/// Each of the commands, with why its postcondition is not true on the state.
+/// Returns each of the commands `next`, with the reason why its postcondition is not true on `state`.
 fn all_stopped<'a>(
     alloc: Global,
     scene: &Scene<'a>,
@@ -155,7 +155,7 @@ fn all_stopped<'a>(
     Ok(stopped)
 }
 
-/// The interleaving that comes furthest: `far` commands are right in it before a wrong one.
+/// Returns the interleaving that gets furthest: `far` commands are right in it before a wrong one.
 pub fn furthest_walk<'a, C: Callbacks>(
     callbacks: &C,
     alloc: Global,

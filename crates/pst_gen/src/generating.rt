@@ -12,14 +12,14 @@ use crate::split::split_case;
 use pst_case::Command;
 use pst_eval::{Callbacks, Place};
 use pst_judge::Valid;
-use pst_rules::Typed;
+use pst_model::Typed;
 use rand_core::Rng;
 use std::alloc::{AllocError, Global};
 
-/// The most commands that run in parallel.
+/// The maximum number of commands that run in parallel.
 const MAX_PARALLEL: usize = 16;
 
-/// The most commands that run in parallel, of those before the suffix: none where there is one branch.
+/// How many of the commands before the suffix may run in parallel: none if there is one branch.
 fn most(branches: u32, before: &[Command]) -> usize
     ensures { result ≡ most branches before.now }
 {
@@ -30,7 +30,7 @@ fn most(branches: u32, before: &[Command]) -> usize
     }
 }
 
-/// The split by the word with the most parallel commands that give an accepted case, from so many down.
+/// The split by `word` with the most parallel commands, at most `parallel`, that gives an accepted case.
 fn longest_split<C: Callbacks>(
     callbacks: &C,
     alloc: Global,
@@ -67,16 +67,16 @@ fn longest_split<C: Callbacks>(
     }
 }
 
-/// A valid case of the model that the callbacks evaluate, from random words; or the first fault of a
-/// callback.
+/// Generates a valid case of the model that the callbacks evaluate, from random words. Returns the first fault
+/// of a callback instead, if there is one.
 ///
-/// First a script of at most `commands` commands (1 to 64) is drawn: each command takes one word, which
-/// chooses among the calls that `command` lists in the symbolic state and whose precondition is true there;
-/// where no such call is left the script ends. The last `suffix` commands of the script (0 to 8; all of it
-/// where it is shorter) become the suffix. One word more is drawn, also for an empty script. It sends the
-/// last of the other commands to the branches (1 to 4; with 1 none is sent, and the case has two empty
-/// branches): as many, at most 16, as give a valid case that has the shape of the model. No word is drawn
-/// after a fault, and none but these. `AllocError` where memory is refused.
+/// First it draws a script of at most `commands` commands (1 to 64): each command takes one word, which chooses
+/// among the calls that `command` lists in the symbolic state and whose precondition is true there. The script
+/// ends early if no such call is left. The last `suffix` commands of the script (0 to 8; all of it if it is
+/// shorter) become the suffix. Then it draws one word more, also for an empty script. This word sends the last
+/// of the other commands to the `branches` branches (1 to 4; with 1 it sends none, and the case has two empty
+/// branches): as many, at most 16, as give a valid case that has the shape of the model. It draws no other
+/// word, and none after a fault.
 pub fn generate<C: Callbacks, R: Rng>(
     callbacks: &C,
     alloc: Global,

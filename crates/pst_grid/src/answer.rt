@@ -1,4 +1,4 @@
-//! What a step answers, and what the searches answer.
+//! The results of steps and of searches.
 
 /// Why a run stops before its end.
 #[derive(Debug, PartialEq, Eq, Drop)]
@@ -9,7 +9,7 @@ pub enum Why<F> {
     Fault(F),
 }
 
-/// What a step answers.
+/// The result of a step.
 #[derive(Debug, PartialEq, Eq, Drop)]
 pub enum Turn<S, F> {
     /// The event is true, and this is the state after it.
@@ -18,43 +18,43 @@ pub enum Turn<S, F> {
     Stop(Why<F>),
 }
 
-/// How the run of a word, or of what follows it, ends.
+/// How the run of an interleaving, or of the rest after it, ends.
 #[derive(Debug, PartialEq, Eq, Drop)]
 pub enum Ending<F> {
     /// All events are true.
     AllTrue,
-    /// The run stops after so many true events.
+    /// The run stops after this many true events.
     StopsAt(usize, Why<F>),
 }
 
-/// What a search for a merge that is true to its end answers. A `word` has one letter for each command of all
-/// branches: the number of the branch, from 0, whose next command it is.
+/// The result of a search for an interleaving that is true to its end. A `word` is an interleaving: it has one letter
+/// for each command of all branches, the number of the branch, from 0, whose next command it is.
 #[derive(Debug, PartialEq, Eq, Drop)]
 pub enum SomeAnswer<F> {
-    /// The least merge that is true to its end.
+    /// The first interleaving that is true to its end.
     Found {
         word: Vec<usize>,
     },
-    /// No merge is true to its end. This is the least that faults, after `at` true events.
+    /// No interleaving is true to its end. This is the first that faults, after `at` true events.
     Faulted {
         word: Vec<usize>,
         at: usize,
         fault: F,
     },
-    /// No merge is true to its end and none faults. `far` is the most events that a merge has true before its false
-    /// one, those of the rest among them, and `word` is the least merge that has so many.
+    /// No interleaving is true to its end and none faults. `far` is the highest number of true events before a false
+    /// one, including those of the rest, and `word` is the first interleaving with this number.
     Nothing {
         far: usize,
         word: Vec<usize>,
     },
 }
 
-/// What a search for a merge that is not true to its end answers.
+/// The result of a search for an interleaving that is not true to its end.
 #[derive(Debug, PartialEq, Eq, Drop)]
 pub enum EveryAnswer<F> {
-    /// Each merge is true to its end.
+    /// Each interleaving is true to its end.
     All,
-    /// The least merge that is not true to its end, which stops after `at` true events.
+    /// The first interleaving that is not true to its end. It stops after `at` true events.
     Not {
         word: Vec<usize>,
         at: usize,

@@ -1,4 +1,4 @@
-//! The search for a merge that is not true to its end, which remembers the positions that it has searched from.
+//! The search for an interleaving that is not true to its end. It remembers the positions that it has searched from.
 ghost use Rattle.std.specs.Prelude.{◌≡◌, ℕ, ◌+◌, ◌-◌, ◌*◌, ◌++◌, ◌∷◌, ◌^◌, ◌<◌, ◌≤◌, length, sum, slice_index, IfOk, OnOk, MatchOption};
 ghost use Rattle.pst_grid.specs.Answers.{IsEveryAnswer};
 ghost use Rattle.pst_grid.specs.Bounds.{IsBounded};
@@ -17,7 +17,7 @@ use crate::{Ending, EveryAnswer, Steps, Turn, Why};
 use indexmap::IndexSet;
 use std::alloc::{AllocError, Global};
 
-/// A merge that is not true to its end: after `at` true events it stops.
+/// An interleaving that is not true to its end: it stops after `at` true events.
 #[derive(Drop)]
 pub(crate) struct FailedMerge<F> {
     pub word: Vec<usize>,
@@ -25,7 +25,7 @@ pub(crate) struct FailedMerge<F> {
     pub why: Why<F>,
 }
 
-/// The least merge behind a stop of a branch's next command.
+/// The first interleaving that begins with the word and then the next command of `branch`, which stops it.
 fn failed_merge<F: Drop>(
     alloc: Global,
     lengths: &[usize],
@@ -48,7 +48,7 @@ fn failed_merge<F: Drop>(
     })
 }
 
-/// Runs what follows the word, which is a merge. The answer is where the merge stops, if it is not true to its end.
+/// Runs the rest after the word, which is a whole interleaving. Returns where it stops, if it is not true to its end.
 fn check_rest<S: Steps>(
     alloc: Global,
     steps: &S,
@@ -76,7 +76,7 @@ fn check_rest<S: Steps>(
     }
 }
 
-/// Runs what follows the word, which is a merge, if it was not run from the state before.
+/// Runs the rest after the word, which is a whole interleaving, unless it already ran from this state.
 fn check_end<S: Steps>(
     alloc: Global,
     steps: &S,
@@ -107,7 +107,7 @@ fn check_end<S: Steps>(
     check_rest(alloc, steps, search, state)
 }
 
-/// Searches the completions of the word for the least that is not true to its end.
+/// Searches the completions of the word for the first that is not true to its end.
 #[cycle(check)]
 fn check<S: Steps>(
     alloc: Global,
@@ -139,7 +139,7 @@ fn check<S: Steps>(
     check_branches(alloc, steps, lengths, search, seen, state)
 }
 
-/// Searches the completions of the word where some command is left, branch by branch.
+/// Searches the completions of the word, which has commands left, branch by branch.
 #[cycle(check)]
 fn check_branches<S: Steps>(
     alloc: Global,
@@ -172,7 +172,7 @@ fn check_branches<S: Steps>(
     Ok(None)
 }
 
-/// Searches those completions of the word that begin with the branch.
+/// Searches the completions of the word that begin with `branch`.
 #[cycle(check)]
 fn check_branch<S: Steps>(
     alloc: Global,
@@ -217,7 +217,7 @@ fn check_branch<S: Steps>(
     }
 }
 
-/// What the search answers in the end.
+/// The answer of the finished search.
 fn every_answer<F: Drop>(failed: Option<FailedMerge<F>>) -> EveryAnswer<F>
     ensures { MatchOption failed (result ≡ EveryAnswer.All)
         (λ x. result ≡ EveryAnswer.Not x.word x.at x.why) }
@@ -228,13 +228,12 @@ fn every_answer<F: Drop>(failed: Option<FailedMerge<F>>) -> EveryAnswer<F>
     }
 }
 
-/// Whether all merges of branches of these lengths, from the state `start`, are true to their ends, or else the least
-/// that is not.
+/// Returns whether all interleavings of branches of these lengths, from the state `start`, are true to their ends, or
+/// else the first that is not.
 ///
-/// Branch `b` has `lengths[b]` commands. Merges are ordered as words of branch numbers. The number beside the answer is
-/// how many steps were made, those of the rest among them, up to `usize::MAX`: at most as many as there are branches
-/// for each place and state that is reached, and as many as the rest takes for each state in which all branches can
-/// end. `AllocError` where memory is refused.
+/// Branch `b` has `lengths[b]` commands. Interleavings are ordered as words of branch numbers. The second result is the
+/// number of steps, including those of the rest, up to `usize::MAX`: at most one per branch for each place and state
+/// that the search reaches, plus those of the rest for each state in which all branches can end.
 pub fn every<S: Steps>(
     alloc: Global,
     steps: &S,

@@ -1,4 +1,4 @@
-//! What follows where all branches have ended.
+//! The rest of a run, after all branches have ended.
 ghost use Rattle.std.specs.Prelude.{◌≡◌, ◌+◌, ◌^◌, ◌<◌, ◌≤◌, ℕ, length, IfOk, OnOk, MatchBool};
 ghost use Rattle.pst_grid.specs.Covered.{IsEmpty, IsExplored};
 
@@ -6,8 +6,8 @@ use crate::search::Search;
 use crate::{Ending, Steps, Why};
 use std::alloc::{AllocError, Global};
 
-/// Runs what follows the word, which is a merge. The answer is whether the merge is true to its end; if it is not, the
-/// search notes where it stops.
+/// Runs the rest after the word, which is a whole interleaving, and returns whether it is true to its end. If it is
+/// not, the search notes where it stops.
 pub(crate) fn finish<S: Steps>(
     alloc: Global,
     steps: &S,

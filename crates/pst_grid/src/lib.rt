@@ -1,20 +1,21 @@
-//! Search over the merges of a few branches.
+//! Searches the interleavings of a few branches.
 //!
-//! Commands of several branches ran at the same time. A merge puts all of them into one order, and each branch keeps
-//! its own order in it; it is written as a word of branch numbers. From a start state, the run of a merge makes one
-//! step for each letter: a step gives the next state, or it is false, or it faults, and then the run stops. Where all
-//! branches have ended, the rest of the run follows: how it ends depends on the state alone. A merge is true to its end
-//! where no step of its run stops it, and the rest does not stop it either.
+//! The commands of several branches ran concurrently. An interleaving puts all of them into one order, in which each
+//! branch keeps its own order; it is written as a word of branch numbers. From a start state, the run of an
+//! interleaving makes one step for each letter: a step gives the next state, or it is false or faults, and then the run
+//! stops. When all branches have ended, the rest of the run follows; how it ends depends on the state alone. An
+//! interleaving is true to its end if no step of its run stops it, and the rest does not stop it either.
 //!
-//! [`some`] finds the least merge whose run is true to its end, and [`every`] tells whether all are. Both remember the
-//! places and states that they have searched from, each state in the form that [`Steps::keep`] gives it, so they make
-//! few steps also where there are many merges, and they run the rest once for each state in which all branches end.
-//! [`some_plainly`] answers the same as [`some`] and remembers nothing: it is the slow program that tests compare with.
+//! [`some`] finds the first interleaving that is true to its end, and [`every`] finds out whether all are. The first of
+//! several interleavings is the lexicographically first. Both functions remember the places and states that they have
+//! searched from, each state in the form of [`Steps::keep`], so they make few steps even if there are many
+//! interleavings, and they run the rest once for each state in which all branches end. [`some_plainly`] returns the
+//! same answer as [`some`] and remembers nothing: it is the slow program for tests to compare with.
 //!
 //! [`run_is_alone`], [`true_by_events`] and [`few_steps_in_one_state`] are laws: they do nothing, and their contracts
-//! are theorems of runs and of the number of steps.
+//! are theorems about runs and the number of steps.
 //!
-//! A caller says what a step is, and what the rest is, by an `impl` of [`Steps`].
+//! A caller defines the steps and the rest by an `impl` of [`Steps`]. `AllocError` means that an allocation failed.
 #![tactic(auto)]
 
 mod answer;

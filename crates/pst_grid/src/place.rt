@@ -6,10 +6,10 @@ use std::alloc::{AllocError, Global};
 use std::hash::{Hash, Hasher};
 use std::marker::Model;
 
-/// The most counts that one word holds.
+/// How many counts one word can hold.
 const MOST_COUNTS: usize = 4;
 
-/// The least count that no word holds.
+/// The smallest count that no word holds.
 const LEAST_LARGE: usize = 65_535;
 
 /// How a list of counts is kept.
@@ -42,7 +42,7 @@ impl Model for Place {
     ghost invariant = { λ p. IsPacked p.packing };
 }
 
-/// The word of these counts, if one holds them.
+/// The word of these counts, if one word can hold them.
 fn packed(done: &[usize]) -> Option<u64>
     ensures { result ≡ word_for done.now }
 {
@@ -61,7 +61,7 @@ fn packed(done: &[usize]) -> Option<u64>
 }
 
 impl Place {
-    /// The place of these counts. It takes memory only where they are many or large.
+    /// The place of these counts. Allocates only if they are many or large.
     pub(crate) fn new(alloc: Global, done: &[usize]) -> Result<Place, AllocError>
         ensures { IfOk result (λ p. p ≡ done.now) }
     {

@@ -10,7 +10,7 @@ use crate::search::{Search, is_done};
 use crate::{SomeAnswer, Steps, Turn, Why};
 use std::alloc::{AllocError, Global};
 
-/// Searches the completions of the word. The answer is whether one is true to its end, which is then the word.
+/// Searches the completions of the word, and returns whether one is true to its end. The word is then that one.
 #[cycle(search)]
 fn explore<S: Steps>(
     alloc: Global,
@@ -37,7 +37,7 @@ fn explore<S: Steps>(
     Ok(false)
 }
 
-/// Searches those completions of the word that begin with the branch.
+/// Searches the completions of the word that begin with `branch`.
 #[cycle(search)]
 fn visit<S: Steps>(
     alloc: Global,
@@ -80,11 +80,11 @@ fn visit<S: Steps>(
     }
 }
 
-/// What [`crate::some`] answers, by plain backtracking. Only tests call it: it is the slow program that they compare
-/// [`crate::some`] with. The number of steps has no bound but the number of merges, since each step is made anew
-/// wherever it is met, and so is the rest.
+/// Returns the answer of [`crate::some`], by plain backtracking. Only tests call it: it is the slow program that they
+/// compare [`crate::some`] with. Only the number of interleavings bounds the number of steps, since the search repeats
+/// each step wherever it meets it, and so the rest.
 ///
-/// The number beside the answer is how many steps were made, up to `usize::MAX`. `AllocError` where memory is refused.
+/// The second result is the number of steps, up to `usize::MAX`.
 pub fn some_plainly<S: Steps>(
     alloc: Global,
     steps: &S,

@@ -10,7 +10,7 @@ use std::alloc::{AllocError, Global};
 use std::hash::{Hash, Hasher};
 use std::marker::Model;
 
-/// A state in the form that is remembered. Contracts see it as the state.
+/// A state as a search remembers it. Contracts see it as the state.
 #[derive(Drop)]
 pub(crate) struct Kept<S: Steps> {
     kept: S::Kept,
@@ -25,7 +25,7 @@ impl<S: Steps> Model for Kept<S> {
 }
 
 impl<S: Steps> Kept<S> {
-    /// The state in the form that is remembered. `AllocError` where memory is refused.
+    /// The state as a search remembers it.
     pub(crate) fn new(alloc: Global, steps: &S, state: &S::State) -> Result<Kept<S>, AllocError>
         ensures { IfOk result (λ k. k ≡ state.now) }
     {
@@ -68,7 +68,7 @@ pub(crate) struct Position<S> {
     pub state: S,
 }
 
-/// Remembers a place and a state. The answer is whether they were not remembered before.
+/// Remembers a place and a state, and returns whether they are new.
 pub(crate) fn remember<S: Steps>(
     alloc: Global,
     steps: &S,

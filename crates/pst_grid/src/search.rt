@@ -1,4 +1,4 @@
-//! Where a search stands and what it has seen, for each of the searches.
+//! The position of a search and what it has seen, for each of the searches.
 ghost use Rattle.std.specs.Prelude.{◌≡◌, ◌+◌, ◌-◌, ◌*◌, ◌^◌, ◌++◌, ◌∷◌, [], ◌<◌, ◌≤◌, ℕ, length, take, sum, slice_index, slice_set, IfOk, OnOk, MatchBool, MatchOption, Some, None};
 ghost use Rattle.pst_grid.specs.Completions.{IsAt, fill_from};
 ghost use Rattle.pst_grid.specs.Furthest as spec;
@@ -8,7 +8,7 @@ ghost use Rattle.pst_grid.specs.Merges.{one_more, none_done};
 use crate::SomeAnswer;
 use std::alloc::{AllocError, Global};
 
-/// A merge whose run faults, after `at` true events.
+/// An interleaving whose run faults, after `at` true events.
 #[derive(Drop)]
 pub(crate) struct FaultedMerge<F> {
     pub word: Vec<usize>,
@@ -16,21 +16,21 @@ pub(crate) struct FaultedMerge<F> {
     pub fault: F,
 }
 
-/// A merge whose run stops at a false event, after `at` true events.
+/// An interleaving whose run stops at a false event, after `at` true events.
 #[derive(Drop)]
 pub(crate) struct FalseMerge {
     pub word: Vec<usize>,
     pub at: usize,
 }
 
-/// The least faulting merge so far, and the least of those so far that have the most true events before a false one.
+/// The first faulting interleaving so far, and the first of those so far with the most true events before a false one.
 #[derive(Drop)]
 pub(crate) struct Best<F> {
     pub fault: Option<FaultedMerge<F>>,
     pub furthest: Option<FalseMerge>,
 }
 
-/// Where a search stands, and what it has seen.
+/// The position of a search, and what it has seen.
 #[derive(Drop)]
 pub(crate) struct Search<F> {
     // How many commands of each branch are done, and the letters that led there.
@@ -42,7 +42,7 @@ pub(crate) struct Search<F> {
 }
 
 impl<F: Drop> Search<F> {
-    /// A search at the start of branches of these lengths, that has seen nothing.
+    /// A search at the start of branches of these lengths, which has seen nothing.
     pub(crate) fn new(alloc: Global, lengths: &[usize]) -> Result<Search<F>, AllocError>
         ensures done { IfOk result (λ s. s.done.items ≡ none_done lengths.now) }
         ensures place { IfOk result (λ s. IsAt lengths.now s.done.items) }
@@ -63,7 +63,7 @@ impl<F: Drop> Search<F> {
         })
     }
 
-    /// Goes on by one command of a branch.
+    /// Advances by one command of `branch`.
     pub(crate) fn enter(&mut self, lengths: &[usize], branch: usize) -> Result<(), AllocError>
         requires place { IsAt lengths.now self.old.done.items }
         requires left { slice_index self.old.done.items branch < slice_index lengths.now branch }
@@ -85,7 +85,7 @@ impl<F: Drop> Search<F> {
         Ok(())
     }
 
-    /// Goes back by one command of a branch.
+    /// Goes back by one command of `branch`.
     pub(crate) fn leave(&mut self, branch: usize)
         requires branch { branch < length self.old.done.items }
         requires done { 0 < slice_index self.old.done.items branch }
@@ -99,7 +99,8 @@ impl<F: Drop> Search<F> {
         self.done[branch] -= 1;
     }
 
-    /// Notes that a branch's next command is false behind the word, if no merge so far has so many true events.
+    /// Notes that the next command of `branch` is false after the word, if this is further than each interleaving so
+    /// far.
     pub(crate) fn note_false(
         &mut self,
         alloc: Global,
@@ -125,8 +126,8 @@ impl<F: Drop> Search<F> {
         Ok(())
     }
 
-    /// Notes that the word, which is a merge, stops at a false event after `at` true ones, if no merge so far has so
-    /// many true events.
+    /// Notes that the word, which is a whole interleaving, stops at a false event after `at` true ones, if this is
+    /// further than each interleaving so far.
     pub(crate) fn note_false_word(&mut self, alloc: Global, at: usize) -> Result<(), AllocError>
         ensures done { OnOk result (self.new.done.items ≡ self.old.done.items) }
         ensures word { OnOk result (self.new.word.items ≡ self.old.word.items) }
@@ -142,7 +143,7 @@ impl<F: Drop> Search<F> {
         Ok(())
     }
 
-    /// Notes that a branch's next command faults behind the word, if it is the first fault.
+    /// Notes that the next command of `branch` faults after the word, if it is the first fault.
     pub(crate) fn note_fault(
         &mut self,
         alloc: Global,
@@ -176,7 +177,7 @@ impl<F: Drop> Search<F> {
         Ok(())
     }
 
-    /// Notes that the word, which is a merge, faults after `at` true events, if it is the first fault.
+    /// Notes that the word, which is a whole interleaving, faults after `at` true events, if it is the first fault.
     pub(crate) fn note_faulted_word(
         &mut self,
         alloc: Global,
@@ -204,7 +205,7 @@ impl<F: Drop> Search<F> {
         Ok(())
     }
 
-    /// The least merge that begins with the word and then the branch's next command.
+    /// The first interleaving that begins with the word and then the next command of `branch`.
     pub(crate) fn least_merge(
         &self,
         alloc: Global,
@@ -224,7 +225,7 @@ impl<F: Drop> Search<F> {
         complete(lengths, &done, word)
     }
 
-    /// What the search answers in the end: whether it found a merge that is true to its end, which is then its word.
+    /// The answer of the finished search. If `found`, the word is an interleaving that is true to its end.
     pub(crate) fn into_answer(self, found: bool) -> SomeAnswer<F>
         requires { HasEnd found self.best }
         ensures { MatchBool found (result ≡ SomeAnswer.Found self.word)
@@ -248,7 +249,7 @@ impl<F: Drop> Search<F> {
     }
 }
 
-/// What a search answers that has found no merge which is true to its end or faults.
+/// The answer of a search in which no interleaving is true to its end and none faults.
 fn furthest_answer<F: Drop>(furthest: Option<FalseMerge>) -> SomeAnswer<F>
     requires { MatchOption furthest ⊥ (λ _. Unit {0}) }
     ensures { MatchOption furthest ⊥ (λ x. result ≡ SomeAnswer.Nothing x.at x.word) }
@@ -259,7 +260,7 @@ fn furthest_answer<F: Drop>(furthest: Option<FalseMerge>) -> SomeAnswer<F>
     }
 }
 
-/// Whether `at` true events are more than those of the furthest merge so far.
+/// Whether `at` true events are more than those of the furthest interleaving so far.
 fn is_further(at: usize, furthest: &Option<FalseMerge>) -> bool
     ensures { result ≡ spec.is_further at furthest.now }
 {
@@ -283,7 +284,7 @@ pub(crate) fn is_done(lengths: &[usize], done: &[usize]) -> bool
     true
 }
 
-/// The word, and behind it the commands that are left, branch by branch.
+/// The word, followed by the commands that are left, branch by branch.
 fn complete(lengths: &[usize], done: &[usize], word: Vec<usize>) -> Result<Vec<usize>, AllocError>
     requires { length done.now ≡ length lengths.now }
     ensures { IfOk result (λ v. v.items ≡ word.items ++ fill_from 0 lengths.now done.now) }

@@ -1,4 +1,4 @@
-//! The search for a merge that is true to its end, which remembers the positions that it has searched from.
+//! The search for an interleaving that is true to its end. It remembers the positions that it has searched from.
 ghost use Rattle.std.specs.Prelude.{◌≡◌, ℕ, ◌+◌, ◌-◌, ◌*◌, ◌^◌, ◌<◌, ◌≤◌, length, sum, slice_index, IfOk, OnOk, MatchBool, MatchOption};
 ghost use Rattle.pst_grid.specs.Answers.{IsAnswer};
 ghost use Rattle.pst_grid.specs.Bounds.{IsBounded};
@@ -14,8 +14,8 @@ use crate::{SomeAnswer, Steps, Turn, Why};
 use indexmap::IndexSet;
 use std::alloc::{AllocError, Global};
 
-/// Runs what follows the word, which is a merge, if it was not run from the state before. The answer is whether the
-/// merge is true to its end.
+/// Runs the rest after the word, which is a whole interleaving, unless it already ran from this state. Returns whether
+/// the interleaving is true to its end.
 fn explore_end<S: Steps>(
     alloc: Global,
     steps: &S,
@@ -47,7 +47,7 @@ fn explore_end<S: Steps>(
     finish(alloc, steps, search, state)
 }
 
-/// Searches the completions of the word. The answer is whether one is true to its end, which is then the word.
+/// Searches the completions of the word, and returns whether one is true to its end. The word is then that one.
 #[cycle(search)]
 fn explore<S: Steps>(
     alloc: Global,
@@ -80,7 +80,7 @@ fn explore<S: Steps>(
     explore_branches(alloc, steps, lengths, search, seen, state)
 }
 
-/// Searches the completions of the word where some command is left, branch by branch.
+/// Searches the completions of the word, which has commands left, branch by branch.
 #[cycle(search)]
 fn explore_branches<S: Steps>(
     alloc: Global,
@@ -113,7 +113,7 @@ fn explore_branches<S: Steps>(
     Ok(false)
 }
 
-/// Searches those completions of the word that begin with the branch.
+/// Searches the completions of the word that begin with `branch`.
 #[cycle(search)]
 fn visit<S: Steps>(
     alloc: Global,
@@ -164,12 +164,12 @@ fn visit<S: Steps>(
     }
 }
 
-/// Searches all merges of branches of these lengths, from the state `start`, for the least that is true to its end.
+/// Searches all interleavings of branches of these lengths, from the state `start`, for the first that is true to its
+/// end.
 ///
-/// Branch `b` has `lengths[b]` commands. Merges are ordered as words of branch numbers. The number beside the answer is
-/// how many steps were made, those of the rest among them, up to `usize::MAX`: at most as many as there are branches
-/// for each place and state that is reached, and as many as the rest takes for each state in which all branches can
-/// end. `AllocError` where memory is refused.
+/// Branch `b` has `lengths[b]` commands. Interleavings are ordered as words of branch numbers. The second result is the
+/// number of steps, including those of the rest, up to `usize::MAX`: at most one per branch for each place and state
+/// that the search reaches, plus those of the rest for each state in which all branches can end.
 pub fn some<S: Steps>(
     alloc: Global,
     steps: &S,

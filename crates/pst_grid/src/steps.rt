@@ -10,13 +10,13 @@ use crate::{Ending, Turn};
 use std::alloc::{AllocError, Global};
 use std::hash::Hash;
 
-/// States, a step of each command of each branch from a state, and what follows when all branches have ended. Both are
-/// functions of their arguments.
+/// States, the step of each command of each branch from a state, and the rest that follows when all branches have
+/// ended. The step and the rest are functions of their arguments.
 ///
 /// A search remembers the states that it has met. It keeps each in a form that the caller chooses, which may be smaller
 /// than the state itself.
 pub trait Steps {
-    /// A state: plain data, of which `==` tells apart all that differ.
+    /// A state: plain data. `==` distinguishes any two that differ.
     type State: Eq + Drop;
 
     /// A state as a search remembers it.
@@ -25,16 +25,16 @@ pub trait Steps {
     /// Why an event faults.
     type Fault: Drop;
 
-    // The states that a step may be asked from.
+    // The states that `step` accepts.
     ghost is_state: { Self → Self.State → Type 0 };
 
-    // The commands that a step may be asked for, by branch and index.
+    // The commands that `step` accepts, by branch and index.
     ghost is_command: { Self → ℕ → ℕ → Type 0 };
 
-    // What the step of a branch's command, by its index, answers from a state.
+    // The result of the step of a branch's command, by its index, from a state.
     ghost turn: { Self → Self.State → ℕ → ℕ → Turn Self.State Self.Fault };
 
-    // How the run goes on from a state in which all branches have ended.
+    // How the run ends from a state in which all branches have ended.
     ghost rest: { Self → Self.State → Ending Self.Fault };
 
     // The most steps that the rest takes.
@@ -46,8 +46,7 @@ pub trait Steps {
     // What a hasher is fed of a state.
     ghost fed: { Self.State → HashWrites };
 
-    /// The step of the command `index` (from 0) of the branch `branch` (from 0), from this state.
-    /// `AllocError` where memory is refused.
+    /// Steps from this state by the command `index` (from 0) of the branch `branch` (from 0).
     fn step(
         &self,
         alloc: Global,
@@ -60,8 +59,8 @@ pub trait Steps {
         ensures answer { IfOk result (λ t. t ≡ turn self.now state.now branch index) }
         ensures next { IfOk result (λ t. OnNext t (is_state self.now)) };
 
-    /// Runs what follows when all branches have ended, from this state: how it ends, and how many steps it took.
-    /// `AllocError` where memory is refused.
+    /// Runs the rest, which follows when all branches have ended, from this state. Returns how it ends, and how many
+    /// steps it took.
     fn run_rest(
         &self,
         alloc: Global,
@@ -72,21 +71,20 @@ pub trait Steps {
         ensures place { IfOk result (λ r. OnStop r.0 (λ at. at ≤ most_rest self.now)) }
         ensures steps { IfOk result (λ r. r.1 ≤ most_rest self.now) };
 
-    /// Whether something follows when all branches have ended. Where nothing does, each run that comes so far is true to
-    /// its end.
+    /// Whether a rest follows when all branches have ended. If not, each run that comes this far is true to its end.
     fn has_rest(&self) -> bool
         ensures { MatchBool result (Unit {0}) ((s : Self.State) → rest self.now s ≡ AllTrue) };
 
-    /// The state in the form that is remembered. `AllocError` where memory is refused.
+    /// The state as a search remembers it.
     fn keep(&self, alloc: Global, state: &Self::State) -> Result<Self::Kept, AllocError>
         ensures { IfOk result (λ kept. state_of kept ≡ state.now) };
 
     // Equal states are the same state.
     ghost exact: { (a b : Self.State) → Self.State.eq a b ≡ true → a ≡ b };
 
-    // Two that are kept are compared as their states are.
+    // Two kept states compare like the states.
     ghost same: { (a b : Self.Kept) → Self.Kept.eq a b ≡ Self.State.eq (state_of a) (state_of b) };
 
-    // One that is kept feeds a hasher what its state does.
+    // A kept state feeds a hasher what the state does.
     ghost feeds: { (k : Self.Kept) → Self.Kept.hash_input k ≡ fed (state_of k) };
 }

@@ -1,20 +1,20 @@
 //! Writers that fail in the middle of a text.
 
 use crate::commands::{COMMANDS, Command, answer_of, spoken};
-use crate::models::{COUNTER, ONE};
 use pst_cli::Status;
+use pst_tests::support::{COUNTER, ONE};
 use std::alloc::{AllocError, Global};
 use std::io;
 use std::sync::Wait;
 use std::thread::Threads;
 
-/// The items that are judged, explained and driven.
+/// The items that the commands judge, explain and drive.
 const ITEMS: &str = "
 (run (prefix) (left (inc)) (right (inc)) (replies () (1) (1)))
 (case (prefix (get)) (left) (right))";
 
-/// How many beginnings of the text have another answer than the status 3 and that beginning, where the writer fails
-/// behind them.
+/// Returns how many proper prefixes of `whole` the command misses. For each prefix, it runs the command on a writer
+/// that fails after it, and expects the status 3 and just this prefix as output.
 fn misses<R: Threads + Wait + Sync>(
     rt: &R,
     alloc: Global,
@@ -33,7 +33,7 @@ fn misses<R: Threads + Wait + Sync>(
     Ok(misses)
 }
 
-/// Prints what a command answers, and how many beginnings of it are missed by a writer that fails behind them.
+/// Prints the command's output, or its status code alone for `list` and `explain`, and the result of `misses`.
 fn print_command<R: Threads + Wait + Sync + Print + AllocGlobal>(
     rt: &R,
     command: Command,
@@ -55,7 +55,8 @@ fn print_command<R: Threads + Wait + Sync + Print + AllocGlobal>(
     }
 }
 
-/// Prints it of each command: a campaign of a counter without a read, and the others on a counter with two items.
+/// Calls `print_command` for each command. The campaign tests a counter without a read; the other commands get a
+/// counter with two items.
 pub fn print_beginnings<R: Threads + Wait + Sync + Print + AllocGlobal>(rt: &R) -> io::Result<()> {
     let items = format!(in rt.alloc(); "{COUNTER}{ITEMS}")?;
     for command in COMMANDS {

@@ -1,4 +1,4 @@
-//! The commands of the program, and what each answers for an input.
+//! The commands of the program, and the output of each for an input.
 ghost use Rattle.std.specs.Prelude.{◌≡◌, false};
 
 use crate::short::Short;
@@ -38,7 +38,7 @@ pub const COMMANDS: [Command; 6] = [
 ];
 
 impl Command {
-    /// The word for the command.
+    /// Returns the command's name on the command line.
     pub fn name(self) -> &'static str {
         match self {
             Command::Check => "check",
@@ -51,7 +51,7 @@ impl Command {
     }
 }
 
-/// What a command answered.
+/// The status and the output of a command.
 #[derive(Drop)]
 pub struct Answer {
     pub status: Status,
@@ -84,7 +84,7 @@ fn write_campaign<R: Threads + Wait + Sync>(
     Ok(campaign_text(rt, alloc, input, settings, systems, &Unwatched, short))
 }
 
-/// Drives the items on the system `stuck`, and writes what comes of them.
+/// Drives the items on the system `stuck`, and writes the results.
 fn write_runs<R: Threads + Wait>(
     rt: &R,
     alloc: Global,
@@ -97,7 +97,7 @@ fn write_runs<R: Threads + Wait>(
     Ok(run_text(rt, alloc, input, &mut stuck, short))
 }
 
-/// What the command answers for an input, to a writer with room for so many bytes.
+/// Runs the command on `input`, with a writer that fails after `room` bytes.
 pub fn answer_of<R: Threads + Wait + Sync>(
     rt: &R,
     alloc: Global,
@@ -134,7 +134,7 @@ pub fn answer_of<R: Threads + Wait + Sync>(
     })
 }
 
-/// A line, or how long it is where it has over 200 bytes.
+/// Returns `line`, or a note of its length if it has over 200 bytes.
 fn shortened(alloc: Global, line: &str) -> Result<String, AllocError> {
     let length = line.len();
     if length > 200 {
@@ -143,7 +143,7 @@ fn shortened(alloc: Global, line: &str) -> Result<String, AllocError> {
     String::from_str(alloc, line)
 }
 
-/// A status and what was written, with `, ` between the lines.
+/// Returns the status code and the output, with `, ` between its lines.
 pub fn spoken(alloc: Global, answer: &Answer) -> Result<String, AllocError> {
     let code = answer.status.code();
     let mut text = format!(in alloc; "{code}")?;

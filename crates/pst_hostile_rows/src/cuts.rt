@@ -1,13 +1,13 @@
-//! A file that ends too early, at each of its bytes.
+//! A file that is cut off after each of its bytes.
 
 use crate::commands::{Command, answer_of, spoken};
-use crate::models::COUNTER;
+use pst_tests::support::COUNTER;
 use std::alloc::{AllocError, Global};
 use std::io;
 use std::sync::Wait;
 use std::thread::Threads;
 
-/// The place of the innermost bracket that is open at the end, counted from 0, in bytes without texts and comments.
+/// Returns the offset of the innermost bracket that is still open at the end. `bytes` contains no texts or comments.
 fn innermost_open(bytes: &[u8]) -> Option<usize> {
     let mut closed: usize = 0;
     for (place, byte) in bytes.iter().enumerate().rev() {
@@ -25,7 +25,7 @@ fn innermost_open(bytes: &[u8]) -> Option<usize> {
     None
 }
 
-/// The answer that is wanted for a beginning of a file, whose model ends behind so many bytes.
+/// Returns the expected answer for `cut`, the beginning of a file whose model takes its first `model` bytes.
 fn wanted(alloc: Global, cut: &[u8], model: usize) -> Result<String, AllocError> {
     if let Some(place) = innermost_open(cut) {
         return format!(in alloc; "2 refused read UnclosedNode at {place}");
@@ -36,7 +36,7 @@ fn wanted(alloc: Global, cut: &[u8], model: usize) -> Result<String, AllocError>
     String::from_str(alloc, "0 nothing")
 }
 
-/// Prints the beginnings of a file that have another answer than the wanted one, and what the whole file has.
+/// Prints each beginning of a file that `judge` does not answer as expected, and its answer for the whole file.
 pub fn print_cuts<R: Threads + Wait + Sync + Print + AllocGlobal>(rt: &R) -> io::Result<()> {
     let alloc = rt.alloc();
     let before = format!(in alloc; "\n {COUNTER}")?;

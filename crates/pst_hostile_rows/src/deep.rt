@@ -1,6 +1,6 @@
 //! Models and items at the limits of the language, and one past them.
 
-use crate::models::COUNTER;
+use pst_tests::support::COUNTER;
 use std::alloc::{AllocError, Global};
 
 /// A model or a file of items at a limit.
@@ -8,9 +8,9 @@ use std::alloc::{AllocError, Global};
 pub enum Deep {
     /// 64 functions of depth 64, each of which applies the one before.
     Functions,
-    /// As many in a postcondition that is false.
+    /// 64 functions of depth 64 in a postcondition that is false.
     FalseFunctions,
-    /// As many in a postcondition that faults in the function that all others apply.
+    /// 64 functions of depth 64 in a postcondition that faults in the function that all others apply.
     FaultingFunctions,
     /// Callbacks of depth 64: sums, folds in folds, comprehensions in comprehensions.
     Expressions,
@@ -32,7 +32,7 @@ pub enum Deep {
     Text,
     /// A state of 4,096 keys.
     Map,
-    /// 64 commands before branches of 8, and 8 behind them.
+    /// 64 commands before branches of 8, and 8 after them.
     Commands,
     /// One command more before the branches.
     TooManyCommands,
@@ -40,7 +40,7 @@ pub enum Deep {
     Calls,
 }
 
-/// All of them, by their names.
+/// All limits with their names.
 pub const LIMITS: [(&str, Deep); 16] = [
     ("functions", Deep::Functions),
     ("false functions", Deep::FalseFunctions),
@@ -102,8 +102,8 @@ fn functions(alloc: Global) -> Result<String, AllocError> {
     )
 }
 
-/// A run whose last answer is wrong: the postcondition applies the functions, the first of which has a body of
-/// so many levels around an expression.
+/// A run whose last answer is wrong. Its postcondition applies the functions; the body of the first nests `inner` in
+/// `levels` levels.
 fn failing(alloc: Global, inner: &str, levels: usize) -> Result<String, AllocError> {
     let body = wrapped(alloc, "(not ", inner, ")", levels)?;
     let functions = functions_from(alloc, body.as_str())?;
@@ -159,7 +159,8 @@ fn trees(alloc: Global, gets: usize, puts: usize) -> Result<String, AllocError> 
     )
 }
 
-/// A model of this head, state, opening state, precondition, next state and postcondition, with a run of two calls.
+/// A model with a run of two calls. `parts` are its head, state type, initial state, precondition, next state and
+/// postcondition.
 fn kept(alloc: Global, parts: [&str; 6]) -> Result<String, AllocError> {
     let [head, state, init, pre, next, post] = parts;
     let run = "(run (prefix) (left (get)) (right (get)) (replies () (0) (0)))";

@@ -1,11 +1,10 @@
-//! What the commands answer at the limits of the language, and one past them. Nothing may exhaust a stack: items are judged
-//! in the threads that judge many items, cases are driven in those of branches, and trials run in those of workers.
+//! The commands' answers at the limits of the language, and one past them. Nothing may exhaust a stack, in any kind of
+//! thread: those that judge many items, those that drive branches, and the workers that run trials.
 
 use crate::commands::{COMMANDS, Command, answer_of, spoken};
 use crate::deep::{Deep, LIMITS, text_of};
 use pst_print::print_model;
-use pst_sexpr::{read, write};
-use pst_sink::Out;
+use pst_sexpr::{Out, read, write};
 use pst_sources::SourceFile;
 use pst_syntax::{Model, read_model};
 use pst_warnings::warnings_of;
@@ -14,13 +13,13 @@ use std::sync::Wait;
 use std::thread::Threads;
 use std::{io, slice};
 
-/// The model that a text begins with.
+/// Reads the model at the beginning of `text`.
 fn model_of(alloc: Global, text: &[u8]) -> Option<Model> {
     let trees = read(alloc, text).ok()?;
     read_model(alloc, trees.as_slice()).ok()
 }
 
-/// The bytes that are printed of a model.
+/// Returns the printed form of `model`.
 fn printed(alloc: Global, model: &Model) -> Option<Vec<u8>> {
     let tree = print_model(alloc, model).ok()?;
     let mut sink = Out::new(Vec::new(alloc));
@@ -30,14 +29,15 @@ fn printed(alloc: Global, model: &Model) -> Option<Vec<u8>> {
     }
 }
 
-/// Whether the model that a text begins with is printed so that it is read as the same model, where there is a model.
+/// Returns whether the model at the beginning of `text`, printed and read again, is the same model. `None` if the text
+/// or its printed form has no model.
 fn is_printed(alloc: Global, text: &[u8]) -> Option<bool> {
     let model = model_of(alloc, text)?;
     let again = model_of(alloc, printed(alloc, &model)?.as_slice())?;
     Some(*again.source() == *model.source())
 }
 
-/// Prints what a command answers.
+/// Runs the command and prints its output, or its status code alone for the commands with long output.
 fn print_command<R: Threads + Wait + Sync + Print + AllocGlobal>(
     rt: &R,
     command: Command,
@@ -71,7 +71,7 @@ fn print_warnings<R: Print + AllocGlobal>(rt: &R, text: &str) -> io::Result<()> 
     println!(rt; "  warnings: {line}")
 }
 
-/// The commands that are asked: where the opening state or the precondition takes long to compute, the first three alone.
+/// Returns the commands to run: only the first three if the initial state or the precondition takes long to compute.
 fn asked(deep: Deep) -> &'static [Command] {
     match deep {
         Deep::List | Deep::Map | Deep::Calls => &[Command::Check, Command::List, Command::Judge],
@@ -79,7 +79,7 @@ fn asked(deep: Deep) -> &'static [Command] {
     }
 }
 
-/// Prints what each command answers at each limit, and the warnings.
+/// Prints each command's answer at each limit, and the warnings.
 pub fn print_depths<R: Threads + Wait + Sync + Print + AllocGlobal>(rt: &R) -> io::Result<()> {
     for (name, deep) in LIMITS {
         let text = text_of(rt.alloc(), deep)?;

@@ -1,13 +1,13 @@
-//! What is written of cases that are driven on systems that answer what they should not, and of campaigns on systems
-//! that cannot be reset.
+//! The output for cases on systems that give wrong answers, and for campaigns on systems that cannot be reset.
 
 use crate::commands::{Answer, spoken};
-use crate::models::{COUNTER, ONE, TYPES};
+use crate::models::TYPES;
 use crate::short::Short;
 use crate::systems::{Liar, NoGet, Odd, Resets};
 use pst_campaign::Unwatched;
 use pst_cli::{campaign_text, run_text};
 use pst_system::BoxedSystem;
+use pst_tests::support::{COUNTER, ONE};
 use pst_trial::Settings;
 use std::io;
 use std::sync::Wait;
@@ -51,7 +51,7 @@ const CALLS: [(&str, &str); 34] = [
     ("table", "a reference in a map"),
 ];
 
-/// Prints what is written of items that are driven on a system.
+/// Drives the items of `input` on `system` and prints the status and the output.
 fn print_run<R: Threads + Wait + Print + AllocGlobal>(
     rt: &R,
     name: &str,
@@ -74,7 +74,7 @@ fn print_run<R: Threads + Wait + Print + AllocGlobal>(
     println!(rt; "{name}: {text}")
 }
 
-/// Prints what comes of each odd answer, called in the prefix, and of two of them in branches.
+/// Prints the result of each odd answer in the prefix of a case, and of a case with odd answers in its branches.
 fn print_odd<R: Threads + Wait + Print + AllocGlobal>(rt: &R) -> io::Result<()> {
     let alloc = rt.alloc();
     let mut odd: BoxedSystem = Box::new(alloc, Odd::new(alloc))?;
@@ -90,7 +90,7 @@ fn print_odd<R: Threads + Wait + Print + AllocGlobal>(rt: &R) -> io::Result<()> 
     print_run(rt, "odd", input.as_str(), &mut odd)
 }
 
-/// Prints what comes of cases on the other systems.
+/// Prints the results of cases on the other systems.
 fn print_others<R: Threads + Wait + Print + AllocGlobal>(rt: &R) -> io::Result<()> {
     let alloc = rt.alloc();
     let mut liar: BoxedSystem = Box::new(alloc, Liar)?;
@@ -108,7 +108,7 @@ fn print_others<R: Threads + Wait + Print + AllocGlobal>(rt: &R) -> io::Result<(
     print_run(rt, "one reset", input.as_str(), &mut one_reset)
 }
 
-/// Prints the report of a campaign on a system that can be reset so many times.
+/// Prints the report of a campaign on a system that can be reset `resets` times.
 fn print_campaign<R: Threads + Wait + Sync + Print + AllocGlobal>(
     rt: &R,
     settings: Settings,
@@ -130,8 +130,9 @@ fn print_campaign<R: Threads + Wait + Sync + Print + AllocGlobal>(
     println!(rt; "{resets} resets, status {code}\n{report}")
 }
 
-/// Prints the reports of campaigns on systems that can be reset so many times: of three trials, and of one trial
-/// whose first reset is that of its case, and the three others those of what its case is shrunk to.
+/// Prints the report of a campaign of three trials on a system that cannot be reset, and those of campaigns of one
+/// trial on systems that can be reset one to four times. The trial resets the system once for its case, and three times
+/// to shrink it.
 fn print_campaigns<R: Threads + Wait + Sync + Print + AllocGlobal>(rt: &R) -> io::Result<()> {
     let three = Settings {
         trials: 3,
@@ -150,7 +151,7 @@ fn print_campaigns<R: Threads + Wait + Sync + Print + AllocGlobal>(rt: &R) -> io
     Ok(())
 }
 
-/// Prints all of it.
+/// Prints the results of all cases and campaigns of this file.
 pub fn print_driven<R: Threads + Wait + Sync + Print + AllocGlobal>(rt: &R) -> io::Result<()> {
     print_odd(rt)?;
     print_others(rt)?;

@@ -1,8 +1,8 @@
-//! Inputs that nobody writes on purpose.
+//! Malformed and extreme inputs.
 
 use crate::commands::{Answer, COMMANDS, Command, answer_of, spoken};
-use crate::models::COUNTER;
 use pst_cli::Status;
+use pst_tests::support::COUNTER;
 use std::alloc::{AllocError, Global};
 use std::io;
 use std::sync::Wait;
@@ -36,7 +36,7 @@ const INPUTS: [(&str, &[u8]); 18] = [
     ("a word", b"model"),
 ];
 
-/// Prints what `judge` answers, and gives it.
+/// Prints and returns the answer of `judge`.
 fn print_judged<R: Threads + Wait + Sync + Print + AllocGlobal>(
     rt: &R,
     name: &str,
@@ -48,7 +48,7 @@ fn print_judged<R: Threads + Wait + Sync + Print + AllocGlobal>(
     Ok(judged)
 }
 
-/// Prints what `judge` answers, and each command that refuses the input otherwise, where `judge` refuses it.
+/// Prints the answer of `judge`. If `judge` refuses the input, it also prints each command that answers otherwise.
 fn print_input<R: Threads + Wait + Sync + Print + AllocGlobal>(
     rt: &R,
     name: &str,
@@ -70,7 +70,7 @@ fn print_input<R: Threads + Wait + Sync + Print + AllocGlobal>(
     Ok(())
 }
 
-/// The text and so many spaces that it has so many bytes.
+/// Returns `text`, filled up with spaces to `length` bytes.
 fn padded(alloc: Global, text: &str, length: usize) -> Result<String, AllocError> {
     let mut whole = String::from_str(alloc, text)?;
     let spaces = " ".repeat(alloc, length.saturating_sub(text.len()))?;
@@ -78,7 +78,7 @@ fn padded(alloc: Global, text: &str, length: usize) -> Result<String, AllocError
     Ok(whole)
 }
 
-/// Prints inputs of the most bytes that a file may have, and of one more.
+/// Prints the answers for inputs of the greatest size that a file may have, and of one byte more.
 fn print_largest<R: Threads + Wait + Sync + Print + AllocGlobal>(rt: &R) -> io::Result<()> {
     let alloc = rt.alloc();
     let most: usize = 1_048_576;
@@ -102,7 +102,8 @@ fn print_largest<R: Threads + Wait + Sync + Print + AllocGlobal>(rt: &R) -> io::
     Ok(())
 }
 
-/// Prints a file with line ends of one kind, comments among them, with three runs of which the second has lost an update.
+/// Prints the answers for a file with line ends of one kind, with comments and three runs. The second run has lost an
+/// update.
 fn print_lines<R: Threads + Wait + Sync + Print + AllocGlobal>(
     rt: &R,
     name: &str,

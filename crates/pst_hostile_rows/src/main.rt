@@ -1,9 +1,9 @@
-//! Prints what the commands of the program answer for inputs that nobody writes on purpose, to writers that fail, on
-//! systems that answer what they should not, and at the limits of the language; and what calls of the libraries answer.
-//! It is a test that the gate runs as a program.
+//! Prints how the commands of the program answer malformed and extreme inputs, with failing writers, on systems that
+//! give wrong answers, and at the limits of the language. It also prints the results of calls of the libraries. The
+//! gate runs it as a program and compares its output.
 //!
-//! With a word it makes the call of that name alone. The status is then 3 where the word cannot be had, the call is
-//! refused memory, or its answer cannot be printed.
+//! With an argument it makes only the call of that name. The status is then 3 if the arguments cannot be read, an
+//! allocation fails in the call, or its result cannot be printed.
 #![tactic(auto)]
 
 mod beginnings;
@@ -27,12 +27,12 @@ use std::sync::Wait;
 use std::thread::{Builder, Threads};
 use std::{env, io};
 
-/// The words that the program was started with.
+/// Returns the program's arguments, its own name first.
 fn started_with<R: Env + AllocGlobal>(rt: &R) -> io::Result<Vec<String>> {
     Ok(env::args(rt)?.collect(rt.alloc())?)
 }
 
-/// Prints all that is asked without a word.
+/// Prints everything that the program prints without an argument.
 fn print_all<R: Threads + Wait + Sync + Print + AllocGlobal>(rt: &R) -> io::Result<()> {
     cuts::print_cuts(rt)?;
     inputs::print_inputs(rt)?;
@@ -44,7 +44,7 @@ fn print_all<R: Threads + Wait + Sync + Print + AllocGlobal>(rt: &R) -> io::Resu
     memory::print_calls(rt, rt.alloc())
 }
 
-/// Makes the call that the words name, or prints all, and returns the status.
+/// Makes the call that the argument names, or prints everything, and returns the status.
 fn status<R: Threads + Wait + Sync + Print + Env + AllocGlobal>(rt: &R) -> u8 {
     let Ok(words) = started_with(rt) else {
         return 3;
@@ -56,7 +56,7 @@ fn status<R: Threads + Wait + Sync + Print + Env + AllocGlobal>(rt: &R) -> u8 {
     if print_all(rt).is_ok() { 0 } else { 1 }
 }
 
-/// How many bytes of stack the commands run on: the program's own, since explanations evaluate by recursion.
+/// The stack size of the commands' thread, in bytes. It is that of the program: explanations evaluate by recursion.
 const STACK_BYTES: usize = 256 << 20;
 
 fn main(rt: HostRuntime) -> ExitCode {

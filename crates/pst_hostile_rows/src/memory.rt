@@ -1,5 +1,5 @@
-//! Calls of the libraries. The gate compares what they answer with ample memory; `bench/memory.sh` refuses each growth
-//! of memory to each of them in turn.
+//! Calls of the libraries. The gate compares their results with ample memory; `stress/memory` lets each growth of
+//! memory fail in turn, for each call.
 
 mod judging;
 mod reading;
@@ -12,7 +12,7 @@ use std::io;
 use std::sync::Wait;
 use std::thread::Threads;
 
-/// The calls.
+/// The names of the calls.
 const CALLS: [&str; 13] = [
     "read",
     "read_model",
@@ -29,7 +29,7 @@ const CALLS: [&str; 13] = [
     "campaign_of_two",
 ];
 
-/// What the call of that name answers.
+/// Makes the call `call` and returns its result as text.
 fn answer<R: Threads + Wait + Sync>(rt: &R, alloc: Global, call: &str) -> Result<String, Refused> {
     match call {
         "read" => reading::read_answer(alloc),
@@ -49,7 +49,7 @@ fn answer<R: Threads + Wait + Sync>(rt: &R, alloc: Global, call: &str) -> Result
     }
 }
 
-/// Prints what the call of that name answers, and answers whether it had memory.
+/// Prints the result of the call `call`, and returns whether it had enough memory.
 pub fn print_call<R: Threads + Wait + Sync + Print>(
     rt: &R,
     alloc: Global,
@@ -63,7 +63,7 @@ pub fn print_call<R: Threads + Wait + Sync + Print>(
     Ok(true)
 }
 
-/// Prints what each call answers, up to the first that had no memory.
+/// Prints the result of each call, up to the first that runs out of memory.
 pub fn print_calls<R: Threads + Wait + Sync + Print>(rt: &R, alloc: Global) -> io::Result<()> {
     for call in CALLS {
         if !print_call(rt, alloc, call)? {

@@ -1,23 +1,12 @@
 //! The models that the rows start from.
 
-/// A counter: `inc` adds one and answers the new number, `get` answers it.
-pub const COUNTER: &str = "(model counter (state int) (init 0)
-  (command (list call (call inc) (call get)))
-  (op inc () int (pre true) (next (+ s 1)) (post (= r (+ s 1))))
-  (op get () int (pre true) (next s) (post (= r s))))";
-
-/// The counter, with a run and a case behind it.
+/// The counter, followed by a run and a case.
 pub const COUNTER_AND_ITEMS: &str = "(model counter (state int) (init 0)
   (command (list call (call inc) (call get)))
   (op inc () int (pre true) (next (+ s 1)) (post (= r (+ s 1))))
   (op get () int (pre true) (next s) (post (= r s))))
 (run (prefix (inc)) (left (inc) (get)) (right (inc)) (replies (1) (2 3) (3)))
 (case (prefix) (left (get)) (right (get)))";
-
-/// A counter without a read.
-pub const ONE: &str = "(model one (state int) (init 0)
-  (command (list call (call inc)))
-  (op inc () int (pre true) (next (+ s 1)) (post (= r (+ s 1)))))";
 
 /// An operation for each type of answers. Its postconditions are true.
 pub const TYPES: &str = "(model2 types (state int) (init 0) (command (list call))

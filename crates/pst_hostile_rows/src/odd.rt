@@ -1,10 +1,9 @@
-//! Answers that no call should have.
+//! Answers that no call should return.
 
-use pst_items::{Boxed, Items, Text};
-use pst_value::{Key, Value};
+use pst_value::{Boxed, Items, Key, Text, Value};
 use std::alloc::{AllocError, Global};
 
-/// A list of so many zeros.
+/// A list of `count` zeros.
 fn zeros(alloc: Global, count: usize) -> Result<Items<Value>, AllocError> {
     let mut items = Items::new(alloc);
     for _ in 0..count {
@@ -32,7 +31,7 @@ fn reference(alloc: Global) -> Result<Value, AllocError> {
     Ok(Value::Ref(1, Boxed::new(alloc, Value::Int(1))?))
 }
 
-/// A list in a list and so on, of so many levels.
+/// The integer 1 in `levels` nested lists.
 pub fn nested(alloc: Global, levels: usize) -> Result<Value, AllocError> {
     let mut value = Value::Int(1);
     for _ in 0..levels {
@@ -41,7 +40,7 @@ pub fn nested(alloc: Global, levels: usize) -> Result<Value, AllocError> {
     Ok(value)
 }
 
-/// A value of so many levels, lists, tuples, maps, references and calls in turn, around the variable 1.
+/// The variable 1 in `levels` levels of lists, tuples, maps, references and calls in turn.
 pub fn mixed(alloc: Global, levels: usize) -> Result<Value, AllocError> {
     let mut value = Value::Var(1);
     for level in 0..levels {
@@ -56,22 +55,22 @@ pub fn mixed(alloc: Global, levels: usize) -> Result<Value, AllocError> {
     Ok(value)
 }
 
-/// A text.
+/// A text value.
 fn text_value(alloc: Global, text: &str) -> Result<Value, AllocError> {
     Ok(Value::Text(Text::from_string(String::from_str(alloc, text)?)))
 }
 
-/// A text of so many letters.
+/// A text of `count` letters.
 fn letters(alloc: Global, count: usize) -> Result<Value, AllocError> {
     Ok(Value::Text(Text::from_string("a".repeat(alloc, count)?)))
 }
 
-/// A map of these keys and values.
+/// A map of `keys` and `values`.
 fn entries(alloc: Global, keys: Items<Key>, values: Items<Value>) -> Result<Value, AllocError> {
     Ok(Value::Map(Boxed::new(alloc, keys)?, Boxed::new(alloc, values)?))
 }
 
-/// A map of zeros with these keys and so many values.
+/// A map of `keys` to zeros, with `values` values.
 fn zero_map(alloc: Global, keys: &[Key], values: usize) -> Result<Value, AllocError> {
     let mut items = Items::new(alloc);
     for key in keys {
@@ -80,7 +79,7 @@ fn zero_map(alloc: Global, keys: &[Key], values: usize) -> Result<Value, AllocEr
     entries(alloc, items, zeros(alloc, values)?)
 }
 
-/// A map of so many keys, which rise.
+/// A map of `count` rising keys.
 fn large_map(alloc: Global, count: u16) -> Result<Value, AllocError> {
     let mut keys = Items::new(alloc);
     for key in 0..count {
@@ -89,7 +88,7 @@ fn large_map(alloc: Global, count: u16) -> Result<Value, AllocError> {
     entries(alloc, keys, zeros(alloc, usize::from(count))?)
 }
 
-/// A map of the key 1 with this value.
+/// A map of the key 1 to `value`.
 fn map_of(alloc: Global, value: Value) -> Result<Value, AllocError> {
     let mut keys = Items::new(alloc);
     keys.push(Key::Int(1))?;
@@ -97,7 +96,7 @@ fn map_of(alloc: Global, value: Value) -> Result<Value, AllocError> {
     entries(alloc, keys, values)
 }
 
-/// The answers that are maps.
+/// Returns the answer `name` if it is a map.
 fn odd_map(alloc: Global, name: &str) -> Result<Option<Value>, AllocError> {
     let value = match name {
         "rising keys" => zero_map(alloc, &[Key::Int(1), Key::Int(2)], 2)?,
@@ -115,7 +114,7 @@ fn odd_map(alloc: Global, name: &str) -> Result<Option<Value>, AllocError> {
     Ok(Some(value))
 }
 
-/// The answers that are lists and tuples.
+/// Returns the answer `name` if it is a list, a tuple or a map.
 fn odd_list(alloc: Global, name: &str) -> Result<Option<Value>, AllocError> {
     let value = match name {
         "65537 items" => Value::List(zeros(alloc, 65_537)?),
@@ -141,7 +140,7 @@ fn odd_list(alloc: Global, name: &str) -> Result<Option<Value>, AllocError> {
     Ok(Some(value))
 }
 
-/// The answer of that name, if there is one.
+/// Returns the answer `name`, if there is one.
 pub fn odd_value(alloc: Global, name: &str) -> Result<Option<Value>, AllocError> {
     let value = match name {
         "an integer" => Value::Int(1),

@@ -1,14 +1,14 @@
-//! The report of a campaign to a writer that fails.
+//! The report of a campaign on a writer that fails.
 ghost use Rattle.std.specs.Prelude.{◌≡◌, length};
 ghost use Rattle.pst_report.specs.InOrder.{AreOf};
 
-use crate::models::ONE;
 use crate::short::Short;
 use pst_campaign::{Unwatched, campaign};
 use pst_ledger::Closed;
 use pst_report::{ReportFault, report};
 use pst_samples::Stuck;
 use pst_system::BoxedSystem;
+use pst_tests::support::ONE;
 use pst_trial::{Plan, Record, Settings};
 use pst_typing::load;
 use std::alloc::{AllocError, Global};
@@ -16,8 +16,8 @@ use std::io;
 use std::sync::{Arc, Wait};
 use std::thread::Threads;
 
-/// How many lengths of beginnings there are behind which a writer fails and another answer than `WriteFailed` comes, or
-/// another beginning; and the length of the report.
+/// Returns how many proper prefixes of the report `report` misses, and the length of the report. For each prefix, the
+/// writer fails after it; `report` misses it unless it returns `WriteFailed` and writes just this prefix.
 fn misses(alloc: Global, plan: &Plan, closed: &Closed<Record>) -> Result<(usize, usize), AllocError>
     requires trials { length closed.now ≡ plan.now.settings.trials }
     requires records { AreOf plan.now 0 closed.now }
@@ -38,7 +38,7 @@ fn misses(alloc: Global, plan: &Plan, closed: &Closed<Record>) -> Result<(usize,
     Ok((misses, whole.bytes.len()))
 }
 
-/// Runs a campaign, and answers how many beginnings of its report are missed, and its length.
+/// Runs a campaign and returns the `misses` of its report.
 fn missed_by<R: Threads + Wait + Sync>(
     rt: &R,
     alloc: Global,
@@ -51,7 +51,7 @@ fn missed_by<R: Threads + Wait + Sync>(
     }
 }
 
-/// Runs the campaign of these settings on the system `stuck`, and answers the same.
+/// Runs a campaign with `settings` on the system `stuck`, and returns the `misses` of its report.
 fn missed<R: Threads + Wait + Sync>(
     rt: &R,
     alloc: Global,
@@ -71,7 +71,7 @@ fn missed<R: Threads + Wait + Sync>(
     missed_by(rt, alloc, Arc::new(alloc, plan)?, systems)
 }
 
-/// Prints how many beginnings of a report are missed by a writer that fails behind them.
+/// Prints how many proper prefixes of a report are missed, as `misses` counts them.
 pub fn print_report<R: Threads + Wait + Sync + Print + AllocGlobal>(rt: &R) -> io::Result<()> {
     let settings = Settings {
         seed: 7,

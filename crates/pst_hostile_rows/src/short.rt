@@ -1,10 +1,10 @@
-//! A writer that takes so many bytes and then fails.
+//! A writer that fails after a number of bytes.
 ghost use Rattle.std.specs.Prelude.{◌≡◌, Bool, List, ℕ, Option, Some, false};
 
-use pst_sink::{Failed, Sink};
+use pst_sexpr::{Failed, Sink};
 use std::alloc::Global;
 
-/// A writer that takes so many bytes, one at a time, and then fails.
+/// A writer that takes `room` bytes, one at a time, and then fails.
 #[derive(Drop)]
 pub struct Short {
     pub bytes: Vec<u8>,
@@ -13,7 +13,7 @@ pub struct Short {
 }
 
 impl Short {
-    /// A writer with room for so many bytes, which has not failed.
+    /// Returns a writer that fails after `room` bytes.
     pub fn new(alloc: Global, room: usize) -> Short
         ensures { result.failed ≡ false }
     {

@@ -1,4 +1,4 @@
-//! Systems that answer what they should not.
+//! Systems that give wrong answers.
 
 use crate::odd::odd_value;
 use pst_system::{CallFault, RealCall, System};
@@ -6,7 +6,7 @@ use pst_value::Value;
 use std::alloc::Global;
 use std::sync::atomic::{AtomicI64, Ordering};
 
-/// Answers true to every call.
+/// A system that answers `true` to every call.
 #[derive(Drop)]
 pub struct Liar;
 
@@ -35,7 +35,7 @@ pub struct NoGet {
 }
 
 impl NoGet {
-    /// At 0.
+    /// Returns a counter at 0.
     pub fn new() -> NoGet {
         NoGet {
             count: AtomicI64::new(0),
@@ -66,14 +66,14 @@ impl System for NoGet {
     }
 }
 
-/// Answers 0 to every call, and refuses every reset after so many.
+/// A system that answers 0 to every call, and refuses every reset after the first `left`.
 #[derive(Drop)]
 pub struct Resets {
     left: u32,
 }
 
 impl Resets {
-    /// A system that can be reset so many times.
+    /// Returns a system that can be reset `left` times.
     pub fn new(left: u32) -> Resets {
         Resets { left }
     }
@@ -101,14 +101,14 @@ impl System for Resets {
     }
 }
 
-/// Answers the value that the argument of a call names, and refuses a call that names none.
+/// A system that answers the value named by a call's argument, and refuses a call that names no value.
 #[derive(Drop)]
 pub struct Odd {
     alloc: Global,
 }
 
 impl Odd {
-    /// With the allocator of its answers.
+    /// Returns a system that allocates its answers with `alloc`.
     pub fn new(alloc: Global) -> Odd {
         Odd { alloc }
     }

@@ -1,5 +1,5 @@
-//! Values of many levels, in the threads that have such values: that of the program, those of branches and workers, and those
-//! that judge many items.
+//! Deeply nested values in each kind of thread: that of the program, those of branches and workers, and those that
+//! judge many items.
 
 use crate::odd::mixed;
 use indexmap::IndexSet;
@@ -9,21 +9,22 @@ use std::alloc::{AllocError, Global};
 use std::thread::Threads;
 use std::{io, thread};
 
-/// Whether two values are equal and written alike, with more bytes than these.
+/// Returns whether two values are equal and have the same `Debug` form, of more than `bytes` bytes.
 fn are_alike(alloc: Global, one: &Value, other: &Value, bytes: usize) -> Result<bool, AllocError> {
     let written = format!(in alloc; "{one:?}")?;
     let again = format!(in alloc; "{other:?}")?;
     Ok(one == other && written.as_str() == again.as_str() && written.len() > bytes)
 }
 
-/// Whether a value is found in a set of its copy, where another value is not.
+/// Returns whether a set of a copy of `value` contains `value` and does not contain `other`.
 fn is_found(alloc: Global, value: &Value, other: &Value) -> Result<bool, AllocError> {
     let mut seen = IndexSet::new(alloc);
     seen.insert(value.copy(alloc)?)?;
     Ok(seen.contains(value) && !seen.contains(other))
 }
 
-/// Whether a value of so many levels is copied, compared, hashed, searched, written and dropped, in this thread.
+/// Returns whether a value of `levels` levels is copied, compared, hashed, searched and written correctly in this
+/// thread.
 fn is_kept(alloc: Global, levels: usize) -> Result<bool, AllocError> {
     let value = mixed(alloc, levels)?;
     let are_alike = are_alike(alloc, &value, &value.copy(alloc)?, levels)?;
@@ -31,7 +32,7 @@ fn is_kept(alloc: Global, levels: usize) -> Result<bool, AllocError> {
     Ok(are_alike && is_found && value.uses(1) && !value.uses(2))
 }
 
-/// Whether values of so many levels are kept in threads of their own.
+/// Returns whether `is_kept` holds in threads of their own.
 fn are_kept_in_threads<R: Threads + Sync>(
     rt: &R,
     alloc: Global,
@@ -41,7 +42,7 @@ fn are_kept_in_threads<R: Threads + Sync>(
     Ok(answers.iter().all(|kept| *kept == Ok(true)))
 }
 
-/// Whether values of so many levels are kept in the threads that judge many items.
+/// Returns whether `is_kept` holds in the threads that judge many items.
 fn are_kept_in_parallel<R: Threads + Sync>(
     rt: &R,
     alloc: Global,
@@ -56,7 +57,7 @@ fn are_kept_in_parallel<R: Threads + Sync>(
     Ok(answers.iter().all(|kept| *kept))
 }
 
-/// Prints whether values of 100 levels are kept in each kind of thread.
+/// Prints whether `is_kept` holds for 100 levels in each kind of thread.
 pub fn print_values<R: Threads + Sync + Print + AllocGlobal>(rt: &R) -> io::Result<()> {
     let alloc = rt.alloc();
     let here = is_kept(alloc, 100)?;

@@ -1,1 +1,1 @@
-mod Page
+mod PageTexts

@@ -4,7 +4,7 @@ ghost use Rattle.pst_json.specs.Page.{IsPageByte, IsPageText};
 
 use std::alloc::{AllocError, Global};
 
-/// The digit of a number below 16.
+/// Returns the hexadecimal digit of `number`, which is below 16.
 fn digit(number: u32) -> u8
     ensures { IsPageByte result }
 {
@@ -29,7 +29,7 @@ fn digit(number: u32) -> u8
 }
 
 /// Adds a byte.
-#[tactic(auto, using(crate::proofs::Page::page_push))]
+#[tactic(auto, using(crate::proofs::PageTexts::page_push))]
 pub fn add_byte(out: &mut Vec<u8>, byte: u8) -> Result<(), AllocError>
     requires { IsPageByte byte }
     ensures { IsPageText out.old.items → OnOk result (IsPageText out.new.items) }
@@ -38,7 +38,7 @@ pub fn add_byte(out: &mut Vec<u8>, byte: u8) -> Result<(), AllocError>
     Ok(())
 }
 
-/// Adds the escape of a number of 16 bits, as `\u003c`.
+/// Adds the escape of `number`, which has 16 bits, as `\u003c`.
 fn add_escape(out: &mut Vec<u8>, number: u32) -> Result<(), AllocError>
     ensures { IsPageText out.old.items → OnOk result (IsPageText out.new.items) }
 {
@@ -50,7 +50,7 @@ fn add_escape(out: &mut Vec<u8>, number: u32) -> Result<(), AllocError>
     add_byte(out, digit(number % 16))
 }
 
-/// Adds the escape of a character: that of its number, or of the two halves of one that is beyond 16 bits.
+/// Adds the escape of a character, or the escapes of its two surrogates if its number has more than 16 bits.
 fn add_escaped(out: &mut Vec<u8>, character: char) -> Result<(), AllocError>
     ensures { IsPageText out.old.items → OnOk result (IsPageText out.new.items) }
 {
@@ -64,7 +64,7 @@ fn add_escaped(out: &mut Vec<u8>, character: char) -> Result<(), AllocError>
     }
 }
 
-/// The byte of a character that may be in a page: one of ASCII, but `<`, `>`, `&` and DEL.
+/// Returns the byte of a character that may be in a page: one of ASCII, except `<`, `>`, `&` and DEL.
 fn plain_byte(character: char) -> Option<u8>
     ensures { IfSome result IsPageByte }
 {
@@ -74,8 +74,9 @@ fn plain_byte(character: char) -> Option<u8>
     }
 }
 
-/// JSON with each other character than those of `plain_byte` as an escape, which it can be since it is in a text.
-#[tactic(auto, using(crate::proofs::Page::empty_page))]
+/// Returns `json` with an escape for each character that `plain_byte` excludes. Such characters occur only in texts,
+/// which may contain escapes.
+#[tactic(auto, using(crate::proofs::PageTexts::empty_page))]
 pub fn ascii(alloc: Global, json: &str) -> Result<Vec<u8>, AllocError>
     ensures { IfOk result (λ text. IsPageText text.items) }
 {

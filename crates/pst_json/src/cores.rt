@@ -10,7 +10,7 @@ use pst_explain::{Core, CoreAnswer, WrongIn};
 use pst_model::Source;
 use std::alloc::{AllocError, Global};
 
-/// Writes the member `why`: why an answer is wrong in an interleaving, and which that is.
+/// Writes the member `why`: why an answer is wrong in an interleaving, and this interleaving.
 fn put_wrong(
     writer: &mut Writer<Global>,
     alloc: Global,

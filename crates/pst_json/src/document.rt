@@ -22,6 +22,65 @@ pub const AFTER_ITEMS: &str = "\n]}\n";
 /// After the start of a document without items.
 pub const AFTER_NO_ITEM: &str = "]}\n";
 
+/// A campaign whose failures are the items of a document.
+#[derive(Clone, Copy, Debug, PartialEq, Eq, Drop)]
+pub struct CampaignFacts {
+    /// The seed of its plan.
+    pub seed: u64,
+    /// How many trials it has.
+    pub trials: u64,
+    /// How many of them failed.
+    pub failed: u64,
+}
+
+/// Writes the version and the names of the files, the first members of a document.
+fn put_files(writer: &mut Writer<Global>, files: &[SourceFile<'_>]) -> Result<(), AllocError> {
+    writer.key("pst")?;
+    writer.u64(VERSION)?;
+    writer.key("files")?;
+    writer.begin_array()?;
+    for file in files {
+        writer.string(file.name)?;
+    }
+    writer.end_array()
+}
+
+/// Writes the member `campaign`.
+fn put_campaign(writer: &mut Writer<Global>, facts: CampaignFacts) -> Result<(), AllocError> {
+    writer.key("campaign")?;
+    writer.begin_object()?;
+    writer.key("seed")?;
+    writer.u64(facts.seed)?;
+    writer.key("trials")?;
+    writer.u64(facts.trials)?;
+    writer.key("failed")?;
+    writer.u64(facts.failed)?;
+    writer.end_object()
+}
+
+/// Returns the first line of a document, up to the items.
+fn first_line(
+    alloc: Global,
+    files: &[SourceFile<'_>],
+    campaign: Option<CampaignFacts>,
+    model: &Source,
+) -> Result<Vec<u8>, AllocError>
+    ensures { IfOk result (λ text. IsPageText text.items) }
+{
+    let mut writer = Writer::new(Vec::new(alloc));
+    writer.begin_object()?;
+    put_files(&mut writer, files)?;
+    if let Some(facts) = campaign {
+        put_campaign(&mut writer, facts)?;
+    }
+    put_model(&mut writer, alloc, model)?;
+    writer.key("items")?;
+    writer.begin_array()?;
+    let mut start = written(alloc, writer)?;
+    add_byte(&mut start, b'\n')?;
+    Ok(start)
+}
+
 /// The first line of a document: the version, the names of the files, the model, and the start of the items.
 pub fn document_start(
     alloc: Global,
@@ -30,20 +89,17 @@ pub fn document_start(
 ) -> Result<Vec<u8>, AllocError>
     ensures { IfOk result (λ text. IsPageText text.items) }
 {
-    let mut writer = Writer::new(Vec::new(alloc));
-    writer.begin_object()?;
-    writer.key("pst")?;
-    writer.u64(VERSION)?;
-    writer.key("files")?;
-    writer.begin_array()?;
-    for file in files {
-        writer.string(file.name)?;
-    }
-    writer.end_array()?;
-    put_model(&mut writer, alloc, model)?;
-    writer.key("items")?;
-    writer.begin_array()?;
-    let mut start = written(alloc, writer)?;
-    add_byte(&mut start, b'\n')?;
-    Ok(start)
+    first_line(alloc, files, None, model)
+}
+
+/// The first line of a document whose items are the failures of a campaign, as `document_start` gives it, with the campaign.
+pub fn campaign_start(
+    alloc: Global,
+    files: &[SourceFile<'_>],
+    facts: CampaignFacts,
+    model: &Source,
+) -> Result<Vec<u8>, AllocError>
+    ensures { IfOk result (λ text. IsPageText text.items) }
+{
+    first_line(alloc, files, Some(facts), model)
 }

@@ -1,4 +1,4 @@
-//! Callbacks that fail, and replies that are no value.
+//! Callbacks that fail, and replies that are not values.
 
 use crate::calls::{put_call_member, put_id};
 use crate::writing::{put_bytes, put_expression_member, put_spelling, put_text_member, put_type};
@@ -85,7 +85,7 @@ pub fn put_failure(
     writer.end_object()
 }
 
-/// Writes the member `broken`: the call whose reply is no value, and the type that was wanted.
+/// Writes the member `broken`: the call whose reply is not a value, and the expected type.
 pub fn put_broken(
     writer: &mut Writer<Global>,
     alloc: Global,

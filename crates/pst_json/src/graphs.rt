@@ -5,17 +5,16 @@ use crate::reasons::put_why;
 use crate::values::put_state_member;
 use crate::writing::{put_bool_member, put_number_member};
 use json::Writer;
-use pst_explain::{Explanation, Reason};
-use pst_graph::{Move, Position, Search, Target, whole_search};
+use pst_explain::{Explanation, Move, Position, Reason, Search, Target, whole_search};
 use pst_model::Source;
 use pst_scene::{Call, Scene};
 use std::alloc::{AllocError, Global};
 
-/// A search is written if it has at most so many positions.
+/// A search is written only if it has at most this many positions.
 const MOST_POSITIONS: usize = 150;
 
-/// How many words of branches there are of a word of `together` letters and more letters of one branch, where `orders` words
-/// have the first letters alone.
+/// Returns how many interleavings there are of `together` commands and `more` commands of one further branch, if the
+/// first `together` commands have `orders` interleavings.
 fn with_branch(orders: u64, together: u64, more: usize) -> u64 {
     let mut orders = orders;
     for count in 1..=more as u64 {
@@ -25,7 +24,7 @@ fn with_branch(orders: u64, together: u64, more: usize) -> u64 {
     orders
 }
 
-/// How many interleavings the branches have.
+/// Returns how many interleavings the branches have.
 fn orders_of(scene: &Scene<'_>) -> u64 {
     let mut orders = 1;
     let mut together: u64 = 0;
@@ -36,7 +35,7 @@ fn orders_of(scene: &Scene<'_>) -> u64 {
     orders
 }
 
-/// Whether the search of an item is written: one that is neither explained nor valid nor broken.
+/// Returns whether the search of an item is written: only if the item is neither explained nor valid nor broken.
 fn has_graph(reason: &Reason<'_>) -> bool {
     matches!(
         reason,
@@ -44,7 +43,7 @@ fn has_graph(reason: &Reason<'_>) -> bool {
     )
 }
 
-/// The commands of the interleaving of the verdict.
+/// Returns the commands of the interleaving of the verdict.
 fn shown_calls<'a>(
     alloc: Global,
     explanation: &Explanation<'a>,

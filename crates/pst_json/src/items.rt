@@ -13,7 +13,7 @@ use pst_explain::{Explanation, Reason, TreePlace};
 use pst_judge::{Judged, Verdict, Why};
 use std::alloc::{AllocError, Global};
 
-/// The first word of a judgement.
+/// Returns the first word of a judgement.
 fn verdict_word(judged: &Judged) -> &'static str {
     match judged {
         Judged::Verdict(Verdict::Explained(_)) => "explained",
@@ -38,7 +38,7 @@ fn put_place(writer: &mut Writer<Global>, place: &TreePlace<'_>) -> Result<(), A
     writer.end_object()
 }
 
-/// Writes what is known of an item without its reasons.
+/// Writes the members of an item except its reason and its search.
 fn put_head(
     writer: &mut Writer<Global>,
     alloc: Global,
@@ -56,7 +56,7 @@ fn put_head(
     put_calls(writer, alloc, &explanation.scene)
 }
 
-/// Writes why the judgement is as it is.
+/// Writes the reason of the judgement.
 fn put_reason(
     writer: &mut Writer<Global>,
     alloc: Global,
@@ -79,15 +79,41 @@ fn put_reason(
     Ok(())
 }
 
-/// The explanation of an item as a JSON object, without a line end.
-pub fn item_json(alloc: Global, explanation: &Explanation<'_>) -> Result<Vec<u8>, AllocError>
+/// Returns the explanation of an item as a JSON object, without a line end. `trial` is the number of its trial, if it is a
+/// failure of a campaign.
+fn object_of(
+    alloc: Global,
+    explanation: &Explanation<'_>,
+    trial: Option<usize>,
+) -> Result<Vec<u8>, AllocError>
     ensures { IfOk result (λ text. IsPageText text.items) }
 {
     let mut writer = Writer::new(Vec::new(alloc));
     writer.begin_object()?;
     put_head(&mut writer, alloc, explanation)?;
+    if let Some(trial) = trial {
+        put_number_member(&mut writer, "trial", trial)?;
+    }
     put_reason(&mut writer, alloc, explanation)?;
     put_search(&mut writer, alloc, explanation)?;
     writer.end_object()?;
     written(alloc, writer)
+}
+
+/// Returns the explanation of an item as a JSON object, without a line end.
+pub fn item_json(alloc: Global, explanation: &Explanation<'_>) -> Result<Vec<u8>, AllocError>
+    ensures { IfOk result (λ text. IsPageText text.items) }
+{
+    object_of(alloc, explanation, None)
+}
+
+/// Returns the explanation of the failure of a trial, from 0, as `item_json` gives it, with the number of the trial.
+pub fn trial_json(
+    alloc: Global,
+    explanation: &Explanation<'_>,
+    trial: usize,
+) -> Result<Vec<u8>, AllocError>
+    ensures { IfOk result (λ text. IsPageText text.items) }
+{
+    object_of(alloc, explanation, Some(trial))
 }

@@ -1,9 +1,12 @@
-//! Explanations as JSON: what `pst explain --format json` writes, and the data of its page.
+//! Explanations as JSON: what `pst explain --format json` writes, the page for a browser, and the data in it.
 //!
-//! A document is `document_start`, an `item_json` for each item with `BETWEEN_ITEMS` between two, and `AFTER_ITEMS` or, if there
-//! is no item, `AFTER_NO_ITEM`. It is ASCII, and has no `<`, `>`, `&` or DEL, so that it can be in a page as it is. Each part
-//! is derived from the explanation. It is written token by token by the kit's `json`: a tree of `serde_json` would hold each
-//! text once more, and a map for each object. `AllocError` is out of memory.
+//! A document is `document_start`, an `item_json` for each item with `BETWEEN_ITEMS` between two, and `AFTER_ITEMS` or,
+//! if there is no item, `AFTER_NO_ITEM`. That of a campaign's failures is `campaign_start`, `trial_json` for each, and the
+//! same after them. It is ASCII without `<`, `>`, `&` and DEL, so a page can contain it unchanged.
+//! Each part is derived from the explanation. The kit's `json` writes it token by token: a tree of `serde_json` would
+//! hold each text once more, and a map for each object.
+//!
+//! `AllocError` means that an allocation failed.
 #![tactic(auto)]
 
 mod ascii;
@@ -14,10 +17,14 @@ mod failures;
 mod graphs;
 mod items;
 mod models;
+mod page;
 mod reasons;
 mod values;
 mod walks;
 mod writing;
 
-pub use document::{AFTER_ITEMS, AFTER_NO_ITEM, BETWEEN_ITEMS, document_start};
-pub use items::item_json;
+pub use document::{
+    AFTER_ITEMS, AFTER_NO_ITEM, BETWEEN_ITEMS, CampaignFacts, campaign_start, document_start,
+};
+pub use items::{item_json, trial_json};
+pub use page::{AFTER_DATA, BEFORE_DATA};

@@ -3,9 +3,8 @@
 use crate::values::put_value_member;
 use crate::writing::{put_expression_member, put_spelling, put_spelling_member};
 use json::Writer;
-use pst_evidence::{Evidence, FalsePart};
 use pst_model::Source;
-use pst_scene::{DeadEnd, Falsity, dead_end_text, falsity_text, value_text};
+use pst_scene::{DeadEnd, Evidence, FalsePart, Falsity, dead_end_text, falsity_text, value_text};
 use pst_value::Value;
 use std::alloc::{AllocError, Global};
 

@@ -2,10 +2,9 @@
 
 use crate::writing::{MOST_BYTES, put_number_member, put_spelling_member, put_text_member};
 use json::Writer;
-use pst_items::Text;
 use pst_model::{Source, operation_of};
 use pst_scene::value_text;
-use pst_value::{Key, Value};
+use pst_value::{Key, Text, Value};
 use std::alloc::{AllocError, Global};
 
 /// The greatest integer that each reader of JSON holds exactly, 2^53 - 1.
@@ -116,7 +115,7 @@ fn put_items(
     writer.end_array()
 }
 
-/// Writes the entries of a map, as many as there are both keys and values, and the end of their array.
+/// Writes the entries of a map, up to the end of the shorter of `keys` and `values`, and the end of their array.
 #[cycle(value)]
 fn put_entries(
     writer: &mut Writer<Global>,
@@ -138,8 +137,8 @@ fn put_entries(
     writer.end_array()
 }
 
-/// Writes an object with the spelling of a value and the value as JSON; if the spelling is long, with its length in place of
-/// the value.
+/// Writes an object with the spelling of a value and the value as JSON. If the spelling is long, the object has its
+/// length in place of the value.
 pub fn put_value(
     writer: &mut Writer<Global>,
     alloc: Global,
@@ -182,7 +181,7 @@ pub fn put_state_member(
     put_spelling_member(writer, alloc, key, text.as_slice())
 }
 
-/// Writes an object of a word in place of a value.
+/// Writes an object with a word in place of a value.
 pub fn put_word(writer: &mut Writer<Global>, word: &str) -> Result<(), AllocError> {
     writer.begin_object()?;
     put_text_member(writer, "text", word)?;

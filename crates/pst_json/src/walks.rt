@@ -10,7 +10,7 @@ use pst_model::Source;
 use pst_scene::{PreAnswer, add_word};
 use std::alloc::{AllocError, Global};
 
-/// Writes a member whose value is a word of branches.
+/// Writes a member whose value is an interleaving of branches.
 pub fn put_word_member(
     writer: &mut Writer<Global>,
     alloc: Global,

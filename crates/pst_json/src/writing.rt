@@ -10,10 +10,10 @@ use pst_scene::{add_form, cut, expression_text};
 use pst_value::Ty;
 use std::alloc::{AllocError, Global};
 
-/// A spelling has at most so many bytes. One that is longer is cut in the middle.
+/// The maximum length of a spelling, in bytes. A longer one is cut in the middle.
 pub const MOST_BYTES: usize = 4000;
 
-/// The bytes as a text: each is the character of its number if they are no UTF-8.
+/// Returns the bytes as a text. If they are not UTF-8, each byte becomes the character with its number.
 fn text_of(alloc: Global, bytes: &[u8]) -> Result<String, AllocError> {
     if let Ok(text) = std::str::from_utf8(bytes) {
         return String::from_str(alloc, text);
@@ -25,7 +25,7 @@ fn text_of(alloc: Global, bytes: &[u8]) -> Result<String, AllocError> {
     Ok(text)
 }
 
-/// The JSON that was written, in ASCII.
+/// Returns the written JSON, in ASCII.
 pub fn written(alloc: Global, writer: Writer<Global>) -> Result<Vec<u8>, AllocError>
     ensures { IfOk result (λ text. IsPageText text.items) }
 {

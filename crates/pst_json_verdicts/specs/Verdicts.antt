@@ -2,9 +2,9 @@
 use Rattle.std.specs.Prelude.{ℕ, List, [], ◌∷◌, ◌++◌, codes}
 use Rattle.pst_eval.specs.Places.{callback_name}
 use Rattle.pst_eval.specs.declared.place.Place.{Place}
-use Rattle.pst_objects.specs.declared.field.Field.{Field}
-use Rattle.pst_objects.specs.declared.field.Field.TheVariants.{Number, Words}
-use Rattle.pst_objects.specs.declared.field.Name.TheVariants as name
+use Rattle.pst_json_verdicts.specs.declared.field.Field.{Field}
+use Rattle.pst_json_verdicts.specs.declared.field.Field.TheVariants.{Number, Words}
+use Rattle.pst_json_verdicts.specs.declared.field.Name.TheVariants as name
 use Rattle.pst_judge.specs.VerdictText.{word_text}
 use Rattle.pst_judge.specs.declared.judgement.Judged.{Judged}
 use Rattle.pst_judge.specs.declared.judgement.Judged.TheVariants as judged

@@ -3,10 +3,11 @@ ghost use Rattle.std.specs.Prelude.{◌≡◌, [], ◌∷◌, ◌++◌, IfOk, On
 ghost use Rattle.pst_json_verdicts.specs.Verdicts.{judged_fields, merge_field, outcome_fields, place_fields, refused_fields};
 ghost use Rattle.pst_judge.specs.declared.judgement.Judged.TheVariants as judged;
 
+use crate::add::{add_number, add_words};
+use crate::field::{Field, Name};
 use crate::merge::merge_text;
 use pst_eval::Place;
 use pst_judge::{Judged, Verdict, Why};
-use pst_objects::{Field, Name, add_number, add_words};
 use pst_runs::RunFaultKind;
 use std::alloc::{AllocError, Global};
 
@@ -78,7 +79,7 @@ fn add_why(alloc: Global, fields: &mut Vec<Field>, why: &Why) -> Result<(), Allo
     }
 }
 
-/// The members of the object of an item that was judged: its number, its verdict, and what the verdict says.
+/// Returns the members of the object of a judged item: its number, its verdict, and the details of the verdict.
 pub fn judged_fields(
     alloc: Global,
     number: usize,
@@ -96,8 +97,7 @@ pub fn judged_fields(
     Ok(fields)
 }
 
-/// The members of the object of an item that is refused: its number, the command that is at fault, and the kind of its
-/// fault.
+/// Returns the members of the object of a refused item: its number, the command at fault, and the kind of its fault.
 pub fn refused_fields(
     alloc: Global,
     number: usize,

@@ -3,7 +3,7 @@ ghost use Rattle.std.specs.Prelude.{◌≡◌, ◌∷◌, [], IfOk};
 ghost use Rattle.pst_judge.specs.VerdictText.{word_text};
 ghost use Rattle.pst_judge.specs.Words.{letter};
 
-use pst_items::Text;
+use pst_value::Text;
 use std::alloc::{AllocError, Global};
 
 /// The letter of a branch, from 0.
@@ -18,7 +18,7 @@ fn letter(branch: usize) -> &'static str
     }
 }
 
-/// The letters of an interleaving's branches; `-` if there are none.
+/// Returns the letters of an interleaving's branches, or `-` if it is empty.
 pub fn merge_text(alloc: Global, branches: &[usize]) -> Result<Text, AllocError>
     ensures { IfOk result (λ text. text ≡ word_text branches.now) }
 {

@@ -2,7 +2,8 @@
 ghost use Rattle.std.specs.Prelude.{◌≡◌, IfOk};
 ghost use Rattle.pst_json_verdicts.specs.Verdicts as spec;
 
-use pst_objects::{Field, Name, add_number, add_words};
+use crate::add::{add_number, add_words};
+use crate::field::{Field, Name};
 use pst_typing::Refusal;
 use std::alloc::{AllocError, Global};
 
@@ -16,7 +17,8 @@ pub fn accepted_fields(alloc: Global, model: &str) -> Result<Vec<Field>, AllocEr
     Ok(fields)
 }
 
-/// The members of the object of an input whose model is refused: what refuses it, the kind of its fault, and where it is.
+/// Returns the members of the object of an input whose model is refused: the stage that refuses it, the kind of its
+/// fault, and its place.
 pub fn refusal_fields(alloc: Global, refusal: &Refusal) -> Result<Vec<Field>, AllocError>
     ensures { IfOk result (λ fields. fields.items ≡ spec.refusal_fields refusal.now) }
 {

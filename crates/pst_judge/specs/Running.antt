@@ -11,8 +11,8 @@ use Rattle.pst_judge.specs.Replay.{Asking, EventFits, turn_asking, event_at, bra
 use Rattle.pst_judge.specs.declared.events.Event.{Event}
 use Rattle.pst_judge.specs.declared.running.EventsEnd.{EventsEnd}
 use Rattle.pst_judge.specs.declared.running.EventsEnd.TheVariants.{Through, Stopped}
+use Rattle.pst_model.specs.Fitting.{is_state}
 use Rattle.pst_model.specs.declared.model.Source.{Source}
-use Rattle.pst_rules.specs.Fitting.{is_state}
 use Rattle.pst_value.specs.declared.ty.Ty.{Ty}
 use Rattle.pst_value.specs.declared.value.Value.{Value}
 

@@ -1,10 +1,10 @@
-//! What a replay asks of an event.
+//! The condition that a replay checks on each event.
 ghost use Rattle.std.specs.Prelude.{◌≡◌, ℕ, true, [], List, IfOk};
 ghost use Rattle.pst_judge.specs.Replay.{EventFits, SaysTruth};
 ghost use Rattle.pst_judge.specs.declared.events.Event.{Event};
+ghost use Rattle.pst_model.specs.Fitting.{is_state};
 ghost use Rattle.pst_model.specs.declared.model.Source.{Source};
 ghost use Rattle.pst_operators.specs.Outcome.{Outcome};
-ghost use Rattle.pst_rules.specs.Fitting.{is_state};
 ghost use Rattle.pst_value.specs.declared.ty.Ty.{Ty};
 ghost use Rattle.pst_value.specs.declared.value.Value.{Value};
 
@@ -14,13 +14,12 @@ use pst_eval::Callbacks;
 use pst_value::{Fault, Value};
 use std::alloc::{AllocError, Global};
 
-/// What a replay asks of each event on the state before it.
+/// A condition that a replay checks on each event, on the state before it.
 pub trait Condition {
-    // What is asked of an event by a model, which gives a truth value.
+    // The result of the condition on an event by a model, which is a bool.
     ghost asked: { Self → Source → Value → Event → Outcome (Value × ℕ) };
 
-    /// Whether what is asked of the event is true on the state before it, or the fault that it ends in.
-    /// `AllocError` where memory is refused.
+    /// Whether the condition is true of the event on the state before it, or the fault that it ends in.
     fn ask<C: Callbacks>(
         &self,
         callbacks: &C,

@@ -12,11 +12,10 @@ use crate::events::{Event, branches_events, number_behind, part_events};
 use crate::search::Branches;
 use pst_case::{History, Shaped};
 use pst_eval::Callbacks;
-use pst_items::Items;
-use pst_value::Value;
+use pst_value::{Items, Value};
 use std::alloc::{AllocError, Global};
 
-/// The events of the prefix of a history whose results these are. `AllocError` where memory is refused.
+/// The events of the prefix of a history with these recorded results.
 pub fn prefix_of(
     alloc: Global,
     shaped: &Shaped,
@@ -31,8 +30,8 @@ pub fn prefix_of(
     part_events(alloc, results, 1, commands, replies, Items::new(alloc))
 }
 
-/// The events of the branches and of the suffix of a history whose replies are all values, of which a
-/// condition is asked. `AllocError` where memory is refused.
+/// The events of the branches and of the suffix of a history whose replies are all values, with the condition to check
+/// on them.
 pub fn branches_of<'a, C: Callbacks, A: Condition>(
     callbacks: &'a C,
     condition: &'a A,

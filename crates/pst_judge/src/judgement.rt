@@ -1,4 +1,4 @@
-//! The judgement of an item: a case, with or without what was recorded of it.
+//! The judgement of an item: a case, with or without a recorded history.
 ghost use Rattle.std.specs.Prelude.{◌≡◌, IfOk, string_bytes};
 ghost use Rattle.pst_judge.specs.JudgedText.{judged_text};
 ghost use Rattle.pst_judge.specs.Judgement.{HistoryMatches, IsJudgement};
@@ -23,8 +23,7 @@ pub enum Judged {
     Invalid(Why),
 }
 
-/// The verdict on the item's history; of an item without a history, whether its case is valid. `AllocError`
-/// where memory is refused.
+/// Returns the verdict on the item's history or, if the item has no history, whether its case is valid.
 pub fn judge_one<C: Callbacks>(
     callbacks: &C,
     alloc: Global,
@@ -59,8 +58,8 @@ impl fmt::Display for Judged {
 }
 
 impl Judged {
-    /// The judgement in words: the text of the verdict, `valid`, or the reason why the case is not valid, as
-    /// `prefalse 3 merge LR` or `casefault 0 init TooLong merge -`. `AllocError` where memory is refused.
+    /// The judgement as text: the text of the verdict, `valid`, or the reason why the case is not valid, such as
+    /// `prefalse 3 merge LR` or `casefault 0 init TooLong merge -`.
     pub fn text(&self, alloc: Global) -> Result<String, AllocError>
         ensures { IfOk result (λ text. string_bytes text ≡ judged_text self.now) }
     {

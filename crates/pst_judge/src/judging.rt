@@ -10,7 +10,7 @@ ghost use Rattle.pst_judge.specs.Replay.{branch_events, branch_lengths, suffix_e
 ghost use Rattle.pst_judge.specs.Running.{IsRealState};
 ghost use Rattle.pst_judge.specs.Validity.{IsValid};
 ghost use Rattle.pst_judge.specs.Verdict.{first_broken, IsVerdict, IsVerdictAsking, IsJudgedAsking};
-ghost use Rattle.pst_rules.specs.WellTyped.{WellModel};
+ghost use Rattle.pst_model.specs.WellTyped.{WellModel};
 
 use crate::condition::{Condition, Postconditions};
 use crate::history_events::{branches_of, prefix_of};
@@ -23,7 +23,7 @@ use pst_grid::Why;
 use pst_value::Value;
 use std::alloc::{AllocError, Global};
 
-/// The number of the first result that is not known, where the first of all has the number.
+/// The command number of the first missing result. The first of `results` has the number `number`.
 fn first_broken(number: u32, results: &[Option<Value>]) -> Option<u32>
     requires { number + length results.now < 2 ^ 32 }
     ensures { result ≡ first_broken number results.now }
@@ -35,8 +35,8 @@ fn first_broken(number: u32, results: &[Option<Value>]) -> Option<u32>
     }
 }
 
-/// The verdict on a history whose replies are all values, from the state after the prefix, and the letters of the true
-/// events of the merge that it rests on, where no merge explains.
+/// The verdict on a history whose replies are all values, from the state after the prefix. If no interleaving explains
+/// it, also returns the branch numbers of the true events in the interleaving that the verdict rests on.
 fn after_prefix<C: Callbacks, A: Condition>(
     callbacks: &C,
     condition: &A,
@@ -59,8 +59,8 @@ fn after_prefix<C: Callbacks, A: Condition>(
     search(alloc, &branches, state, shaped.case().prefix.len())
 }
 
-/// The verdict on a history whose replies are all values, and the letters of the true events of the merge that it rests
-/// on, where no merge explains.
+/// The verdict on a history whose replies are all values. If no interleaving explains it, also returns the branch
+/// numbers of the true events in the interleaving that the verdict rests on.
 fn judged<C: Callbacks, A: Condition>(
     callbacks: &C,
     condition: &A,
@@ -101,8 +101,8 @@ fn judged<C: Callbacks, A: Condition>(
     }
 }
 
-/// The verdict on a history of a case where a condition is asked of each event, and the letters of the true events of
-/// the merge that it rests on, where there is one that does not explain.
+/// The verdict on a history of a case, with `condition` checked on each event. If the verdict rests on an interleaving
+/// that does not explain the history, also returns the branch numbers of its true events.
 fn verdict_with_letters<C: Callbacks, A: Condition>(
     callbacks: &C,
     condition: &A,
@@ -132,11 +132,9 @@ fn verdict_with_letters<C: Callbacks, A: Condition>(
     }
 }
 
-/// The verdict on a history of a case where a condition is asked of each event, by the model of the
-/// callbacks.
+/// The verdict on a history of a case, with `condition` checked on each event, by the model of the callbacks.
 ///
-/// It is [`verdict`] with the condition in place of each event's postcondition. `AllocError` where memory is
-/// refused.
+/// It is [`verdict`] with the condition in place of each event's postcondition.
 pub fn verdict_asking<C: Callbacks, A: Condition>(
     callbacks: &C,
     condition: &A,
@@ -155,11 +153,11 @@ pub fn verdict_asking<C: Callbacks, A: Condition>(
 
 /// The verdict on a history of a case, by the model of the callbacks.
 ///
-/// `Broken` at the least command whose reply is no value. Else every merge of the branches is replayed,
-/// behind the prefix and before the suffix, with recorded results for variables: `Explained` with the least
-/// merge that is all true; else `Faulted`, where the least merge that faults does so; else `Unexplained`. Of
-/// a case that is valid by a well-typed model no callback but `post` faults. `AllocError` where memory is
-/// refused.
+/// It is `Broken` at the first command whose reply is no value. Otherwise it depends on the replay of every
+/// interleaving of the branches, after the prefix and before the suffix, with the recorded results in place of
+/// variables. It is `Explained` with the first interleaving in which every event is true; else `Faulted` at the fault
+/// of the first interleaving that faults; else `Unexplained`. In a case that is valid by a well-typed model no callback
+/// but `post` faults.
 pub fn verdict<C: Callbacks>(
     callbacks: &C,
     alloc: Global,
@@ -176,7 +174,7 @@ pub fn verdict<C: Callbacks>(
     verdict_asking(callbacks, &Postconditions, alloc, shaped, history)
 }
 
-/// The word of a verdict that explains; of any other, the letters.
+/// The interleaving of a verdict that explains, or else `letters`.
 fn word_or(alloc: Global, verdict: &Verdict, letters: Vec<usize>) -> Result<Vec<usize>, AllocError>
     ensures { IfOk result (λ word. word.items ≡ word_or verdict.now letters.items) }
 {
@@ -188,10 +186,10 @@ fn word_or(alloc: Global, verdict: &Verdict, letters: Vec<usize>) -> Result<Vec<
 
 /// The [`verdict`] on a history of a case, and its interleaving, from one search.
 ///
-/// Of `Explained` it is the word. Of `Faulted` it has the letters of the true events of the least merge that faults, and
-/// of `Unexplained` those of the least merge that has so many true events before a false one: all letters where the
-/// suffix stops, and none where the prefix does. Each merge that begins with those of `Unexplained` stops there: each
-/// next command is false. `Broken` has no letters. `AllocError` where memory is refused.
+/// For `Explained` it is the interleaving that explains. For `Faulted` it has the branch numbers of the true events of
+/// the first interleaving that faults, and for `Unexplained` those of the first interleaving with the most true events
+/// before a false one: all branch numbers if the suffix stops the run, and none if the prefix does. Each interleaving
+/// that begins with those of `Unexplained` stops there: each next command is false. For `Broken` it is empty.
 pub fn verdict_with_interleaving<C: Callbacks>(
     callbacks: &C,
     alloc: Global,

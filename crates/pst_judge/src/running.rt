@@ -1,6 +1,6 @@
-//! Events of a history, replayed in turn.
+//! Replays events of a history in turn.
 ghost use Rattle.std.specs.Prelude.{◌≡◌, ◌∷◌, ◌<◌, true, [], List, IfOk, MatchOption, length};
-ghost use Rattle.pst_rules.specs.Fitting.{is_state};
+ghost use Rattle.pst_model.specs.Fitting.{is_state};
 ghost use Rattle.pst_grid.specs.Turns.{OnStop};
 ghost use Rattle.pst_judge.specs.Running.{events_end, last_events, EventsFit, OnThrough, OnStopped};
 ghost use Rattle.pst_value.specs.declared.ty.Ty.{Ty};
@@ -13,16 +13,16 @@ use pst_grid::{Ending, Turn, Why};
 use pst_value::Value;
 use std::alloc::{AllocError, Global};
 
-/// How events end that are replayed in turn.
+/// How a replay of events in turn ends.
 #[derive(Debug, Drop)]
 pub enum EventsEnd {
     /// All events are true, and this is the state after them.
     Through(Value),
-    /// The replay stops after so many true events.
+    /// The replay stops after this many true events.
     Stopped(usize, Why<Place>),
 }
 
-/// Replays events from a state.
+/// Replays events in turn from a state.
 pub fn run_events<C: Callbacks, A: Condition>(
     callbacks: &C,
     condition: &A,
@@ -52,7 +52,7 @@ pub fn run_events<C: Callbacks, A: Condition>(
     }
 }
 
-/// Replays the last events of a run from a state: how the run ends.
+/// Replays the last events of a run from a state, and returns how the run ends.
 #[tactic(auto, using(crate::proofs::Shifted::last_is))]
 pub fn run_last<C: Callbacks, A: Condition>(
     callbacks: &C,

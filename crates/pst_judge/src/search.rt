@@ -1,4 +1,4 @@
-//! The search over the merges of the branches.
+//! The search over the interleavings of the branches.
 ghost use Rattle.std.specs.Prelude.{◌≡◌, ◌+◌, ◌<◌, ◌≤◌, ◌^◌, IfOk, map, length, sum};
 ghost use Rattle.pst_case.specs.Shape.{result_types};
 ghost use Rattle.pst_judge.specs.FromAnswer.{IsVerdictOfSearch, OnNothing, letters_of, verdict_of};
@@ -7,18 +7,17 @@ ghost use Rattle.pst_judge.specs.Running.{BranchesFit, EventsFit, IsRealState};
 
 use crate::condition::Condition;
 use crate::events::Event;
+use crate::packed::Packed;
 use crate::replay::event_turn;
 use crate::running::run_last;
 use crate::verdicts::Verdict;
 use pst_case::{Command, Shaped};
 use pst_eval::{Callbacks, Place};
 use pst_grid::{Ending, SomeAnswer, Steps, Turn, some};
-use pst_items::Items;
-use pst_packed::Packed;
-use pst_value::Value;
+use pst_value::{Items, Value};
 use std::alloc::{AllocError, Global};
 
-/// The events of the branches of a case, to be stepped through, and those of its suffix, which run when all
+/// The events of the branches of a case, for a search to step through, and those of its suffix, which run when all
 /// branches have ended.
 #[derive(Drop)]
 pub struct Branches<'a, C, A> {
@@ -36,7 +35,7 @@ impl<'a, C: Callbacks, A: Condition> Steps for Branches<'a, C, A> {
     ghost use Rattle.pst_judge.specs.Replay.{EventFits, branch_turn_asking, event_at};
     ghost use Rattle.pst_judge.specs.Running.{EventsFit, IsRealState, last_events};
     ghost use Rattle.pst_judge.specs.declared.events.Event.{Event};
-    ghost use Rattle.pst_packed.specs.Feeding.{fed};
+    ghost use Rattle.pst_judge.specs.Feeding.{fed};
     ghost use Rattle.pst_value.proofs.Exact.{same_value-Decides};
 
     type State = Value;
@@ -120,8 +119,8 @@ pub fn lengths_of(alloc: Global, branches: &[Items<Command>]) -> Result<Vec<usiz
     Ok(lengths)
 }
 
-/// The verdict that an answer stands for, where so many events stand before the branches. Beside it are the letters of
-/// the true events of the merge that the answer names, where that merge is not true to its end.
+/// The verdict for the answer of a search, with `prefix` events before the branches. If the interleaving in the answer
+/// is not true to its end, also returns the branch numbers of its true events.
 fn verdict_of(alloc: Global, prefix: usize, answer: SomeAnswer<Place>) -> (Verdict, Vec<usize>)
     requires { OnNothing answer (λ far. prefix + far < 2 ^ 64) }
     ensures verdict { result.0 ≡ verdict_of prefix answer }
@@ -144,8 +143,9 @@ fn verdict_of(alloc: Global, prefix: usize, answer: SomeAnswer<Place>) -> (Verdi
     }
 }
 
-/// Searches the merges of the branches, from the state after the prefix, with the suffix behind each: the verdict, and
-/// the letters of the true events of the merge that it rests on, where no merge explains.
+/// Searches the interleavings of the branches, from the state after the prefix, with the suffix after each, and returns
+/// the verdict. If no interleaving explains, also returns the branch numbers of the true events in the interleaving
+/// that the verdict rests on.
 pub fn search<C: Callbacks, A: Condition>(
     alloc: Global,
     branches: &Branches<'_, C, A>,

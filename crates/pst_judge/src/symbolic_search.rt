@@ -1,4 +1,4 @@
-//! The search for a merge that fails on symbolic states.
+//! The search for an interleaving that fails on symbolic states.
 ghost use Rattle.std.specs.Prelude.{◌≡◌, ◌+◌, ◌++◌, ◌<◌, ◌≤◌, ◌^◌, IfOk, map, length, replicate, sum};
 ghost use Rattle.pst_case.specs.Shape.{result_types};
 ghost use Rattle.pst_judge.specs.Replay.{branch_lengths};
@@ -6,18 +6,17 @@ ghost use Rattle.pst_judge.specs.SymbolicSearch.{BranchesFit, CommandsFit, Fails
 
 use crate::events::{split_commands, split_parts};
 use crate::numbered::NumberedCommand;
+use crate::packed::Packed;
 use crate::search::lengths_of;
 use crate::symbolic::{Failing, run_last, symbolic_step};
 use crate::why::Why;
 use pst_case::{Command, Shaped};
 use pst_eval::Callbacks;
 use pst_grid::{Ending, EveryAnswer, Steps, Turn, every};
-use pst_items::Items;
-use pst_packed::Packed;
-use pst_value::Value;
+use pst_value::{Items, Value};
 use std::alloc::{AllocError, Global};
 
-/// The commands of the branches of a case, to be stepped through on symbolic states, and those of its suffix,
+/// The commands of the branches of a case, for a search to step through on symbolic states, and those of its suffix,
 /// which run when all branches have ended.
 #[derive(Drop)]
 pub struct SymbolicBranches<'a, C> {
@@ -34,7 +33,7 @@ impl<'a, C: Callbacks> Steps for SymbolicBranches<'a, C> {
     ghost use Rattle.pst_judge.specs.Symbolic.{CommandFits, symbolic_turn, command_at};
     ghost use Rattle.pst_judge.specs.SymbolicSearch.{CommandsFit, IsSymbolicState, last_commands};
     ghost use Rattle.pst_judge.specs.declared.numbered.NumberedCommand.{NumberedCommand};
-    ghost use Rattle.pst_packed.specs.Feeding.{fed};
+    ghost use Rattle.pst_judge.specs.Feeding.{fed};
     ghost use Rattle.pst_value.proofs.Exact.{same_value-Decides};
 
     type State = Value;
@@ -106,7 +105,7 @@ impl<'a, C: Callbacks> Steps for SymbolicBranches<'a, C> {
     ghost feeds = { λ kept. refl };
 }
 
-/// The reason of a failing, in the merge that fails.
+/// The reason for a failure in the interleaving `merge`.
 fn reason_of(failing: Failing, merge: Vec<usize>) -> Why
     ensures { result ≡ reason_of failing merge }
 {
@@ -116,7 +115,7 @@ fn reason_of(failing: Failing, merge: Vec<usize>) -> Why
     }
 }
 
-/// The reason that an answer stands for, if it is one.
+/// The reason in the answer of a search, if it has one.
 fn reason_of_answer(answer: EveryAnswer<Failing>) -> Option<Why>
     requires { FailsByReason answer }
     ensures { result ≡ reason_of_answer answer }
@@ -130,8 +129,8 @@ fn reason_of_answer(answer: EveryAnswer<Failing>) -> Option<Why>
     }
 }
 
-/// Searches the merges of the branches for the least that fails, from the symbolic state after the prefix and
-/// with the suffix behind each.
+/// Searches the interleavings of the branches for the first that fails, from the symbolic state after the prefix and
+/// with the suffix after each.
 pub fn search_failing<C: Callbacks>(
     alloc: Global,
     branches: &SymbolicBranches<'_, C>,
@@ -154,7 +153,7 @@ pub fn search_failing<C: Callbacks>(
     Ok(reason_of_answer(answer))
 }
 
-/// A letter of the branch for each of its commands, after others.
+/// Appends the number `branch` to `word` once for each command.
 fn letters(
     branch: usize,
     commands: &[Command],
@@ -169,7 +168,7 @@ fn letters(
     letters(branch, commands, word)
 }
 
-/// The letters of branches in turn, from the letter of the first, after others.
+/// Appends the numbers of the branches to `word` in turn, from `branch` on, each once for each of its commands.
 fn in_turn(
     branch: usize,
     branches: &[Items<Command>],
@@ -185,7 +184,7 @@ fn in_turn(
     in_turn(branch + 1, rest, word)
 }
 
-/// The reason where all merges fail alike: the least merge fails so.
+/// The reason if all interleavings fail alike: the failure of the first interleaving.
 pub fn in_first_merge(
     alloc: Global,
     shaped: &Shaped,

@@ -6,8 +6,8 @@ use pst_model::Source;
 use std::alloc::{AllocError, Global};
 use std::marker::Model;
 
-/// A case that is valid by its model: in every merge of its branches each precondition is true and no
-/// callback faults. Contracts see it as the model and the case.
+/// A case that is valid by its model: in every interleaving of its branches each precondition is true and no callback
+/// faults. Contracts see it as the model and the case.
 #[derive(Debug, Drop)]
 pub struct Valid {
     shaped: Shaped,
@@ -45,7 +45,7 @@ impl Valid {
         &self.shaped
     }
 
-    /// The case, out of its `Valid`.
+    /// Takes the case out of its `Valid`.
     pub fn into_shaped(self) -> Shaped
         ensures same { result ≡ self }
         ensures validity { IsValid self.model self.case }
@@ -54,8 +54,7 @@ impl Valid {
         shaped
     }
 
-    /// An equal valid case. It takes the model, of which nothing is read. `AllocError` where memory is
-    /// refused.
+    /// An equal valid case. Only contracts read `model`.
     pub fn copy(&self, alloc: Global, model: &Source) -> Result<Valid, AllocError>
         requires { self.now.model ≡ model.now }
         ensures { IfOk result (λ copy. copy ≡ self.now) }

@@ -1,4 +1,4 @@
-//! Whether a case is valid.
+//! Checks whether a case is valid.
 ghost use Rattle.std.specs.Prelude.{◌≡◌, ◌⊎◌, IfOk, IfErr};
 ghost use Rattle.pst_case.specs.Shape.{IsShaped};
 ghost use Rattle.pst_judge.specs.SymbolicSearch.{IsReasonOfSearch, IsSymbolicState};
@@ -6,7 +6,7 @@ ghost use Rattle.pst_judge.specs.Real.{IsAlwaysValid};
 ghost use Rattle.pst_judge.specs.Replay.{branch_lengths};
 ghost use Rattle.pst_judge.specs.Symbolic.{branch_commands, suffix_commands};
 ghost use Rattle.pst_judge.specs.Validity.{IsValid, IsWhy, IsReason};
-ghost use Rattle.pst_rules.specs.WellTyped.{WellModel};
+ghost use Rattle.pst_model.specs.WellTyped.{WellModel};
 
 use crate::events::number_behind;
 use crate::numbered::{branches_with_numbers, with_numbers};
@@ -16,11 +16,10 @@ use crate::validated::Valid;
 use crate::why::Why;
 use pst_case::Shaped;
 use pst_eval::{Callback, Callbacks};
-use pst_items::Items;
-use pst_value::Value;
+use pst_value::{Items, Value};
 use std::alloc::{AllocError, Global};
 
-/// Why the case is not valid, if it is not, from the symbolic state after the prefix.
+/// Why the case is not valid, from the symbolic state after the prefix; `None` if it is valid.
 fn why_not_after_prefix<C: Callbacks>(
     callbacks: &C,
     alloc: Global,
@@ -48,8 +47,7 @@ fn why_not_after_prefix<C: Callbacks>(
     search_failing(alloc, &symbolic, state)
 }
 
-/// Why the case is not valid by the model of the callbacks, if it is not. `AllocError` where memory is
-/// refused.
+/// Why the case is not valid by the model of the callbacks; `None` if it is valid.
 pub fn why_not<C: Callbacks>(
     callbacks: &C,
     alloc: Global,
@@ -73,17 +71,17 @@ pub fn why_not<C: Callbacks>(
     }
 }
 
-/// The case as a valid one, where it is valid by the model of the callbacks. Else the case comes back with
-/// the reason.
+/// Returns the case as a [`Valid`] if it is valid by the model of the callbacks, and otherwise the case with the
+/// reason.
 ///
-/// The case is run on symbolic states, from the initial state, in every merge of the branches, behind the
-/// prefix and before the suffix: each command's precondition must be true, and the next state, where the
-/// variable of the command's number stands for its result, must come without a fault. The reason is that of
-/// the least merge that fails, at its first command that fails; it is `NoMemory` where memory is refused.
+/// The check covers every interleaving of the branches, after the prefix and before the suffix, on symbolic states from
+/// the initial state on. Each command's precondition must be true, and its next state, with the variable of the
+/// command's number as the result, must come without a fault. The reason is that of the first interleaving that fails,
+/// at its first command that fails. If an allocation fails, the reason is `NoMemory`.
 ///
-/// Over a well-typed model a valid case stays so with recorded results for variables: whatever history of
-/// values is recorded, in every merge each precondition is true on the real state, and neither `init` nor a
-/// `pre` or `next` faults.
+/// Over a well-typed model a valid case stays valid with recorded results in place of variables: whatever values a
+/// history records, in every interleaving each precondition is true on the real state, and neither `init` nor a `pre`
+/// or `next` faults.
 pub fn valid<C: Callbacks>(
     callbacks: &C,
     alloc: Global,

@@ -1,16 +1,16 @@
-//! Words of branches, as they are printed.
+//! Interleavings, as they are printed.
 ghost use Rattle.std.specs.Prelude.{◌≡◌, ◌∷◌, []};
 ghost use Rattle.pst_judge.specs.Words.{letter};
 
 use std::fmt;
 
-/// A word of branch numbers, from 0. It is printed as a letter for each branch, and the empty word as `-`.
+/// A list of branch numbers, from 0. It is printed as a letter for each number, and the empty list as `-`.
 #[derive(Clone, Copy, Drop)]
 pub struct Word<'a> {
     pub branches: &'a [usize],
 }
 
-/// The letter of a branch, from 0.
+/// The letter of branch `branch`, from 0.
 fn letter(branch: usize) -> &'static str
     ensures { result.now ≡ letter branch ∷ [] }
 {

@@ -16,7 +16,7 @@ use std::marker::Model;
 #[derive(Drop)]
 pub struct Book<R: Numbered> {
     spots: Vec<Spot<R>>,
-    /// The least free number, or the number of trials where none is free.
+    /// The lowest free number, or the number of trials if no number is free.
     next: usize,
     marks: Vec<bool>,
     /// Room for the entries when the book is closed.
@@ -69,10 +69,8 @@ fn show<R: Numbered>(spots: Vec<Spot<R>>, mut room: Vec<Entry<R>>) -> Vec<Entry<
 }
 
 impl<R: Numbered> Book<R> {
-    /// A book of so many trials and seats in which every number is free. It reserves all that later calls
-    /// need.
-    ///
-    /// `AllocError` where memory is refused.
+    /// A book of `trials` trials and `seats` seats, in which every number is free. It reserves all memory that
+    /// later calls need.
     pub fn open(alloc: Global, trials: u64, seats: u64) -> Result<Book<R>, AllocError>
         requires trials { trials ≤ 100000 }
         requires seats { (1 ≤ seats) × (seats ≤ 16) }
@@ -89,8 +87,8 @@ impl<R: Numbered> Book<R> {
         })
     }
 
-    /// Gives the least free number to the seat, which holds it from then on. Where no number is free the seat
-    /// is marked, and gets `None`.
+    /// Gives the lowest free number to the seat, which holds it from then on. If no number is free, it marks
+    /// the seat and returns `None`.
     pub fn claim(&mut self, seat: u64) -> Option<u64>
         requires known { seat < length self.old.marks }
         requires idle { HoldsNone seat self.old.spots }
@@ -130,8 +128,7 @@ impl<R: Numbered> Book<R> {
 
     /// Ends the number of the record, which the seat holds, with the record.
     ///
-    /// `NotYours` where the seat never drew the number, and `Twice` where it has ended it; the record is
-    /// handed back.
+    /// `NotYours` if the seat never drew the number, and `Twice` if it has ended it; the record is handed back.
     pub fn deposit(&mut self, seat: u64, deposited: R) -> Result<(), (R, LedgerFault)>
         ensures handed_back { IfErr result (λ e. e.0 ≡ deposited) }
         ensures answer { MatchResult result
@@ -152,7 +149,7 @@ impl<R: Numbered> Book<R> {
 
     /// Ends the number, which the seat holds, with no record.
     ///
-    /// `NotYours` where the seat never drew the number, and `Twice` where it has ended it.
+    /// `NotYours` if the seat never drew the number, and `Twice` if it has ended it.
     pub fn lose(&mut self, seat: u64, number: u64, cause: Cause) -> Result<(), LedgerFault>
         ensures { MatchResult result
             (λ _. after self.old (finish seat number (Lost cause)) ≡ (self.new, accepted))
@@ -167,7 +164,7 @@ impl<R: Numbered> Book<R> {
         }
     }
 
-    /// What became of each number. It takes no memory.
+    /// Returns what became of each number. It does not allocate.
     pub fn close(self) -> Closed<R>
         ensures { result ≡ map shown self.spots }
     {

@@ -18,7 +18,7 @@ pub enum Call<R> {
     Lose(u64, u64, Cause),
 }
 
-/// What a book answers to a call.
+/// The reply of a book to a call.
 #[derive(Debug, PartialEq, Eq, Drop)]
 pub enum Reply {
     /// This number was claimed.

@@ -1,4 +1,4 @@
-//! What becomes of a number.
+//! The entries of a closed ledger, one for each number.
 ghost use Rattle.std.specs.Prelude.{◌≡◌, ℕ};
 ghost use Rattle.pst_ledger.specs.Names.{cause_name};
 
@@ -11,7 +11,7 @@ pub enum Cause {
     ResetFailed,
     /// A thread could not be started.
     NoThread,
-    /// Memory was refused.
+    /// An allocation failed.
     NoMemory,
 }
 
@@ -40,7 +40,7 @@ impl fmt::Display for Cause {
     }
 }
 
-/// What a closed ledger shows of a number.
+/// What a closed ledger shows of one trial's number.
 #[derive(Debug, PartialEq, Eq, Drop)]
 pub enum Entry<R> {
     /// No seat drew the number.

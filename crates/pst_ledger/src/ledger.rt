@@ -15,8 +15,8 @@ use atomic_table::{Shared, Table};
 use std::alloc::{AllocError, Global};
 use std::marker::Model;
 
-/// A ledger that as many threads share as it has seats, each with a seat of its own. No call waits, takes a
-/// lock or tries again. It is `Sync` where its records are.
+/// A ledger that threads share, one for each seat. No call waits, takes a lock or tries again. It is `Sync` if
+/// its records are.
 #[derive(Drop)]
 pub struct Ledger<R: Numbered> {
     table: Table<Entry<R>, View<R>, u64, Numbers, Global>,
@@ -76,10 +76,8 @@ fn deal<R: Numbered>(
 }
 
 impl<R: Numbered> Ledger<R> {
-    /// A ledger of so many trials in which no number is drawn, and its seats. It reserves all that later
-    /// calls need.
-    ///
-    /// `AllocError` where memory is refused.
+    /// A ledger of `trials` trials, with no number drawn, and its `seats` seats. It reserves all memory that
+    /// later calls need.
     pub fn open(
         alloc: Global,
         trials: u64,
@@ -100,8 +98,8 @@ impl<R: Numbered> Ledger<R> {
         Ok((Ledger { table, seats, room }, list))
     }
 
-    /// Gives the seat a number that no seat has had, which the seat holds from then on. Where there is none
-    /// the seat is marked, and gets `None` now and at every later claim.
+    /// Gives the seat a number that no seat has had, which the seat holds from then on. If no number is left,
+    /// it marks the seat and returns `None`, now and at every later claim.
     pub fn claim(&self, seat: &mut Seat<R>) -> Option<u64>
         requires own { seat.old.table ≡ self.now.table }
         requires idle { seat.old.held ≡ None }
@@ -139,10 +137,9 @@ impl<R: Numbered> Ledger<R> {
         seat.held = None;
     }
 
-    /// Ends the number of the record, which the seat holds, with the record. It takes no memory.
+    /// Ends the number of the record, which the seat holds, with the record. It does not allocate.
     ///
-    /// `NotYours` where the seat never drew the number, and `Twice` where it has ended it; the record is
-    /// handed back.
+    /// `NotYours` if the seat never drew the number, and `Twice` if it has ended it; the record is handed back.
     pub fn deposit(&self, seat: &mut Seat<R>, deposited: R) -> Result<(), (R, LedgerFault)>
         requires own { seat.old.table ≡ self.now.table }
         ensures { MatchResult result
@@ -159,9 +156,9 @@ impl<R: Numbered> Ledger<R> {
         }
     }
 
-    /// Ends the number, which the seat holds, with no record. It takes no memory.
+    /// Ends the number, which the seat holds, with no record. It does not allocate.
     ///
-    /// `NotYours` where the seat never drew the number, and `Twice` where it has ended it.
+    /// `NotYours` if the seat never drew the number, and `Twice` if it has ended it.
     pub fn lose(&self, seat: &mut Seat<R>, number: u64, cause: Cause) -> Result<(), LedgerFault>
         requires own { seat.old.table ≡ self.now.table }
         ensures { MatchResult result
@@ -217,9 +214,9 @@ impl<R: Numbered> Ledger<R> {
         all
     }
 
-    /// What became of each number, when all seats have come back, in whatever order. It takes no memory.
+    /// Returns what became of each number, once all seats have come back, in any order. It does not allocate.
     ///
-    /// `MissingSeat` exactly where some seat was not handed in; the ledger and the seats are handed back.
+    /// `MissingSeat` exactly if some seat was not handed in; the ledger and the seats are handed back.
     pub fn close(
         self,
         seats: Vec<Seat<R>>,

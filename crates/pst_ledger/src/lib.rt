@@ -1,5 +1,6 @@
-//! The ledger of a campaign: which trial's number was given to which worker, and what came of it. A `Book`
-//! serves one thread. A `Ledger` serves as many as it has seats, and no call of it waits for another.
+//! The ledger of a campaign: which trial's number went to which worker, and how that trial ended. A `Book`
+//! serves one thread. A `Ledger` serves one thread for each seat, and no call of it waits for another.
+//! `AllocError` means that an allocation failed.
 #![tactic(auto)]
 
 mod book;

@@ -8,7 +8,7 @@ use std::collections::LinkedList;
 pub struct View<R> {
     /// How many seats the view is of.
     pub parts: u64,
-    /// How many of them were answered None.
+    /// How many of them got `None`.
     pub marks: u64,
     /// The numbers that they drew.
     pub draws: [u64; 0],

@@ -1,10 +1,10 @@
-//! What a book knows of a number.
+//! What a book knows of each number.
 ghost use Rattle.std.specs.Prelude.{◌≡◌};
 ghost use Rattle.pst_ledger.specs.Core.{shown};
 
 use crate::entry::Entry;
 
-/// What a book knows of a number. A seat is a number too, from 0.
+/// What a book knows of one trial's number. Seats are numbered from 0.
 #[derive(Drop)]
 pub enum Spot<R> {
     /// No seat drew it.

@@ -1,8 +1,8 @@
 //! A register machine for the model language.
 //!
-//! A function is a list of instructions over its registers. `Code::check` admits lawful functions alone, and
-//! `Code::run` of such code returns. `specs/Lawful.antt` says which code is lawful, `specs/Machine.antt` what
-//! the machine does.
+//! A function is a list of instructions over its registers. `Code::check` accepts valid functions only, and `Code::run`
+//! of such code returns. `specs/Lawful.antt` defines which code is valid, and `specs/Machine.antt` what the machine
+//! does. `AllocError` means that an allocation failed.
 #![tactic(auto)]
 
 mod brief;

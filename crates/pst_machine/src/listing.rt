@@ -5,15 +5,14 @@ ghost use Rattle.std.specs.Fmt.{signed_decimal};
 ghost use Rattle.pst_machine.specs.Listing as spec;
 
 use crate::instruction::{FunCode, Instr};
-use pst_items::Items;
 use pst_model::{Binary, Unary};
-use pst_value::{Key, Value};
+use pst_value::{Items, Key, Value};
 use std::alloc::{AllocError, Global};
 
-/// The bytes of a text, unless memory is refused.
+/// Bytes, or a failed allocation.
 type Bytes = Result<Items<u8>, AllocError>;
 
-/// The first text, and then the second.
+/// The first text, followed by the second.
 fn joined(first: Items<u8>, second: Items<u8>) -> Bytes
     ensures { IfOk result (λ text. text ≡ first ++ second) }
 {
@@ -22,7 +21,7 @@ fn joined(first: Items<u8>, second: Items<u8>) -> Bytes
     Ok(text)
 }
 
-/// A space, and then the text.
+/// A space, followed by the text.
 fn spaced(alloc: Global, text: Items<u8>) -> Bytes
     ensures { IfOk result (λ spaced. spaced ≡ 32 ∷ text) }
 {
@@ -45,7 +44,7 @@ fn integer_text(alloc: Global, number: i64) -> Bytes
     Items::from_slice(alloc, text.as_str().as_bytes())
 }
 
-/// Numbers, each behind a space.
+/// Numbers, each after a space.
 fn numbers_text(alloc: Global, numbers: &[u64]) -> Bytes
     ensures { IfOk result (λ text. text ≡ spec.numbers_text numbers.now) }
 {
@@ -56,7 +55,7 @@ fn numbers_text(alloc: Global, numbers: &[u64]) -> Bytes
     Ok(text)
 }
 
-/// Registers, each behind a space.
+/// Registers, each after a space.
 fn registers_text(alloc: Global, registers: &[u32]) -> Bytes
     ensures { IfOk result (λ text. text ≡ spec.numbers_text registers.now) }
 {
@@ -122,7 +121,7 @@ fn binary_name(operator: Binary) -> &'static [u8]
     }
 }
 
-/// What stands between the quotes of a text.
+/// What comes between the quotes of a text: the bytes, with quotes and backslashes escaped.
 fn bytes_text(alloc: Global, bytes: &[u8]) -> Bytes
     ensures { IfOk result (λ text. text ≡ spec.bytes_text bytes.now) }
 {
@@ -146,7 +145,7 @@ fn quoted(alloc: Global, bytes: &[u8]) -> Bytes
     Ok(text)
 }
 
-/// A name in brackets, and then the parts.
+/// A name with its bracket, the parts, and the closing bracket.
 fn bracketed(alloc: Global, name: &[u8], parts: Items<u8>) -> Bytes
     ensures { IfOk result (λ text. text ≡ name.now ++ parts ++ 41 ∷ []) }
 {
@@ -165,7 +164,7 @@ fn variable_text(alloc: Global, number: u32) -> Bytes
     )
 }
 
-/// A truth.
+/// A bool.
 fn truth_text(alloc: Global, truth: bool) -> Bytes
     ensures { IfOk result (λ text. text ≡ spec.truth_text truth) }
 {
@@ -187,7 +186,7 @@ fn key_text(alloc: Global, key: &Key) -> Bytes
     }
 }
 
-/// A key and the text of its value in brackets, behind a space.
+/// A space, and a key with the text of its value in brackets.
 fn entry_text(alloc: Global, key: &Key, part: &[u8]) -> Bytes
     ensures { IfOk result (λ text. text ≡ spec.entry_text key.now part.now) }
 {
@@ -230,7 +229,7 @@ fn value_text(alloc: Global, value: &Value) -> Bytes
     }
 }
 
-/// Values, each behind a space.
+/// Values, each after a space.
 #[cycle(value_text)]
 fn parts_text(alloc: Global, parts: &[Value]) -> Bytes
     ensures { IfOk result (λ text. text ≡ spec.parts_text (map spec.value_text parts.now)) }

@@ -1,4 +1,4 @@
-//! Bytes that are no file of trees.
+//! Messages on bytes that are no file of trees.
 
 use pst_sexpr::{FaultKind, MAX_BYTES, MAX_LEVELS, SexprFault};
 use pst_sources::{Input, Span, char_at, closed_item, open_item};
@@ -13,7 +13,7 @@ pub struct Wrong {
     pub notes: Vec<String>,
 }
 
-/// The byte at a place.
+/// The span of the byte at `place`.
 fn one_byte(place: usize) -> Span {
     Span {
         start: place,
@@ -22,7 +22,7 @@ fn one_byte(place: usize) -> Span {
 }
 
 impl Wrong {
-    /// A fault without notes. `AllocError`: memory was refused.
+    /// A fault without notes.
     fn new<D: Display + Drop>(alloc: Global, span: Span, what: D) -> Result<Wrong, AllocError> {
         Ok(Wrong {
             span,
@@ -31,7 +31,7 @@ impl Wrong {
         })
     }
 
-    /// The same fault with one more note. `AllocError`: memory was refused.
+    /// The fault with one more note.
     fn with<D: Display + Drop>(self, alloc: Global, note: D) -> Result<Wrong, AllocError> {
         let mut wrong = self;
         wrong.add(format!(in alloc; "{note}")?)?;
@@ -45,7 +45,7 @@ impl Wrong {
     }
 }
 
-/// A fault with the note that the item of a span begins while an earlier one is still open.
+/// The fault `wrong` with the note that the item at `next` begins while the one at `open` is still open.
 fn begun_in(
     alloc: Global,
     input: &Input<'_>,
@@ -61,7 +61,7 @@ fn begun_in(
     )
 }
 
-/// A `)` is missing: in the item that is probably not closed.
+/// The fault of a missing `)`, at the item that is probably not closed.
 fn missing(alloc: Global, input: &Input<'_>, place: usize) -> Result<Wrong, AllocError> {
     let Some(open) = open_item(input.bytes) else {
         let what = "a `)` is missing: this `(` is not closed";
@@ -81,14 +81,14 @@ fn missing(alloc: Global, input: &Input<'_>, place: usize) -> Result<Wrong, Allo
     )
 }
 
-/// What words and texts are.
+/// The note on the characters of words and texts.
 const ASCII: &str =
     "words and texts are printable ASCII; other characters may be in comments alone";
 
-/// What the escapes of texts are.
+/// The note on the escapes of texts.
 const ESCAPES: &str = "in a text `\\` comes before `\"` and `\\` alone";
 
-/// A character that is not ASCII, of so many bytes.
+/// The fault of `letter`, which has `width` bytes and is not printable ASCII.
 fn foreign_char(
     alloc: Global,
     input: &Input<'_>,
@@ -113,7 +113,7 @@ fn foreign_char(
     Wrong::new(alloc, span, what)?.with(alloc, ASCII)
 }
 
-/// A character, or a byte that belongs to none, that may not be where it is.
+/// The fault of a character that may not be at `place`, or of a byte that belongs to no character.
 fn bad_char(alloc: Global, input: &Input<'_>, place: usize, byte: u8) -> Result<Wrong, AllocError> {
     match char_at(input.bytes, place) {
         Some((letter, _)) if b' ' <= byte && byte <= b'~' => {
@@ -130,7 +130,7 @@ fn bad_char(alloc: Global, input: &Input<'_>, place: usize, byte: u8) -> Result<
     }
 }
 
-/// A byte that fits nowhere.
+/// The fault of a byte that may not be at `place`.
 fn bad_byte(alloc: Global, input: &Input<'_>, place: usize) -> Result<Wrong, AllocError> {
     let span = one_byte(place);
     match input.bytes.get(place) {
@@ -145,7 +145,7 @@ fn bad_byte(alloc: Global, input: &Input<'_>, place: usize) -> Result<Wrong, All
     }
 }
 
-/// A `)` that closes nothing, with the place where the item before it was closed.
+/// The fault of a `)` that closes nothing, with the place where the item before it was closed.
 fn stray_close(alloc: Global, input: &Input<'_>, place: usize) -> Result<Wrong, AllocError> {
     let wrong = Wrong::new(alloc, one_byte(place), "this `)` closes nothing")?;
     let Some(item) = closed_item(input.bytes, place) else {

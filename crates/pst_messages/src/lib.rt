@@ -1,10 +1,22 @@
-//! Messages for people beside the refusals: where the file is wrong, what was wanted, what stands there.
+//! Messages for people on refused inputs: where the file is wrong, what was expected, and what was found.
 //!
-//! What stands here is tested and not proved: that it ends and does nothing unsafe is all that its proofs say.
-//! Which refusal is answered, and that an ill part is ill, is proved of `pst_runs` and `pst_typing`.
+//! The messages are tested, not proved: the proofs only say that the code terminates and does nothing unsafe.
+//! `pst_runs` and `pst_typing` prove which refusal an input gets, and that a part which they report as wrong is wrong.
+//! `AllocError` means that an allocation failed.
 #![tactic(auto)]
 
+mod arguments;
 mod bytes;
+mod command;
+mod entries;
+mod ill;
 mod message;
+mod replies;
+mod runs;
+mod shape;
+mod shown;
+mod values;
 
+pub use command::{Part, commands_of, located, place_of};
 pub use message::{Asked, errors_of, message_of};
+pub use runs::run_problem;

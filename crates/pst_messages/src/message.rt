@@ -1,34 +1,34 @@
-//! The messages beside refusals.
+//! The messages on refused inputs.
 
 use crate::bytes::{Wrong, unread};
-use pst_form_problems::form_problems;
-use pst_notices::{Notice, Notices, text_of};
-use pst_problems::{MOST_PROBLEMS, Problem};
-use pst_rules::Typed;
-use pst_run_problems::run_problem;
+use crate::runs::run_problem;
+use pst_model::Typed;
+use pst_problems::{MOST_PROBLEMS, Problem, form_problems};
 use pst_runs::{RunFault, read_runs};
 use pst_sexpr::{Tree, read};
-use pst_sources::{Input, SourceFile, Span, first_item, span_in, span_of, tree_at};
+use pst_sources::{
+    Input, Notice, Notices, SourceFile, Span, first_item, span_in, span_of, text_of, tree_at,
+};
 use pst_syntax::{SyntaxFault, read_model};
 use pst_type_problems::type_problems;
 use pst_typing::{ModelFile, Refusal, items_of, load};
 use std::alloc::{AllocError, Global};
 use std::slice;
 
-/// What messages are written for.
+/// The parts of an input that get messages.
 #[derive(Clone, Copy, Debug, PartialEq, Eq, Drop)]
 pub enum Asked {
-    /// The model alone: the items behind it are not looked at.
+    /// The model alone, without the items after it.
     Model,
-    /// The model, and the first item behind it that is refused.
+    /// The model, and the first refused item after it.
     FirstItem,
-    /// The model, and each item behind it that is refused: the first twenty, and how many more there are.
+    /// The model, and the first twenty refused items after it, with the number of further ones.
     EachItem,
-    /// The model, and each item behind it that is refused, however many they are.
+    /// The model, and all refused items after it.
     AllItems,
 }
 
-/// What is said of a problem of these bytes.
+/// The error on the bytes of `span` that `problem` describes.
 fn notice_of(alloc: Global, span: Span, problem: Problem) -> Notice {
     let Problem {
         path: _,
@@ -44,13 +44,13 @@ fn notice_of(alloc: Global, span: Span, problem: Problem) -> Notice {
     }
 }
 
-/// What is said of a problem of the input.
+/// The error on the tree of the input that has the problem `problem`.
 fn of_problem(alloc: Global, input: &Input<'_>, problem: Problem) -> Notice {
     let span = span_of(input.bytes, problem.path.as_slice());
     notice_of(alloc, span, problem)
 }
 
-/// What is said of the problems of a model, at most twenty.
+/// The errors on the problems of a model, at most twenty.
 fn of_problems(
     alloc: Global,
     input: &Input<'_>,
@@ -87,7 +87,8 @@ fn file_of_model<'a>(input: &Input<'a>) -> Option<&'a str> {
     None
 }
 
-/// What is wrong with a model that is refused for its form, and which file begins with a model if the first does not.
+/// The problems of a model that is refused for its form. If the input begins with no model but one of its files does, a
+/// hint names that file.
 fn of_form(
     alloc: Global,
     input: &Input<'_>,
@@ -106,7 +107,7 @@ fn of_form(
     Ok(noted)
 }
 
-/// What is wrong with a model that was read as trees.
+/// The problems of a model that was read as trees.
 fn of_model(
     alloc: Global,
     input: &Input<'_>,
@@ -125,7 +126,7 @@ fn of_model(
     }
 }
 
-/// What is wrong with the first refused item behind a model.
+/// The problem of the first refused item after a model.
 fn of_first_item(
     alloc: Global,
     typed: &Typed,
@@ -140,14 +141,14 @@ fn of_first_item(
     }
 }
 
-/// What is said of a problem of the item of a span.
+/// The error on `problem`, which is a problem of the item at the span `item`.
 fn in_item(alloc: Global, input: &Input<'_>, item: Span, problem: Problem) -> Notice {
     let path = problem.path.get(1..).unwrap_or(&[]);
     let span = span_in(input.bytes, item, path);
     notice_of(alloc, span, problem)
 }
 
-/// The line that says how many more items are refused than those of which there are messages, if some are.
+/// Adds the line that counts the refused items without a message, if there are some.
 fn add_count(text: &mut String, more: usize) -> Result<(), AllocError> {
     if more == 0 {
         return Ok(());
@@ -159,8 +160,7 @@ fn add_count(text: &mut String, more: usize) -> Result<(), AllocError> {
     )
 }
 
-/// What is said of the items behind a model that are refused, of the first ones up to a number in full. It goes over the
-/// input once.
+/// The errors on the first `most` refused items after a model, and the number of further ones. Scans the input once.
 fn of_each_item(
     alloc: Global,
     input: &Input<'_>,
@@ -193,7 +193,7 @@ fn of_each_item(
     Ok(notices)
 }
 
-/// What is said of the items behind a model that is well typed.
+/// The errors on the items after a well-typed model.
 fn of_items(
     alloc: Global,
     input: &Input<'_>,
@@ -213,7 +213,7 @@ fn of_items(
 }
 
 /// The errors of an input: for each the bytes that are wrong, what was expected and found, and hints. There are none if
-/// nothing is refused of what is asked.
+/// no part that `asked` selects is refused.
 pub fn errors_of(alloc: Global, input: &Input<'_>, asked: Asked) -> Result<Notices, AllocError> {
     match load(alloc, input.bytes)? {
         Ok(file) => of_items(alloc, input, &file, asked),
@@ -236,11 +236,9 @@ pub fn errors_of(alloc: Global, input: &Input<'_>, asked: Asked) -> Result<Notic
     }
 }
 
-/// The messages beside the refusals of an input, for a person to read. Each has the name of the file, the line and the
+/// The messages on the refused parts of an input, for a person to read. Each has the name of the file, the line and the
 /// column of what is wrong, that line with the place underlined, what was expected and found, and hints. `input` is the
-/// text of the files. `None` if nothing is refused of what is asked.
-///
-/// `AllocError`: memory was refused.
+/// text of `files`. Returns `None` if no part that `asked` selects is refused.
 pub fn message_of(
     alloc: Global,
     files: &[SourceFile<'_>],

@@ -14,7 +14,7 @@ use Rattle.pst_syntax.specs.declared.fault.FaultKind.TheVariants.{UnknownForm, O
 use Rattle.pst_syntax.specs.declared.heads.Head.{Head}
 use Rattle.pst_syntax.specs.declared.heads.Head.TheVariants as head
 use Rattle.pst_syntax.specs.Heads.{head_of}
-use Rattle.pst_words.specs.Integers.{is_integer, value}
+use Rattle.pst_sexpr.specs.Integers.{is_integer, value}
 use Rattle.pst_value.specs.Text.{is_i64}
 use Rattle.pst_syntax.specs.Places.{is_positive, natural}
 use Rattle.pst_syntax.specs.Names.{is_free, is_used_operation}
@@ -26,7 +26,7 @@ use Rattle.pst_print.specs.Printed.{ty_form, expr_form, clause_form}
 use Rattle.pst_print.proofs.Alike.{Alike, none, more, itself, alike_node, words_alike, node_of_node, word_of_word}
 use Rattle.pst_print.proofs.Forms as form
 use Rattle.pst_print.proofs.Numbers.{spells_integer, spells_place, place_read}
-use Rattle.pst_words.proofs.Numbers.{both_hold}
+use Rattle.pst_sexpr.proofs.Numbers.{both_hold}
 use Rattle.pst_print.proofs.Shapes.{spelled, head_word, word_is, node_is, made_some, form_of, Lawful, shape_is, shaped}
 use Rattle.pst_print.proofs.TyAgain.{behind, onward, knows, inside, okay, same, declared_is, Again, each_again, ty_again}
 

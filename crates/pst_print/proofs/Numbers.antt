@@ -8,8 +8,8 @@ use Rattle.pst_sexpr.specs.Lawful.{IsTree}
 use Rattle.pst_sexpr.proofs.Digits.{digits_are_word, minus_is_word}
 use Rattle.pst_sexpr.proofs.Made.{word_is_tree}
 use Rattle.pst_value.specs.Text.{is_i64}
-use Rattle.pst_words.specs.Integers.{is_integer, value}
-use Rattle.pst_words.proofs.Numbers.{both_from, numerals, natural_word, negative_word, below}
+use Rattle.pst_sexpr.specs.Integers.{is_integer, value}
+use Rattle.pst_sexpr.proofs.Numbers.{both_from, numerals, natural_word, negative_word, below}
 use Rattle.pst_syntax.specs.Places.{is_positive, is_place, natural}
 
 -- ---- what is written for a number

@@ -12,7 +12,7 @@ use Rattle.pst_syntax.specs.declared.heads.Head.{Head}
 use Rattle.pst_syntax.specs.declared.heads.Head.TheVariants as head
 use Rattle.pst_syntax.specs.Heads.{head_of, look_up, or_of_maps, rows, map_rows}
 use Rattle.pst_syntax.specs.Names.{is_used}
-use Rattle.pst_words.specs.Integers.{is_integer}
+use Rattle.pst_sexpr.specs.Integers.{is_integer}
 use Rattle.pst_syntax.specs.Places.{is_place}
 use Rattle.pst_syntax.specs.Shape.{Shape, Integer, Truth, Quoted, Used, Let, If, And, Or, Unary, Binary, Tuple, At, ListOf, For, Fold, MapOf, Put, Call, Apply, shape_of, shape_at, some_of, key_word as key_of, key_shape, word_shape, node_shape, applied, headed}
 use Rattle.pst_sexpr.specs.Parts.{word_of, word_at, node_of, node_at, and_then, where_true}

@@ -9,10 +9,9 @@ ghost use Rattle.pst_sexpr.specs.declared.form.Form.TheVariants.{Word};
 use crate::nodes::{before, name, three, two};
 use crate::types::{map_form, ty_form};
 use crate::words::{binary_word, unary_word};
-use pst_items::{Items, Text};
 use pst_model::{Clause, Expr};
 use pst_sexpr::{Form, headed, list_of, word};
-use pst_value::{KeyTy, Ty};
+use pst_value::{Items, KeyTy, Text, Ty};
 use std::alloc::{AllocError, Global};
 
 fn integer(alloc: Global, number: i64) -> Result<Form, AllocError>

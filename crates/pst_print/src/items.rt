@@ -6,10 +6,9 @@ use crate::expressions::expr_form;
 use crate::nodes::{before, name, three, two};
 use crate::types::ty_form;
 use crate::words::model_word;
-use pst_items::{Items, Text};
 use pst_model::{Expr, Fun, Item, Op, Param, Source};
 use pst_sexpr::{Form, headed, list_of};
-use pst_value::Ty;
+use pst_value::{Items, Text, Ty};
 use std::alloc::{AllocError, Global};
 
 fn param_form(alloc: Global, param: &Param) -> Result<Form, AllocError>

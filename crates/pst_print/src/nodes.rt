@@ -2,8 +2,8 @@
 ghost use Rattle.std.specs.Prelude.{◌≡◌, IfOk, [], ◌∷◌};
 ghost use Rattle.pst_sexpr.specs.declared.form.Form.TheVariants.{Word};
 
-use pst_items::{Items, Text};
 use pst_sexpr::{Form, list_of};
+use pst_value::{Items, Text};
 use std::alloc::{AllocError, Global};
 
 /// A name as a word.

@@ -8,10 +8,8 @@ use pst_sexpr::Tree;
 use pst_syntax::Model;
 use std::alloc::{AllocError, Global};
 
-/// The tree of a model: its head by its language, `model2` where that has maps, integers in their shortest
-/// form, the callbacks of an operation in the order pre, next, post. `read_model` reads it as the model.
-///
-/// `AllocError`: memory was refused.
+/// The tree of a model: its head by its language, `model2` if that has maps, integers in their shortest form,
+/// the callbacks of an operation in the order pre, next, post. `read_model` reads it as the model.
 #[tactic(auto, using(crate::proofs::ModelAgain::printed))]
 pub fn print_model(alloc: Global, model: &Model) -> Result<Tree, AllocError>
     ensures form { IfOk result (λ tree. tree ≡ source_form model.now) }

@@ -7,9 +7,8 @@ ghost use Rattle.pst_sexpr.specs.declared.form.Form.TheVariants.{Word};
 
 use crate::nodes::two;
 use crate::words::key_word;
-use pst_items::Items;
 use pst_sexpr::{Form, headed, list_of, word};
-use pst_value::{KeyTy, Ty};
+use pst_value::{Items, KeyTy, Ty};
 use std::alloc::{AllocError, Global};
 
 /// The tree of a map type, and that of an empty map: the type of the keys, and the tree of the values' type.

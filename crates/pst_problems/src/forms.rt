@@ -12,7 +12,7 @@ pub struct Shown {
     pub written: &'static str,
 }
 
-/// As many parts as one likes.
+/// The limit of a form that takes any number of parts.
 const ANY: usize = 20_000;
 
 macro_rules! row {
@@ -222,7 +222,7 @@ fn among(rows: &[Shown], word: &str) -> Option<Shown> {
     None
 }
 
-/// The form of expressions that a word heads.
+/// The form of expressions with the head `word`. The forms of maps count only if `has_maps`.
 pub fn expression(has_maps: bool, word: &str) -> Option<Shown> {
     if let Some(form) = among(&EXPRESSIONS, word) {
         return Some(form);
@@ -230,7 +230,7 @@ pub fn expression(has_maps: bool, word: &str) -> Option<Shown> {
     if has_maps { among(&MAPS, word) } else { None }
 }
 
-/// The form of types that a word heads.
+/// The form of types with the head `word`.
 pub fn type_form(word: &str) -> Option<Shown> {
     among(&TYPES, word)
 }
@@ -245,7 +245,7 @@ pub fn is_head(has_maps: bool, word: &str) -> bool {
     expression(has_maps, word).is_some() || word == "ref" || word == "in" || word == "when"
 }
 
-/// What stands beside a word in rows.
+/// The second column of the row that begins with `word`.
 fn beside(rows: &[(&'static str, &'static str)], word: &str) -> Option<&'static str> {
     for row in rows {
         if row.0 == word {
@@ -255,7 +255,7 @@ fn beside(rows: &[(&'static str, &'static str)], word: &str) -> Option<&'static 
     None
 }
 
-/// What stands in the place of a word of another language.
+/// What to write in the place of `word`, if it is a word of another language.
 pub fn in_place_of(word: &str) -> Option<&'static str> {
     if word.starts_with("//") {
         return Some("a comment begins with `;`");
@@ -263,7 +263,7 @@ pub fn in_place_of(word: &str) -> Option<&'static str> {
     beside(&FOREIGN, word)
 }
 
-/// The nearest of the head words of rows and of a nearer word.
+/// The nearest to `name` among the head words of `rows`, or `nearer` if none of them is nearer.
 fn nearest_of(
     alloc: Global,
     rows: &'static [Shown],
@@ -277,7 +277,7 @@ fn nearest_of(
     Ok(near)
 }
 
-/// The head word of expressions that may be meant by a name, as a hint. `AllocError`: memory was refused.
+/// The head word of expressions that is probably meant by `name`, as a hint.
 pub fn nearest_head(
     alloc: Global,
     has_maps: bool,

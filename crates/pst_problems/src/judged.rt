@@ -1,17 +1,17 @@
-//! What a judgement of a tree gives, and the judgement of names.
+//! The result of a check of a tree, and the checks of names.
 
 use crate::forms::{in_place_of, is_head};
 use crate::problem::{Problem, below};
-use pst_items::Text;
 use pst_sexpr::{Form, word_of};
 use pst_syntax::MAX_NAME;
+use pst_value::Text;
 use std::alloc::{AllocError, Global};
 use std::fmt::Display;
 
-/// What a judgement gives: a problem, or none.
+/// The result of a check: a problem, or none.
 pub type Judged = Result<Option<Problem>, AllocError>;
 
-/// Adds a problem to others, if there is one.
+/// Adds `problem` to `problems`, if there is one.
 pub fn tell(problems: &mut Vec<Problem>, problem: Option<Problem>) -> Result<(), AllocError> {
     match problem {
         Some(problem) => Ok(problems.push(problem)?),
@@ -19,19 +19,19 @@ pub fn tell(problems: &mut Vec<Problem>, problem: Option<Problem>) -> Result<(),
     }
 }
 
-/// A problem at the tree of a path.
+/// A problem at the tree that `path` leads to.
 pub fn wrong<D: Display + Drop>(alloc: Global, path: &[usize], what: D) -> Judged {
     let path = Vec::from_slice(alloc, path)?;
     Ok(Some(Problem::new(alloc, path, what)?))
 }
 
-/// A problem at a part, by its number, of the tree of a path.
+/// A problem at part `part` of the tree that `path` leads to.
 pub fn wrong_at<D: Display + Drop>(alloc: Global, path: &[usize], part: usize, what: D) -> Judged {
     let path = below(path, alloc, part)?;
     Ok(Some(Problem::new(alloc, path, what)?))
 }
 
-/// The same problem, if there is one, with one more note.
+/// The problem `found`, if there is one, with one more note.
 pub fn with_note<N: Display + Drop>(alloc: Global, found: Option<Problem>, note: N) -> Judged {
     match found {
         Some(problem) => Ok(Some(problem.with(alloc, note)?)),
@@ -39,7 +39,7 @@ pub fn with_note<N: Display + Drop>(alloc: Global, found: Option<Problem>, note:
     }
 }
 
-/// A problem at the tree of a path, with a note.
+/// A problem at the tree that `path` leads to, with a note.
 pub fn noted<D: Display + Drop, N: Display + Drop>(
     alloc: Global,
     path: &[usize],
@@ -49,7 +49,7 @@ pub fn noted<D: Display + Drop, N: Display + Drop>(
     with_note(alloc, wrong(alloc, path, what)?, note)
 }
 
-/// A problem at a part, by its number, of the tree of a path, with a note.
+/// A problem at part `part` of the tree that `path` leads to, with a note.
 pub fn noted_at<D: Display + Drop, N: Display + Drop>(
     alloc: Global,
     path: &[usize],
@@ -60,7 +60,7 @@ pub fn noted_at<D: Display + Drop, N: Display + Drop>(
     with_note(alloc, wrong_at(alloc, path, part, what)?, note)
 }
 
-/// A problem at a word, with what stands in the place of a word of another language.
+/// A problem at `word`, with a hint on what to write instead if it is a word of another language.
 pub fn foreign<D: Display + Drop>(alloc: Global, path: &[usize], word: &str, what: D) -> Judged {
     match in_place_of(word) {
         Some(hint) => noted(alloc, path, what, format_args!("hint: {hint}")),
@@ -68,7 +68,7 @@ pub fn foreign<D: Display + Drop>(alloc: Global, path: &[usize], word: &str, wha
     }
 }
 
-/// Whether names may have the byte behind their first one.
+/// Whether a name may have `byte` after its first byte.
 fn is_in_names(byte: u8) -> bool {
     byte.is_ascii_alphanumeric() || byte == b'_' || byte == b'-'
 }
@@ -82,7 +82,7 @@ pub fn is_name(word: &Text) -> bool {
     }
 }
 
-/// Whether a word would be a name if its first letter were a lower-case one.
+/// Whether a word would be a name if its first letter were lower-case.
 pub fn is_capitalized(word: &str) -> bool {
     let bytes = word.as_bytes();
     match bytes.first() {
@@ -91,10 +91,10 @@ pub fn is_capitalized(word: &str) -> bool {
     }
 }
 
-/// The hint at a word that is no name since it begins with a capital letter.
+/// The hint on a word that is no name because it begins with a capital letter.
 pub const CAPITAL: &str = "hint: names begin with a lower-case letter";
 
-/// What a name stands for already, if it may not be declared.
+/// What `name` already means, if it may not be declared.
 fn taken(has_maps: bool, name: &str) -> Option<&'static str> {
     if name == "s" {
         return Some("the state");
@@ -108,7 +108,7 @@ fn taken(has_maps: bool, name: &str) -> Option<&'static str> {
     None
 }
 
-/// What is wrong with a name that is declared, if something is.
+/// The problem of `word` as a declared name, if it has one.
 pub fn declared(alloc: Global, has_maps: bool, path: &[usize], word: &Text) -> Judged {
     let name = word.as_str();
     if is_capitalized(name) {
@@ -132,7 +132,7 @@ pub fn declared(alloc: Global, has_maps: bool, path: &[usize], word: &Text) -> J
     }
 }
 
-/// Whether a name has too many bytes.
+/// The problem of the name `word`, if it has too many bytes.
 pub fn too_long(alloc: Global, path: &[usize], word: &Text) -> Judged {
     let length = word.len();
     if length <= MAX_NAME {
@@ -145,7 +145,7 @@ pub fn too_long(alloc: Global, path: &[usize], word: &Text) -> Judged {
     )
 }
 
-/// A name that has to be declared, or another tree in its place.
+/// The problem of `form` as a bound name, if it has one. The name may not be `other`.
 pub fn bound(
     alloc: Global,
     has_maps: bool,

@@ -1,14 +1,22 @@
-//! Problems of a refused input, as messages tell them: where they are, what is wrong, and notes.
+//! Problems of a refused input, as messages report them: where they are, what is wrong, and notes. `form_problems` finds
+//! those of a model that is refused for its form.
 //!
-//! What stands here is tested and not proved: that it ends and does nothing unsafe is all that its proofs say.
+//! The messages are tested, not proved: the proofs only say that the code terminates and does nothing unsafe.
+//! `AllocError` means that an allocation failed.
 #![tactic(auto)]
 
+mod expressions;
 mod forms;
+mod item_forms;
+mod items;
 mod judged;
 mod names;
 mod operations;
 mod problem;
+mod roles;
+mod syntax;
 mod tree;
+mod walk;
 mod writing;
 
 pub use forms::{Shown, expression, in_place_of, is_head, is_of_maps, nearest_head, type_form};
@@ -19,5 +27,6 @@ pub use judged::{
 pub use names::{DidYouMean, NearestName, add, nearest};
 pub use operations::{operation, unknown_among};
 pub use problem::{MOST_PROBLEMS, Problem, below};
+pub use syntax::form_problems;
 pub use tree::head_of;
 pub use writing::{Count, FormText, Listed, Signature, TypeText, counted, key_word, short_text};

@@ -1,22 +1,21 @@
 //! The nearest of known names.
 
-use pst_items::{Items, Text};
+use pst_value::{Items, Text};
 use std::alloc::{AllocError, Global};
 use std::fmt;
 use strsim::levenshtein;
 
-/// Of the names that were seen, the one that the fewest edits lead to from a name: at most two, and fewer than the name
-/// has bytes.
+/// The nearest to a name among the candidates so far: at most two edits away, and fewer than the name has bytes.
 #[derive(Clone, Copy, Drop)]
 pub struct NearestName<'a> {
-    /// The edits that are too many.
+    /// The number of edits that is too great.
     limit: usize,
     /// The nearest name so far.
     best: Option<&'a str>,
 }
 
 impl<'a> NearestName<'a> {
-    /// Nothing was seen yet.
+    /// No candidate yet.
     pub fn to(name: &str) -> NearestName<'a> {
         NearestName {
             limit: 3.min(name.len()),
@@ -24,7 +23,7 @@ impl<'a> NearestName<'a> {
         }
     }
 
-    /// What is nearest to the name once one more name was seen. `AllocError`: memory was refused.
+    /// The nearest to `name` among the candidates so far and `candidate`.
     pub fn or(
         self,
         alloc: Global,
@@ -51,8 +50,7 @@ impl<'a> NearestName<'a> {
     }
 }
 
-/// The known name that the fewest edits lead to, as a hint: at most two edits, and fewer than the name has bytes.
-/// `AllocError`: memory was refused.
+/// The known name that is nearest to `name`, as a hint: at most two edits away, and fewer than `name` has bytes.
 pub fn nearest<'a>(
     alloc: Global,
     known: &'a Items<Text>,
@@ -65,7 +63,7 @@ pub fn nearest<'a>(
     Ok(near.hint())
 }
 
-/// A known name that may be meant, shown as a hint.
+/// A known name that is probably meant, shown as a hint.
 #[derive(Clone, Copy, Drop)]
 pub struct DidYouMean<'a>(pub &'a str);
 
@@ -76,7 +74,7 @@ impl fmt::Display for DidYouMean<'_> {
     }
 }
 
-/// Adds a name to others.
+/// Adds `name` to `names`.
 pub fn add(alloc: Global, names: &mut Items<Text>, name: &str) -> Result<(), AllocError> {
     names.push(Text::from_string(String::from_str(alloc, name)?))
 }

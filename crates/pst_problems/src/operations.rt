@@ -3,11 +3,11 @@
 use crate::judged::{CAPITAL, Judged, is_capitalized, with_note, wrong};
 use crate::names::{add, nearest};
 use crate::writing::Listed;
-use pst_items::{Items, Text};
 use pst_model::{Item, Op};
+use pst_value::{Items, Text};
 use std::alloc::{AllocError, Global};
 
-/// The operation of a name.
+/// The operation `name`.
 pub fn operation<'a>(items: &'a [Item], name: &str) -> Option<&'a Op> {
     for item in items {
         if let Item::Op(op) = item {
@@ -19,7 +19,7 @@ pub fn operation<'a>(items: &'a [Item], name: &str) -> Option<&'a Op> {
     None
 }
 
-/// The names of the operations or of the functions.
+/// The names of the operations if `are_operations`, else those of the functions.
 fn names_of(
     alloc: Global,
     items: &[Item],
@@ -36,8 +36,8 @@ fn names_of(
     Ok(names)
 }
 
-/// The problem of a name with the operations or the functions that there are. Its note is the known name that may be
-/// meant, else all of them, if there are some.
+/// The problem of the name `name`, which no operation, or no function, has. Its note is the known name that is probably
+/// meant, else a hint on a capital letter, else the known names, if there are some.
 pub fn unknown_among(
     alloc: Global,
     items: &[Item],

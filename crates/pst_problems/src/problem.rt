@@ -3,7 +3,7 @@
 use std::alloc::{AllocError, Global};
 use std::fmt::Display;
 
-/// The most problems of an input of which messages are written.
+/// The limit on the number of problems of an input that get messages.
 pub const MOST_PROBLEMS: usize = 20;
 
 /// What is wrong with a tree.
@@ -18,7 +18,7 @@ pub struct Problem {
 }
 
 impl Problem {
-    /// A problem without notes. `AllocError`: memory was refused.
+    /// A problem without notes.
     pub fn new<D: Display + Drop>(
         alloc: Global,
         path: Vec<usize>,
@@ -31,7 +31,7 @@ impl Problem {
         })
     }
 
-    /// The same problem with one more note. `AllocError`: memory was refused.
+    /// The problem with one more note.
     pub fn with<D: Display + Drop>(self, alloc: Global, note: D) -> Result<Problem, AllocError> {
         let mut problem = self;
         problem.add(format!(in alloc; "{note}")?)?;
@@ -45,7 +45,7 @@ impl Problem {
     }
 }
 
-/// A path that goes on with one more number.
+/// `path` with one more number at its end.
 pub fn below(path: &[usize], alloc: Global, number: usize) -> Result<Vec<usize>, AllocError> {
     let mut longer = Vec::from_slice(alloc, path)?;
     longer.push(number)?;

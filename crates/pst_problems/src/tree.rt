@@ -1,7 +1,7 @@
-//! Trees that words head.
+//! The head words of trees.
 
-use pst_items::Text;
 use pst_sexpr::{Form, node_of, word_of};
+use pst_value::Text;
 
 /// The head word of a node.
 pub fn head_of(form: &Form) -> Option<&Text> {

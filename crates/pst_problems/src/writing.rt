@@ -1,13 +1,12 @@
-//! Types, trees and names as they are shown.
+//! Types, trees and names as messages show them.
 
-use pst_items::{Items, Text};
 use pst_model::Param;
 use pst_sexpr::Form;
-use pst_value::{KeyTy, Ty};
+use pst_value::{Items, KeyTy, Text, Ty};
 use std::alloc::{AllocError, Global};
 use std::fmt;
 
-/// The word of a type of keys.
+/// The word for a type of keys.
 pub fn key_word(keys: KeyTy) -> &'static str {
     match keys {
         KeyTy::Int => "int",
@@ -53,14 +52,14 @@ fn write_type<W: fmt::Write>(f: &mut fmt::Formatter<W>, ty: &Ty) -> fmt::Result 
     }
 }
 
-/// A type and the bracket behind it.
+/// Writes a type and a closing bracket.
 #[cycle(write_type)]
 fn write_last<W: fmt::Write>(f: &mut fmt::Formatter<W>, ty: &Ty) -> fmt::Result {
     write_type(f, ty)?;
     f.write_str(")")
 }
 
-/// Types with a blank before each, and a bracket behind them.
+/// Writes types with a blank before each, and a closing bracket.
 #[cycle(write_type)]
 fn write_types<W: fmt::Write>(f: &mut fmt::Formatter<W>, types: &[Ty]) -> fmt::Result {
     for ty in types {
@@ -92,7 +91,7 @@ fn write_form<W: fmt::Write>(f: &mut fmt::Formatter<W>, form: &Form) -> fmt::Res
     }
 }
 
-/// A text in quotes, with a backslash before each quote and each backslash in it.
+/// Writes a text in quotes, with a backslash before each quote and each backslash in it.
 fn write_quoted<W: fmt::Write>(f: &mut fmt::Formatter<W>, text: &str) -> fmt::Result {
     f.write_str("\"")?;
     for letter in text.chars() {
@@ -104,7 +103,7 @@ fn write_quoted<W: fmt::Write>(f: &mut fmt::Formatter<W>, text: &str) -> fmt::Re
     f.write_str("\"")
 }
 
-/// Trees with a blank between them, and a bracket behind them.
+/// Writes trees with a blank between them, and a closing bracket.
 #[cycle(write_form)]
 fn write_parts<W: fmt::Write>(f: &mut fmt::Formatter<W>, parts: &[Form]) -> fmt::Result {
     for (number, part) in parts.iter().enumerate() {
@@ -116,7 +115,7 @@ fn write_parts<W: fmt::Write>(f: &mut fmt::Formatter<W>, parts: &[Form]) -> fmt:
     f.write_str(")")
 }
 
-/// A tree as it is written, of which at most 40 bytes are shown. `AllocError`: memory was refused.
+/// A tree as it is written: all of it, or its first 40 bytes and `...`.
 pub fn short_text(alloc: Global, form: &Form) -> Result<String, AllocError> {
     let form = FormText(form);
     let whole = format!(in alloc; "{form}")?;
@@ -168,7 +167,7 @@ impl fmt::Display for Count<'_> {
     }
 }
 
-/// A number of things, by the word for one of them.
+/// `number` things, by the word for one of them.
 pub fn counted(number: usize, word: &str) -> Count<'_> {
     Count { number, word }
 }

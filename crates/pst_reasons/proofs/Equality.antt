@@ -9,7 +9,7 @@ use Rattle.pst_reasons.specs.Allowed.{is_right, or_false}
 use Rattle.pst_reasons.specs.Equality.{IsEquality, HasEquality, EqualityHasOneAnswer}
 use Rattle.pst_eval.specs.Callbacks.{at_names, max_turns}
 use Rattle.pst_judge.specs.declared.events.Event.{Event}
-use Rattle.pst_meaning.specs.Meaning.{Env, Called, Mean, Part, part_at, mean_at, mean, called, frame, looked_up, lift, ◌>>=◌}
+use Rattle.pst_eval.specs.Meaning.{Env, Called, Mean, Part, part_at, mean_at, mean, called, frame, looked_up, lift, ◌>>=◌}
 use Rattle.pst_model.specs.Parts.{Name as Letters}
 use Rattle.pst_model.specs.declared.expr.Binary.{Binary as Operator}
 use Rattle.pst_model.specs.declared.expr.Binary.TheVariants.{Equal}
@@ -19,7 +19,7 @@ use Rattle.pst_model.specs.declared.model.Item.{Item}
 use Rattle.pst_model.specs.declared.model.Source.{Source}
 use Rattle.pst_operators.specs.Operators.{bool, binary, truth_of, truth_at}
 use Rattle.pst_operators.specs.Outcome.{Outcome, Gives, Faults, Stuck, and_then}
-use Rattle.pst_rules.specs.WellTyped.{name_r, name_s}
+use Rattle.pst_model.specs.WellTyped.{name_r, name_s}
 use Rattle.pst_value.proofs.Exact.{same_value-Decides}
 use Rattle.pst_value.specs.Equality.{same_value}
 use Rattle.pst_value.specs.declared.value.Value.{Value, out-roll-Value}

@@ -3,7 +3,7 @@ use Rattle.std.proofs.Common.{◌≡◌, ℕ, Bool, List, ◌∷◌, Some, None,
 use Rattle.pst_reasons.specs.Allowed.{PostGives}
 use Rattle.std.specs.Prelude.{reverse}
 use Rattle.pst_eval.specs.Callbacks.{at_names, max_turns, post_in, post_of}
-use Rattle.pst_meaning.specs.Meaning.{called, frame, mean}
+use Rattle.pst_eval.specs.Meaning.{called, frame, mean}
 use Rattle.pst_model.specs.Parts.{operation_of}
 use Rattle.pst_model.specs.declared.model.Op.{Op}
 use Rattle.pst_model.specs.declared.model.Source.{Source}
@@ -12,7 +12,7 @@ use Rattle.pst_operators.specs.Operators.{truth_of}
 use Rattle.pst_operators.specs.Outcome.{Outcome, Gives, Stuck, and_then}
 use Rattle.pst_operators.specs.declared.stop.Stop.{Stop}
 use Rattle.pst_operators.specs.declared.stop.Stop.TheVariants.{Fault, Stuck as IsStuck, NoMemory}
-use Rattle.pst_rules.specs.WellTyped.{name_s, name_r}
+use Rattle.pst_model.specs.WellTyped.{name_s, name_r}
 use Rattle.pst_value.specs.declared.value.Value.{Value}
 
 pub post_is : (m : Source) (op : ℕ) (o : Op) (s : Value) (args : List Value) (r : Value) → operation_of m.items op ≡ Some o → post_of m op s args r ≡ at_names m o.post ((name_r, r) ∷ (name_s, s) ∷ frame o.params args)

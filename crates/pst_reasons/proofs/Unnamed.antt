@@ -6,7 +6,7 @@ use Rattle.std.specs.Str.{bytes_eq}
 use Rattle.pst_reasons.proofs.OneAnswer.{or_first, or_second}
 use Rattle.pst_reasons.specs.Names.{one_of_them, names_at, clause_names_at, names, clause_names}
 use Rattle.pst_eval.specs.Callbacks.{at_names, max_turns}
-use Rattle.pst_meaning.specs.Meaning.{Env, Called, called, Mean, Part, Run, part_at, mean_at, mean, part, looked_up, applied, lift, pure, truth, all, all_from, visit, visit_each, comprehension, fold_over, call_of, ◌>>=◌, ◌>>◌}
+use Rattle.pst_eval.specs.Meaning.{Env, Called, called, Mean, Part, Run, part_at, mean_at, mean, part, looked_up, applied, lift, pure, truth, all, all_from, visit, visit_each, comprehension, fold_over, call_of, ◌>>=◌, ◌>>◌}
 use Rattle.pst_model.specs.Parts.{Name, number_of}
 use Rattle.pst_model.specs.declared.expr.Clause.{Clause, Clause-F, map-Clause, fold-roll-Clause}
 use Rattle.pst_model.specs.declared.expr.Expr.{Expr, Expr-F, map-Expr, fold-roll-Expr, ind-Expr}
@@ -15,7 +15,7 @@ use Rattle.pst_model.specs.declared.model.Source.{Source}
 use Rattle.pst_operators.specs.Operators.{bool, tuple, list, unary, binary, append, items_of, truth_of, item as item_of}
 use Rattle.pst_operators.specs.Maps.{put}
 use Rattle.pst_operators.specs.Outcome.{Gives, turn}
-use Rattle.pst_rules.specs.WellTyped.{name_r}
+use Rattle.pst_model.specs.WellTyped.{name_r}
 use Rattle.pst_value.specs.declared.value.Value.{Value}
 
 seq : {A B : Type 0} (p q : Run A) (f g : A → Run B) → p ≡ q → ((a : A) → f a ≡ g a) → (p >>= f) ≡ (q >>= g)

@@ -4,13 +4,13 @@ use Rattle.pst_case.specs.declared.case.Case.{Case}
 use Rattle.pst_case.specs.declared.history.History.{History}
 use Rattle.pst_judge.specs.declared.events.Event.{Event}
 use Rattle.pst_model.specs.Parts.{operation_of}
+use Rattle.pst_model.specs.WellTyped.{name_r}
 use Rattle.pst_model.specs.declared.expr.Binary.TheVariants.{Equal}
 use Rattle.pst_model.specs.declared.expr.Expr.{Expr, Binary, Name}
 use Rattle.pst_model.specs.declared.model.Op.{Op}
 use Rattle.pst_model.specs.declared.model.Source.{Source}
 use Rattle.pst_reasons.specs.Allowed.{IsEvent, HasOneAnswer}
 use Rattle.pst_reasons.specs.Names.{names}
-use Rattle.pst_rules.specs.WellTyped.{name_r}
 
 -- `(= r e)` or `(= e r)`
 abbrev pub IsEquality : Expr → Expr → Type 0

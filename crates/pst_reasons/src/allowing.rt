@@ -1,6 +1,6 @@
 //! The answers that a model allows in place of a recorded one.
 //!
-//! An answer of a command is allowed where some interleaving makes it right, and what other commands answered.
+//! An answer of a command is allowed if some interleaving makes it right, together with the answers of other commands.
 ghost use Rattle.std.specs.Prelude.{◌≡◌, ◌+◌, ◌<◌, ◌≤◌, true, false, None, IfOk, IfSome, length};
 ghost use Rattle.std.specs.List.{All};
 ghost use Rattle.pst_reasons.specs.Allowed as spec;
@@ -15,28 +15,27 @@ use crate::numbers::without;
 use crate::searching::{is_allowed, merge_beyond};
 use pst_case::{History, Shaped};
 use pst_eval::Callbacks;
-use pst_items::Items;
 use pst_model::Source;
-use pst_value::Value;
+use pst_value::{Items, Value};
 use std::alloc::{AllocError, Global};
 
 /// Answers of a command that a model allows.
 #[derive(Debug, Drop)]
 pub struct AllowedValues {
-    /// Answers that are allowed, each once, in the order in which they were found.
+    /// The allowed answers, each once, in the order in which they were found.
     pub values: Items<Value>,
     /// Whether the model allows no others.
     pub all: bool,
 }
 
-/// Who proposes answers. Nothing is asked of what they propose: each is tried.
+/// Proposes answers. A proposal may be wrong: each is checked.
 pub trait Candidates {
-    /// An answer of the command that may be right in this merge, if one is known. `word` has the branch, from 0,
-    /// of each letter of the merge. `AllocError` where memory is refused.
+    /// Returns an answer of the command that may be right in the interleaving `word`, if one is known. `word` has the
+    /// branch, from 0, of each of its commands.
     fn candidate(&self, alloc: Global, word: &[usize]) -> Result<Option<Value>, AllocError>;
 }
 
-/// Whether an answer is one of these.
+/// Returns whether `answer` is one of `answers`.
 fn is_one_of(answer: &Value, answers: &[Value]) -> bool
     ensures { result ≡ spec.is_one_of answer.now answers.now }
 {
@@ -46,7 +45,7 @@ fn is_one_of(answer: &Value, answers: &[Value]) -> bool
     *first == *answer || is_one_of(answer, rest)
 }
 
-/// The answer that is proposed for a merge, if it is a new one and the model allows it.
+/// Returns the proposed answer for the interleaving `word`, if it is new and the model allows it.
 fn next_value<C: Callbacks, P: Candidates>(
     callbacks: &C,
     alloc: Global,
@@ -79,7 +78,7 @@ fn next_value<C: Callbacks, P: Candidates>(
     if allowed { Ok(Some(value)) } else { Ok(None) }
 }
 
-/// The answers, and the one that is recorded for the command with the number.
+/// Returns `answers` and the recorded answer of command `number`.
 fn with_recorded(
     alloc: Global,
     history: &History,
@@ -98,8 +97,8 @@ fn with_recorded(
     Ok(all)
 }
 
-/// The answer that is proposed for a merge in which the recorded answer is wrong and the known ones are, if it is a new
-/// one and the model allows it. The postcondition does not fault in such a merge.
+/// Returns the proposed answer for an interleaving in which the recorded answer and the known ones are wrong, if it is
+/// new and the model allows it. The postcondition does not fault in such an interleaving.
 fn value_beyond_recorded<C: Callbacks, P: Candidates>(
     callbacks: &C,
     alloc: Global,
@@ -147,8 +146,8 @@ fn value_beyond_recorded<C: Callbacks, P: Candidates>(
     )
 }
 
-/// A new answer that the model allows, where `left` is not 0: the one that is proposed for the merge, or else for one in
-/// which the postcondition does not fault.
+/// Returns a new answer that the model allows, if `left` is not 0: the proposed answer for the interleaving `word`, or
+/// else for one in which the postcondition does not fault.
 fn proposed_value<C: Callbacks, P: Candidates>(
     callbacks: &C,
     alloc: Global,
@@ -185,7 +184,7 @@ fn proposed_value<C: Callbacks, P: Candidates>(
     )
 }
 
-/// Adds the answers that the model allows, at most so many, to those that are known.
+/// Adds at most `left` answers that the model allows to `values`.
 fn add_allowed<C: Callbacks, P: Candidates>(
     callbacks: &C,
     alloc: Global,
@@ -250,16 +249,16 @@ fn add_allowed<C: Callbacks, P: Candidates>(
     )
 }
 
-/// The answers that the model allows for a command of a core, at most so many: those that would have been right
+/// Returns at most `at_most` answers that the model allows for command `number` of a core: answers that would be right
 /// in some interleaving in which the rest of the core is right.
 ///
-/// The results of all other commands, and the references to the result of this one, stay as they are recorded.
-/// The answers come from the candidates: each is certified by a search of its own. Where `all` is true, in each
-/// interleaving in which the rest of the core is right one of the values would have been right for the command
-/// (or its postcondition faults with one of them). Where it is false there is one in which none would have been:
-/// more than `at_most` answers are allowed, or the candidates have no other that is. Where they have none for the first merge,
-/// as where the postcondition faults there, they are asked for one in which it is false of the recorded answer. It takes at
-/// most four searches for each value, and four more. `AllocError` where memory is refused.
+/// The results of all other commands, and the references to the result of this one, stay as recorded. The answers come
+/// from `candidates`, and a search of its own certifies each. If `all` is true, then in each interleaving in which the
+/// rest of the core is right, one of the values would be right for the command (or its postcondition faults with one of
+/// them). If `all` is false, there is such an interleaving in which none of the values would be right: more than
+/// `at_most` answers are allowed, or `candidates` has no other allowed answer. If `candidates` has none for the first
+/// interleaving, for example because the postcondition faults there, it is tried on one in which the postcondition is
+/// false of the recorded answer. The function takes at most four searches for each value, and four more.
 pub fn allowed<C: Callbacks, P: Candidates>(
     callbacks: &C,
     alloc: Global,

@@ -1,4 +1,4 @@
-//! Whether answers would have been right for an event.
+//! Checks whether answers would be right for an event.
 ghost use Rattle.std.specs.Prelude.{◌≡◌, ◌∷◌, [], IfOk, MatchOption};
 ghost use Rattle.pst_eval.specs.Callbacks.{post_of};
 ghost use Rattle.pst_operators.specs.Answers.{Answers};
@@ -7,17 +7,17 @@ ghost use Rattle.pst_operators.specs.Outcome.{and_then};
 ghost use Rattle.pst_reasons.specs.Allowed as spec;
 ghost use Rattle.pst_reasons.specs.Allowed.{PostGives, IsReportOf};
 
+use pst_eval::{Context, Env, eval};
 use pst_judge::Event;
-use pst_meaning::{Context, Env, eval};
 use pst_model::{Source, operation_of};
 use pst_operators::{Stop, truth_of};
 use pst_value::{Fault, Value};
 use std::alloc::{AllocError, Global};
 
-/// The turns that a postcondition starts with.
+/// The number of turns that the evaluation of a postcondition may take.
 const MAX_TURNS: u32 = 1_000_000;
 
-/// What the postcondition of an operation gives.
+/// Returns the value of the postcondition of an operation.
 #[tactic(auto, using(crate::proofs::Posts::no_post))]
 fn post_value(
     model: &Source,
@@ -45,7 +45,7 @@ fn post_value(
     eval(&operation.post, &context, &inner, &mut turns)
 }
 
-/// Whether the postcondition of an event is true with this answer.
+/// Returns whether the postcondition of an event is true with `answer`.
 fn post_truth(
     model: &Source,
     alloc: Global,
@@ -61,7 +61,7 @@ fn post_truth(
     truth_of(&value)
 }
 
-/// Whether an answer would have been right for an event on the state before it.
+/// Returns whether `answer` would be right for an event on `state`, the state before it.
 pub(crate) fn is_right(
     model: &Source,
     alloc: Global,
@@ -85,7 +85,7 @@ pub(crate) fn split_first(answers: &[Value]) -> Option<(&Value, &[Value])>
     answers.split_first()
 }
 
-/// Whether one of these answers would have been right for an event on the state before it.
+/// Returns whether one of `answers` would be right for an event on `state`, the state before it.
 pub(crate) fn one_is_right(
     model: &Source,
     alloc: Global,

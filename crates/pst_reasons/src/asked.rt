@@ -1,4 +1,4 @@
-//! The postconditions of a few commands, asked alone.
+//! A condition that checks only the postconditions of a few commands.
 ghost use Rattle.std.specs.Prelude.{◌≡◌, ◌++◌};
 ghost use Rattle.pst_reasons.specs.Reasons.{is_among};
 
@@ -8,7 +8,7 @@ use pst_judge::{Condition, Event, Postconditions};
 use pst_value::{Fault, Value};
 use std::alloc::{AllocError, Global};
 
-/// The postconditions of the commands with these numbers. Those of other commands are taken as true.
+/// Checks the postconditions of the commands `first` and `rest`. Those of other commands count as true.
 #[derive(Clone, Copy, Drop)]
 pub struct Asked<'a> {
     /// Numbers of commands.
@@ -26,7 +26,7 @@ fn is_among(number: u32, numbers: &[u32]) -> bool
     *first == number || is_among(number, rest)
 }
 
-/// Whether a number is among the first ones or among the rest.
+/// Returns whether `number` is in `first` or in `rest`.
 #[tactic(auto, using(crate::proofs::Among::among_append))]
 fn is_asked(number: u32, first: &[u32], rest: &[u32]) -> bool
     ensures { result ≡ is_among number (first.now ++ rest.now) }

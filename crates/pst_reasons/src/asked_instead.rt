@@ -1,4 +1,4 @@
-//! What is asked of a command in place of what it answered.
+//! Conditions that check other answers of a command in place of its recorded one.
 ghost use Rattle.std.specs.Prelude.{◌≡◌, []};
 
 use crate::answers::{is_right, one_is_right};
@@ -9,7 +9,7 @@ use pst_model::Source;
 use pst_value::{Fault, Value};
 use std::alloc::{AllocError, Global};
 
-/// Asks of a command whether another answer would have been right, and of others whether they were.
+/// Checks whether `answer` would be right for command `number`, and whether the recorded answers of `others` are right.
 #[derive(Clone, Copy, Drop)]
 pub(crate) struct AskedInstead<'a> {
     pub model: &'a Source,
@@ -19,7 +19,8 @@ pub(crate) struct AskedInstead<'a> {
     pub others: &'a [u32],
 }
 
-/// Asks of a command whether none of these answers would have been right, and of others whether they were.
+/// Checks whether none of `answers` would be right for command `number`, and whether the recorded answers of `others`
+/// are right.
 #[derive(Clone, Copy, Drop)]
 pub(crate) struct AskedNoneOf<'a> {
     pub model: &'a Source,

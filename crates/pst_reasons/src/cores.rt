@@ -12,8 +12,8 @@ use pst_eval::Callbacks;
 use pst_judge::{Verdict, verdict_asking};
 use std::alloc::{AllocError, Global};
 
-/// The least merge that is true to its end where the postconditions of the commands with these numbers are
-/// asked, if there is one.
+/// Returns the lexicographically first interleaving that is true to its end if only the postconditions of the commands
+/// `first` and `rest` are checked. `None` if no interleaving is.
 fn true_merge<C: Callbacks>(
     callbacks: &C,
     alloc: Global,
@@ -38,7 +38,7 @@ fn true_merge<C: Callbacks>(
     }
 }
 
-/// Leaves out a number without which the others stay impossible: it is gone, or it stands before the core.
+/// Leaves out `number` if the others stay impossible without it, or else inserts it before `core`.
 fn leave_out_one<C: Callbacks>(
     callbacks: &C,
     alloc: Global,
@@ -72,7 +72,7 @@ fn leave_out_one<C: Callbacks>(
     Ok(core)
 }
 
-/// Leaves out, from the greatest down, each of the first numbers without which the others stay impossible.
+/// Leaves out each number of `first`, from the greatest down, if the others stay impossible without it.
 fn leave_out<C: Callbacks>(
     callbacks: &C,
     alloc: Global,
@@ -99,13 +99,13 @@ fn leave_out<C: Callbacks>(
     leave_out(callbacks, alloc, shaped, history, first, core)
 }
 
-/// A core of a history that no interleaving explains: the numbers, in rising order, of commands of which no
-/// interleaving makes all postconditions true, and of which each with one command less has one that does.
+/// Returns a core of a history that no interleaving explains: the numbers, in rising order, of commands whose
+/// postconditions are not all true in any interleaving, although without any one of these commands they are in some.
 ///
-/// The commands are gone through from the last to the first, and each is left out without which the others
-/// are still impossible. So of several cores it is the one of the least commands. Other commands may have
-/// answered anything. The core is empty where every interleaving faults in `init` or `next`, whatever was
-/// answered. It takes one search for each command. `AllocError` where memory is refused.
+/// The function goes through the commands from the last to the first, and leaves out each without which the others are
+/// still impossible. So it prefers a core of commands with small numbers. Other commands may have answered anything.
+/// The core is empty if every interleaving faults in `init` or `next`, whatever was answered. The function takes one
+/// search for each command.
 pub fn core<C: Callbacks>(
     callbacks: &C,
     alloc: Global,
@@ -125,8 +125,8 @@ pub fn core<C: Callbacks>(
     leave_out(callbacks, alloc, shaped, history, numbers.as_slice(), core)
 }
 
-/// The least merge that is true to its end where the postconditions of a core are asked, but for one
-/// command's. `AllocError` where memory is refused.
+/// Returns the first interleaving that is true to its end if only the postconditions of `core` without `number` are
+/// checked.
 pub fn merge_without<C: Callbacks>(
     callbacks: &C,
     alloc: Global,

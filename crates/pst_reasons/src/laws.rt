@@ -1,8 +1,8 @@
-//! Where each allowed answer is found.
+//! A law on when `allowed` finds each allowed answer.
 ghost use Rattle.pst_reasons.specs.Equality.{EqualityHasOneAnswer};
 
-/// A command whose postcondition is `(= r e)` or `(= e r)`, where `e` does not name `r`, has at most one right answer on
-/// each state. So the values of `allowed` are just those that the model allows, where `all` is true.
+/// A command whose postcondition is `(= r e)` or `(= e r)`, without `r` in `e`, has at most one right answer on each
+/// state. So if `all` is true, the values of `allowed` are exactly the answers that the model allows.
 pub fn equality_has_one_answer()
     ensures { EqualityHasOneAnswer }
 {}

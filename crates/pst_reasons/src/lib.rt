@@ -1,5 +1,7 @@
 //! Why no interleaving explains the replies of a history: a core of postconditions that cannot all be true, and the
 //! answers that the model allows in place of them; and the states along an interleaving.
+//!
+//! `AllocError` means that an allocation failed.
 #![tactic(auto)]
 
 mod allowing;

@@ -4,10 +4,10 @@ ghost use Rattle.pst_case.specs.Shape.{joined};
 ghost use Rattle.pst_reasons.specs.Reasons.{number_of_commands, numbers_to, without};
 
 use pst_case::{Command, Shaped};
-use pst_items::Items;
+use pst_value::Items;
 use std::alloc::{AllocError, Global};
 
-/// The numbers from 1 up to the last one.
+/// Returns the numbers from 1 to `last`.
 pub(crate) fn numbers_to(alloc: Global, last: u32) -> Result<Vec<u32>, AllocError>
     ensures { IfOk result (λ numbers. numbers.items ≡ numbers_to last) }
 {
@@ -19,7 +19,7 @@ pub(crate) fn numbers_to(alloc: Global, last: u32) -> Result<Vec<u32>, AllocErro
     Ok(numbers)
 }
 
-/// No number.
+/// Returns an empty list.
 pub(crate) fn no_numbers(alloc: Global) -> Vec<u32>
     ensures { result.items ≡ [] }
 {
@@ -38,7 +38,7 @@ pub(crate) fn split_last(numbers: &[u32]) -> Option<(&u32, &[u32])>
     numbers.split_last()
 }
 
-/// The numbers but one, behind others. `AllocError` where memory is refused.
+/// Returns `others`, followed by `numbers` without `number`.
 pub fn without(number: u32, numbers: &[u32], mut others: Vec<u32>) -> Result<Vec<u32>, AllocError>
     ensures { IfOk result (λ all. all.items ≡ others.items ++ without number numbers.now) }
 {
@@ -58,7 +58,7 @@ fn split_parts(branches: &[Items<Command>]) -> Option<(&Items<Command>, &[Items<
     branches.split_first()
 }
 
-/// How many commands branches have in all.
+/// Returns how many commands the branches have together.
 pub fn letters_in(branches: &[Items<Command>]) -> usize
     requires { length (joined branches.now) ≤ 16 }
     ensures { result ≡ length (joined branches.now) }
@@ -69,7 +69,7 @@ pub fn letters_in(branches: &[Items<Command>]) -> usize
     branch.len() + letters_in(branches)
 }
 
-/// How many commands a case has.
+/// Returns how many commands a case has.
 pub(crate) fn commands_in(shaped: &Shaped) -> u32
     ensures { result ≡ number_of_commands shaped.now.case }
 {

@@ -14,7 +14,8 @@ use pst_model::Source;
 use pst_value::Value;
 use std::alloc::{AllocError, Global};
 
-/// A merge that is true to its end where a condition is asked of each event, if there is one.
+/// Returns an interleaving that is true to its end if `condition` is checked for each event. `None` if no interleaving
+/// is.
 fn true_merge<C: Callbacks, A: Condition>(
     callbacks: &C,
     condition: &A,
@@ -38,8 +39,8 @@ fn true_merge<C: Callbacks, A: Condition>(
     }
 }
 
-/// Whether the model allows an answer of the command with the number: whether in some merge in which what the
-/// others answered is right, it would have been right. `AllocError` where memory is refused.
+/// Returns whether the model allows `answer` for command `number`: whether it would be right in some interleaving in
+/// which the answers of `others` are right.
 pub fn is_allowed<C: Callbacks>(
     callbacks: &C,
     alloc: Global,
@@ -69,8 +70,8 @@ pub fn is_allowed<C: Callbacks>(
     }
 }
 
-/// A merge in which what the others answered is right, and none of these answers of the command with the
-/// number would have been, if there is one. `AllocError` where memory is refused.
+/// Returns an interleaving in which the answers of `others` are right and none of `answers` would be right for command
+/// `number`, if there is one.
 pub fn merge_beyond<C: Callbacks>(
     callbacks: &C,
     alloc: Global,

@@ -6,8 +6,8 @@ ghost use Rattle.pst_case.specs.Shape.{joined, result_types};
 ghost use Rattle.pst_judge.specs.Replay.{branch_turn_asking};
 ghost use Rattle.pst_judge.specs.Running.{EventsFit, IsRealState};
 ghost use Rattle.pst_judge.specs.Verdict.{first_broken};
+ghost use Rattle.pst_model.specs.Fitting.{is_state};
 ghost use Rattle.pst_reasons.specs.States.{AllFit, OnLast, branch_states, event_states, onward, states_of, word_states};
-ghost use Rattle.pst_rules.specs.Fitting.{is_state};
 ghost use Rattle.pst_value.specs.declared.ty.Ty.{Ty};
 ghost use Rattle.pst_value.specs.declared.value.Value.{Value};
 
@@ -15,9 +15,8 @@ use crate::numbers::letters_in;
 use pst_case::{History, Shaped};
 use pst_eval::Callbacks;
 use pst_grid::Turn;
-use pst_items::Items;
 use pst_judge::{Branches, Condition, Event, branches_of, event_turn, prefix_of};
-use pst_value::Value;
+use pst_value::{Items, Value};
 use std::alloc::{AllocError, Global};
 
 fn split_first(events: &[Event]) -> Option<(&Event, &[Event])>
@@ -26,8 +25,8 @@ fn split_first(events: &[Event]) -> Option<(&Event, &[Event])>
     events.split_first()
 }
 
-/// The states after each of these events in turn, as far as they are true, behind others; and the last state,
-/// where all are true.
+/// Appends to `states` the state after each event in turn, up to the first event that is not true. If all are true, the
+/// result also has the last state.
 fn along<C: Callbacks, A: Condition>(
     callbacks: &C,
     condition: &A,
@@ -63,8 +62,8 @@ fn split_letter(word: &[usize]) -> Option<(&usize, &[usize])>
     word.split_first()
 }
 
-/// The states after the event of each letter in turn, as far as they are true, behind others; and the last
-/// state, where all are true.
+/// Appends to `states` the state after the event of each letter of `word` in turn, up to the first event that is not
+/// true. If all are true, the result also has the last state.
 fn along_word<C: Callbacks, A: Condition>(
     branches: &Branches<'_, C, A>,
     alloc: Global,
@@ -106,8 +105,8 @@ fn along_word<C: Callbacks, A: Condition>(
     }
 }
 
-/// The states of a run from the state after the prefix: those of a word of branches, and, where it has a letter
-/// for each command of the branches, those of the suffix, behind others.
+/// Appends to `states` the states of a run after its prefix: those of the interleaving `word` of the branches, and, if
+/// it has a letter for each command of the branches, those of the suffix.
 fn after_prefix<C: Callbacks, A: Condition>(
     branches: &Branches<'_, C, A>,
     alloc: Global,
@@ -147,10 +146,10 @@ fn after_prefix<C: Callbacks, A: Condition>(
     Ok(states)
 }
 
-/// The states of an interleaving, as far as what is asked of its events is true: the initial state, and the
-/// state after each event. They are those of the prefix, of the commands of a word of branches, and, where the
-/// word has a letter for each command of the branches, of the suffix. There are none where `init` faults.
-/// `AllocError` where memory is refused.
+/// Returns the states of an interleaving: the initial state, and the state after each event, up to the first event that
+/// is not true by `condition`. The events are those of the prefix, those of the interleaving `word` of the branches,
+/// and, if `word` has a letter for each command of the branches, those of the suffix. The list is empty if `init`
+/// faults.
 pub fn states<C: Callbacks, A: Condition>(
     callbacks: &C,
     condition: &A,

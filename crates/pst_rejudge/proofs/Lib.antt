@@ -5,3 +5,5 @@ pub mod Permitted
 pub mod Placed
 pub mod Pushed
 pub mod Together
+pub mod Answering
+pub mod Splitting

@@ -2,5 +2,8 @@
 pub mod Judging
 pub mod Answers
 pub mod Parts
+pub mod StreamAnswers
+pub mod Blocks
+pub mod Lines
 -- what the contracts within the crate cite
 pub mod Places

@@ -1,5 +1,5 @@
-//! Reads and judges each tree behind a model by itself, several at once, so that one that is refused leaves the others
-//! their verdicts.
+//! Reads and judges each tree after a model by itself, several at once, so that a refused tree does not affect
+//! the verdicts of the others.
 ghost use Rattle.std.specs.Prelude.{◌≡◌, IfOk};
 ghost use Rattle.std.specs.List.{AllZip};
 ghost use Rattle.pst_rejudge.specs.Answers.{IsAnswer};
@@ -8,14 +8,14 @@ use crate::reading::read_one;
 use crate::sharing::may_share_models;
 use pst_eval::Callbacks;
 use pst_judge::{Judged, judge_one};
-use pst_rules::Typed;
+use pst_model::Typed;
 use pst_runs::{RunFault, RunFaultKind};
 use pst_sexpr::Tree;
 use rayon::prelude::*;
 use std::alloc::{AllocError, Global};
 use std::thread::Threads;
 
-/// What is answered of an item.
+/// The judgement on an item, or why it is refused.
 #[derive(Debug, Drop)]
 pub enum Answer {
     /// It was read, and this is the judgement on it.
@@ -24,12 +24,12 @@ pub enum Answer {
     Refused {
         /// The kind of its first fault.
         kind: RunFaultKind,
-        /// The number of the command that is at fault, from 1; 0 stands for the item itself.
+        /// The number of the command that is at fault, from 1, or 0 for the item itself.
         command: u32,
     },
 }
 
-/// What is answered of the item that a tree spells. `AllocError`: memory was refused.
+/// Reads and judges the item that a tree spells.
 pub fn answer_of<C: Callbacks>(
     callbacks: &C,
     alloc: Global,
@@ -45,9 +45,8 @@ pub fn answer_of<C: Callbacks>(
     }
 }
 
-/// What is answered of each of the items that trees spell, in their order: the judgement on it, or why it is
-/// refused. Several threads read and judge the items at once. `AllocError` where memory is refused to any of
-/// them.
+/// Reads and judges each of the items that trees spell, in their order: returns the judgement on it, or why it
+/// is refused. Several threads read and judge the items at once.
 ///
 /// `typed` is the model of the callbacks.
 pub fn judge_each<C: Callbacks + Sync, R: Threads + Sync>(

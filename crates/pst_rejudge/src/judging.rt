@@ -11,7 +11,7 @@ use crate::taking::{Part, take_parts};
 use pst_case::Run;
 use pst_eval::Callbacks;
 use pst_judge::Judged;
-use pst_rules::Typed;
+use pst_model::Typed;
 use rayon::prelude::*;
 use std::alloc::{AllocError, Global};
 use std::sync::atomic::AtomicUsize;
@@ -35,16 +35,16 @@ pub struct JudgedParts {
     pub judged: Vec<Judged>,
 }
 
-/// How often the parts are offered. Each offer is taken by a thread, and the first ones leave nothing to the others.
+/// How many worker tasks start; late ones find no work.
 const OFFERS: usize = 64;
 
-/// The runs of the items that an input spells, all of them trees of runs, and the judgements on them. The input is read
-/// and judged in parts, several at once, and the trees of a part are let go once its runs are read. The runs stay in
-/// these parts, and the judgements are one list. `keeps` says whether the runs are kept: where they are not, the thread that
-/// judged a part lets its runs go, and all lists of runs are empty.
+/// Returns the runs of the items that an input spells, all of them trees of runs, and the judgements on them.
+/// It reads and judges the input in parts, several at once, and drops the trees of a part once its runs are
+/// read. The runs stay in these parts, and the judgements are one list. If `keeps` is false, each part's runs
+/// are dropped once they are judged, and all lists of runs are empty.
 ///
-/// `None`: some part is not read by itself, which says nothing of the whole input. `AllocError`: an allocation failed, while
-/// parts were read or judged as well.
+/// `None`: some part is not read by itself, which implies nothing for the whole input. `AllocError`: an
+/// allocation failed, even while reading or judging parts.
 ///
 /// `typed` is the model of the callbacks.
 pub fn judge_in_parts<C: Callbacks + Sync, R: Threads + Sync>(

@@ -1,5 +1,5 @@
-//! Judges many items at once, by as many threads as there are processors: items that were read, those that an input
-//! spells, or each tree by itself.
+//! Judges many items at once, by as many threads as there are processors: items that were read, those that an
+//! input spells, each tree by itself, or the lines of a stream as they come. `AllocError` means that an allocation of any thread failed.
 #![tactic(auto)]
 
 ghost use Rattle.std.specs.Prelude.{◌≡◌, All, IfOk};
@@ -7,18 +7,25 @@ ghost use Rattle.std.specs.List.{AllZip};
 ghost use Rattle.pst_judge.specs.Judgement.{IsJudgement};
 ghost use Rattle.pst_rejudge.specs.Judging.{MayBeJudged};
 
+mod blocks;
 mod each;
 mod judging;
+mod keeping;
+mod laws;
 mod parts;
 mod places;
 mod reading;
 mod sharing;
+mod stream_judging;
+mod stream_reading;
 mod taking;
 
 pub use crate::sharing::may_share_models;
 use crate::sharing::may_share_runs;
+pub use blocks::{Block, StreamFault, next_block};
 pub use each::{Answer, answer_of, judge_each};
 pub use judging::{JudgedParts, judge_in_parts};
+pub use laws::lines_are_items;
 pub use parts::head_and_rest;
 use pst_case::Run;
 use pst_eval::Callbacks;
@@ -27,8 +34,8 @@ use rayon::prelude::*;
 use std::alloc::{AllocError, Global};
 use std::thread::Threads;
 
-/// The judgement of each item, in the order of the items: what `judge_one` gives of it. Several threads judge
-/// the items at once. `AllocError` where memory is refused to any of them.
+/// Returns the judgement of each item, in the order of the items: what `judge_one` gives of it. Several threads
+/// judge the items at once.
 pub fn rejudge<C: Callbacks + Sync, R: Threads + Sync>(
     rt: &R,
     callbacks: &C,

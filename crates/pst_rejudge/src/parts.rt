@@ -1,4 +1,4 @@
-//! An input in parts, of which each but the last ends with a line.
+//! Splits an input into parts. Each but the last ends with a line.
 ghost use Rattle.std.specs.Prelude.{◌≡◌, ◌≤◌, ◌<◌, ◌++◌, map, length, take, IfOk, IfSome};
 ghost use Rattle.pst_rejudge.specs.Parts.{EndsLine, AreParts};
 
@@ -10,7 +10,7 @@ const PARTS: usize = 256;
 /// A part has more bytes than these, but for the last.
 const LEAST_PART: usize = 256;
 
-/// The first place behind another where a line begins with a bracket, if there is one.
+/// The first place after `from` at which a line begins with a bracket, if there is one.
 fn next_line(input: &[u8], from: usize) -> Option<usize>
     ensures { IfSome result (λ at. (0 < at) × (at ≤ length input.now) × EndsLine (take at input.now)) }
 {
@@ -22,7 +22,7 @@ fn next_line(input: &[u8], from: usize) -> Option<usize>
     None
 }
 
-/// The lines before the second one that begins with a bracket, and the others, where there is a second one.
+/// Splits the input before the second line that begins with a bracket, if there is one.
 pub fn head_and_rest(input: &[u8]) -> Option<(&[u8], &[u8])>
     ensures { IfSome result (λ r. EndsLine r.0.now × (input.now ≡ r.0.now ++ r.1.now)) }
 {

@@ -52,7 +52,7 @@ pub(crate) fn in_places(
     Ok(places)
 }
 
-/// How many runs stand in places.
+/// How many runs the places hold.
 fn count_of(places: &[Option<JudgedRuns>]) -> usize {
     let mut count: usize = 0;
     for place in places {
@@ -63,7 +63,7 @@ fn count_of(places: &[Option<JudgedRuns>]) -> usize {
     count
 }
 
-/// The runs that stand in each place, and their judgements one behind the other, or `None` where some place is empty.
+/// The runs of each place, and their judgements as one list, or `None` if some place is empty.
 pub(crate) fn in_order(
     alloc: Global,
     places: Vec<Option<JudgedRuns>>,

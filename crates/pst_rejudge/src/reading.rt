@@ -6,7 +6,7 @@ ghost use Rattle.pst_runs.specs.Items.{item_of};
 ghost use Rattle.pst_runs.specs.Lawful.{AreLawful};
 
 use pst_case::{CaseFaultKind, Run};
-use pst_rules::Typed;
+use pst_model::Typed;
 use pst_runs::{RunFault, RunFaultKind, read_runs};
 use pst_sexpr::{FaultKind, SexprFault, Tree, read};
 use std::alloc::{AllocError, Global};

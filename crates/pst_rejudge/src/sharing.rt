@@ -1,14 +1,14 @@
 //! What threads may share and send. These functions do nothing: their contracts say it of types.
 ghost use Rattle.std.specs.Thread.{IsSend, IsSync};
 ghost use Rattle.pst_case.specs.contracts.history.Run.{the_row as run_row};
+ghost use Rattle.pst_model.specs.contracts.typed.Typed.{the_row as typed_row};
 ghost use Rattle.pst_rejudge.specs.contracts.taking.Part.{the_row as part_row};
-ghost use Rattle.pst_rules.specs.contracts.typed.Typed.{the_row as typed_row};
 
 use crate::judging::JudgedRuns;
 use crate::taking::Part;
 use pst_case::{Case, Command, Run};
 use pst_judge::Judged;
-use pst_rules::Typed;
+use pst_model::Typed;
 use pst_value::Value;
 
 /// What is `Sync` may be shared by threads.

@@ -11,7 +11,7 @@ use crate::reading::{PartFault, runs_of_part};
 use pst_case::Run;
 use pst_eval::Callbacks;
 use pst_judge::{Judged, judge_one};
-use pst_rules::Typed;
+use pst_model::Typed;
 use std::alloc::{AllocError, Global};
 use std::sync::atomic::{AtomicUsize, Ordering};
 
@@ -40,7 +40,7 @@ fn judged_runs<C: Callbacks>(
     Ok(judged)
 }
 
-/// The runs that the bytes of a part spell, where they are kept, and the judgements on them.
+/// The judgements on the runs that the bytes of a part spell, with the runs if `keeps` is true.
 fn judged_part<C: Callbacks>(
     callbacks: &C,
     alloc: Global,
@@ -59,7 +59,7 @@ fn judged_part<C: Callbacks>(
     })
 }
 
-/// Reads and judges one part after another, each of which no other thread takes, until none is left.
+/// Reads and judges one part after another until none is left. No other thread takes these parts.
 pub(crate) fn take_parts<C: Callbacks>(
     callbacks: &C,
     alloc: Global,

@@ -1,4 +1,5 @@
 -- what the public contracts cite
+pub mod Distinct
 pub mod Failures
 pub mod FaultName
 pub mod InOrder

@@ -1,12 +1,11 @@
 -- The first members of the object of a campaign: how it ended, its plan, and its counts.
 use Rattle.std.specs.Prelude.{ℕ, List, [], ◌∷◌, ◌++◌, codes}
+use Rattle.pst_json_verdicts.specs.declared.field.Field.{Field}
+use Rattle.pst_json_verdicts.specs.declared.field.Field.TheVariants.{Number, Words}
+use Rattle.pst_json_verdicts.specs.declared.field.Name.{Name}
+use Rattle.pst_json_verdicts.specs.declared.field.Name.TheVariants as name
 use Rattle.pst_ledger.specs.declared.entry.Entry.{Entry}
-use Rattle.pst_objects.specs.declared.field.Field.{Field}
-use Rattle.pst_objects.specs.declared.field.Field.TheVariants.{Number, Words}
-use Rattle.pst_objects.specs.declared.field.Name.{Name}
-use Rattle.pst_objects.specs.declared.field.Name.TheVariants as name
 use Rattle.pst_report.specs.Kinds.{count_of}
-use Rattle.pst_report.specs.Status.{campaign_status}
 use Rattle.pst_report.specs.declared.kind.EntryKind.{EntryKind}
 use Rattle.pst_report.specs.declared.kind.EntryKind.TheVariants as kind
 use Rattle.pst_report.specs.declared.status.CampaignStatus.{CampaignStatus}
@@ -47,7 +46,7 @@ missing_fields entries =
     ∷ count_field name.Undrawn kind.Undrawn entries ∷ []
 
 -- how it ended, the name of its model, its plan, and its counts
-abbrev pub report_fields : PlanView → List (Entry RecordView) → List Field
-report_fields p entries =
-    (Words name.Verdict (status_word (campaign_status entries)) ∷ Words name.Model p.model.name ∷ [])
+abbrev pub report_fields : PlanView → CampaignStatus → List (Entry RecordView) → List Field
+report_fields p status entries =
+    (Words name.Verdict (status_word status) ∷ Words name.Model p.model.name ∷ [])
     ++ (case_fields p.settings ++ (drive_fields p.settings ++ (judged_fields entries ++ missing_fields entries)))

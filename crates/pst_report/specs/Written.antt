@@ -2,7 +2,7 @@
 use Rattle.std.specs.Prelude.{◌≡◌, ℕ, Bool, true, false, List, Option, Result, MatchResult}
 use Rattle.pst_report.specs.declared.fault.ReportFault.{ReportFault}
 use Rattle.pst_report.specs.declared.fault.ReportFault.TheVariants.{WriteFailed, NoMemory}
-use Rattle.pst_sink.specs.Writing.{WritesAll, WritesPart}
+use Rattle.pst_sexpr.specs.Writing.{WritesAll, WritesPart}
 
 -- where the writer failed a beginning of the text was appended, and where memory was refused nothing was
 abbrev pub WritesUntil :

@@ -1,14 +1,14 @@
-//! The lines of the least failure.
+//! The lines of the failed trial with the lowest number.
 ghost use Rattle.std.specs.Prelude.{◌≡◌, IfOk, string_bytes};
 ghost use Rattle.pst_report.specs.Matching.{AreMatching, IsMatching};
 ghost use Rattle.pst_report.specs.Text as spec;
 
 use crate::kind::own_failure;
 use pst_case::{Run, shape};
-use pst_rules::Typed;
+use pst_model::Typed;
 use pst_runs::write_runs;
+use pst_sexpr::Out;
 use pst_shrink::{Ending, Shrunk, Taken};
-use pst_sink::Out;
 use pst_trial::JudgedRun;
 use std::alloc::{AllocError, Global};
 
@@ -110,7 +110,7 @@ fn last_lines(alloc: Global, typed: &Typed, taken: &Taken<JudgedRun>) -> Result<
     Ok(lines)
 }
 
-/// The lines of a number whose trial failed.
+/// The lines of trial `number`, which failed.
 pub fn failure_lines(
     alloc: Global,
     typed: &Typed,

@@ -23,7 +23,7 @@ fn count_line(
     format!(in alloc; "{word} {count}\n")
 }
 
-/// `genfault-first NUMBER COMMAND CALLBACK KIND`, where generating a case faulted.
+/// `genfault-first NUMBER COMMAND CALLBACK KIND`, if generating a case faulted.
 fn first_fault_line(alloc: Global, entries: &[Entry<Record>]) -> Result<String, AllocError>
     ensures { IfOk result (λ line. string_bytes line ≡ spec.first_fault_line (least_fault 0 entries.now)) }
 {

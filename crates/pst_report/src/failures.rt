@@ -6,17 +6,17 @@ ghost use Rattle.pst_report.specs.Matching.{IsMatching};
 use crate::counterexample::{run_line, run_of};
 use crate::least::failure_of;
 use pst_case::Run;
-use pst_rules::Typed;
+use pst_model::Typed;
 use pst_runs::write_runs;
+use pst_sexpr::Out;
 use pst_shrink::Taken;
-use pst_sink::Out;
 use pst_trial::{JudgedRun, Record};
 use std::alloc::{AllocError, Global};
 
 /// The failure that the case of a trial was shrunk to, as text.
 #[derive(Debug, Drop)]
 pub struct ShrunkFailure {
-    /// The case as a tree, and a line end. Failures with the same case are told apart by their replies alone.
+    /// The case as a tree, and a line end. Failures with the same case differ in their replies alone.
     pub case: Vec<u8>,
     /// The case with its replies as a tree, and a line end.
     pub run: Vec<u8>,

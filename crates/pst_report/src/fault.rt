@@ -2,7 +2,7 @@
 ghost use Rattle.std.specs.Prelude.{◌≡◌};
 ghost use Rattle.pst_report.specs.FaultName.{fault_name};
 
-use pst_sink::WriteFailed;
+use pst_sexpr::WriteFailed;
 use std::alloc::AllocError;
 use thiserror::Error;
 
@@ -12,7 +12,7 @@ pub enum ReportFault {
     /// The writer has failed. A beginning of the report went out.
     #[error("the writer failed")]
     WriteFailed,
-    /// Memory was refused. Nothing went out, and the writer has not failed.
+    /// An allocation failed. Nothing went out, and the writer has not failed.
     #[error("memory was refused")]
     NoMemory,
 }

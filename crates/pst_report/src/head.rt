@@ -2,7 +2,7 @@
 ghost use Rattle.std.specs.Prelude.{◌≡◌, IfOk, string_bytes};
 ghost use Rattle.pst_report.specs.Text as spec;
 
-use pst_rules::Typed;
+use pst_model::Typed;
 use pst_trial::{Plan, Settings};
 use std::alloc::{AllocError, Global};
 
@@ -14,7 +14,7 @@ fn name_line(alloc: Global, typed: &Typed) -> Result<String, AllocError>
     format!(in alloc; "campaign {name}\n")
 }
 
-/// The number of branches where it is not 2.
+/// The number of branches, if it is not 2.
 fn branches_part(alloc: Global, branches: u32) -> Result<String, AllocError>
     ensures { IfOk result (λ part. string_bytes part ≡ spec.branches_part branches) }
 {
@@ -25,7 +25,7 @@ fn branches_part(alloc: Global, branches: u32) -> Result<String, AllocError>
     }
 }
 
-/// The most commands of the suffix where there may be some.
+/// How many commands the suffix has at most, if it may have any.
 fn suffix_part(alloc: Global, suffix: u32) -> Result<String, AllocError>
     ensures { IfOk result (λ part. string_bytes part ≡ spec.suffix_part suffix) }
 {

@@ -8,7 +8,7 @@ use pst_ledger::Entry;
 use pst_shrink::{Shrunk, Taken};
 use pst_trial::{JudgedRun, Record, TrialOutcome};
 
-/// How the trial of a number ended.
+/// How a trial ended.
 #[derive(Clone, Copy, Debug, PartialEq, Eq, Drop)]
 pub enum EntryKind {
     /// All its runs are explained.
@@ -72,7 +72,7 @@ fn kind_of_outcome(outcome: &TrialOutcome) -> EntryKind
     }
 }
 
-/// How the trial of a number ended.
+/// Returns how a trial ended, by its entry.
 pub fn kind_of(entry: &Entry<Record>) -> EntryKind
     ensures { result ≡ spec.kind_of entry.now }
 {

@@ -1,4 +1,4 @@
-//! The least numbers of two kinds.
+//! The lowest numbers of two kinds: whose trial failed, and for which generating a case faulted.
 ghost use Rattle.std.specs.Prelude.{◌≡◌, MatchOption, IfSome, None, Some};
 ghost use Rattle.pst_report.specs.InOrder.{AreOf};
 ghost use Rattle.pst_report.specs.Least as spec;
@@ -9,7 +9,7 @@ use pst_ledger::Entry;
 use pst_shrink::Shrunk;
 use pst_trial::{JudgedRun, Plan, Record, TrialOutcome};
 
-/// Where generating the case of a trial faulted, if it did.
+/// The place of the fault in generating the case of a trial, if there was one.
 fn fault_of(done: &Record) -> Option<Place>
     ensures { result ≡ spec.fault_in done.now.outcome }
 {
@@ -31,7 +31,7 @@ pub(crate) fn failure_of(done: &Record) -> Option<&Shrunk<JudgedRun>>
     }
 }
 
-/// The least number for which generating a case faulted, and where.
+/// The lowest number for which generating a case faulted, and the place of the fault.
 pub fn least_fault(entries: &[Entry<Record>]) -> Option<(usize, Place)>
     ensures { result ≡ spec.least_fault 0 entries.now }
 {
@@ -45,7 +45,7 @@ pub fn least_fault(entries: &[Entry<Record>]) -> Option<(usize, Place)>
     None
 }
 
-/// The least number whose trial failed, and how its case was shrunk.
+/// The lowest number whose trial failed, and how its case was shrunk.
 pub fn least_failure<'a>(
     plan: &Plan,
     entries: &'a [Entry<Record>],

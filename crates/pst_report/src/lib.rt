@@ -5,6 +5,7 @@
 
 mod counterexample;
 mod counts;
+mod distinct;
 mod failures;
 mod fault;
 mod head;
@@ -15,10 +16,11 @@ mod object;
 mod status;
 mod writer;
 
+pub use distinct::{NumberedFailure, distinct_failures};
 pub use failures::{ShrunkFailure, shrunk_failure};
 pub use fault::ReportFault;
 pub use kind::EntryKind;
 pub use least::{least_failure, least_fault};
 pub use object::{add_failure, report_fields};
-pub use status::{CampaignStatus, campaign_status};
+pub use status::{CampaignStatus, campaign_status, ended_status};
 pub use writer::report;

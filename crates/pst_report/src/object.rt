@@ -7,13 +7,13 @@ ghost use Rattle.pst_report.specs.Object as spec;
 use crate::counterexample::{ending_name, run_line};
 use crate::kind::{EntryKind, count_of, own_failure};
 use crate::least::least_failure;
-use crate::status::{CampaignStatus, campaign_status};
-use pst_items::Text;
+use crate::status::CampaignStatus;
+use pst_json_verdicts::{Field, Name, add_number, add_words};
 use pst_ledger::{Closed, Entry};
-use pst_objects::{Field, Name, add_number, add_words};
-use pst_rules::Typed;
+use pst_model::Typed;
 use pst_shrink::{Shrunk, Taken};
 use pst_trial::{JudgedRun, Plan, Record, Settings};
+use pst_value::Text;
 use std::alloc::{AllocError, Global};
 
 /// How the campaign ended.
@@ -27,7 +27,7 @@ fn status_word(status: CampaignStatus) -> &'static str
     }
 }
 
-/// Adds how many trials there are, and of which cases.
+/// Adds how many trials there are, and the kinds of their cases.
 fn add_cases(fields: &mut Vec<Field>, settings: &Settings) -> Result<(), AllocError>
     ensures { OnOk result (fields.new.items ≡ fields.old.items ++ spec.case_fields settings.now) }
 {
@@ -78,25 +78,21 @@ fn add_missing(fields: &mut Vec<Field>, entries: &[Entry<Record>]) -> Result<(),
     add_count(fields, Name::Undrawn, EntryKind::Undrawn, entries)
 }
 
-/// The first members of the object of a campaign: how it ended, the name of its model, its plan, and how many trials ended in
-/// which way.
+/// The first members of the object of a campaign: how it ended, the name of its model, its plan, and how many
+/// trials ended in which way.
 ///
 /// `AllocError`: an allocation failed.
 pub fn report_fields(
     alloc: Global,
     plan: &Plan,
     closed: &Closed<Record>,
+    status: CampaignStatus,
 ) -> Result<Vec<Field>, AllocError>
-    ensures { IfOk result (λ fields. fields.items ≡ spec.report_fields plan.now closed.now) }
+    ensures { IfOk result (λ fields. fields.items ≡ spec.report_fields plan.now status closed.now) }
 {
     let entries = closed.entries();
     let mut fields = Vec::new(alloc);
-    add_words(
-        alloc,
-        &mut fields,
-        Name::Verdict,
-        status_word(campaign_status(closed)),
-    )?;
+    add_words(alloc, &mut fields, Name::Verdict, status_word(status))?;
     add_words(
         alloc,
         &mut fields,
@@ -162,7 +158,7 @@ fn add_shrunk(
     )
 }
 
-/// The numbers that were lost, each with its cause, as `3:Panicked`.
+/// The lost numbers, each with its cause, such as `3:Panicked`.
 fn losses(alloc: Global, entries: &[Entry<Record>]) -> Result<Vec<Text>, AllocError> {
     let mut losses = Vec::new(alloc);
     for (number, entry) in entries.iter().enumerate() {
@@ -174,10 +170,10 @@ fn losses(alloc: Global, entries: &[Entry<Record>]) -> Result<Vec<Text>, AllocEr
     Ok(losses)
 }
 
-/// Adds the last members of the object of a campaign: the numbers that were lost, and if a trial failed the least number whose
-/// trial did, its own failing run, and the last run that shrinking came to, each with its verdict.
+/// Adds the last members of the object of a campaign: the lost numbers, and if a trial failed, the lowest
+/// number of a failed trial, its own failing run, and the last run of shrinking, each with its verdict.
 ///
-/// The records must be of the plan and stand at their own numbers. `AllocError`: an allocation failed.
+/// The records must belong to the plan, each at its own number. `AllocError`: an allocation failed.
 pub fn add_failure(
     alloc: Global,
     fields: &mut Vec<Field>,

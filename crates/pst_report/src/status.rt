@@ -56,3 +56,44 @@ pub fn campaign_status(closed: &Closed<Record>) -> CampaignStatus
         CampaignStatus::Passed
     }
 }
+
+fn is_lost(entry: &Entry<Record>) -> bool
+    ensures { result ≡ spec.is_lost entry.now }
+{
+    kind_of(entry).is_same(EntryKind::Lost)
+}
+
+fn did_not_pass(entry: &Entry<Record>) -> bool
+    ensures { result ≡ spec.did_not_pass entry.now }
+{
+    is_failed(entry) && !kind_of(entry).is_same(EntryKind::Undrawn)
+}
+
+fn any_lost(entries: &[Entry<Record>]) -> bool
+    ensures { result ≡ list_any spec.is_lost entries.now }
+{
+    entries.iter().any(|entry| is_lost(entry))
+}
+
+fn any_did_not_pass(entries: &[Entry<Record>]) -> bool
+    ensures { result ≡ list_any spec.did_not_pass entries.now }
+{
+    entries.iter().any(|entry| did_not_pass(entry))
+}
+
+/// How a campaign that may end early ended: `Incomplete` if a number is lost; else `Failed` if a trial did not pass, though
+/// numbers may be undrawn; else as [`campaign_status`] says.
+pub fn ended_status(closed: &Closed<Record>) -> CampaignStatus
+    ensures { result ≡ spec.ended_status closed.now }
+{
+    let entries = closed.entries();
+    if any_lost(entries) {
+        CampaignStatus::Incomplete
+    } else if any_did_not_pass(entries) {
+        CampaignStatus::Failed
+    } else if any_missing(entries) {
+        CampaignStatus::Incomplete
+    } else {
+        CampaignStatus::Passed
+    }
+}

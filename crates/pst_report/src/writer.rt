@@ -11,11 +11,11 @@ use crate::fault::ReportFault;
 use crate::head::plan_lines;
 use crate::least::least_failure;
 use pst_ledger::{Closed, Entry};
-use pst_sink::{Sink, put_all};
+use pst_sexpr::{Sink, put_all};
 use pst_trial::{Plan, Record};
 use std::alloc::{AllocError, Global};
 
-/// The lines of the least number whose trial failed, or `least none`.
+/// The lines of the lowest number whose trial failed, or `least none`.
 fn least_lines(alloc: Global, plan: &Plan, entries: &[Entry<Record>]) -> Result<Vec<u8>, AllocError>
     requires { AreOf plan.now 0 entries.now }
     ensures { IfOk result (λ lines.
@@ -40,14 +40,15 @@ fn report_text(alloc: Global, plan: &Plan, entries: &[Entry<Record>]) -> Result<
 }
 
 /// Writes the report of a campaign: the plan, how many trials ended in which way, which numbers were lost, and
-/// the least number whose trial failed, with its own failing run and the last one that shrinking came to. The
-/// text depends on the plan and on what came of each number alone. All of it is made before its first byte is
+/// the lowest number whose trial failed, with its own failing run and the last run of shrinking. The text
+/// depends only on the plan and on the entry of each number. All of it is made before its first byte is
 /// written.
 ///
-/// The list must have as many numbers as the plan has trials, each record in it must be of the plan and stand
+/// The list must have as many numbers as the plan has trials, each record in it must belong to the plan and be
 /// at its own number, and the writer must not have failed.
-/// `WriteFailed`: the writer has failed, and a beginning of the text went out.
-/// `NoMemory`: memory was refused; nothing went out, and the writer has not failed.
+///
+/// `WriteFailed`: the writer has failed, and a beginning of the text went out. `NoMemory`: an allocation
+/// failed; nothing went out, and the writer has not failed.
 pub fn report<W: Sink>(
     alloc: Global,
     plan: &Plan,

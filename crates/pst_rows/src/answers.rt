@@ -10,7 +10,7 @@ use crate::questions::Question;
 use std::alloc::{AllocError, Global};
 use std::thread::Threads;
 
-/// A text, and what stands before it and after it.
+/// The text of a question, and what comes before it and after it.
 #[derive(Clone, Copy, Drop)]
 pub struct Asked<'a> {
     pub before: &'a str,
@@ -18,7 +18,7 @@ pub struct Asked<'a> {
     pub after: &'a str,
 }
 
-/// The whole of what is asked, with a space between what stands before and the text.
+/// The whole text of a question, with a space between what comes before the text and the text.
 fn whole_of(alloc: Global, asked: &Asked<'_>) -> Result<String, AllocError> {
     let mut whole = String::from_str(alloc, asked.before)?;
     if !asked.before.is_empty() {

@@ -8,8 +8,8 @@ ghost use Rattle.pst_runs.specs.Lawful.{AreLawful};
 use pst_case::{History, Run};
 use pst_eval::Plain;
 use pst_judge::{Verdict, verdict};
+use pst_model::Typed;
 use pst_reasons::core;
-use pst_rules::Typed;
 use pst_runs::read_runs;
 use pst_typing::{items_of, load};
 use std::alloc::{AllocError, Global};
@@ -24,7 +24,7 @@ fn core_text(alloc: Global, core: &[u32]) -> Result<String, AllocError> {
     Ok(text)
 }
 
-/// The core of a run with that verdict, or the word of the verdict where there is none.
+/// The core of a run with the verdict `found`, or the word of the verdict if it has no core.
 fn found_text(
     alloc: Global,
     typed: &Typed,
@@ -45,7 +45,7 @@ fn found_text(
     core_text(alloc, core.as_slice())
 }
 
-/// The core of a run, or the word of its verdict where there is none.
+/// The core of a run, or the word of its verdict if it has no core.
 fn run_text(alloc: Global, typed: &Typed, run: &Run) -> Result<String, AllocError>
     requires model { run.now.shaped.model ≡ typed.now }
     requires matches { IfSome run.now.history (λ h. matches typed.now run.now.shaped.case h ≡ true) }
@@ -57,7 +57,7 @@ fn run_text(alloc: Global, typed: &Typed, run: &Run) -> Result<String, AllocErro
     found_text(alloc, typed, run, history, found)
 }
 
-/// The core of the first of some runs.
+/// The core of the first run, or the word of its verdict if it has no core.
 fn first_text(alloc: Global, typed: &Typed, runs: &[Run]) -> Result<String, AllocError>
     requires lawful { AreLawful typed.now runs.now }
 {
@@ -67,7 +67,7 @@ fn first_text(alloc: Global, typed: &Typed, runs: &[Run]) -> Result<String, Allo
     }
 }
 
-/// The numbers of the core of the first run of a text, or the word of its verdict where it has none.
+/// The numbers of the core of the first run of a text, or the word of its verdict if it has no core.
 pub fn core_answer(alloc: Global, text: &str) -> Result<String, AllocError> {
     let Ok(file) = load(alloc, text.as_bytes())? else {
         return String::from_str(alloc, "no model");

@@ -1,15 +1,16 @@
-//! The opening state of a model, by the plain evaluator and by compiled code.
+//! The initial state of a model, by the plain evaluator and by compiled code.
 
-use crate::models::typed_of;
 use pst_compile::compile;
 use pst_eval::{Callbacks, Plain};
+use pst_tests::support::typed_of;
 use pst_value::{Fault, Value};
 use std::alloc::{AllocError, Global};
 
 /// A value with the turns left, or a fault.
 type Outcome = Result<(Value, u32), Fault>;
 
-/// `value` where both are the same value with as many turns left, and the name of the fault where both are the same fault.
+/// `value` if both are the same value with the same number of turns left, the name of the fault if both are the same
+/// fault, and `different` otherwise.
 fn agreed(one: &Outcome, other: &Outcome) -> &'static str {
     match one {
         Ok((value, turns)) => match other {
@@ -23,7 +24,7 @@ fn agreed(one: &Outcome, other: &Outcome) -> &'static str {
     }
 }
 
-/// What both evaluators give for the opening state of the model that a text begins with.
+/// The outcome of both evaluators for the initial state of the model that a text begins with.
 pub fn outcome_of(alloc: Global, text: &str) -> Result<&'static str, AllocError> {
     let Some(typed) = typed_of(alloc, text) else {
         return Ok("not well typed");

@@ -1,74 +1,14 @@
-//! The explanations of the items of files, and the graphs of some of them. Each core and each interleaving in `stdout`
-//! is derived in the comments of its file in `data/explained`, and so are the positions and dead ends of the graphs of
+//! The explanations of the items of files, and the graphs of some of them. Each core and each interleaving of the wanted texts
+//! is derived in the comments of its file in `data/explain`, and so are the positions and dead ends of the graphs of
 //! `counter.runs`.
 
+use crate::requests::Request;
 use pst_cli::{Chosen, Explaining, ExplanationForm, Status, explain_text, graph_text};
-use pst_sink::Out;
+use pst_sexpr::Out;
 use pst_sources::{SourceFile, joined};
 use std::alloc::{AllocError, Global};
-use std::fs::Files;
+use std::slice;
 use std::thread::Threads;
-use std::{fs, io};
-
-/// The files, each with the width of its lines.
-const ROWS: [(&str, usize); 15] = [
-    ("counter.runs", 80),
-    ("lock.runs", 80),
-    ("queue.runs", 80),
-    ("bank.runs", 80),
-    ("cache.runs", 80),
-    ("faults.runs", 80),
-    ("mirrored.runs", 80),
-    ("deep.runs", 80),
-    ("init.runs", 80),
-    ("forms.runs", 80),
-    ("others.runs", 80),
-    ("wide.runs", 80),
-    ("wide.runs", 40),
-    ("wide.runs", 200),
-    ("narrow.runs", 20),
-];
-
-/// The files whose lines are measured at the least width.
-const NARROW: [&str; 14] = [
-    "counter.runs",
-    "lock.runs",
-    "queue.runs",
-    "bank.runs",
-    "cache.runs",
-    "faults.runs",
-    "mirrored.runs",
-    "deep.runs",
-    "init.runs",
-    "forms.runs",
-    "others.runs",
-    "wide.runs",
-    "labels.runs",
-    "narrow.runs",
-];
-
-/// The items of `counter.runs` that are chosen.
-const CHOSEN: [Chosen; 5] = [
-    Chosen::Item(3),
-    Chosen::Item(9),
-    Chosen::Item(10),
-    Chosen::Item(0),
-    Chosen::Failures,
-];
-
-/// The files of an input in several.
-const PARTS: [&str; 3] = ["parts.model", "monday.runs", "tuesday.runs"];
-
-/// The items that are drawn, each with its file; 0 stands for the one that is drawn where none is asked for.
-const GRAPHS: [(&str, usize); 7] = [
-    ("counter.runs", 0),
-    ("counter.runs", 4),
-    ("counter.runs", 8),
-    ("counter.runs", 10),
-    ("faults.runs", 1),
-    ("init.runs", 1),
-    ("labels.runs", 1),
-];
 
 /// What was written, and the status.
 fn with_status(alloc: Global, bytes: &[u8], status: Status) -> Result<String, AllocError> {
@@ -80,6 +20,15 @@ fn with_status(alloc: Global, bytes: &[u8], status: Status) -> Result<String, Al
     let end = format!(in alloc; "status {code}\n")?;
     text.push_str(end.as_str())?;
     Ok(text)
+}
+
+/// The items that a request chooses.
+fn chosen_by(request: &Request<'_>) -> Chosen {
+    match request.option("items") {
+        Some("failures") => Chosen::Failures,
+        Some(number) => Chosen::Item(number.parse().unwrap_or(0)),
+        None => Chosen::All,
+    }
 }
 
 /// What is written of the chosen items of an input in files, and the status.
@@ -102,102 +51,46 @@ fn explained<R: Threads + Sync>(
     with_status(alloc, out.into_inner().as_slice(), status)
 }
 
-/// The graph of an item of an input, and the status.
-fn drawn<R: Threads + Sync>(
+/// The explanations of the items of the files, `items=NUMBER` or `items=failures` of them, in lines of `width=NUMBER`
+/// columns; and the status.
+pub fn explain_answer<R: Threads + Sync>(
     rt: &R,
     alloc: Global,
-    input: &[u8],
-    item: usize,
+    request: &Request<'_>,
 ) -> Result<String, AllocError> {
-    let item = if item == 0 { None } else { Some(item) };
-    let mut out = Out::new(Vec::new(alloc));
-    let status = graph_text(rt, alloc, input, item, true, &mut out);
-    with_status(alloc, out.into_inner().as_slice(), status)
+    let width = request.number("width", 80) as usize;
+    let chosen = chosen_by(request);
+    explained(rt, alloc, request.files.as_slice(), chosen, width)
 }
 
-/// The text of the file of that name.
-fn text_of<R: Files + AllocGlobal>(rt: &R, name: &str) -> io::Result<String> {
-    let path = format!(in rt.alloc(); "explained/{name}")?;
-    fs::read_to_string(rt, path.as_str())
-}
-
-/// The files of these names.
-fn files_of<R: Files + AllocGlobal>(
+/// How long the longest line is in the explanations of the files, each alone.
+pub fn longest_answer<R: Threads + Sync>(
     rt: &R,
-    names: &[&'static str],
-) -> io::Result<Vec<SourceFile<'static>>> {
-    let mut files = Vec::new(rt.alloc());
-    for name in names {
-        let bytes = text_of(rt, name)?.into_bytes();
-        files.push(SourceFile { name, bytes })?;
-    }
-    Ok(files)
-}
-
-/// Prints what is written of the chosen items of an input in the files of these names, and the status.
-fn print_items<R: Threads + Sync + Files + Print + AllocGlobal>(
-    rt: &R,
-    names: &[&'static str],
-    chosen: Chosen,
-    width: usize,
-) -> io::Result<()> {
-    let files = files_of(rt, names)?;
-    let text = explained(rt, rt.alloc(), files.as_slice(), chosen, width)?;
-    print!(rt; "{text}")
-}
-
-/// Explains some items of `counter.runs`.
-fn print_chosen<R: Threads + Sync + Files + Print + AllocGlobal>(rt: &R) -> io::Result<()> {
-    for chosen in CHOSEN {
-        match chosen {
-            Chosen::All => println!(rt; "---- counter.runs, all items")?,
-            Chosen::Failures => println!(rt; "---- counter.runs, failures")?,
-            Chosen::Item(number) => println!(rt; "---- counter.runs, item {number}")?,
-        }
-        print_items(rt, &["counter.runs"], chosen, 80)?;
-    }
-    Ok(())
-}
-
-/// Prints how long the longest line is at the least width, over all files.
-fn print_longest<R: Threads + Sync + Files + Print + AllocGlobal>(rt: &R) -> io::Result<()> {
+    alloc: Global,
+    request: &Request<'_>,
+) -> Result<String, AllocError> {
+    let width = request.number("width", 80) as usize;
     let mut longest = 0;
-    for name in NARROW {
-        let files = files_of(rt, &[name])?;
-        let text = explained(rt, rt.alloc(), files.as_slice(), Chosen::All, 20)?;
+    for file in request.files.as_slice() {
+        let text = explained(rt, alloc, slice::from_ref(file), Chosen::All, width)?;
         for line in text.as_str().lines() {
             longest = line.len().max(longest);
         }
     }
-    println!(rt; "---- the longest line at width 20: {longest}")
+    format!(in alloc; "{longest}\n")
 }
 
-/// Explains the items of each file.
-fn print_rows<R: Threads + Sync + Files + Print + AllocGlobal>(rt: &R) -> io::Result<()> {
-    for (name, width) in ROWS {
-        println!(rt; "---- {name}, width {width}")?;
-        print_items(rt, &[name], Chosen::All, width)?;
-    }
-    Ok(())
-}
-
-/// Draws the items that are to be drawn.
-fn print_graphs<R: Threads + Sync + Files + Print + AllocGlobal>(rt: &R) -> io::Result<()> {
-    for (name, item) in GRAPHS {
-        let input = text_of(rt, name)?;
-        println!(rt; "---- {name}, graph {item}")?;
-        let text = drawn(rt, rt.alloc(), input.as_str().as_bytes(), item)?;
-        print!(rt; "{text}")?;
-    }
-    Ok(())
-}
-
-/// Explains the items of the files, each file alone, then some together, then some items alone, and draws some of the items.
-pub fn print_explained<R: Threads + Sync + Files + Print + AllocGlobal>(rt: &R) -> io::Result<()> {
-    print_rows(rt)?;
-    println!(rt; "---- several files")?;
-    print_items(rt, &PARTS, Chosen::All, 80)?;
-    print_chosen(rt)?;
-    print_longest(rt)?;
-    print_graphs(rt)
+/// The graph of an item of the first file, `item=NUMBER` or the one that the program chooses; and the status.
+pub fn graph_answer<R: Threads + Sync>(
+    rt: &R,
+    alloc: Global,
+    request: &Request<'_>,
+) -> Result<String, AllocError> {
+    let item = match request.number("item", 0) {
+        0 => None,
+        number => Some(number as usize),
+    };
+    let mut out = Out::new(Vec::new(alloc));
+    let status = graph_text(rt, alloc, request.bytes(), item, true, &mut out);
+    with_status(alloc, out.into_inner().as_slice(), status)
 }

@@ -11,7 +11,7 @@ const STEPS: u32 = 40;
 /// How many bytes an expression has at most.
 const MOST_BYTES: usize = 1_200;
 
-/// A word below a number, which is not 0.
+/// A random number below `most`, which is not 0.
 fn below(words: &mut Pcg64, most: usize) -> usize {
     match words.next_u64().checked_rem(most as u64) {
         Some(rest) => rest as usize,
@@ -59,7 +59,7 @@ fn filled(
     Ok(text)
 }
 
-/// The least expressions.
+/// The smallest expressions.
 fn least(alloc: Global) -> Result<Vec<String>, AllocError> {
     let mut built = Vec::new(alloc);
     for form in LEAST {
@@ -68,7 +68,7 @@ fn least(alloc: Global) -> Result<Vec<String>, AllocError> {
     Ok(built)
 }
 
-/// Builds further expressions. Applications are among them only where they may be.
+/// Builds further expressions. Applications are among them only if `may_apply`.
 fn build(
     alloc: Global,
     built: &mut Vec<String>,
@@ -100,8 +100,8 @@ fn expression(
     filled(alloc, built.as_slice(), words, bound)
 }
 
-/// The text of a model whose opening expression is random, and its function. In a model that takes all turns another
-/// expression with a million turns comes first.
+/// The text of a model with a random initial state and a random function. If `is_taken`, an expression that takes a
+/// million turns comes first in the initial state.
 pub fn model_text(alloc: Global, words: &mut Pcg64, is_taken: bool) -> Result<String, AllocError> {
     let bound = if is_taken { TAKEN } else { BOUND };
     let init = expression(alloc, words, true, bound)?;

@@ -1,11 +1,11 @@
 //! The forms that random expressions are built of.
 //!
-//! A form begins with the letter of its type. In its text `@` and a letter stand for an expression of that type. The letters are `i` an integer, `b` a
-//! truth value, `t` a text, `l` a list of integers, `x` a list of texts, `p` a tuple of an integer and a truth value, `m` a
-//! map of integers by integers, `q` a map of integers by texts, `h` a list of references and `c` a list of calls. The
-//! letters are also the names that are bound to such values; `k` is a further integer.
+//! A form begins with the letter of its type. In its text, `@` and a letter mean an expression of that type. The
+//! letters are `i` an integer, `b` a bool, `t` a text, `l` a list of integers, `x` a list of texts, `p` a tuple of an
+//! integer and a bool, `m` a map of integers by integers, `q` a map of integers by texts, `h` a list of references and
+//! `c` a list of calls. The letters are also the names that are bound to such values; `k` is a further integer.
 
-/// The least expressions.
+/// The smallest expressions.
 pub const LEAST: [&str; 27] = [
     "i0",
     "i1",
@@ -140,17 +140,17 @@ pub const FORMS: [&str; 100] = [
     "c(++ @c @c)",
 ];
 
-/// An expression that is bound to each name, with a part behind.
+/// A form that binds a value to each name, and has one part within.
 pub const BOUND: &str =
     "(let i 3 (let k -2 (let b true (let t \"ab\" (let l (list int 1 2 3) (let x (list text \"a\")
   (let p (tuple 1 false) (let m (put (map int int) 1 5) (let q (put (map text int) \"a\" 1) @i)))))))))";
 
-/// The same for the body of the function `f`, which has the parameters `i` and `k`.
+/// The body of the function `f`: a form that binds a value to each name other than the parameters `i` and `k`.
 pub const BODY: &str =
     "(let b (< i k) (let t \"ab\" (let l (list int k 2 i) (let x (list text \"a\")
   (let p (tuple i false) (let m (put (map int int) 1 k) (let q (put (map text int) \"a\" i) @i)))))))";
 
-/// The same, where all turns are taken.
+/// A form like `BOUND` that takes a million turns first.
 pub const TAKEN: &str = "(+ (len (for ((in i (range 0 1000)) (in k (range 0 1000)) (when false)) 0))
   (let i 3 (let k -2 (let b true (let t \"ab\" (let l (list int 1 2 3) (let x (list text \"a\")
   (let p (tuple 1 false) (let m (put (map int int) 1 5) (let q (put (map text int) \"a\" 1) @i))))))))))";

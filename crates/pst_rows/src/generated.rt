@@ -1,17 +1,18 @@
 //! The answers about generated cases.
 ghost use Rattle.std.specs.Prelude.{◌≡◌};
 
-use crate::models::{spelling_of, typed_of};
+use crate::models::spelling_of;
 use crate::words::Words;
 use pst_case::Run;
 use pst_eval::Plain;
 use pst_gen::generate;
 use pst_judge::Valid;
-use pst_rules::Typed;
+use pst_model::Typed;
 use pst_runs::run_tree;
+use pst_tests::support::typed_of;
 use std::alloc::{AllocError, Global};
 
-/// How many commands, branches and commands of a suffix are asked for.
+/// The wanted numbers of commands, branches and commands of a suffix.
 #[derive(Clone, Copy, Drop)]
 struct Sizes {
     commands: u32,
@@ -19,7 +20,7 @@ struct Sizes {
     suffix: u32,
 }
 
-/// The sizes that a text names, in the ranges that `generate` takes.
+/// The sizes that a text names.
 fn sizes_of(text: &str) -> Option<Sizes> {
     let mut parts = text.split(' ');
     let commands: u32 = parts.next()?.parse().ok()?;
@@ -52,7 +53,7 @@ fn case_text(alloc: Global, typed: &Typed, valid: Valid) -> Result<String, Alloc
     spelling_of(alloc, &run_tree(alloc, typed, &run)?)
 }
 
-/// The case that is generated from words and how many were drawn, or the fault.
+/// The case that is generated from `words`, or the fault.
 fn generated(
     alloc: Global,
     typed: &Typed,
@@ -79,7 +80,7 @@ fn generated(
     }
 }
 
-/// The case that is generated from the words of a text and how many of them were drawn, or the fault.
+/// The case that is generated from the words of a text, or the fault, and how many words were drawn.
 fn generated_by(
     alloc: Global,
     typed: &Typed,
@@ -96,7 +97,8 @@ fn generated_by(
     format!(in alloc; "{answer} {drawn} drawn")
 }
 
-/// The case that is generated of a model and the number of words drawn. The text is `COMMANDS BRANCHES SUFFIX, WORD WORD ..`.
+/// The case that is generated for a model, or the fault, and how many words were drawn. The text is
+/// `COMMANDS BRANCHES SUFFIX, WORD WORD ..`.
 pub fn generate_answer(alloc: Global, model: &str, text: &str) -> Result<String, AllocError> {
     let (head, rest) = text.split_once(",").unwrap_or((text, ""));
     let Some(sizes) = sizes_of(head) else {

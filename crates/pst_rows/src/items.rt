@@ -1,20 +1,20 @@
 //! The answers about cases and runs.
 ghost use Rattle.std.specs.Prelude.{◌≡◌};
 
-use crate::models::{lines_of, output_answer, text_of, typed_of};
+use crate::models::{lines_of, output_answer, text_of};
 use pst_case::{Case, Run, shape};
 use pst_cli::judge_text;
 use pst_eval::Plain;
 use pst_judge::{Valid, judge_one, valid, verdict};
-use pst_rules::Typed;
+use pst_model::Typed;
 use pst_runs::{read_runs, write_runs};
-use pst_sexpr::read;
-use pst_sink::Out;
+use pst_sexpr::{Out, read};
+use pst_tests::support::typed_of;
 use pst_typing::{items_of, load};
 use std::alloc::{AllocError, Global};
 use std::thread::Threads;
 
-/// What `pst judge` answers: its status and its lines.
+/// The output of `pst judge`: its status and its lines.
 pub fn judge_answer<R: Threads + Sync>(
     rt: &R,
     alloc: Global,
@@ -108,7 +108,7 @@ pub fn alone_answer(alloc: Global, text: &str) -> Result<String, AllocError> {
     }
 }
 
-/// What is written of items over a model.
+/// The text that is written for items of a model.
 fn written(alloc: Global, typed: &Typed, items: &str) -> Option<String> {
     let trees = read(alloc, items.as_bytes()).ok()?;
     let Ok(runs) = read_runs(alloc, typed, trees.as_slice()) else {
@@ -119,7 +119,8 @@ fn written(alloc: Global, typed: &Typed, items: &str) -> Option<String> {
     text_of(alloc, sink.into_inner().as_slice()).ok()
 }
 
-/// What is written of items over a model, with `, ` between the lines. What is written of that is to be the same.
+/// The text that is written for items of a model, with `, ` between the lines. The text that is written for this text
+/// has to be the same.
 pub fn write_answer(alloc: Global, model: &str, items: &str) -> Result<String, AllocError> {
     let Some(typed) = typed_of(alloc, model) else {
         return String::from_str(alloc, "no model");
@@ -133,7 +134,7 @@ pub fn write_answer(alloc: Global, model: &str, items: &str) -> Result<String, A
     }
 }
 
-/// `valid` where an accepted case is still the wanted one, as its copy is, and else `changed`.
+/// `valid` if an accepted case and its copy are still the wanted case, and `changed` otherwise.
 fn accepted_word(
     alloc: Global,
     typed: &Typed,
@@ -152,7 +153,7 @@ fn accepted_word(
     })
 }
 
-/// Whether a case is valid, or the reason why it is not. A valid case stays what it was.
+/// `valid`, or the reason why a case is not valid, or `changed` if a valid case does not stay the same.
 fn case_validity(alloc: Global, typed: &Typed, case: Case) -> Option<&'static str> {
     let wanted = case.copy(alloc).ok()?;
     let shaped = shape(alloc, typed, case).ok()?;
@@ -162,7 +163,7 @@ fn case_validity(alloc: Global, typed: &Typed, case: Case) -> Option<&'static st
     }
 }
 
-/// The same of the last item of a text.
+/// The validity of the last item of a text, as [`case_validity`] returns it.
 fn validity(alloc: Global, text: &str) -> Option<&'static str> {
     let file = load(alloc, text.as_bytes()).ok()?.ok()?;
     let mut runs = read_runs(alloc, &file.typed, items_of(file.trees.as_slice())).ok()?;

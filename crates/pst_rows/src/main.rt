@@ -1,58 +1,41 @@
-//! Asks the worked rows: those of the tables in its folder, random expressions, explanations and graphs, the examples,
-//! messages and warnings, and the reports of campaigns. It is a test that the gate runs as a program, and prints what is wrong with
-//! the rows of the tables, and of all others the text that they have, which the gate compares with the file `stdout`.
+//! Asks the worked rows of its data: tables of short rows, and blocks whose answers may be long, as explanations, messages
+//! and the reports of campaigns. It is a test that the gate runs as a program. It prints what has another answer than the wanted
+//! one, and a line if all is right.
 #![tactic(auto)]
 
 mod answers;
+mod blocks;
 mod campaigns;
 mod cores;
 mod evaluated;
 mod examples;
 mod explained;
 mod expressions;
+mod folders;
 mod forms;
 mod generated;
-mod hostile;
 mod items;
 mod judged;
-mod judged_rows;
-mod message_rows;
 mod messages;
-mod mistakes;
 mod models;
 mod questions;
 mod random;
+mod requests;
 mod tables;
+mod tally;
 mod texts;
 mod words;
 
-use campaigns::{REGISTRIES, SYSTEMS, print_campaigns, print_waiting};
-use examples::print_examples;
-use explained::print_explained;
-use messages::print_messages;
+use campaigns::Pool;
+use folders::ask_all;
 use pst_samples::{Counter, Registry};
 use pst_system::BoxedSystem;
-use random::print_random;
 use std::alloc::AllocError;
-use std::fs::Files;
 use std::process::ExitCode;
-use std::sync::Wait;
-use std::thread::{Builder, Threads};
-use tables::print_tables;
+use std::thread::Builder;
 
-/// Asks all rows.
-fn print_all<R: Threads + Wait + Sync + Files + Print + AllocGlobal>(
-    rt: &R,
-    systems: Vec<BoxedSystem>,
-) -> anyhow::Result<()> {
-    print_tables(rt)?;
-    print_random(rt)?;
-    print_explained(rt)?;
-    print_examples(rt)?;
-    print_messages(rt)?;
-    print_campaigns(rt)?;
-    print_waiting(rt, systems)
-}
+/// How many counters there are for all campaigns, and how many registries.
+const SYSTEMS: u32 = 40;
 
 /// A system in a box.
 macro_rules! boxed {
@@ -64,7 +47,7 @@ macro_rules! boxed {
     };
 }
 
-/// How many bytes of stack the rows are asked on: the program's own, since explanations evaluate by recursion.
+/// The stack of the thread that asks the rows, in bytes: that of the program, since explanations evaluate by recursion.
 const STACK_BYTES: usize = 256 << 20;
 
 fn main(rt: HostRuntime) -> ExitCode {
@@ -73,21 +56,24 @@ fn main(rt: HostRuntime) -> ExitCode {
         .spawn(&rt, move || -> bool {
             let alloc = rt.alloc();
             // Boxes of systems that wait for a lock are made here, since no other function can make one.
-            let mut systems: Vec<BoxedSystem> = Vec::new(alloc);
-            for number in 0..SYSTEMS {
-                let system: Result<BoxedSystem, AllocError> = if number < REGISTRIES {
-                    boxed!(alloc, Registry::new(rt, alloc))
-                } else {
-                    boxed!(alloc, Counter::new(rt))
-                };
-                let Ok(system) = system else {
+            let mut pool = Pool {
+                counters: Vec::new(alloc),
+                registries: Vec::new(alloc),
+            };
+            for _ in 0..SYSTEMS {
+                let counter: Result<BoxedSystem, AllocError> = boxed!(alloc, Counter::new(rt));
+                let registry: Result<BoxedSystem, AllocError> = boxed!(
+                    alloc,
+                    Registry::new(rt, alloc)
+                );
+                let (Ok(counter), Ok(registry)) = (counter, registry) else {
                     return false;
                 };
-                if systems.push(system).is_err() {
+                if pool.counters.push(counter).is_err() || pool.registries.push(registry).is_err() {
                     return false;
                 }
             }
-            print_all(&rt, systems).is_ok()
+            ask_all(&rt, &mut pool).is_ok()
         });
     match worker {
         Ok(worker) => {

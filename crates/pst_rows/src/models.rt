@@ -3,12 +3,11 @@
 use pst_cli::{Status, check_text, list_text};
 use pst_compile::compile;
 use pst_eval::{Callbacks, Plain};
+use pst_model::Typed;
 use pst_print::print_model;
-use pst_rules::Typed;
-use pst_sexpr::{Tree, read, write};
-use pst_sink::Out;
+use pst_sexpr::{Out, Tree, read, write};
 use pst_syntax::{Model, read_model};
-use pst_typing::load;
+use pst_tests::support::typed_of;
 use pst_value::Value;
 use std::alloc::{AllocError, Global};
 
@@ -23,7 +22,7 @@ pub fn trees_answer(alloc: Global, text: &str) -> Result<String, AllocError> {
     }
 }
 
-/// `read` where the trees begin with a model, and else the fault.
+/// `read` if the trees begin with a model, and the fault otherwise.
 fn model_answer(alloc: Global, trees: &[Tree]) -> Result<String, AllocError> {
     match read_model(alloc, trees) {
         Ok(_) => String::from_str(alloc, "read"),
@@ -31,7 +30,7 @@ fn model_answer(alloc: Global, trees: &[Tree]) -> Result<String, AllocError> {
     }
 }
 
-/// `read` where the text begins with a model, and else the fault.
+/// `read` if the text begins with a model, and the fault otherwise.
 pub fn form_answer(alloc: Global, text: &str) -> Result<String, AllocError> {
     match read(alloc, text.as_bytes()) {
         Ok(trees) => model_answer(alloc, trees.as_slice()),
@@ -60,14 +59,14 @@ pub fn output_answer(alloc: Global, status: Status, bytes: &[u8]) -> Result<Stri
     format!(in alloc; "{status} {lines}")
 }
 
-/// What `pst check` answers: its status and its line.
+/// The output of `pst check`: its status and its line.
 pub fn check_answer(alloc: Global, text: &str) -> Result<String, AllocError> {
     let mut sink = Out::new(Vec::new(alloc));
     let status = check_text(alloc, text.as_bytes(), &mut sink);
     output_answer(alloc, status, sink.into_inner().as_slice())
 }
 
-/// What `pst list` answers: its status, and whether lines were written where it is 0, or the line of the refusal.
+/// The output of `pst list`: its status, and `some lines` if the model is accepted, or the line of the refusal.
 pub fn list_answer(alloc: Global, text: &str) -> Result<String, AllocError> {
     let mut sink = Out::new(Vec::new(alloc));
     let status = list_text(alloc, text.as_bytes(), &mut sink);
@@ -91,7 +90,7 @@ pub fn spelling_of(alloc: Global, tree: &Tree) -> Result<String, AllocError> {
     text_of(alloc, sink.into_inner().as_slice())
 }
 
-/// What is printed for the model that a text begins with.
+/// The spelling of the model that a text begins with. It has to be read as that model again.
 pub fn print_answer(alloc: Global, text: &str) -> Result<String, AllocError> {
     let Some(model) = parsed_of(alloc, text) else {
         return String::from_str(alloc, "no model");
@@ -108,13 +107,7 @@ pub fn print_answer(alloc: Global, text: &str) -> Result<String, AllocError> {
     }
 }
 
-/// The well-typed model that a text begins with.
-pub fn typed_of(alloc: Global, text: &str) -> Option<Typed> {
-    let file = load(alloc, text.as_bytes()).ok()?.ok()?;
-    Some(file.typed)
-}
-
-/// The opening state by these callbacks, an integer, and the turns left; or the fault.
+/// The initial state by `callbacks`, an integer, and the turns left; or the fault.
 fn opening_by<C: Callbacks>(alloc: Global, callbacks: &C) -> Result<String, AllocError> {
     match callbacks.init(alloc)? {
         Ok((Value::Int(number), turns)) => format!(in alloc; "{number} {turns}"),
@@ -123,7 +116,7 @@ fn opening_by<C: Callbacks>(alloc: Global, callbacks: &C) -> Result<String, Allo
     }
 }
 
-/// The opening state of a model by compiled code.
+/// The initial state of a model by compiled code.
 fn compiled_opening(alloc: Global, typed: Typed) -> Result<String, AllocError> {
     match compile(alloc, typed) {
         Ok(compiled) => opening_by(alloc, &compiled),
@@ -131,7 +124,7 @@ fn compiled_opening(alloc: Global, typed: Typed) -> Result<String, AllocError> {
     }
 }
 
-/// One of two answers where they are the same, and else both.
+/// One of two answers if they are the same, and both otherwise.
 fn same_answer(alloc: Global, plain: String, compiled: String) -> Result<String, AllocError> {
     if plain.as_str() == compiled.as_str() {
         return Ok(plain);
@@ -139,7 +132,7 @@ fn same_answer(alloc: Global, plain: String, compiled: String) -> Result<String,
     format!(in alloc; "{plain}, and {compiled} by compiled code")
 }
 
-/// The opening state of a text's model by the plain evaluator and by compiled code, which are to answer alike.
+/// The initial state of the model of a text by the plain evaluator and by compiled code, which have to agree.
 pub fn opening_answer(alloc: Global, text: &str) -> Result<String, AllocError> {
     let Some(typed) = typed_of(alloc, text) else {
         return String::from_str(alloc, "no model");

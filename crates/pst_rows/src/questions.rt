@@ -1,39 +1,40 @@
-//! What may be asked of a text.
+//! The questions about a text.
 
-/// What is asked of a text.
+/// A question about a text.
 #[derive(Clone, Copy, Drop)]
 pub enum Question {
     /// How many trees it spells, or the first fault.
     Trees,
     /// Whether it is read as a model: `read`, or `KIND item I`.
     Form,
-    /// What `pst check` answers: its status and its line.
+    /// The output of `pst check`: its status and its line.
     Check,
-    /// What is printed for its model, which is to be read as that model again.
+    /// The spelling of its model, which has to be read as that model again.
     Print,
-    /// What `pst list` answers: its status, and a refusal's line.
+    /// The output of `pst list`: its status, and the line of a refusal.
     List,
-    /// The opening state of its model, an integer, and the turns left; or the fault. It is asked of the plain evaluator
-    /// and of compiled code, which are to answer alike.
+    /// The initial state of its model, an integer, and the turns left; or the fault. The plain evaluator and compiled
+    /// code have to agree on it.
     Opening,
     /// The verdicts on its runs, `case` for a case; or `RUN COMMAND KIND`.
     Runs,
-    /// What is written of its cases and runs, and of what is written once more, with `, ` between the lines.
+    /// The text that is written for its cases and runs, with `, ` between the lines. The text that is written for this
+    /// text has to be the same.
     Write,
     /// Whether its case is valid, or the name of the reason why it is not.
     Valid,
     /// The judgements of its items, each alone, with `, ` between them.
     Alone,
-    /// What `pst judge` answers: its status and its lines, with `, ` between them.
+    /// The output of `pst judge`: its status and its lines, with `, ` between them.
     Judge,
-    /// The numbers of the core of its first run, or the word of its verdict where it has none.
+    /// The numbers of the core of its first run, or the word of its verdict if it has no core.
     Core,
-    /// The case that is generated of the model that stands before, and the number of words drawn; or the fault. The text
+    /// The case that is generated for the model before the text, or the fault, and how many words were drawn. The text
     /// is `COMMANDS BRANCHES SUFFIX, WORD WORD ..`.
     Generate,
 }
 
-/// The question of that name.
+/// The question `name`.
 pub fn question_named(name: &str) -> Option<Question> {
     match name {
         "trees" => Some(Question::Trees),

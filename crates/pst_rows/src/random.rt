@@ -1,20 +1,17 @@
-//! Asks random well-typed expressions of the plain evaluator and of compiled code, and prints how many of them had a value by
-//! both, how many had each fault by both, and each expression of which they answer otherwise.
+//! Random well-typed expressions, evaluated by the plain evaluator and by compiled code.
 
 use crate::evaluated::outcome_of;
 use crate::expressions::model_text;
+use crate::requests::Request;
 use rand_pcg::Pcg64;
-use std::io;
-
-/// How many expressions there are.
-const COUNT: u32 = 2_000;
+use std::alloc::{AllocError, Global};
 
 /// The outcomes that are counted: a value, and the faults.
 const OUTCOMES: [&str; 7] = [
     "value", "Overflow", "DivZero", "Index", "TooLong", "Turns", "Missing",
 ];
 
-/// How often that outcome stands there.
+/// How many of the outcomes are the one with this name.
 fn count_of(outcomes: &[&'static str], name: &str) -> u32 {
     let mut count: u32 = 0;
     for outcome in outcomes {
@@ -25,28 +22,33 @@ fn count_of(outcomes: &[&'static str], name: &str) -> u32 {
     count
 }
 
-/// The outcomes of all expressions. It prints those that are not counted, each with its expression.
-fn all_outcomes<R: Print + AllocGlobal>(rt: &R) -> io::Result<Vec<&'static str>> {
-    let alloc = rt.alloc();
+/// The outcomes of `count` expressions. Those that are not counted are written, each with its expression.
+fn all_outcomes(
+    alloc: Global,
+    text: &mut String,
+    count: u32,
+) -> Result<Vec<&'static str>, AllocError> {
     let mut outcomes = Vec::new(alloc);
-    for number in 0..COUNT {
+    for number in 0..count {
         let mut words = Pcg64::new(16, number as u128);
-        let text = model_text(alloc, &mut words, number % 100 == 0)?;
-        let outcome = outcome_of(alloc, text.as_str())?;
+        let model = model_text(alloc, &mut words, number % 100 == 0)?;
+        let outcome = outcome_of(alloc, model.as_str())?;
         if count_of(&OUTCOMES, outcome) == 0 {
-            println!(rt; "{outcome}: {text}")?;
+            text.push_str(format!(in alloc; "{outcome}: {model}\n")?.as_str())?;
         }
         outcomes.push(outcome)?;
     }
     Ok(outcomes)
 }
 
-/// Asks the random expressions, and prints how often each outcome stands there.
-pub fn print_random<R: Print + AllocGlobal>(rt: &R) -> io::Result<()> {
-    let outcomes = all_outcomes(rt)?;
+/// How many of `count=NUMBER` random expressions have a value by both evaluators, and how many have each fault by both; and each
+/// expression on which they differ.
+pub fn random_answer(alloc: Global, request: &Request<'_>) -> Result<String, AllocError> {
+    let mut text = String::new(alloc);
+    let outcomes = all_outcomes(alloc, &mut text, request.number("count", 0))?;
     for name in OUTCOMES {
         let count = count_of(outcomes.as_slice(), name);
-        println!(rt; "{name}: {count} by both")?;
+        text.push_str(format!(in alloc; "{name}: {count} by both\n")?.as_str())?;
     }
-    Ok(())
+    Ok(text)
 }

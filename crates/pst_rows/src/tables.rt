@@ -1,91 +1,61 @@
-//! Tables of texts with the answers that are wanted: how many rows each has, and which rows have another answer.
+//! Tables of texts with the answers that are wanted.
 //!
-//! A file of tables has tables that begin with a line `table NAME`. A table has a head, a blank line and its rows. The
-//! lines of the head are notes, which begin with `#`, what is asked (`ask QUESTION`), and what stands before and after
-//! each row's text (`before TEXT`, `after TEXT`). A row is `TEXT => WANTED`; its text may have several lines. In all
-//! texts `{NAME}` stands for the file `NAME.model`, and `{N*PART}` for the part, N times; in such a part each `#` is the
-//! next number, from 1 on.
+//! A file of tables has notes, then tables that begin with a line `table NAME`, and `end` as its last line. A table has a head, a
+//! blank line and its rows. The lines of the head are notes, which begin with `#`, the question (`ask QUESTION`), and what comes
+//! before and after each row's text (`before TEXT`, `after TEXT`). A row is `TEXT => WANTED`; its text may have several
+//! lines. In all texts braces mean what `texts.rt` says.
 
 use crate::answers::{Asked, answer_to};
 use crate::questions::{Question, question_named};
+use crate::tally::Tally;
 use crate::texts::expanded;
 use std::fs::Files;
+use std::io;
 use std::thread::Threads;
-use std::{fs, io};
 
-/// The files of tables.
-const TABLES: [&str; 24] = [
-    "trees.rows",
-    "forms.rows",
-    "expressions.rows",
-    "map_forms.rows",
-    "limits.rows",
-    "checks.rows",
-    "types.rows",
-    "printed.rows",
-    "lists.rows",
-    "openings.rows",
-    "map_openings.rows",
-    "values.rows",
-    "map_values.rows",
-    "refusals.rows",
-    "suffixes.rows",
-    "written.rows",
-    "generated.rows",
-    "validity.rows",
-    "verdicts.rows",
-    "cores.rows",
-    "lines.rows",
-    "maps.rows",
-    "judged_suffixes.rows",
-    "judged_many.rows",
-];
-
-/// The head of a table: what is asked of its rows, and what stands before and after each row's text.
+/// The head of a table: its question, and what comes before and after each row's text.
 #[derive(Drop)]
 struct Head {
-    question: Option<Question>,
+    question: Question,
     before: String,
     after: String,
 }
 
-/// Takes a line of a head.
-fn take_line<R: Files + AllocGlobal>(rt: &R, head: &mut Head, line: &str) -> io::Result<()> {
-    let Some((word, text)) = line.split_once(" ") else {
-        return Ok(());
-    };
-    match word {
-        "ask" => head.question = question_named(text),
-        "before" => head.before = expanded(rt, text)?,
-        "after" => head.after = expanded(rt, text)?,
-        _ => {}
-    }
-    Ok(())
-}
-
-/// Reads the lines of a head.
-fn read_head<R: Files + AllocGlobal>(rt: &R, lines: &str) -> io::Result<Head> {
-    let mut head = Head {
-        question: None,
-        before: String::new(rt.alloc()),
-        after: String::new(rt.alloc()),
-    };
+/// The text after a word, on the line of a head that begins with the word, with what its braces mean.
+fn text_after<R: Files + AllocGlobal>(rt: &R, lines: &str, word: &str) -> io::Result<String> {
     for line in lines.lines() {
-        take_line(rt, &mut head, line)?;
+        if let Some((first, text)) = line.split_once(" ") {
+            if first == word {
+                return expanded(rt, text);
+            }
+        }
     }
-    Ok(head)
+    Ok(String::new(rt.alloc()))
 }
 
-/// Asks a row, and prints it with its answer where that is not the wanted one.
+/// Reads the lines of a head. `None` if there is no question of its name.
+fn read_head<R: Files + AllocGlobal>(rt: &R, lines: &str) -> io::Result<Option<Head>> {
+    let name = text_after(rt, lines, "ask")?;
+    let Some(question) = question_named(name.as_str()) else {
+        return Ok(None);
+    };
+    let before = text_after(rt, lines, "before")?;
+    let after = text_after(rt, lines, "after")?;
+    Ok(Some(Head {
+        question,
+        before,
+        after,
+    }))
+}
+
+/// Asks a row, and prints it with its answer if that is not the wanted one.
 fn ask_row<R: Threads + Sync + Files + Print + AllocGlobal>(
     rt: &R,
+    tally: &mut Tally,
     head: &Head,
     text: &str,
     want: &str,
 ) -> io::Result<()> {
-    let Some(question) = head.question else {
-        return println!(rt; "no question: {text}");
-    };
     let whole = expanded(rt, text)?;
     let wanted = expanded(rt, want)?;
     let asked = Asked {
@@ -93,28 +63,35 @@ fn ask_row<R: Threads + Sync + Files + Print + AllocGlobal>(
         text: whole.as_str(),
         after: head.after.as_str(),
     };
-    let answer = answer_to(rt, rt.alloc(), question, &asked)?;
-    if answer.as_str() == wanted.as_str() {
+    let answer = answer_to(rt, rt.alloc(), head.question, &asked)?;
+    let is_right = answer.as_str() == wanted.as_str();
+    tally.count(is_right);
+    if is_right {
         return Ok(());
     }
     println!(rt; "{text}\n  => {answer}\n  wanted {want}")
 }
 
-/// Asks the rows of a table, and answers how many there are.
+/// Asks the rows of a table, and returns what is left of the last line that has an answer.
 fn ask_rows<R: Threads + Sync + Files + Print + AllocGlobal>(
     rt: &R,
+    tally: &mut Tally,
     head: &Head,
     rows: &str,
-) -> io::Result<usize> {
-    let mut count: usize = 0;
+) -> io::Result<String> {
     let mut text = String::new(rt.alloc());
     for line in rows.lines() {
         match line.split_once("=>") {
             Some((end, want)) => {
                 text.push_str(end)?;
-                ask_row(rt, head, text.as_str().trim_matches(' '), want.trim())?;
+                ask_row(
+                    rt,
+                    tally,
+                    head,
+                    text.as_str().trim_matches(' '),
+                    want.trim(),
+                )?;
                 text.clear();
-                count = count.saturating_add(1);
             }
             None => {
                 text.push_str(line)?;
@@ -122,51 +99,47 @@ fn ask_rows<R: Threads + Sync + Files + Print + AllocGlobal>(
             }
         }
     }
-    Ok(count)
+    Ok(text)
 }
 
-/// Asks the rows of the table, prints how many there are, and answers it.
+/// Asks the rows of a table, and prints its name if a row of it has another answer.
 fn ask_table<R: Threads + Sync + Files + Print + AllocGlobal>(
     rt: &R,
-    file: &str,
-    name: &str,
+    tally: &mut Tally,
+    place: &str,
     table: &str,
-) -> io::Result<usize> {
+) -> io::Result<()> {
     let Some((lines, rows)) = table.split_once("\n\n") else {
-        println!(rt; "{file} {name}: no rows")?;
-        return Ok(0);
+        return tally.complain(rt, place, "no rows");
     };
-    let head = read_head(rt, lines)?;
-    let count = ask_rows(rt, &head, rows)?;
-    println!(rt; "{file} {name}: {count} rows")?;
-    Ok(count)
+    let Some(head) = read_head(rt, lines)? else {
+        return tally.complain(rt, place, "there is no such question");
+    };
+    let before = tally.misses;
+    let rest = ask_rows(rt, tally, &head, rows)?;
+    if tally.misses > before {
+        println!(rt; "  in {place}")?;
+    }
+    if rest.as_str().trim().is_empty() {
+        return Ok(());
+    }
+    tally.complain(rt, place, "the last row has no answer")
 }
 
-/// Asks the rows of the tables of a file, and answers how many there are.
-fn ask_tables<R: Threads + Sync + Files + Print + AllocGlobal>(
+/// Asks the rows of the tables of a file, and prints those that have another answer.
+pub fn ask_tables<R: Threads + Sync + Files + Print + AllocGlobal>(
     rt: &R,
-    file: &str,
+    tally: &mut Tally,
+    path: &str,
     text: &str,
-) -> io::Result<usize> {
-    let mut rows: usize = 0;
-    for table in text.split("\ntable ") {
-        if let Some((name, rest)) = table.split_once("\n") {
-            if !name.starts_with('#') {
-                rows = rows.saturating_add(ask_table(rt, file, name, rest)?);
-            }
-        }
+) -> io::Result<()> {
+    let Some(whole) = text.strip_suffix("\nend\n") else {
+        return tally.complain(rt, path, "the last line is not `end`");
+    };
+    for table in whole.split("\ntable ").skip(1) {
+        let (name, rest) = table.split_once("\n").unwrap_or((table, ""));
+        let place = format!(in rt.alloc(); "{path} {name}")?;
+        ask_table(rt, tally, place.as_str(), rest)?;
     }
-    Ok(rows)
-}
-
-/// Asks the rows of all tables, and prints how many rows each table has, which rows have another answer than the wanted
-/// one, and how many rows there are.
-pub fn print_tables<R: Threads + Sync + Files + Print + AllocGlobal>(rt: &R) -> io::Result<()> {
-    let mut rows: usize = 0;
-    for name in TABLES {
-        let text = fs::read_to_string(rt, name)?;
-        let asked = ask_tables(rt, name, text.as_str())?;
-        rows = rows.saturating_add(asked);
-    }
-    println!(rt; "{rows} rows")
+    Ok(())
 }

@@ -1,4 +1,8 @@
-//! Texts that name models and repeat their parts.
+//! Texts that name models and characters, and repeat their parts.
+//!
+//! `{NAME}` is the text of the file `models/NAME.model`, and `{FOLDER/NAME}` that of `FOLDER/NAME.model`; `{nul}`, `{tab}`,
+//! `{return}`, `{byte_order_mark}` and `{right_to_left}` are characters; and `{N*PART}` is the part, N times, in which each
+//! `#` is the next number, from 1 on.
 
 use std::alloc::{AllocError, Global};
 use std::fs::Files;
@@ -23,13 +27,16 @@ fn push_numbered(
     Ok(number)
 }
 
-/// Adds the part so many times.
+/// Adds the part `count` times.
 fn push_repeated(
     alloc: Global,
     whole: &mut String,
     count: usize,
     part: &str,
 ) -> Result<(), AllocError> {
+    if !part.contains('#') {
+        return whole.push_str(part.repeat(alloc, count)?.as_str());
+    }
     let mut number: u64 = 0;
     for _ in 0..count {
         number = push_numbered(alloc, whole, number, part)?;
@@ -37,35 +44,55 @@ fn push_repeated(
     Ok(())
 }
 
-/// Adds the text of the model of that name.
+/// The character of that name, if it is one that is hard to see in a text.
+fn character_named(name: &str) -> Option<&'static str> {
+    match name {
+        "nul" => Some("\0"),
+        "tab" => Some("\t"),
+        "return" => Some("\r"),
+        "byte_order_mark" => Some("\u{feff}"),
+        "right_to_left" => Some("\u{202e}"),
+        _ => None,
+    }
+}
+
+/// Adds the text of the file `NAME.model` in `models`, or in the folder that the name begins with.
 fn push_model<R: Files + AllocGlobal>(rt: &R, whole: &mut String, name: &str) -> io::Result<()> {
-    let file = format!(in rt.alloc(); "{name}.model")?;
+    let file = if name.contains('/') {
+        format!(in rt.alloc(); "{name}.model")?
+    } else {
+        format!(in rt.alloc(); "models/{name}.model")?
+    };
     let text = fs::read_to_string(rt, file.as_str())?;
     whole.push_str(text.as_str().trim())?;
     Ok(())
 }
 
-/// Adds what stands in braces: `{NAME}` or `{N*PART}`.
+/// Adds what is in braces: `{NAME}` or `{N*PART}`.
 fn push_braced<R: Files + AllocGlobal>(rt: &R, whole: &mut String, inside: &str) -> io::Result<()> {
-    match inside.split_once("*") {
-        Some((count, part)) => {
-            let count: usize = count.parse().unwrap_or(0);
-            push_repeated(rt.alloc(), whole, count, part)?;
+    if let Some((count, part)) = inside.split_once("*") {
+        let count: usize = count.parse().unwrap_or(0);
+        push_repeated(rt.alloc(), whole, count, part)?;
+        return Ok(());
+    }
+    match character_named(inside) {
+        Some(character) => {
+            whole.push_str(character)?;
             Ok(())
         }
         None => push_model(rt, whole, inside),
     }
 }
 
-/// The text with what its braces stand for.
+/// The text with what its braces mean.
 pub fn expanded<R: Files + AllocGlobal>(rt: &R, text: &str) -> io::Result<String> {
     let mut whole = String::new(rt.alloc());
     for (index, piece) in text.split('{').enumerate() {
         let mut rest = piece;
         if index > 0 {
-            if let Some((inside, behind)) = piece.split_once("}") {
+            if let Some((inside, after)) = piece.split_once("}") {
                 push_braced(rt, &mut whole, inside)?;
-                rest = behind;
+                rest = after;
             }
         }
         whole.push_str(rest)?;

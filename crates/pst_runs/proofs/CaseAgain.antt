@@ -10,7 +10,7 @@ use Rattle.pst_case.specs.declared.case.Command.{Command}
 use Rattle.pst_model.specs.Language.{KeepsLanguage}
 use Rattle.pst_model.specs.Operations.{HasOperations}
 use Rattle.pst_model.specs.declared.model.Source.{Source}
-use Rattle.pst_rules.specs.WellTyped.{WellModel}
+use Rattle.pst_model.specs.WellTyped.{WellModel}
 use Rattle.pst_runs.proofs.Last.{last_behind}
 use Rattle.pst_runs.proofs.Limits.{not_over, shaped-within}
 use Rattle.pst_runs.specs.Commands as commands

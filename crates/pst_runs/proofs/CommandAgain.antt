@@ -8,7 +8,7 @@ use Rattle.pst_case.specs.declared.case.Command.{Command}
 use Rattle.pst_case.specs.declared.fault.CaseFault.{CaseFault}
 use Rattle.pst_case.specs.declared.fault.CaseFaultKind.TheVariants.{UnknownOp, BadArgument, ForwardVar, CrossVar}
 use Rattle.pst_case.specs.declared.fault.CaseFaultKind.{CaseFaultKind}
-use Rattle.pst_rules.specs.Fitting.{args_fit, args_fit_in}
+use Rattle.pst_model.specs.Fitting.{args_fit, args_fit_in}
 use Rattle.pst_model.specs.Language.{KeepsLanguage, holds_map}
 use Rattle.pst_model.specs.Levels as ty_levels
 use Rattle.pst_model.specs.Names.{is_between, is_name_byte, is_name}
@@ -17,9 +17,9 @@ use Rattle.pst_model.specs.Parts.{number_of, operation_of, parameters_of, types_
 use Rattle.pst_model.specs.declared.model.Op.{Op}
 use Rattle.pst_model.specs.declared.model.Param.{Param}
 use Rattle.pst_model.specs.declared.model.Source.{Source}
-use Rattle.pst_rules.proofs.Operations.{well_operation}
-use Rattle.pst_rules.specs.Kinds.{holds_call}
-use Rattle.pst_rules.specs.WellTyped.{WellModel}
+use Rattle.pst_model.proofs.Operations.{well_operation}
+use Rattle.pst_model.specs.Kinds.{holds_call}
+use Rattle.pst_model.specs.WellTyped.{WellModel}
 use Rattle.pst_runs.specs.Commands.{present, are_present, arguments_of, spelled, command_in, command_of, commands_of}
 use Rattle.pst_runs.specs.Forms.{branch_of}
 use Rattle.pst_runs.specs.declared.commands.Spelled.{Spelled}
@@ -29,7 +29,7 @@ use Rattle.pst_sexpr.specs.Parts.{and_then, word_of, word_at, node_of, node_at}
 use Rattle.pst_sexpr.proofs.Made.{word_is_tree}
 use Rattle.pst_sexpr.specs.Bytes.{is_word_byte}
 use Rattle.pst_sexpr.specs.Grammar.{IsWordBytes}
-use Rattle.pst_sexpr.specs.Lawful.{IsTree}
+use Rattle.pst_sexpr.specs.Lawful.{IsTree, AreTrees}
 use Rattle.pst_sexpr.specs.Reading.{max_levels}
 use Rattle.pst_sexpr.specs.declared.form.Form.TheVariants.{Word, Node, outs-Word, outs-Node}
 use Rattle.pst_sexpr.specs.declared.form.Form.{Form}
@@ -38,7 +38,7 @@ use Rattle.pst_value.specs.Fits.{is_ty, fits, fit_each}
 use Rattle.pst_value.specs.Subst.{numbered}
 use Rattle.pst_value.specs.declared.ty.Ty.{Ty}
 use Rattle.pst_value.specs.declared.value.Value.{Value}
-use Rattle.pst_words.proofs.Numbers.{both_hold}
+use Rattle.pst_sexpr.proofs.Numbers.{both_hold}
 use Rattle.pst_runs.proofs.Sized.{Sized, AllSized, all_wider, none_sized, more_sized, word_sized, node_sized}
 use Rattle.pst_runs.proofs.ValueAgain.{EachAgain, each_again}
 use Rattle.pst_runs.specs.Written.{value_form, name_in, name_of, command_form, branch_form}
@@ -72,7 +72,7 @@ first_byte : (b : ℕ) → is_between 97 122 b ≡ true → is_word_byte b ≡ t
 unfolding is_word_byte
 first_byte b e = grind (arith, nat_tests)
 
-name_is_tree : (name : List ℕ) → is_name name ≡ true → IsTree (Word name)
+pub name_is_tree : (name : List ℕ) → is_name name ≡ true → IsTree (Word name)
 name_is_tree [] e = absurd (cc)
 name_is_tree (b ∷ bytes) e =
     let p = both_hold (is_between 97 122 b) (list_all is_name_byte bytes) e in
@@ -101,7 +101,7 @@ get_within [] n t e = absurd (cc)
 get_within (first ∷ types) zero t e = omega arith
 get_within (first ∷ types) (suc n) t e = let h = get_within types n t e in omega arith
 
-variable_within : (types : List Ty) (n : ℕ) (t : Ty) → length types ≤ 88 → is_ty (numbered types n) t ≡ true → (true ≡ true) × (n < 10000)
+pub variable_within : (types : List Ty) (n : ℕ) (t : Ty) → length types ≤ 88 → is_ty (numbered types n) t ≡ true → (true ≡ true) × (n < 10000)
 variable_within types zero t h e = absurd (cc)
 variable_within types (suc n) t h e = let k = get_within types n t e in (refl, omega arith)
 
@@ -157,12 +157,18 @@ command op args = record { op = op; args = args }
 abbrev pub whole_part : List Command → List Spelled
 whole_part cs = map (λ c. Whole c) cs
 
--- the tree of a command has a spelling and is read as the command, whose operation is known
+-- the tree of a command has a spelling and is read as the command, whose operation is known and whose arguments fit
 pub record CommandAgain (m : Source) (c : Command) : Type 0 where
   pub operation : Op
   pub known : operation_of m.items c.op ≡ Some operation
   pub sized : Sized 33 (command_form m c)
   pub reads : command_of m (command_form m c) ≡ Some (Whole c)
+  pub number : number_of m.items (name_of m c.op) ≡ Some c.op
+  pub vars : List Ty
+  pub few : length vars ≤ 88
+  pub fit : fit_each (map (fits vars vars (parameters_of m.items)) c.args) (types_of operation.params) ≡ true
+  pub closed : list_any holds_reference c.args ≡ false
+  pub trees : AreTrees (map value_form c.args)
 
 -- so has each command of a part
 pub record PartAgain (m : Source) (cs : List Command) : Type 0 where
@@ -178,15 +184,19 @@ EachBranch m [] = Unit {0}
 EachBranch m (b ∷ bs) = EachCommand m b × EachBranch m bs
 
 module _ (m : Source) (model : WellModel m) (has : HasOperations m.items) (language : KeepsLanguage m) where
+  args_fit_each : (vars : List Ty) (c : Command) (o : Op) → operation_of m.items c.op ≡ Some o → args_fit m vars vars c.op c.args ≡ true
+      → fit_each (map (fits vars vars (parameters_of m.items)) c.args) (types_of o.params) ≡ true
+  unfolding args_fit
+  args_fit_each vars c o is fit = ap (λ q. args_fit_in m vars vars q c.args) (sym is) ∙ fit
+
   arguments_again : (vars : List Ty) (c : Command) (o : Op) → length vars ≤ 88 → operation_of m.items c.op ≡ Some o → args_fit m vars vars c.op c.args ≡ true
       → list_any holds_reference c.args ≡ false → (depth : ℕ) × (depth ≤ 32) × EachAgain (in_arguments m) depth c.args
-  unfolding args_fit
   arguments_again vars c o few is fit closed =
       let ts = types_of o.params in
       let low = parameters_shallow o.params (has c.op o is).parameters in
       let calls : list_any (λ held. held) (map holds_call ts) ≡ false = list_any-map holds_call ts ∙ (well_operation m c.op o model is).parameters in
       let maps : m.has_maps ≡ false → list_any (λ held. held) (map holds_map ts) ≡ false = λ e. list_any-map holds_map ts ∙ (language e c.op o is).parameters in
-      let fit_in : fit_each (map (fits vars vars (parameters_of m.items)) c.args) ts ≡ true = ap (λ q. args_fit_in m vars vars q c.args) (sym is) ∙ fit in (
+      let fit_in = args_fit_each vars c o is fit in (
         2 * ty_levels.greatest (map ty_levels.levels ts),
         (omega arith),
         each_again (in_arguments m) vars vars (parameters_of m.items) (λ n t e. variable_within vars n t few e) c.args ts (omega arith) calls maps closed fit_in,
@@ -210,6 +220,12 @@ module _ (m : Source) (model : WellModel m) (has : HasOperations m.items) (langu
       record {
         operation = o;
         known = is;
+        number = number_is c o is;
+        vars = vars;
+        few = few;
+        fit = args_fit_each vars c o is fit;
+        closed = closed;
+        trees = again.sized.lawful;
         sized = node_sized (more_sized (word_sized 32 name lawful) (all_wider 32 again.sized low)) (omega arith);
         reads =
             ap (λ q. and_then q (command_in m)) (node_is (Word name ∷ forms))

@@ -16,7 +16,7 @@ use Rattle.pst_value.specs.declared.key.Key.TheVariants as key
 use Rattle.pst_value.specs.declared.key.KeyTy.{KeyTy}
 use Rattle.pst_value.specs.declared.key.KeyTy.TheVariants as kind
 use Rattle.pst_value.specs.declared.value.Value.{Value}
-use Rattle.pst_words.proofs.Numbers.{both_hold}
+use Rattle.pst_sexpr.proofs.Numbers.{both_hold}
 use Rattle.pst_runs.proofs.Numbers.{early_apart, SpellsInteger, spells_integer}
 use Rattle.pst_runs.proofs.Sized.{Sized, AllSized, none_sized, more_sized, word_sized, text_sized, letters_sized, node_sized}
 use Rattle.pst_runs.proofs.Texts.{text_bytes}

@@ -10,7 +10,7 @@ use Rattle.pst_case.specs.declared.history.Run.{Run}
 use Rattle.pst_model.specs.Language.{KeepsLanguage}
 use Rattle.pst_model.specs.Operations.{HasOperations}
 use Rattle.pst_model.specs.declared.model.Source.{Source}
-use Rattle.pst_rules.specs.WellTyped.{WellModel}
+use Rattle.pst_model.specs.WellTyped.{WellModel}
 use Rattle.pst_runs.specs.Forms.{Parts, case_parts, run_parts, item_in, parts_of}
 use Rattle.pst_runs.specs.Items.{run as run_with, with_history, run_of, unless_fault, of_parts, item_of, numbered, runs_from, runs_of}
 use Rattle.pst_runs.specs.Lawful.{IsLawful}

@@ -9,7 +9,7 @@ use Rattle.pst_case.specs.declared.history.History.{History}
 use Rattle.pst_case.specs.declared.history.Reply.{Reply}
 use Rattle.pst_case.specs.declared.history.Reply.TheVariants as reply
 use Rattle.pst_case.specs.declared.history.Run.{Run}
-use Rattle.pst_rules.specs.Fitting.{fits_in}
+use Rattle.pst_model.specs.Fitting.{fits_in}
 use Rattle.pst_model.specs.declared.model.Source.{Source}
 use Rattle.pst_runs.specs.Forms.{Parts, parts_of}
 use Rattle.pst_runs.specs.Items.{run as run_with, with_history, run_of, unless_fault, of_parts, item_of, numbered, runs_from, runs_of}

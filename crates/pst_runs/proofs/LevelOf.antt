@@ -1,8 +1,8 @@
 -- One level of a type, for what is asked of the whole type.
 use Rattle.std.proofs.Common.{◌≡◌, ◌∙◌, ◌||◌, ℕ, Bool, true, false, refl, sym, ap}
+use Rattle.pst_model.specs.Kinds.{holds_call, holds_call_at}
 use Rattle.pst_model.specs.Language.{holds_map, layer_maps}
 use Rattle.pst_model.specs.Levels as ty_levels
-use Rattle.pst_rules.specs.Kinds.{holds_call, holds_call_at}
 use Rattle.pst_value.specs.declared.ty.Ty.{Ty, out-Ty, roll-out-Ty, map-Ty, fold-roll-Ty}
 
 pub level_of : (t : Ty) → ty_levels.levels t ≡ ty_levels.layer_levels (map-Ty Ty ℕ ty_levels.levels (out-Ty t))

@@ -15,8 +15,8 @@ use Rattle.pst_sexpr.specs.Parts.{and_then}
 use Rattle.pst_sexpr.specs.declared.form.Form.TheVariants.{Word}
 use Rattle.pst_value.specs.Text.{is_i64}
 use Rattle.pst_value.specs.declared.value.Value.{Int, Var}
-use Rattle.pst_words.proofs.Numbers.{both_hold, both_from, digit_is, numerals, some_digits, below, integer_of-signed_decimal}
-use Rattle.pst_words.specs.Integers.{is_digit, is_integer, magnitude, integer_of}
+use Rattle.pst_sexpr.proofs.Numbers.{both_hold, both_from, digit_is, numerals, some_digits, below, integer_of-signed_decimal}
+use Rattle.pst_sexpr.specs.Integers.{is_digit, is_integer, magnitude, integer_of}
 
 dollar_is_word : is_word_byte 36 ≡ true
 unfolding is_word_byte

@@ -11,14 +11,14 @@ use Rattle.pst_case.specs.declared.case.Command.{Command}
 use Rattle.pst_case.specs.declared.history.History.{History}
 use Rattle.pst_case.specs.declared.history.Reply.TheVariants as reply
 use Rattle.pst_case.specs.declared.history.Reply.{Reply}
-use Rattle.pst_rules.proofs.Operations.{well_operation}
-use Rattle.pst_rules.specs.Fitting.{fits_in}
+use Rattle.pst_model.proofs.Operations.{well_operation}
+use Rattle.pst_model.specs.Fitting.{fits_in}
 use Rattle.pst_model.specs.Language.{KeepsLanguage}
 use Rattle.pst_model.specs.Levels as ty_levels
 use Rattle.pst_model.specs.Operations.{HasOperations}
 use Rattle.pst_model.specs.Parts.{parameters_of}
 use Rattle.pst_model.specs.declared.model.Source.{Source}
-use Rattle.pst_rules.specs.WellTyped.{WellModel}
+use Rattle.pst_model.specs.WellTyped.{WellModel}
 use Rattle.pst_runs.specs.Forms.{Parts, is_node, number_of_parts, with_replies}
 use Rattle.pst_runs.specs.Replies.{◌>>=◌, then_more, or_number, listed, listed_in, listed_at, answered, reply_word, or_value, reply_of, part_replies, branch_replies, history_of, branches_count, are_counted}
 use Rattle.pst_runs.specs.Values.{value_of, in_replies}
@@ -31,7 +31,7 @@ use Rattle.pst_value.specs.Fits.{fits}
 use Rattle.pst_value.specs.declared.value.Value.{Value}
 use Rattle.pst_runs.proofs.CaseAgain.{CaseAgain, whole_case, section_read, sections, suffix_trees}
 use Rattle.pst_runs.proofs.CommandAgain.{whole_part, node_is, word_is, room_is, CommandAgain, EachCommand, EachBranch}
-use Rattle.pst_words.proofs.Numbers.{both_hold, both_from}
+use Rattle.pst_sexpr.proofs.Numbers.{both_hold, both_from}
 use Rattle.pst_runs.proofs.Sized.{Sized, AllSized, wider, none_sized, more_sized, letters_sized, node_sized, headed_sized}
 use Rattle.pst_runs.proofs.ValueAgain.{FormAgain, reply_again}
 use Rattle.pst_runs.specs.Written.{value_form, reply_form, list_form, suffix_lists, replies_form}
@@ -185,12 +185,12 @@ module _ (m : Source) (model : WellModel m) (has : HasOperations m.items) (langu
   -- ---- the history
 
   -- its parts match those of the case
-  record PartsMatch (c : Case) (h : History) : Type 0 where
-    prefix : part_matches m c.prefix h.prefix ≡ true
-    branches : branches_match m c.branches h.branches ≡ true
-    suffix : part_matches m c.suffix h.suffix ≡ true
+  pub record PartsMatch (c : Case) (h : History) : Type 0 where
+    pub prefix : part_matches m c.prefix h.prefix ≡ true
+    pub branches : branches_match m c.branches h.branches ≡ true
+    pub suffix : part_matches m c.suffix h.suffix ≡ true
 
-  parts_match : (c : Case) (h : History) → matches m c h ≡ true → PartsMatch c h
+  pub parts_match : (c : Case) (h : History) → matches m c h ≡ true → PartsMatch c h
   unfolding matches
   parts_match c h e =
       let p = both_hold (part_matches m c.prefix h.prefix && branches_match m c.branches h.branches) (part_matches m c.suffix h.suffix) e in

@@ -1,7 +1,7 @@
 -- Four digits spell a number below 10,000.
 use Rattle.std.proofs.Common.{◌≡◌, ◌<◌, ◌≤◌, ◌-◌, ◌&&◌, ℕ, Bool, true, false, length, List, [], ◌∷◌, arith, refl}
 use Rattle.std.proofs.lemmas.Bool.Decides.{nat_tests}
-use Rattle.pst_words.specs.Integers.{is_digit, are_digits, magnitude}
+use Rattle.pst_sexpr.specs.Integers.{is_digit, are_digits, magnitude}
 
 digit : (b : ℕ) → is_digit b ≡ true → b - 48 ≤ 9
 digit b h = let e : b ≤ 57 = grind (arith, nat_tests) in omega arith

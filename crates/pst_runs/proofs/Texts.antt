@@ -6,7 +6,7 @@ use Rattle.std.proofs.lemmas.Bool.{cases_Bool}
 use Rattle.pst_sexpr.specs.Bytes.{is_text_byte, is_escaped_byte}
 use Rattle.pst_sexpr.specs.Lawful.{IsTextBytes}
 use Rattle.pst_value.specs.Text.{is_printable}
-use Rattle.pst_words.proofs.Numbers.{both_hold, both_from}
+use Rattle.pst_sexpr.proofs.Numbers.{both_hold, both_from}
 
 text_byte : (b : ℕ) → is_printable b ≡ true → (is_text_byte b ≡ true) ⊎ (is_escaped_byte b ≡ true)
 unfolding is_text_byte is_escaped_byte

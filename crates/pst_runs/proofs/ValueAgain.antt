@@ -9,7 +9,7 @@ use Rattle.pst_case.proofs.Variables.{reference-Int, reference-Truth, reference-
 use Rattle.pst_case.specs.Shape.{holds_reference}
 use Rattle.pst_model.specs.Language.{holds_map, layer_maps}
 use Rattle.pst_model.specs.Levels as ty_levels
-use Rattle.pst_rules.specs.Kinds.{holds_call, holds_call_at}
+use Rattle.pst_model.specs.Kinds.{holds_call, holds_call_at}
 use Rattle.pst_runs.proofs.Rooms.{value_word, value_text, value_node}
 use Rattle.pst_runs.specs.Replies.{reply_word}
 use Rattle.pst_runs.specs.declared.values.Spelling.{Spelling}
@@ -30,7 +30,7 @@ use Rattle.pst_value.specs.declared.ty.Ty.TheOpen.{Ty-F}
 use Rattle.pst_value.specs.declared.ty.Ty.{Ty, out-Ty, map-Ty}
 use Rattle.pst_value.specs.declared.value.Value.TheOpen.{Value-F}
 use Rattle.pst_value.specs.declared.value.Value.{Value, Int, Text, Tuple, List as ListOf, Map as MapOf, Var, Bool as Truth}
-use Rattle.pst_words.proofs.Numbers.{both_hold}
+use Rattle.pst_sexpr.proofs.Numbers.{both_hold}
 use Rattle.pst_runs.proofs.Forms.{form_Int, form_Truth, form_Text, form_Tuple, form_ListOf, form_MapOf, form_Var}
 use Rattle.pst_runs.proofs.Texts.{text_bytes}
 use Rattle.pst_runs.proofs.EntryAgain.{EntriesAgain, entries_again}

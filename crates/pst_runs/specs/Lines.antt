@@ -1,7 +1,7 @@
 -- What a writer took of trees that it was given, each with a line end after it.
 use Rattle.std.specs.Prelude.{◌≡◌, ℕ, Bool, true, false, List, [], ◌∷◌, ◌++◌, Option, Result, MatchResult}
 use Rattle.pst_sexpr.specs.Spelling.{spelling}
-use Rattle.pst_sink.specs.Writing.{WritesAll, WritesPart}
+use Rattle.pst_sexpr.specs.Writing.{WritesAll, WritesPart}
 use Rattle.pst_sexpr.specs.declared.form.Form.{Form}
 use Rattle.pst_runs.specs.declared.write.fault.WriteFault.{WriteFault}
 use Rattle.pst_runs.specs.declared.write.fault.WriteFault.TheVariants.{WriteFailed, NoMemory}

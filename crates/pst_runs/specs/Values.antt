@@ -13,7 +13,7 @@ use Rattle.pst_value.specs.declared.key.Key.{Key}
 use Rattle.pst_value.specs.declared.key.Key.TheVariants as key
 use Rattle.pst_value.specs.declared.value.Value.{Value}
 use Rattle.pst_value.specs.declared.value.Value as value
-use Rattle.pst_words.specs.Integers.{are_digits, magnitude, integer_of}
+use Rattle.pst_sexpr.specs.Integers.{are_digits, magnitude, integer_of}
 
 -- all from left to right, where each is there
 abbrev pub each : {A B : Type 0} → (A → Option B) → List A → Option (List B)

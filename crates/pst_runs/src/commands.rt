@@ -6,11 +6,9 @@ ghost use Rattle.pst_runs.specs.Commands as spec;
 use crate::room::with_room;
 use crate::values::{Spelling, value_of};
 use pst_case::Command;
-use pst_items::{Items, Text};
-use pst_model::number_of;
-use pst_rules::Typed;
+use pst_model::{Typed, number_of};
 use pst_sexpr::{Form, node_of, word_of};
-use pst_value::Value;
+use pst_value::{Items, Text, Value};
 use std::alloc::{AllocError, Global};
 
 /// A command as a tree spells it.
@@ -32,14 +30,14 @@ pub struct SpelledCase {
     pub suffix: Items<Spelled>,
 }
 
-/// The values that arguments spell, and whether each argument spells one.
+/// The values that arguments spell, and whether each argument spells a value.
 #[derive(Drop)]
 struct Arguments {
     values: Items<Value>,
     are_all: bool,
 }
 
-/// The number of the operation of a name.
+/// Returns the number of the operation `name`.
 #[tactic(auto, using(crate::proofs::Named::named))]
 fn op_of(typed: &Typed, name: &Text) -> Option<u32>
     ensures { result ≡ number_of typed.now.items name.now }
@@ -90,7 +88,7 @@ fn command_of(alloc: Global, typed: &Typed, form: &Form) -> Result<Option<Spelle
     }
 }
 
-/// The commands that trees spell, where each has the form of one.
+/// Returns the commands that trees spell. `None` if a tree does not have the form of a command.
 pub fn commands_of(
     alloc: Global,
     typed: &Typed,

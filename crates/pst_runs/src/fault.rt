@@ -10,8 +10,8 @@ use std::fmt;
 /// The kinds of a run's faults.
 #[derive(Clone, Copy, Debug, PartialEq, Eq, Drop)]
 pub enum RunFaultKind {
-    /// A fault of the case. Besides those of `shape`, `UnknownOp` stands for a name that no operation has,
-    /// and `BadArgument` for an argument that spells no value. `NoMemory`: memory was refused.
+    /// A fault of the case: one of `shape`, or `UnknownOp` if no operation has the name, or `BadArgument` if an
+    /// argument spells no value. `NoMemory` means that an allocation failed.
     Case(CaseFaultKind),
     /// A tree spells no reply.
     BadReply,
@@ -35,15 +35,15 @@ impl RunFaultKind {
     }
 }
 
-/// What is wrong with a run, and at which command, counted from 1; 0 stands for the run itself.
+/// What is wrong with a run, and at which command, counted from 1, or 0 for the run itself.
 #[derive(Clone, Copy, Debug, PartialEq, Eq, Drop)]
 pub struct ItemFault {
     pub kind: RunFaultKind,
     pub command: u32,
 }
 
-/// Which run is refused, counted from 1, why, and at which command, counted from 1; 0 stands for the run
-/// itself. Where memory was refused both numbers are 0. It is printed as `1 command 3 CrossVar`.
+/// Which run is refused, counted from 1, why, and at which command, counted from 1, or 0 for the run itself. If an
+/// allocation failed, both numbers are 0. It is printed as `1 command 3 CrossVar`.
 #[derive(Clone, Copy, Debug, PartialEq, Eq, Drop)]
 pub struct RunFault {
     pub run: usize,

@@ -3,13 +3,11 @@ ghost use Rattle.std.specs.Prelude.{◌≡◌, IfOk, MatchOption, None, Some};
 ghost use Rattle.pst_runs.specs.Values as spec;
 
 use crate::room::with_room;
-use pst_items::{Items, Text};
-use pst_sexpr::{Form, node_of};
-use pst_value::Key;
-use pst_words::integer_of;
+use pst_sexpr::{Form, integer_of, node_of};
+use pst_value::{Items, Key, Text};
 use std::alloc::{AllocError, Global};
 
-/// The key and the value of an entry `(k v)`, as trees.
+/// Returns the key and the value of an entry `(k v)`, as trees.
 pub fn pair_of(entry: &Form) -> Option<(&Form, &Form)>
     ensures { MatchOption result (spec.pair_of entry.now ≡ None)
         (λ pair. spec.pair_of entry.now ≡ Some (pair.0.now, pair.1.now)) }
@@ -45,7 +43,7 @@ fn key_of(alloc: Global, form: &Form) -> Result<Option<Key>, AllocError>
     }
 }
 
-/// The keys of the entries `(k v)` of a map, where each is one.
+/// Returns the keys of the entries `(k v)` of a map. `None` if one of them is no entry, or its key spells none.
 pub fn keys_of(alloc: Global, entries: &[Form]) -> Result<Option<Items<Key>>, AllocError>
     ensures { IfOk result (λ keys. keys ≡ spec.each spec.entry_key entries.now) }
 {

@@ -1,4 +1,6 @@
-//! Runs as text: their reader, which finds the first fault of the first refused one, and their writer.
+//! Reads and writes runs as text. The reader reports the first fault of the first refused run.
+//!
+//! `AllocError` means that an allocation failed.
 #![tactic(auto)]
 
 mod commands;
@@ -14,4 +16,4 @@ mod write;
 
 pub use fault::{RunFault, RunFaultKind};
 pub use reader::read_runs;
-pub use write::{WriteFault, run_tree, write_runs};
+pub use write::{WriteFault, run_tree, value_form, write_runs};

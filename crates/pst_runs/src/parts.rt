@@ -7,26 +7,26 @@ ghost use Rattle.pst_sexpr.specs.Parts.{node_of};
 
 use crate::commands::{Spelled, SpelledCase, commands_of};
 use crate::room::with_room;
-use pst_items::Items;
-use pst_rules::Typed;
+use pst_model::Typed;
 use pst_sexpr::{Form, node_of, word_of};
+use pst_value::Items;
 use std::alloc::{AllocError, Global};
 
-/// A case as it is spelled, and its lists of replies, if it has them.
+/// A case as trees spell it, and its lists of replies, if it has them.
 #[derive(Drop)]
 pub struct ItemParts<'a> {
     pub read: SpelledCase,
     pub replies: Option<&'a [Form]>,
 }
 
-/// The prefix and the branches of a case, and the commands of its suffix, where there is one.
+/// The prefix and the branches of a case, and the commands of its suffix, if there is one.
 #[derive(Drop)]
 struct Sections<'a> {
     front: &'a [Form],
     suffix: Option<&'a [Form]>,
 }
 
-/// The parts of a node that is headed by the word.
+/// Returns the parts of `form` after the word `name`. `None` if `form` is no node that begins with this word.
 fn section<'a>(name: &str, form: &'a Form) -> Option<&'a [Form]>
     ensures { option_copied result ≡ spec.section name.now form.now }
 {
@@ -38,7 +38,7 @@ fn section<'a>(name: &str, form: &'a Form) -> Option<&'a [Form]>
     }
 }
 
-/// The commands of a section.
+/// Returns the commands of the section `name`.
 fn section_commands(
     alloc: Global,
     typed: &Typed,
@@ -130,7 +130,7 @@ fn branches_of(
     }
 }
 
-/// The last of some trees, behind those before it.
+/// Returns the trees before the last one, and the last one.
 #[tactic(auto, using(crate::proofs::Last::last))]
 fn front_and_last(parts: &[Form]) -> Option<(&[Form], &Form)>
     ensures { MatchOption result (spec.front_and_last parts.now ≡ None)
@@ -140,7 +140,7 @@ fn front_and_last(parts: &[Form]) -> Option<(&[Form], &Form)>
     Some((front, last))
 }
 
-/// The sections of a case: `(suffix ..)` may stand behind the branches.
+/// Returns the sections of a case. The last tree is the suffix if it is `(suffix ..)`.
 fn sections_of(parts: &[Form]) -> Sections<'_>
     ensures { shown_sections result ≡ spec.sections_of parts.now }
 {
@@ -203,7 +203,7 @@ fn is_node(form: &Form) -> bool
     node_of(form).is_some()
 }
 
-/// Whether there are as many lists as parts: the prefix, each branch, and the suffix where it is written.
+/// Returns whether there is a list for each part: the prefix, each branch, and the suffix if it is written.
 fn is_number_of_parts(lists: usize, sections: &Sections<'_>, case: &SpelledCase) -> bool
     ensures { result ≡ spec.is_number_of_parts lists (shown_sections sections.now) case.now }
 {
@@ -270,7 +270,7 @@ fn run_parts<'a>(
     Ok(with_replies(replies, &sections, read))
 }
 
-/// The case of an item with its lists of replies, where the tree has the form of an item.
+/// Returns the case of an item with its lists of replies. `None` if the tree does not have the form of an item.
 #[tactic(auto, unfolding(crate::specs::Forms::parts_of))]
 pub fn parts_of<'a>(
     alloc: Global,

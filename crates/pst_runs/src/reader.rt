@@ -8,11 +8,11 @@ use crate::parts::{ItemParts, parts_of};
 use crate::reading::shaped_of;
 use crate::replies::{are_counted, history_of};
 use pst_case::{Run, Shaped};
-use pst_rules::Typed;
+use pst_model::Typed;
 use pst_sexpr::{Form, Tree};
 use std::alloc::{AllocError, Global};
 
-/// The run of a shaped case and its lists of replies.
+/// Returns the run of a shaped case and its lists of replies, or its first fault.
 #[tactic(auto, using(crate::proofs::Limits::limits))]
 fn run_of(
     alloc: Global,
@@ -45,7 +45,7 @@ fn run_of(
     }
 }
 
-/// The run that a tree spells, or its first fault.
+/// Returns the run that a tree spells, or its first fault.
 #[tactic(auto, unfolding(crate::specs::Items::item_of))]
 fn item_of(alloc: Global, typed: &Typed, form: &Form) -> Result<Result<Run, ItemFault>, AllocError>
     ensures { IfOk result (λ run. run ≡ spec.item_of typed.now form.now) }
@@ -68,9 +68,9 @@ fn item_of(alloc: Global, typed: &Typed, form: &Form) -> Result<Result<Run, Item
 
 /// Reads the runs that trees spell: `case` items without a history, and `run` items with one.
 ///
-/// The fault is that of the first refused item, numbered from 1. Each item is judged in order: its form, its
-/// limits, its commands by their numbers, the counts of its replies, and each reply. The kind is `NoMemory`
-/// where memory was refused.
+/// The fault is that of the first refused item, numbered from 1. The reader checks each item in this order: its form,
+/// its limits, its commands by their numbers, the counts of its replies, and each reply. The kind is `NoMemory` if an
+/// allocation fails.
 #[tactic(auto, using(crate::proofs::Behind::behind))]
 pub fn read_runs(alloc: Global, typed: &Typed, trees: &[Tree]) -> Result<Vec<Run>, RunFault>
     ensures read { IfOk result (λ runs. spec.runs_of typed.now trees.now ≡ Ok runs.items) }

@@ -1,4 +1,4 @@
-//! The first fault of the commands of a case as they are spelled.
+//! The first fault of the commands of a case, as trees spell them.
 ghost use Rattle.std.specs.Prelude.{◌≡◌, ◌<◌, ◌+◌, ◌^◌, false, IfOk, IfErr, None, Some, length, map, MatchResult};
 ghost use Rattle.pst_case.specs.Shape.{joined};
 ghost use Rattle.pst_runs.specs.Reading as spec;
@@ -8,11 +8,11 @@ use crate::room::with_room;
 use pst_case::{
     Case, CaseFault, CaseFaultKind, Command, Shaped, are_over_limit, joined_len, shape,
 };
-use pst_items::Items;
-use pst_rules::Typed;
+use pst_model::Typed;
+use pst_value::Items;
 use std::alloc::{AllocError, Global};
 
-/// The commands of a part that can be read.
+/// Returns the commands of a part without those of unknown operations.
 fn readable_part(alloc: Global, commands: Items<Spelled>) -> Result<Items<Command>, AllocError>
     ensures { IfOk result (λ readable. readable ≡ spec.readable_part commands) }
 {
@@ -40,7 +40,7 @@ fn readable_branches(
     Ok(readable)
 }
 
-/// The case without what cannot be read of it.
+/// Returns the case without the commands and the arguments that cannot be read.
 fn readable_case(alloc: Global, case: SpelledCase) -> Result<Case, AllocError>
     ensures { IfOk result (λ readable. readable ≡ spec.readable_case case) }
 {
@@ -56,7 +56,7 @@ fn readable_case(alloc: Global, case: SpelledCase) -> Result<Case, AllocError>
     })
 }
 
-/// Why a command cannot be read whole.
+/// Returns why a command cannot be read whole, if it cannot.
 fn unread(command: &Spelled) -> Option<CaseFaultKind>
     ensures { result ≡ spec.unread command.now }
 {
@@ -67,7 +67,7 @@ fn unread(command: &Spelled) -> Option<CaseFaultKind>
     }
 }
 
-/// The first command that cannot be read whole, where the first of them has the number.
+/// Returns the fault of the first command that cannot be read whole. The commands are numbered from `number` on.
 fn part_unread(number: u32, commands: &[Spelled]) -> Option<CaseFault>
     requires { number + length commands.now < 2 ^ 32 }
     ensures { result ≡ spec.part_unread number commands.now }
@@ -82,7 +82,7 @@ fn part_unread(number: u32, commands: &[Spelled]) -> Option<CaseFault>
     }
 }
 
-/// The first command of branches that cannot be read whole, where so many commands stand before them.
+/// Returns the fault of the first command of the branches that cannot be read whole. `before` commands precede them.
 fn branches_unread(before: u32, branches: &[Items<Spelled>]) -> Option<CaseFault>
     requires { before + length (joined branches.now) + 1 < 2 ^ 32 }
     ensures { result ≡ spec.branches_unread before branches.now }
@@ -94,7 +94,7 @@ fn branches_unread(before: u32, branches: &[Items<Spelled>]) -> Option<CaseFault
     }
 }
 
-/// The first command of a case that cannot be read whole.
+/// Returns the fault of the first command of a case that cannot be read whole.
 #[tactic(auto, using(crate::proofs::Limits::spelled_limits))]
 fn case_unread(case: &SpelledCase) -> Option<CaseFault>
     requires { spec.over_limit case.now ≡ false }
@@ -121,14 +121,14 @@ fn is_over_limit(case: &SpelledCase) -> bool
     )
 }
 
-/// Whether the command that cannot be read whole is refused before the fault of the shape.
+/// Returns whether the fault `unread` comes before the fault `shape`.
 fn comes_before(unread: &CaseFault, shape: &CaseFault) -> bool
     ensures { result ≡ spec.comes_before unread.now shape.now }
 {
     unread.command < shape.command || (unread.command == shape.command && is_unknown(unread.kind))
 }
 
-/// Whether no operation has the name.
+/// Returns whether the fault is that no operation has the name.
 fn is_unknown(kind: CaseFaultKind) -> bool
     ensures { result ≡ spec.is_unknown kind }
 {
@@ -142,7 +142,7 @@ fn is_unknown(kind: CaseFaultKind) -> bool
     }
 }
 
-/// The first fault of a case whose shape is faulty.
+/// Returns the first fault of a case whose shape is faulty.
 fn first_of(unread: Option<CaseFault>, shape: CaseFault) -> CaseFault
     ensures { Some result ≡ spec.first_of unread (Some shape) }
 {
@@ -156,7 +156,7 @@ fn first_of(unread: Option<CaseFault>, shape: CaseFault) -> CaseFault
     }
 }
 
-/// The shaped case of what is spelled, or its first fault. `AllocError` where memory is refused.
+/// Returns the shaped case that `case` spells, or its first fault.
 pub fn shaped_of(
     alloc: Global,
     typed: &Typed,

@@ -7,13 +7,12 @@ ghost use Rattle.pst_sexpr.specs.Parts.{word_of};
 use crate::room::with_room;
 use crate::values::{Spelling, value_of};
 use pst_case::{Case, Command, History, Reply, joined_len};
-use pst_items::Items;
-use pst_rules::Typed;
+use pst_model::Typed;
 use pst_sexpr::{Form, node_of, word_of};
-use pst_value::Value;
+use pst_value::{Items, Value};
 use std::alloc::{AllocError, Global};
 
-/// The trees of a list.
+/// Returns the trees of a list, or no trees if `form` is no list.
 fn listed(form: &Form) -> &[Form]
     ensures { result.now ≡ spec.listed form.now }
 {
@@ -23,7 +22,7 @@ fn listed(form: &Form) -> &[Form]
     }
 }
 
-/// The trees of the list of a number from 0, where there is one.
+/// Returns the trees of list `number`, from 0, or no trees if there is no such list.
 fn listed_at(lists: &[Form], number: usize) -> &[Form]
     ensures { result.now ≡ spec.listed_at lists.now number }
 {
@@ -104,8 +103,8 @@ fn replies_from(
     replies_from(alloc, typed, number + 1, read, commands, forms)
 }
 
-/// The replies of a part whose first command has the number, or the number of the first command whose tree
-/// spells no reply.
+/// Returns the replies of a part, whose commands are numbered from `number` on, or the number of the first command
+/// whose tree spells no reply.
 #[tactic(auto, using(crate::proofs::Behind::behind))]
 fn part_replies(
     alloc: Global,
@@ -122,7 +121,8 @@ fn part_replies(
     replies_from(alloc, typed, number, read, commands, forms)
 }
 
-/// The replies of branches after others, before which so many commands stand.
+/// Returns `read` with the replies of `branches` appended, or the number of the first command whose tree spells no
+/// reply. `before` commands precede the branches.
 #[tactic(auto, using(crate::proofs::Behind::behind))]
 fn branches_from(
     alloc: Global,
@@ -152,7 +152,7 @@ fn branches_from(
     }
 }
 
-/// The history that lists of replies spell, or the number of the first command whose tree spells no reply.
+/// Returns the history that lists of replies spell, or the number of the first command whose tree spells no reply.
 pub fn history_of(
     alloc: Global,
     typed: &Typed,
@@ -207,7 +207,7 @@ fn branches_count(branches: &[Items<Command>], lists: &[Form]) -> bool
     }
 }
 
-/// Whether each part has as many replies as commands.
+/// Returns whether each part has one reply for each command.
 pub fn are_counted(case: &Case, lists: &[Form]) -> bool
     ensures { result ≡ spec.are_counted case.now lists.now }
 {

@@ -1,10 +1,10 @@
-//! Lists with room for what they will hold.
+//! Lists with room for their items.
 ghost use Rattle.std.specs.Prelude.{◌≡◌, [], IfOk};
 
-use pst_items::Items;
+use pst_value::Items;
 use std::alloc::{AllocError, Global};
 
-/// No items, with room for so many and no more.
+/// Returns an empty list with room for `count` items.
 pub fn with_room<T>(alloc: Global, count: usize) -> Result<Items<T>, AllocError>
     ensures { IfOk result (λ items. items ≡ []) }
 {

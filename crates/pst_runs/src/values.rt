@@ -4,14 +4,12 @@ ghost use Rattle.pst_runs.specs.Values as spec;
 
 use crate::keys::{keys_of, pair_of};
 use crate::room::with_room;
-use pst_items::{Boxed, Items, Text};
-use pst_rules::Typed;
-use pst_sexpr::{Form, MAX_LEVELS, word_of};
-use pst_value::{Value, rising};
-use pst_words::{are_digits, integer_of, magnitude_of};
+use pst_model::Typed;
+use pst_sexpr::{Form, MAX_LEVELS, are_digits, integer_of, magnitude_of, word_of};
+use pst_value::{Boxed, Items, Text, Value, rising};
 use std::alloc::{AllocError, Global};
 
-/// What may stand in the values that trees spell.
+/// What the values that trees spell may contain.
 #[derive(Clone, Copy, Debug, PartialEq, Eq)]
 pub struct Spelling {
     /// Maps, in the language that has them.
@@ -21,7 +19,7 @@ pub struct Spelling {
 }
 
 impl Spelling {
-    /// What may stand in the arguments of commands.
+    /// Returns what the arguments of commands may contain.
     pub fn of_arguments(typed: &Typed) -> Spelling
         ensures { result ≡ spec.in_arguments typed.now }
     {
@@ -31,7 +29,7 @@ impl Spelling {
         }
     }
 
-    /// What may stand in replies.
+    /// Returns what replies may contain.
     pub fn of_replies(typed: &Typed) -> Spelling
         ensures { result ≡ spec.in_replies typed.now }
     {
@@ -42,10 +40,10 @@ impl Spelling {
     }
 }
 
-/// The most digits of a variable.
+/// The maximum number of digits of a variable.
 const MAX_DIGITS: usize = 4;
 
-/// The number of a variable, by its digits.
+/// Returns the number of the variable with these digits.
 #[tactic(auto, using(crate::proofs::Small::small))]
 fn number_of(digits: &[u8]) -> Option<u32>
     ensures { result ≡ spec.number_in digits.now }
@@ -85,7 +83,7 @@ fn word_value(word: &Text, symbolic: bool) -> Option<Value>
     }
 }
 
-/// The value that a tree spells, with so many values in one another.
+/// Returns the value that a tree spells, with at most `room` levels of values.
 #[cycle(value)]
 #[tactic(auto, using(crate::proofs::Rooms::rooms))]
 fn value_in(
@@ -159,7 +157,7 @@ fn values_in(
     Ok(Some(values))
 }
 
-/// The map of entries `(k v)` whose keys rise.
+/// Returns the map of entries `(k v)` whose keys rise.
 #[cycle(value)]
 fn map_value(
     alloc: Global,
@@ -205,7 +203,7 @@ fn entry_values(
     Ok(Some(values))
 }
 
-/// The value that a tree spells, where so much may stand in it.
+/// Returns the value that a tree spells, with at most `MAX_LEVELS` levels. It contains only what `spelling` allows.
 pub fn value_of(alloc: Global, form: &Form, spelling: Spelling) -> Result<Option<Value>, AllocError>
     ensures { IfOk result (λ value. value ≡ spec.value_of spelling form.now) }
 {

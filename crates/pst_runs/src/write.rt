@@ -11,4 +11,5 @@ mod writer;
 
 pub use fault::WriteFault;
 pub use items::run_tree;
+pub use values::value_form;
 pub use writer::write_runs;

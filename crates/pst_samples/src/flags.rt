@@ -2,7 +2,7 @@
 use std::sync::atomic::{AtomicBool, Ordering};
 use std::thread;
 
-/// How often a call looks for the other flag.
+/// How many times a call looks for the other flag.
 const LOOKS: u32 = 10_000_000;
 
 /// One of two callers that meet.
@@ -34,7 +34,8 @@ impl Flags {
         self.second.store(false, Ordering::SeqCst);
     }
 
-    /// Raises the flag of a side, and looks up to 10,000,000 turns for the other, yielding after each: whether it saw it.
+    /// Raises the flag of a side, and looks up to 10,000,000 times for the other, yielding after each. Returns
+    /// whether it saw it.
     pub fn meet(&self, side: Side) -> bool {
         match side {
             Side::First => meets(&self.first, &self.second),

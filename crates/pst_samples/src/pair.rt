@@ -6,10 +6,11 @@ use pst_value::Value;
 use std::alloc::Global;
 use std::sync::Arc;
 
-/// One side of two flags that it shares with another system, by which a test sees that two systems are called at once.
+/// One side of two flags that it shares with another system, by which a test sees that two systems are called
+/// at once.
 ///
-/// `meet n`, n 1 or 2, raises the flag of its side, whatever n is, looks up to 10,000,000 turns for the other, yielding, and answers whether it saw
-/// it. A reset changes nothing.
+/// `meet n`, n 1 or 2, raises the flag of its side, whatever n is, looks up to 10,000,000 times for the other,
+/// yielding, and answers whether it saw it. A reset changes nothing.
 #[derive(Drop)]
 pub struct Pair {
     side: Side,

@@ -3,20 +3,20 @@ ghost use Rattle.std.specs.Prelude.{◌≡◌, MatchResult, IfOk};
 ghost use Rattle.pst_samples.specs.Calls.{AreAtMostOneInt};
 
 use crate::asked::{is_bare, number_of};
-use pst_items::Items;
 use pst_system::{CallFault, RealCall, System};
-use pst_value::Value;
+use pst_value::{Items, Value};
 use std::alloc::{AllocError, Global};
 use std::collections::VecDeque;
 use std::sync::{Mutex, Wait};
 
-/// The most items of a queue.
+/// The maximum number of items of a queue.
 pub const ROOM: usize = 1024;
 
 /// A queue of integers, under a lock.
 ///
-/// `put x` puts x last and answers true, or is refused at `ROOM` items; `take` takes the oldest item, and answers the list of it, or the
-/// empty list. Both fail where memory is refused, and then leave the queue as it was.
+/// `put x` adds x at the end and answers true, or is refused at `ROOM` items. `take` takes the oldest item and
+/// answers a list of it, or the empty list. Both fail if an allocation fails, and then leave the queue as it
+/// was.
 #[derive(Drop)]
 pub struct Queue<R: Wait> {
     rt: R,
@@ -34,7 +34,7 @@ impl<R: Wait> Queue<R> {
         }
     }
 
-    /// Puts an item last: Refused where the queue is full, NoMemory where memory is refused.
+    /// Adds an item at the end. `Refused` if the queue is full, `NoMemory` if an allocation fails.
     fn put(&self, item: i64) -> Result<(), CallFault> {
         let mut items = self.items.lock(&self.rt);
         if items.len() >= ROOM {

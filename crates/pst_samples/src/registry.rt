@@ -12,8 +12,8 @@ use std::sync::{Mutex, Wait};
 
 /// Numbers that are opened and closed, under a lock.
 ///
-/// `new` opens and answers the numbers 0, 1, .. in turn, or fails where memory is refused; `close h` closes h and answers whether it was open;
-/// `read h` answers h if it is open, else -1.
+/// `new` opens and answers the numbers 0, 1, .. in turn, or fails if an allocation fails. `close h` closes h
+/// and answers whether it was open. `read h` answers h if it is open, else -1.
 #[derive(Drop)]
 pub struct Registry<R: Wait> {
     rt: R,

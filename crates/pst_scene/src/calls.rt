@@ -3,8 +3,8 @@
 use crate::letters::letter;
 use crate::spelling::{add, add_command, add_number, add_reply, add_variable};
 use pst_case::{Case, Command, History, Reply};
-use pst_items::Items;
 use pst_model::Source;
+use pst_value::Items;
 use std::alloc::{AllocError, Global};
 
 /// A part of a case.
@@ -14,7 +14,7 @@ pub enum Part {
     Prefix,
     /// A branch, from 0.
     Branch(usize),
-    /// What runs behind the branches.
+    /// What runs after the branches.
     Suffix,
 }
 
@@ -32,7 +32,7 @@ impl Part {
 /// A command of a case.
 #[derive(Clone, Copy, Drop)]
 pub struct Call<'a> {
-    /// The part that it stands in.
+    /// The part that it is in.
     pub part: Part,
     /// Its place in its part, from 1.
     pub place: usize,
@@ -40,7 +40,7 @@ pub struct Call<'a> {
     pub number: u32,
     /// The command itself.
     pub command: &'a Command,
-    /// What was recorded of it, where the case was run.
+    /// The recorded reply, if the case was run.
     pub reply: Option<&'a Reply>,
 }
 
@@ -55,7 +55,7 @@ pub struct Calls<'a> {
     pub suffix: Vec<Call<'a>>,
 }
 
-/// The commands of a part whose first command has the number.
+/// Returns the commands of `part`, numbered from `first` on.
 fn part_calls<'a>(
     alloc: Global,
     part: Part,
@@ -78,7 +78,7 @@ fn part_calls<'a>(
     Ok(calls)
 }
 
-/// The number behind the commands, the first of which has the number.
+/// Returns the number after the last of `commands`, which are numbered from `first` on.
 fn behind(first: u32, commands: &[Command]) -> u32 {
     let mut number = first;
     for _command in commands {
@@ -87,7 +87,7 @@ fn behind(first: u32, commands: &[Command]) -> u32 {
     number
 }
 
-/// The commands of the branches, and the number behind them.
+/// Returns the commands of the branches, numbered from `first` on, and the number after them.
 fn branch_calls<'a>(
     alloc: Global,
     first: u32,
@@ -108,7 +108,7 @@ fn branch_calls<'a>(
     Ok((calls, number))
 }
 
-/// The commands of a case with what was recorded of them.
+/// Returns the commands of a case with their recorded replies.
 pub fn calls_with<'a>(
     alloc: Global,
     case: &'a Case,
@@ -128,7 +128,7 @@ pub fn calls_with<'a>(
     })
 }
 
-/// The commands of a case, with their replies where there are some.
+/// Returns the commands of a case, with the replies of `history` if there is one.
 pub fn calls_of<'a>(
     alloc: Global,
     case: &'a Case,
@@ -162,7 +162,7 @@ impl<'a> Call<'a> {
         Ok(out)
     }
 
-    /// The text, and behind it the reply; the variable of the command where there is none.
+    /// The text, followed by the reply, or by the command's variable if it has no reply.
     pub fn with_reply(&self, alloc: Global, model: &Source) -> Result<Vec<u8>, AllocError> {
         let mut out = self.text(alloc, model)?;
         add(&mut out, " -> ")?;

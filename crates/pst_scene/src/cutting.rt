@@ -3,12 +3,12 @@ ghost use Rattle.std.specs.Prelude.{◌≡◌, ◌≤◌, IfOk, length};
 
 use std::alloc::{AllocError, Global};
 
-/// Whether a byte goes on with a character that began before it.
+/// Returns whether a byte is a continuation byte of a UTF-8 character.
 fn goes_on(byte: u8) -> bool {
     byte >= 0x80 && byte < 0xC0
 }
 
-/// The first `end` bytes of a text, without those of a character that ends after them.
+/// Returns the first `end` bytes of a text, without those of a character that ends after them.
 fn beginning(text: &[u8], end: usize) -> &[u8]
     requires { end ≤ length text.now }
     ensures { length result.now ≤ end }
@@ -19,7 +19,7 @@ fn beginning(text: &[u8], end: usize) -> &[u8]
     &text[..end]
 }
 
-/// A text without the first bytes that go on with a character.
+/// Returns a text without the continuation bytes at its beginning.
 fn ending(text: &[u8]) -> &[u8]
     ensures { length result.now ≤ length text.now }
 {
@@ -29,8 +29,9 @@ fn ending(text: &[u8]) -> &[u8]
     }
 }
 
-/// The text where it has at most `width` bytes. Else as many bytes of its beginning and of its end as fit, with `..`
-/// between them; no text at all where not even these two bytes fit. A character of several bytes is left out whole.
+/// Returns `text` if it has at most `width` bytes. Otherwise returns its beginning and its end with `..` between them,
+/// so that they fit, or an empty text if not even `..` fits. A character of several bytes is kept or left out as a
+/// whole.
 pub fn cut(alloc: Global, text: &[u8], width: usize) -> Result<Vec<u8>, AllocError>
     ensures fits { IfOk result (λ cut. length cut.items ≤ width) }
     ensures whole { IfOk result (λ cut. length text.now ≤ width → cut.items ≡ text.now) }

@@ -1,17 +1,17 @@
 //! Why the postcondition of a command is not true on a state.
 
 use crate::calls::Call;
+use crate::evidence_falsity::{Evidence, FalsePart, false_part};
 use crate::scene::Scene;
 use crate::texts::{expression_text, joined, operation, text_of, value_text};
 use crate::walk::arguments;
 use pst_case::Reply;
-use pst_evidence::{Evidence, FalsePart, false_part};
-use pst_meaning::Env;
+use pst_eval::Env;
 use pst_model::Source;
 use pst_value::Value;
 use std::alloc::{AllocError, Global};
 
-/// The reply that the model wants.
+/// Returns a text on the reply that the model requires.
 fn wanted_text(
     alloc: Global,
     model: &Source,
@@ -26,7 +26,7 @@ fn wanted_text(
     }
 }
 
-/// A comparison that is false.
+/// Returns a text on a comparison that is false.
 fn compared_text(
     alloc: Global,
     model: &Source,
@@ -109,8 +109,9 @@ pub fn falsity_of<'a>(
     }
 }
 
-/// Why the postcondition of a command is not true, in words: what the model says in place of the reply, or the part that is
-/// false; or that it faults. Empty if the command has no value as its reply.
+/// Returns a text that says why the postcondition of a command is not true: it has the value that the model requires in
+/// place of the reply, or the false part, or says that the postcondition faults. It is empty if the reply is not a
+/// value.
 pub fn falsity_text(
     alloc: Global,
     model: &Source,

@@ -1,4 +1,4 @@
-//! Words of branches, as they are printed.
+//! The printed form of interleavings.
 
 use std::alloc::AllocError;
 
@@ -12,7 +12,7 @@ pub fn letter(branch: usize) -> u8 {
     }
 }
 
-/// Adds a word of branches: a letter for each, and `-` for the empty word.
+/// Adds an interleaving of branches: a letter for each branch in `word`, or `-` if it is empty.
 pub fn add_word(out: &mut Vec<u8>, word: &[usize]) -> Result<(), AllocError> {
     if word.is_empty() {
         out.push(b'-')?;

@@ -1,27 +1,42 @@
-//! What is shown of an item: its commands with their places and replies, how they and their values are
-//! spelled, lines and columns, the states along an interleaving, and why a command cannot come next on a state.
+//! Displays items: their commands with places and replies, the spelling of commands and values, lines and columns, the
+//! states along an interleaving, and why a command cannot come next on a state.
 //!
-//! It serves `pst_explain` and `pst_graph`, whose output is tested and not proved: contracts speak of `cut` and of
-//! `scene_of` alone.
+//! It also evaluates expressions and their parts, for the false or faulting part of a callback. It serves `pst_explain`,
+//! whose output is tested and not proved: the contracts cover only `cut` and
+//! `scene_of`.
 #![tactic(auto)]
 
+mod attempt;
+mod binding;
 mod calls;
 mod cutting;
+mod descent;
+mod evaluating;
+mod evidence_falsity;
 mod falsity;
+mod faulty;
 mod forms;
 mod letters;
 mod order;
 mod outcome;
 mod page;
+mod parts;
 mod scene;
 mod spelling;
+mod style;
 mod table;
 mod texts;
 mod walk;
+mod wanted;
+mod words;
 
+pub use binding::{Binding, bindings_of};
 pub use calls::{Call, Calls, Part};
 pub use cutting::cut;
+pub use evaluating::evaluate;
+pub use evidence_falsity::{Evidence, FalsePart, false_part};
 pub use falsity::{Falsity, falsity_of, falsity_text};
+pub use faulty::{FaultyPart, faulty_part};
 pub use forms::{add_form, add_quoted};
 pub use letters::add_word;
 pub use order::{call_numbered, count_before, first_calls, in_order, next_calls};
@@ -29,9 +44,12 @@ pub use outcome::{DeadEnd, Outcome, dead_end_text, outcome_of};
 pub use page::Page;
 pub use scene::{Scene, scene_of};
 pub use spelling::{add, add_number, add_reply, add_value};
-pub use table::{Table, two};
+pub use style::Style;
+pub use table::{Cell, Table, two};
 pub use texts::{expression_text, joined, operation, text_of, value_text};
 pub use walk::{
     PreAnswer, arguments, calls_before, initial_state, precondition, reference, state_before,
     state_behind, states_along,
 };
+pub use wanted::{wanted_reply, wants_one_reply};
+pub use words::words_of;

@@ -3,7 +3,7 @@
 use crate::calls::{Call, Calls};
 use std::alloc::{AllocError, Global};
 
-/// How many of the letters are the branch.
+/// Returns how many letters of `word` are `branch`.
 fn count_of(word: &[usize], branch: usize) -> usize {
     let mut count = 0usize;
     for letter in word {
@@ -14,7 +14,7 @@ fn count_of(word: &[usize], branch: usize) -> usize {
     count
 }
 
-/// The command that the letter behind the word stands for.
+/// Returns the next command of `branch` after the interleaving `word`.
 fn call_behind<'a>(calls: &Calls<'a>, word: &[usize], branch: usize) -> Option<Call<'a>> {
     let commands = calls.branches.get(branch)?;
     commands.get(count_of(word, branch)).copied()
@@ -27,7 +27,8 @@ fn add_calls<'a>(order: &mut Vec<Call<'a>>, calls: &[Call<'a>]) -> Result<(), Al
     Ok(())
 }
 
-/// The commands of the prefix, those of the branches in the order of the word, and those of the suffix.
+/// Returns the commands of the prefix, those of the branches in the order of the interleaving `word`, and those of the
+/// suffix.
 pub fn in_order<'a>(
     alloc: Global,
     calls: &Calls<'a>,
@@ -46,7 +47,7 @@ pub fn in_order<'a>(
     Ok(order)
 }
 
-/// The next command of each branch behind the word.
+/// Returns the next command of each branch after the interleaving `word`.
 fn next_of_branches<'a>(
     alloc: Global,
     calls: &Calls<'a>,
@@ -61,8 +62,8 @@ fn next_of_branches<'a>(
     Ok(next)
 }
 
-/// The commands that may come after so many events of the prefix, the word and the suffix: the next one of the prefix,
-/// or of each branch, or of the suffix.
+/// Returns the commands that may come after the first `count` events of the prefix, the interleaving `word` and the
+/// suffix: the next one of the prefix, or of each branch, or of the suffix.
 pub fn next_calls<'a>(
     alloc: Global,
     calls: &Calls<'a>,
@@ -86,7 +87,7 @@ pub fn next_calls<'a>(
     Ok(next)
 }
 
-/// The command of the number.
+/// Returns command `number`, if it is one of `calls`.
 pub fn call_numbered<'a>(calls: &[Call<'a>], number: u32) -> Option<Call<'a>> {
     for call in calls {
         if call.number == number {
@@ -96,7 +97,7 @@ pub fn call_numbered<'a>(calls: &[Call<'a>], number: u32) -> Option<Call<'a>> {
     None
 }
 
-/// How many commands stand before that of the number; all, where there is none of it.
+/// Returns how many of `calls` are before command `number`, or the number of all `calls` if it is not one of them.
 pub fn count_before(calls: &[Call<'_>], number: u32) -> usize {
     let mut count = 0usize;
     for call in calls {
@@ -108,7 +109,7 @@ pub fn count_before(calls: &[Call<'_>], number: u32) -> usize {
     count
 }
 
-/// All commands, by their numbers.
+/// Returns all commands in the order of their numbers.
 pub fn all_calls<'a>(alloc: Global, calls: &Calls<'a>) -> Result<Vec<Call<'a>>, AllocError> {
     let mut all = Vec::new(alloc);
     add_calls(&mut all, calls.prefix.as_slice())?;
@@ -119,7 +120,7 @@ pub fn all_calls<'a>(alloc: Global, calls: &Calls<'a>) -> Result<Vec<Call<'a>>, 
     Ok(all)
 }
 
-/// The first so many of the commands.
+/// Returns the first `count` of `calls`.
 pub fn first_calls<'a>(
     alloc: Global,
     calls: &[Call<'a>],

@@ -1,13 +1,13 @@
-//! What comes of a command on a state.
+//! The outcome of a command on a state.
 
 use crate::calls::Call;
+use crate::evaluating::evaluate;
 use crate::falsity::{Falsity, falsity_of, falsity_text};
 use crate::scene::Scene;
 use crate::texts::{joined, operation, text_of};
 use crate::walk::{PreAnswer, arguments, precondition, state_behind};
 use pst_case::Reply;
-use pst_evidence::evaluate;
-use pst_meaning::Env;
+use pst_eval::Env;
 use pst_model::Source;
 use pst_value::{Fault, Value};
 use std::alloc::{AllocError, Global};
@@ -27,8 +27,8 @@ pub enum DeadEnd<'a> {
     NextFaults,
 }
 
-/// What comes of a command on a state.
 #[derive(Drop)]
+/// The outcome of a command on a state.
 pub enum Outcome<'a> {
     /// The command leads to a state.
     Leads(Value),
@@ -36,7 +36,7 @@ pub enum Outcome<'a> {
     Refused(DeadEnd<'a>),
 }
 
-/// Whether the postcondition of a command is true of the value that it answered.
+/// Returns whether the postcondition of a command is true of `answer`.
 fn is_right(
     alloc: Global,
     scene: &Scene<'_>,
@@ -55,7 +55,7 @@ fn is_right(
     Ok(matches!(outcome, Ok(Value::Bool(true))))
 }
 
-/// The state after a command that may come next.
+/// Returns the state after a command that may come next, unless its `next` faults.
 fn next_state<'a>(
     alloc: Global,
     scene: &Scene<'a>,
@@ -68,7 +68,7 @@ fn next_state<'a>(
     }
 }
 
-/// What comes of a command of a case that was not run, by its precondition.
+/// Returns the outcome of a command of a case that was not run, by its precondition.
 fn of_case<'a>(
     alloc: Global,
     scene: &Scene<'a>,
@@ -82,7 +82,7 @@ fn of_case<'a>(
     }
 }
 
-/// What comes of a command that answered a value, by its postcondition.
+/// Returns the outcome of a command that answered a value, by its postcondition.
 fn of_answer<'a>(
     alloc: Global,
     scene: &Scene<'a>,
@@ -97,7 +97,7 @@ fn of_answer<'a>(
     Ok(Outcome::Refused(DeadEnd::PostFails(falsity)))
 }
 
-/// What comes of a command on a state: by its postcondition in a recorded run, by its precondition in a case.
+/// Returns the outcome of a command on a state: by its postcondition in a recorded run, by its precondition in a case.
 pub fn outcome_of<'a>(
     alloc: Global,
     scene: &Scene<'a>,
@@ -111,7 +111,7 @@ pub fn outcome_of<'a>(
     }
 }
 
-/// Why a command cannot come next on a state, in words.
+/// Returns a text that says why a command cannot come next on a state.
 pub fn dead_end_text(
     alloc: Global,
     model: &Source,

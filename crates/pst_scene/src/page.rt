@@ -1,6 +1,7 @@
 //! Lines of a width.
 
 use crate::cutting::cut;
+use crate::style::{END, Style};
 use std::alloc::{AllocError, Global};
 
 /// The text so far, and the width of its lines.
@@ -8,20 +9,53 @@ use std::alloc::{AllocError, Global};
 pub struct Page {
     /// The lines so far.
     pub text: Vec<u8>,
-    /// The most bytes of a line.
+    /// The maximum length of a line, in bytes.
     pub width: usize,
+    /// Whether styles are shown.
+    has_color: bool,
 }
 
 impl Page {
-    /// An empty page.
+    /// An empty page without colors.
     pub fn new(alloc: Global, width: usize) -> Page {
         Page {
             text: Vec::new(alloc),
             width,
+            has_color: false,
         }
     }
 
-    /// Adds so many spaces.
+    /// An empty page for a terminal, which shows styles as colors.
+    pub fn colored(alloc: Global, width: usize) -> Page {
+        Page {
+            text: Vec::new(alloc),
+            width,
+            has_color: true,
+        }
+    }
+
+    /// The lines.
+    pub fn into_text(self) -> Vec<u8> {
+        let Page {
+            text,
+            width: _,
+            has_color: _,
+        } = self;
+        text
+    }
+
+    /// Adds a text in a style.
+    pub(crate) fn add_styled(&mut self, style: Style, text: &[u8]) -> Result<(), AllocError> {
+        let start = style.start().filter(|_| self.has_color);
+        let Some(start) = start else {
+            return self.text.extend_from_slice(text);
+        };
+        self.text.extend_from_slice(start.as_bytes())?;
+        self.text.extend_from_slice(text)?;
+        self.text.extend_from_slice(END.as_bytes())
+    }
+
+    /// Adds `count` spaces.
     pub fn add_spaces(&mut self, count: usize) -> Result<(), AllocError> {
         for _space in 0..count {
             self.text.push(b' ')?;
@@ -29,22 +63,33 @@ impl Page {
         Ok(())
     }
 
-    /// Adds a line that stands in by so many spaces; it is cut in the middle where it does not fit.
+    /// Adds a line, indented by `indent` spaces. If it does not fit, it is cut in the middle.
     pub fn add_line(
         &mut self,
         alloc: Global,
         indent: usize,
         line: &[u8],
     ) -> Result<(), AllocError> {
+        self.add_styled_line(alloc, indent, Style::Plain, line)
+    }
+
+    /// Adds a line in a style, as `add_line` does.
+    pub fn add_styled_line(
+        &mut self,
+        alloc: Global,
+        indent: usize,
+        style: Style,
+        line: &[u8],
+    ) -> Result<(), AllocError> {
         self.add_spaces(indent)?;
         let line = cut(alloc, line, self.width.saturating_sub(indent))?;
-        self.text.extend_from_slice(line.as_slice())?;
+        self.add_styled(style, line.as_slice())?;
         self.text.push(b'\n')?;
         Ok(())
     }
 
-    /// Adds a word of a sentence and returns the column after it. If it does not fit, it is on a new line, where one that
-    /// is longer than a line is cut in the middle. Column 0: it is the first.
+    /// Adds a word of a sentence and returns the column after it. If the word does not fit, it begins a new line; if it
+    /// is longer than a line, it is cut in the middle. `column` is 0 for the first word.
     fn add_word(
         &mut self,
         alloc: Global,
@@ -67,8 +112,8 @@ impl Page {
         Ok(indent.saturating_add(word.len()).max(1))
     }
 
-    /// Adds the words of a sentence, with a new line before each that does not fit. The first line is indented by `first`
-    /// spaces and the others by `later`.
+    /// Adds the words of a sentence, with a new line before each that does not fit. The first line is indented by
+    /// `first` spaces and the others by `later`.
     fn add_words(
         &mut self,
         alloc: Global,
@@ -103,8 +148,19 @@ impl Page {
         self.add_words(alloc, indent, indent, sentence)
     }
 
-    /// Adds a heading, whose lines after the first are indented by two spaces.
-    pub fn add_heading(&mut self, alloc: Global, heading: &[u8]) -> Result<(), AllocError> {
-        self.add_words(alloc, 0, 2, heading)
+    /// Adds a heading in a style. Its lines after the first are indented by two spaces.
+    pub fn add_heading(
+        &mut self,
+        alloc: Global,
+        style: Style,
+        heading: &[u8],
+    ) -> Result<(), AllocError> {
+        let mut lines = Page::new(alloc, self.width);
+        lines.add_words(alloc, 0, 2, heading)?;
+        let mut text = lines.into_text();
+        let _line_end = text.pop();
+        self.add_styled(style, text.as_slice())?;
+        self.text.push(b'\n')?;
+        Ok(())
     }
 }

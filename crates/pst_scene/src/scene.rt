@@ -1,15 +1,14 @@
-//! What is known of an item that is explained.
+//! The data of an item to be explained.
 ghost use Rattle.std.specs.Prelude.{◌≡◌, IfOk};
 
 use crate::calls::{Call, Calls, calls_of};
 use crate::order::all_calls;
 use pst_case::{History, Run};
-use pst_model::Source;
-use pst_rules::Typed;
+use pst_model::{Source, Typed};
 use pst_value::Value;
 use std::alloc::{AllocError, Global};
 
-/// What is known of an item that is explained.
+/// The data of an item to be explained.
 #[derive(Drop)]
 pub struct Scene<'a> {
     /// The model of the item.
@@ -20,11 +19,11 @@ pub struct Scene<'a> {
     pub calls: Calls<'a>,
     /// The commands, by their numbers.
     pub all: Vec<Call<'a>>,
-    /// The recorded results, by the numbers of the commands; none where there is no history.
+    /// The recorded results, by the numbers of the commands; empty if there is no history.
     pub known: Vec<Option<Value>>,
 }
 
-/// The recorded results; none where there is no history.
+/// Returns the recorded results, or no results if there is no history.
 fn known_results(
     alloc: Global,
     history: &Option<History>,
@@ -35,7 +34,7 @@ fn known_results(
     }
 }
 
-/// What is known of an item over a model.
+/// Returns the data of an item of the model `typed`.
 pub fn scene_of<'a>(alloc: Global, typed: &'a Typed, run: &'a Run) -> Result<Scene<'a>, AllocError>
     ensures model { IfOk result (λ scene. scene.model.now ≡ typed.now) }
     ensures run { IfOk result (λ scene. scene.run.now ≡ run.now) }

@@ -2,34 +2,57 @@
 
 use crate::cutting::cut;
 use crate::page::Page;
+use crate::style::Style;
 use std::alloc::{AllocError, Global};
 
-/// How many spaces stand between two columns.
+/// The number of spaces between two columns.
 const GAP: usize = 3;
 
-/// Cells stand in columns where each column may have so many bytes.
+/// If cells have to be cut, a table has columns only if each column may have this many bytes.
 const LEAST_COLUMN: usize = 30;
+
+/// A text in a column.
+#[derive(Drop)]
+pub struct Cell {
+    pub text: Vec<u8>,
+    pub style: Style,
+}
+
+impl Cell {
+    /// A cell of plain text.
+    pub fn plain(text: Vec<u8>) -> Cell {
+        Cell {
+            text,
+            style: Style::Plain,
+        }
+    }
+
+    /// A cell of text in a style.
+    pub fn styled(style: Style, text: Vec<u8>) -> Cell {
+        Cell { text, style }
+    }
+}
 
 /// Rows of cells.
 #[derive(Drop)]
 pub struct Table {
-    rows: Vec<Vec<Vec<u8>>>,
+    rows: Vec<Vec<Cell>>,
 }
 
-/// A row of two cells.
-pub fn two(alloc: Global, first: Vec<u8>, second: Vec<u8>) -> Result<Vec<Vec<u8>>, AllocError> {
+/// A row of two cells of plain text.
+pub fn two(alloc: Global, first: Vec<u8>, second: Vec<u8>) -> Result<Vec<Cell>, AllocError> {
     let mut row = Vec::new(alloc);
-    row.push(first)?;
-    row.push(second)?;
+    row.push(Cell::plain(first))?;
+    row.push(Cell::plain(second))?;
     Ok(row)
 }
 
 /// The greatest of the column's widths so far, and those of the row's cells.
-fn widened(alloc: Global, widths: &[usize], row: &[Vec<u8>]) -> Result<Vec<usize>, AllocError> {
+fn widened(alloc: Global, widths: &[usize], row: &[Cell]) -> Result<Vec<usize>, AllocError> {
     let mut wider = Vec::new(alloc);
     for (index, cell) in row.iter().enumerate() {
         let width = widths.get(index).copied().unwrap_or(0);
-        wider.push(width.max(cell.len()))?;
+        wider.push(width.max(cell.text.len()))?;
     }
     for width in widths.iter().skip(row.len()) {
         wider.push(*width)?;
@@ -46,7 +69,7 @@ fn sum_of(numbers: &[usize]) -> usize {
     sum
 }
 
-/// The sum of those widths that are at most the share, and how many are not.
+/// Returns the sum of the widths that are at most `share`, and how many are greater.
 fn small_and_large(widths: &[usize], share: usize) -> (usize, usize) {
     let mut sum = 0usize;
     let mut large = 0usize;
@@ -60,8 +83,8 @@ fn small_and_large(widths: &[usize], share: usize) -> (usize, usize) {
     (sum, large)
 }
 
-/// The widths that columns have where they may have so much together: all that they ask for where that fits; else no
-/// column has more than its share, and those that need less leave the rest to the others.
+/// Returns the widths of columns that may have `room` bytes together. If `widths` fit, they stay as they are. Otherwise
+/// each column that needs at most an equal share keeps its width, and the others share the rest equally.
 fn fitted(alloc: Global, widths: &[usize], room: usize) -> Result<Vec<usize>, AllocError> {
     if sum_of(widths) <= room {
         return Vec::from_slice(alloc, widths);
@@ -80,7 +103,7 @@ fn fitted(alloc: Global, widths: &[usize], room: usize) -> Result<Vec<usize>, Al
     Ok(fitted)
 }
 
-/// How many bytes so many columns may have together.
+/// Returns how many bytes `columns` columns may have together.
 fn room_for(page: &Page, indent: usize, columns: usize) -> usize {
     let gaps = GAP.saturating_mul(columns.saturating_sub(1));
     page.width.saturating_sub(indent).saturating_sub(gaps)
@@ -95,7 +118,7 @@ impl Table {
     }
 
     /// Adds a row.
-    pub fn add_row(&mut self, row: Vec<Vec<u8>>) -> Result<(), AllocError> {
+    pub fn add_row(&mut self, row: Vec<Cell>) -> Result<(), AllocError> {
         self.rows.push(row)?;
         Ok(())
     }
@@ -109,7 +132,7 @@ impl Table {
         Ok(widths)
     }
 
-    /// Whether no cell has to be cut, or each column may have so many bytes.
+    /// Returns whether no cell has to be cut, or each column may have `least` bytes.
     pub fn is_wide_enough(
         &self,
         alloc: Global,
@@ -123,7 +146,7 @@ impl Table {
         Ok(sum_of(widths.as_slice()) <= room || least <= share)
     }
 
-    /// Adds the cells to a page, one below another, those behind the first of a row further in.
+    /// Adds each cell to a page on a line of its own, with a deeper indent for the cells of a row after its first.
     fn write_stacked(
         &self,
         page: &mut Page,
@@ -133,13 +156,18 @@ impl Table {
         for row in &self.rows {
             for (index, cell) in row.iter().enumerate() {
                 let further = if index == 0 { 0 } else { 2 };
-                page.add_line(alloc, indent.saturating_add(further), cell.as_slice())?;
+                page.add_styled_line(
+                    alloc,
+                    indent.saturating_add(further),
+                    cell.style,
+                    cell.text.as_slice(),
+                )?;
             }
         }
         Ok(())
     }
 
-    /// Adds the rows to a page in columns, where these may be wide enough, and else each cell on a line of its own.
+    /// Adds the rows to a page in columns if these are wide enough, or else each cell on a line of its own.
     pub fn write_or_stack(
         &self,
         page: &mut Page,
@@ -153,33 +181,38 @@ impl Table {
         }
     }
 
-    /// Adds the rows to a page; cells that do not fit are cut in the middle.
+    /// Adds the rows to a page in columns. Cells that do not fit are cut in the middle.
     pub fn write(&self, page: &mut Page, alloc: Global, indent: usize) -> Result<(), AllocError> {
         let widths = self.widths(alloc)?;
         let room = room_for(page, indent, widths.len());
         let widths = fitted(alloc, widths.as_slice(), room)?;
         for row in &self.rows {
-            let line = row_line(alloc, widths.as_slice(), row.as_slice())?;
-            page.add_line(alloc, indent, line.as_slice())?;
+            page.add_spaces(indent)?;
+            add_row(page, alloc, widths.as_slice(), row.as_slice())?;
         }
         Ok(())
     }
 }
 
-/// The cells of a row, each cut to its width, with spaces up to the next; none behind the last cell that is not empty.
-fn row_line(alloc: Global, widths: &[usize], row: &[Vec<u8>]) -> Result<Vec<u8>, AllocError> {
-    let mut line = Vec::new(alloc);
+/// Adds the cells of a row and a line end, each cell cut to its width, with spaces up to the next. No spaces come after the last
+/// cell that is not empty.
+fn add_row(
+    page: &mut Page,
+    alloc: Global,
+    widths: &[usize],
+    row: &[Cell],
+) -> Result<(), AllocError> {
+    let mut column = 0usize;
     let mut wanted = 0usize;
     for (cell, width) in row.iter().zip(widths) {
-        if !cell.is_empty() {
-            let missing = wanted.saturating_sub(line.len());
-            for _space in 0..missing {
-                line.push(b' ')?;
-            }
-            let cell = cut(alloc, cell.as_slice(), *width)?;
-            line.extend_from_slice(cell.as_slice())?;
+        if !cell.text.is_empty() {
+            page.add_spaces(wanted.saturating_sub(column))?;
+            let text = cut(alloc, cell.text.as_slice(), *width)?;
+            page.add_styled(cell.style, text.as_slice())?;
+            column = wanted.saturating_add(text.len());
         }
         wanted = wanted.saturating_add(*width).saturating_add(GAP);
     }
-    Ok(line)
+    page.text.push(b'\n')?;
+    Ok(())
 }

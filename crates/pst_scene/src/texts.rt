@@ -1,4 +1,4 @@
-//! Spelled values and expressions, and what a command calls.
+//! The spelling of values and expressions, and the operation of a command.
 
 use crate::calls::Call;
 use crate::forms::add_form;
@@ -10,7 +10,7 @@ use pst_sexpr::Form;
 use pst_value::Value;
 use std::alloc::{AllocError, Global};
 
-/// A text of parts, one behind another.
+/// Returns the parts, joined to one text.
 pub fn joined(alloc: Global, parts: &[&[u8]]) -> Result<Vec<u8>, AllocError> {
     let mut text = Vec::new(alloc);
     for part in parts {

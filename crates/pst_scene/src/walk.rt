@@ -1,19 +1,18 @@
 //! The states of a run, and its preconditions, by plain evaluation.
 
 use crate::calls::Call;
+use crate::evaluating::evaluate;
 use crate::order::{count_before, first_calls, in_order};
 use crate::scene::Scene;
 use crate::texts::operation;
 use pst_case::Reply;
-use pst_evidence::evaluate;
-use pst_items::{Boxed, Items};
-use pst_meaning::Env;
+use pst_eval::Env;
 use pst_model::opening_of;
 use pst_operators::Stop;
-use pst_value::{Fault, Value};
+use pst_value::{Boxed, Fault, Items, Value};
 use std::alloc::{AllocError, Global};
 
-/// What a precondition answers.
+/// The result of a precondition.
 #[derive(Clone, Copy, Debug, PartialEq, Eq, Drop)]
 pub enum PreAnswer {
     /// It is true.
@@ -24,7 +23,7 @@ pub enum PreAnswer {
     Faults(Fault),
 }
 
-/// The arguments of a command, with recorded results for variables.
+/// Returns the arguments of a command, with recorded results for variables.
 pub fn arguments(
     alloc: Global,
     scene: &Scene<'_>,
@@ -37,7 +36,7 @@ pub fn arguments(
     Ok(args)
 }
 
-/// The reference to the result of a command, or its variable where none was recorded.
+/// Returns the reference to the result of a command, or its variable if no result was recorded.
 pub fn reference(alloc: Global, call: &Call<'_>) -> Result<Value, AllocError> {
     match call.reply {
         Some(Reply::Value(value)) => Ok(Value::Ref(
@@ -48,7 +47,7 @@ pub fn reference(alloc: Global, call: &Call<'_>) -> Result<Value, AllocError> {
     }
 }
 
-/// The initial state, where the model gives one.
+/// Returns the initial state. `None` if the model gives none, or `init` cannot be evaluated.
 pub fn initial_state(alloc: Global, scene: &Scene<'_>) -> Result<Option<Value>, AllocError> {
     match opening_of(scene.model.items.as_slice()) {
         Some(opening) => {
@@ -59,7 +58,7 @@ pub fn initial_state(alloc: Global, scene: &Scene<'_>) -> Result<Option<Value>, 
     }
 }
 
-/// The state behind a command, where its `next` does not fault.
+/// Returns the state after a command. `None` if its `next` cannot be evaluated.
 pub fn state_behind(
     alloc: Global,
     scene: &Scene<'_>,
@@ -78,7 +77,7 @@ pub fn state_behind(
     Ok(outcome.ok())
 }
 
-/// The initial state and the state behind each command in turn, as far as no callback faults.
+/// Returns the initial state and the state after each command in turn, up to the first callback that faults.
 pub fn states_along(
     alloc: Global,
     scene: &Scene<'_>,
@@ -99,7 +98,7 @@ pub fn states_along(
     Ok(states)
 }
 
-/// The commands before one in an interleaving.
+/// Returns the commands before `call` in the interleaving `word`.
 pub fn calls_before<'a>(
     alloc: Global,
     scene: &Scene<'a>,
@@ -111,7 +110,7 @@ pub fn calls_before<'a>(
     first_calls(alloc, order.as_slice(), count)
 }
 
-/// The state before a command in an interleaving, where no callback faults up to there.
+/// Returns the state before `call` in the interleaving `word`. `None` if a callback faults before it.
 pub fn state_before(
     alloc: Global,
     scene: &Scene<'_>,
@@ -126,7 +125,7 @@ pub fn state_before(
     Ok(states.pop())
 }
 
-/// What the precondition of a command answers on the state before it.
+/// Returns the result of the precondition of a command on `state`.
 pub fn precondition(
     alloc: Global,
     scene: &Scene<'_>,

@@ -12,3 +12,6 @@ pub mod Spelled
 pub mod Again
 pub mod One
 pub mod Made
+pub mod Sequence
+pub mod Growing
+pub mod Numbers

@@ -3,7 +3,7 @@
 ghost use Rattle.std.specs.Prelude.{◌≡◌, ◌<◌, IsTrue};
 ghost use Rattle.pst_sexpr.specs.Bytes as spec;
 
-/// Whether the byte stands between trees.
+/// Whether `byte` separates trees.
 #[tactic(auto, unfolding(crate::specs::Bytes::is_blank))]
 pub fn is_blank(byte: u8) -> bool
     ensures { result ≡ spec.is_blank byte }
@@ -11,7 +11,7 @@ pub fn is_blank(byte: u8) -> bool
     byte == 9 || byte == 10 || byte == 13 || byte == 32
 }
 
-/// Whether the byte may stand in a word.
+/// Whether `byte` may be part of a word.
 #[tactic(auto, unfolding(crate::specs::Bytes::is_word_byte))]
 pub fn is_word_byte(byte: u8) -> bool
     ensures same { result ≡ spec.is_word_byte byte }
@@ -20,7 +20,7 @@ pub fn is_word_byte(byte: u8) -> bool
     32 < byte && byte < 127 && !(byte == b'(' || byte == b')' || byte == b'"' || byte == b';')
 }
 
-/// Whether the byte may stand in a text for itself.
+/// Whether `byte` may be in a text unescaped.
 #[tactic(auto, unfolding(crate::specs::Bytes::is_text_byte))]
 pub fn is_text_byte(byte: u8) -> bool
     ensures same { result ≡ spec.is_text_byte byte }
@@ -29,7 +29,7 @@ pub fn is_text_byte(byte: u8) -> bool
     31 < byte && byte < 127 && !(byte == b'"' || byte == b'\\')
 }
 
-/// Whether the byte may stand in a text behind `\`.
+/// Whether `byte` may follow `\` in a text.
 #[tactic(auto, unfolding(crate::specs::Bytes::is_escaped_byte))]
 pub fn is_escaped_byte(byte: u8) -> bool
     ensures same { result ≡ spec.is_escaped_byte byte }

@@ -18,16 +18,16 @@ pub enum FaultKind {
     UnclosedNode,
     /// The bracket closes no node.
     StrayClose,
-    /// The bracket opens one node too many in others.
+    /// The bracket opens a node that is nested too deep.
     TooDeep,
     /// The file has too many bytes. The place is `MAX_BYTES`.
     TooLarge,
-    /// Memory was refused. The place is 0.
+    /// An allocation failed. The place is 0.
     NoMemory,
 }
 
 impl FaultKind {
-    /// The name of the kind, as `BadByte`.
+    /// The name of the kind, such as `BadByte`.
     pub fn name(&self) -> &'static str
         ensures { result.now ≡ name_of self.now }
     {

@@ -1,4 +1,4 @@
-use pst_items::{Items, Text};
+use pst_value::{Items, Text};
 
 /// A tree: a word, a text, or a node of trees.
 ///

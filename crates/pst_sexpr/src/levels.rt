@@ -4,11 +4,11 @@ ghost use Rattle.pst_sexpr.specs.declared.levels.Level.{Level};
 ghost use Rattle.std.specs.Prelude.{◌≡◌, List, [], ◌∷◌, length, IfOk, OnOk, MatchOption};
 
 use crate::form::Form;
-use pst_items::Items;
+use pst_value::Items;
 use std::alloc::{AllocError, Global};
 use std::marker::Model;
 
-/// An open node: where its bracket stands, and the trees that stand before it at its level.
+/// An open node: the place of its bracket, and the trees before it at its level.
 #[derive(Drop)]
 pub struct Level {
     pub place: usize,
@@ -103,7 +103,7 @@ impl Levels {
         self.levels.pop()
     }
 
-    /// Where the innermost node begins.
+    /// The place of the innermost node's bracket, if a node is open.
     pub fn innermost(&self) -> Option<usize>
         ensures { MatchOption result (self.now ≡ [])
             (λ place. (level : Level) × (rest : List Level)

@@ -1,7 +1,7 @@
 //! Limits of files.
 
-/// The most bytes of a file.
+/// The maximum size of a file in bytes.
 pub const MAX_BYTES: usize = 1_048_576;
 
-/// The most nodes that stand in one another.
+/// The maximum depth of nodes.
 pub const MAX_LEVELS: usize = 100;

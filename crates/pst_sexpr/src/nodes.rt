@@ -1,21 +1,21 @@
-//! Words and nodes that are made of their parts.
+//! Makes words and nodes from their parts.
 
 ghost use Rattle.std.specs.Prelude.{◌≡◌, IfOk, [], ◌∷◌};
 ghost use Rattle.pst_sexpr.specs.Parts.{headed};
 ghost use Rattle.pst_sexpr.specs.declared.form.Form.TheVariants.{Word};
 
 use crate::form::Form;
-use pst_items::{Items, Text};
+use pst_value::{Items, Text};
 use std::alloc::{AllocError, Global};
 
-/// A word of these bytes. `AllocError` where memory is refused.
+/// A word of these bytes.
 pub fn word(alloc: Global, text: &str) -> Result<Form, AllocError>
     ensures { IfOk result (λ form. form ≡ Word text.now) }
 {
     Ok(Form::Word(Text::from_string(String::from_str(alloc, text)?)))
 }
 
-/// A list of one tree. `AllocError` where memory is refused.
+/// A list of one tree.
 pub fn list_of(alloc: Global, first: Form) -> Result<Items<Form>, AllocError>
     ensures { IfOk result (λ forms. forms ≡ first ∷ []) }
 {
@@ -24,7 +24,7 @@ pub fn list_of(alloc: Global, first: Form) -> Result<Items<Form>, AllocError>
     Ok(forms)
 }
 
-/// A node of a word and then other trees. `AllocError` where memory is refused.
+/// A node of the word `head` and then `parts`.
 pub fn headed(alloc: Global, head: &str, parts: Items<Form>) -> Result<Form, AllocError>
     ensures { IfOk result (λ form. form ≡ headed head.now parts) }
 {

@@ -4,9 +4,9 @@ ghost use Rattle.std.specs.Prelude.{◌≡◌, option_copied};
 ghost use Rattle.pst_sexpr.specs.Parts as spec;
 
 use crate::form::Form;
-use pst_items::Text;
+use pst_value::Text;
 
-/// The bytes of a word, or `None` where the tree is a text or a node.
+/// The bytes of a word, or `None` if the tree is a text or a node.
 pub fn word_of(form: &Form) -> Option<&Text>
     ensures { option_copied result ≡ spec.word_of form.now }
 {
@@ -16,7 +16,7 @@ pub fn word_of(form: &Form) -> Option<&Text>
     }
 }
 
-/// The trees of a node, or `None` where the tree is a word or a text.
+/// The trees of a node, or `None` if the tree is a word or a text.
 pub fn node_of(form: &Form) -> Option<&[Form]>
     ensures { option_copied result ≡ spec.node_of form.now }
 {

@@ -12,7 +12,7 @@ use crate::form::Form;
 use crate::limits::{MAX_BYTES, MAX_LEVELS};
 use crate::scan::forms;
 use crate::tree::Tree;
-use pst_items::Items;
+use pst_value::Items;
 use std::alloc::{AllocError, Global};
 
 /// The forms as trees.
@@ -38,15 +38,15 @@ fn trees(alloc: Global, bytes: &[u8]) -> Result<Vec<Tree>, SexprFault>
 
 /// Reads a file of trees, in one pass.
 ///
-/// The fault is the first from left to right. A file of more than `MAX_BYTES` bytes is always `TooLarge`:
-/// this fault comes before all others, and takes no memory. `NoMemory`: memory was refused.
+/// Returns the first fault from left to right. A file of more than `MAX_BYTES` bytes is always `TooLarge`: this
+/// check comes first and does not allocate. `NoMemory`: an allocation failed.
 pub fn read(alloc: Global, bytes: &[u8]) -> Result<Vec<Tree>, SexprFault>
     // What is read is spelled so.
     ensures found { IfOk result (λ trees. (length bytes.now ≤ max_bytes) × Spells bytes.now trees.items) }
-    // What is spelled so is read, unless memory is refused.
+    // What is spelled so is read, unless an allocation fails.
     ensures only { (spelled : List Form) → length bytes.now ≤ max_bytes → Spells bytes.now spelled →
         MatchResult result (λ trees. trees.items ≡ spelled) (λ fault. fault ≡ no_memory) }
-    // Too many bytes are refused before memory is taken.
+    // Too many bytes are refused before any allocation.
     ensures too_large { max_bytes < length bytes.now → result ≡ Err too_large }
     // A fault is the first of the bytes.
     ensures fault { IfErr result (λ fault. (fault ≡ no_memory) ⊎ IsFault bytes.now fault) }

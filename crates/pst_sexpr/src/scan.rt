@@ -11,7 +11,7 @@ use crate::form::Form;
 use crate::levels::{Level, Levels};
 use crate::limits::MAX_LEVELS;
 use crate::spans::{span_of_text, span_of_word, with_ascii};
-use pst_items::{Items, Text};
+use pst_value::{Items, Text};
 use std::alloc::{AllocError, Global};
 use std::mem;
 
@@ -21,7 +21,7 @@ enum Mode {
     Plain,
     /// In a text.
     Quoted,
-    /// In a text, behind `\`.
+    /// In a text, after `\`.
     Escaped,
     /// In a comment.
     Comment,
@@ -30,9 +30,9 @@ enum Mode {
 /// What is known of the bytes so far.
 #[derive(Drop)]
 struct Scanner {
-    /// Where the next byte stands.
+    /// What the next byte is part of.
     mode: Mode,
-    /// Where the last text begins.
+    /// The place of the opening quote of the last text.
     quote: usize,
     /// The bytes so far of the word or text.
     part: Text,
@@ -166,7 +166,7 @@ impl Scanner {
         Ok(())
     }
 
-    /// Reads the byte behind `\`.
+    /// Reads the byte after `\`.
     #[tactic(auto, unfolding(crate::specs::Scan::escaped))]
     fn escaped(&mut self, place: usize, byte: u8) -> Result<(), SexprFault>
         ensures { Gives (λ _. self.new) result (spec.escaped place byte self.old) }
@@ -207,7 +207,8 @@ impl Scanner {
         }
     }
 
-    /// The bytes in front that belong to the word or text, where they may be read at once.
+    /// The bytes at the front of `bytes` that belong to the current word or text and can be read at once. It is
+    /// empty after `\` and in a comment.
     #[tactic(auto, using(crate::proofs::Skips::nil_is_span))]
     fn span<'a>(&self, bytes: &'a [u8]) -> &'a [u8]
         ensures class { IsSpan self.now.mode result.now }
@@ -231,7 +232,7 @@ impl Scanner {
         Ok(())
     }
 
-    /// Reads the byte at the place, and all that follow it in the same word or text. Answers the place behind them.
+    /// Reads the byte at `place` and all that follow it in the same word or text. Returns the place after them.
     #[tactic(auto, using(crate::proofs::Skips::reading))]
     fn advance(&mut self, alloc: Global, bytes: &[u8], place: usize) -> Result<usize, SexprFault>
         requires { place < length bytes.now }
@@ -251,7 +252,7 @@ impl Scanner {
         Ok(place + span.len())
     }
 
-    /// The trees, where the bytes end here.
+    /// Returns the trees, if the bytes may end here.
     fn finish(mut self, alloc: Global) -> Result<Items<Form>, SexprFault>
         ensures { Gives (λ trees. trees) result (spec.finish self) }
     {

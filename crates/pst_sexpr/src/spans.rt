@@ -6,10 +6,10 @@ ghost use Rattle.pst_sexpr.specs.Grammar.{IsWordBytes};
 ghost use Rattle.pst_sexpr.specs.Spans.{IsSpanOf, ArePlain};
 
 use crate::bytes::{is_text_byte, is_word_byte};
-use pst_items::Text;
+use pst_value::Text;
 use std::alloc::{AllocError, Global};
 
-/// The bytes in front of the first that may not stand in a word.
+/// The word bytes at the front of `bytes`.
 pub fn span_of_word(bytes: &[u8]) -> &[u8]
     ensures class { IsWordBytes result.now }
     ensures front { IsSpanOf bytes.now result.now }
@@ -22,7 +22,7 @@ pub fn span_of_word(bytes: &[u8]) -> &[u8]
     bytes
 }
 
-/// The bytes in front of the first that may not stand for itself in a text.
+/// The bytes at the front of `bytes` that a text may hold unescaped.
 pub fn span_of_text(bytes: &[u8]) -> &[u8]
     ensures class { ArePlain result.now }
     ensures front { IsSpanOf bytes.now result.now }
@@ -35,7 +35,7 @@ pub fn span_of_text(bytes: &[u8]) -> &[u8]
     bytes
 }
 
-/// The text with more bytes behind it. An empty text becomes one with no more room than it needs.
+/// Appends `more` to `text`. An empty text gets exactly the room that it needs.
 pub fn with_ascii(alloc: Global, text: Text, more: &[u8]) -> Result<Text, AllocError>
     requires { IsAscii more.now }
     ensures { IfOk result (λ whole. whole ≡ text ++ more.now) }

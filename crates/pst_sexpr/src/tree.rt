@@ -6,11 +6,11 @@ ghost use Rattle.pst_sexpr.specs.Lawful.{IsTree, IsTextBytes, greatest, levels};
 ghost use Rattle.pst_sexpr.specs.Reading.{max_levels};
 
 use crate::form::Form;
-use pst_items::{Items, Text};
+use pst_value::{Items, Text};
 use std::alloc::{AllocError, Global};
 use std::marker::Model;
 
-/// A tree that has a spelling, of at most `MAX_LEVELS` nodes in one another.
+/// A tree that has a spelling and is at most `MAX_LEVELS` nodes deep.
 #[derive(Debug, Drop)]
 pub struct Tree {
     form: Form,
@@ -42,7 +42,7 @@ impl Tree {
         Tree { form }
     }
 
-    /// A word. It has a byte, and each may stand in a word.
+    /// A word. It has at least one byte, and each is a word byte.
     #[tactic(auto, using(crate::proofs::Made::word_is_tree))]
     pub fn word(bytes: Text) -> Tree
         requires some { 0 < length bytes }
@@ -65,9 +65,7 @@ impl Tree {
         }
     }
 
-    /// A node of trees, which each have less than `MAX_LEVELS` nodes in one another.
-    ///
-    /// `AllocError`: memory was refused.
+    /// A node of trees, each at most `MAX_LEVELS - 1` nodes deep.
     pub fn node(alloc: Global, trees: Vec<Tree>) -> Result<Tree, AllocError>
         requires { greatest (map levels trees.items) < max_levels }
         ensures { IfOk result (λ tree. tree ≡ Form.Node trees.items) }

@@ -3,12 +3,13 @@
 ghost use Rattle.std.specs.Prelude.{◌≡◌, [], ◌∷◌, false, map};
 ghost use Rattle.pst_sexpr.specs.Spelling.{escape, escaped, gap, spaced, spelling};
 ghost use Rattle.pst_sexpr.specs.Reading.{Spells};
-ghost use Rattle.pst_sink.specs.Writing.{Writes};
+ghost use Rattle.pst_sexpr.specs.Writing.{Writes};
 
 use crate::bytes::is_escaped_byte;
 use crate::form::Form;
+use crate::put::put_all;
+use crate::sink::{Sink, WriteFailed};
 use crate::tree::Tree;
-use pst_sink::{Sink, WriteFailed, put_all};
 
 /// Writes a byte of a text.
 fn write_escaped<W: Sink>(byte: u8, sink: &mut W) -> Result<(), WriteFailed>
@@ -22,7 +23,7 @@ fn write_escaped<W: Sink>(byte: u8, sink: &mut W) -> Result<(), WriteFailed>
     }
 }
 
-/// Writes what stands between the quotes of a text.
+/// Writes the escaped bytes between the quotes of a text.
 fn write_quoted<W: Sink>(bytes: &[u8], sink: &mut W) -> Result<(), WriteFailed>
     requires { W.broken sink.old ≡ false }
     ensures { Writes (W.taken sink.old) (W.taken sink.new) (W.broken sink.new) result (escape bytes.now) }
@@ -33,7 +34,8 @@ fn write_quoted<W: Sink>(bytes: &[u8], sink: &mut W) -> Result<(), WriteFailed>
     Ok(())
 }
 
-/// Writes what stands before a part of a node that follows so many others.
+/// Writes what separates a part of a node from the `parts` parts before it: a space, or nothing if `parts` is
+/// 0.
 fn write_gap<W: Sink>(parts: usize, sink: &mut W) -> Result<(), WriteFailed>
     requires { W.broken sink.old ≡ false }
     ensures { Writes (W.taken sink.old) (W.taken sink.new) (W.broken sink.new) result (gap parts) }
@@ -82,8 +84,8 @@ fn write_spaced<W: Sink>(forms: &[Form], sink: &mut W) -> Result<(), WriteFailed
 
 /// Writes the tree in its one spelling: a space between the trees of a node, and nowhere else.
 ///
-/// It takes no memory. The sink must not have failed.
-/// `WriteFailed`: the sink failed, and took only a beginning of the spelling.
+/// It does not allocate. The sink must not have failed. `WriteFailed`: the sink failed, and took only a
+/// beginning of the spelling.
 pub fn write<W: Sink>(tree: &Tree, sink: &mut W) -> Result<(), WriteFailed>
     requires { W.broken sink.old ≡ false }
     // What goes out is the spelling of the tree.

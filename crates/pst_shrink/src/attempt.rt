@@ -1,11 +1,11 @@
-//! What shrinking asks of its caller: to drive a case and judge what it recorded.
+//! What shrinking needs of its caller: to drive a case and judge the recorded histories.
 ghost use Rattle.std.specs.Prelude.{◌≡◌, ◌+◌, ◌^◌, ◌<◌, IfOk, IfErr, MatchResult};
 ghost use Rattle.pst_shrink.specs.Outcomes.{drives, IsKept};
 
 use pst_case::Case;
-use pst_items::Items;
+use pst_value::Items;
 
-/// The answer to an attempt at a case.
+/// The result of an attempt at a case.
 #[derive(Debug, Drop)]
 pub enum Outcome<H> {
     /// The case is not valid, so it was not driven.
@@ -28,10 +28,10 @@ pub trait Attempt {
     /// Why a case could not be driven.
     type Fault: Drop;
 
-    /// The outcomes that it may answer of a case.
+    /// The outcomes that it may return for a case.
     ghost answers: { Self → Case → Outcome Self.History → Type 0 };
 
-    /// The faults that it may answer.
+    /// The faults that it may return.
     ghost fails: { Self → Self.Fault → Type 0 };
 
     /// How many valid cases it has driven.
@@ -40,7 +40,7 @@ pub trait Attempt {
     /// What an attempt leaves as it was, as a relation of the value before and the value after.
     ghost keeps: { Self → Self → Type 0 };
 
-    /// Tries a case. `Err` where it could not be driven.
+    /// Tries a case. `Err` if it could not be driven.
     fn attempt(&mut self, case: &Case) -> Result<Outcome<Self::History>, Self::Fault>
         requires { driven self.old < 2 ^ 32 }
         ensures answer { IfOk result (λ o. answers self.old case.now o) }
@@ -56,6 +56,6 @@ pub trait Attempt {
     /// Two attempts in a row keep what each of them keeps.
     ghost keeps_trans: { (a b c : Self) → keeps a b → keeps b c → keeps a c };
 
-    /// What it may answer stays, as long as that is kept.
+    /// What it may return stays the same, as long as `keeps` holds.
     ghost kept: { (a b : Self) → keeps a b → IsKept (answers a) (answers b) (fails a) (fails b) };
 }

@@ -6,10 +6,10 @@ ghost use Rattle.pst_shrink.specs.Candidates as spec;
 use crate::parts::{count_commands, other_branch_commands, other_commands, uses};
 use crate::renumbering::{Renumbering, numbers_by};
 use pst_case::{Case, Command, renumber_command, renumber_commands};
-use pst_items::Items;
+use pst_value::Items;
 use std::alloc::{AllocError, Global};
 
-/// The case without the command of a number.
+/// The case without command `number`.
 fn without(alloc: Global, case: &Case, number: u32) -> Result<Case, AllocError>
     requires room { length (commands_of case.now) + 1 < 2 ^ 32 }
     ensures { IfOk result (λ smaller. smaller ≡ spec.without number case.now) }
@@ -86,10 +86,9 @@ fn moves(alloc: Global, case: &Case) -> Result<Items<Case>, AllocError>
 }
 
 /// The shrink candidates of a case: first, by command number, the case without one command whose variable no
-/// command uses; then, branch by branch, the case with the first command of the branch moved to the end of
-/// the prefix. Variables and references name the same commands under their new numbers, and a number of no
-/// command stays. Each candidate weighs less than the case, as `candidates_are_lesser` says. `AllocError`
-/// where memory is refused.
+/// command uses; then, branch by branch, the case with the first command of the branch moved to the end of the
+/// prefix. Variables and references name the same commands under their new numbers, and a number of no command
+/// stays. Each candidate weighs less than the case, as `candidates_are_lesser` says.
 pub fn candidates(alloc: Global, case: &Case) -> Result<Items<Case>, AllocError>
     requires room { length (commands_of case.now) + 1 < 2 ^ 32 }
     ensures { IfOk result (λ all. all ≡ spec.candidates case.now) }

@@ -7,14 +7,14 @@ use std::alloc::AllocError;
 /// Why a case was not shrunk.
 #[derive(Debug, Drop)]
 pub enum ShrinkFault<F> {
-    /// An attempt answered this fault.
+    /// An attempt returned this fault.
     Attempt(F),
-    /// Memory was refused to shrinking itself.
+    /// An allocation of shrinking itself failed.
     NoMemory,
 }
 
 impl<F> ShrinkFault<F> {
-    /// The name of its kind, as `Attempt`.
+    /// The name of its kind, such as `Attempt`.
     pub fn name(&self) -> &'static str
         ensures { result.now ≡ fault_name self.now }
     {

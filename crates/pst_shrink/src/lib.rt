@@ -1,5 +1,5 @@
-//! Shrinking a test case that fails: the smaller cases that are tried in its place, and the search through
-//! them.
+//! Shrinks a failing test case: makes smaller candidates, and searches them. `AllocError` means that an
+//! allocation failed.
 #![tactic(auto)]
 
 mod attempt;

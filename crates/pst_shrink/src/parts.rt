@@ -6,7 +6,7 @@ ghost use Rattle.pst_shrink.specs.Candidates.{command_uses, others, branch_other
 ghost use Rattle.pst_shrink.specs.Number.{renumber_command};
 
 use pst_case::{Case, Command, renumber_command};
-use pst_items::Items;
+use pst_value::Items;
 use std::alloc::{AllocError, Global};
 
 /// How many commands the branches have together.
@@ -60,7 +60,7 @@ pub(crate) fn uses(case: &Case, number: u32) -> bool
         || any_uses(case.suffix.as_slice(), number)
 }
 
-/// The commands but for the one of a number, renumbered. The first of them has the number `first`.
+/// The commands except command `number`, renumbered. The first of `commands` has the number `first`.
 pub(crate) fn other_commands(
     alloc: Global,
     number: u32,
@@ -83,8 +83,8 @@ pub(crate) fn other_commands(
     Ok(all)
 }
 
-/// The branches without the command of a number, renumbered. The first command of the first branch has the
-/// number `first`.
+/// The branches without command `number`, renumbered. The first command of the first branch has the number
+/// `first`.
 pub(crate) fn other_branch_commands(
     alloc: Global,
     number: u32,

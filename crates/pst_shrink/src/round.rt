@@ -6,15 +6,15 @@ ghost use Rattle.pst_shrink.specs.Shrinking.{FaultIsReal};
 
 use crate::{Attempt, Ending, Outcome, ShrinkFault, Taken, candidates};
 use pst_case::Case;
-use pst_items::Items;
+use pst_value::Items;
 use std::alloc::Global;
 
-/// What trying the candidates of one case came to.
+/// The result of attempting the candidates of one case.
 #[derive(Debug, Drop)]
 pub(crate) enum Round<H> {
     /// The first candidate that broke, and how many cases may still be driven.
     Took(Taken<H>, u32),
-    /// The histories of each candidate that was tried (none of one that is not valid), where none broke.
+    /// None broke: the histories of each attempted candidate, or `None` for one that is not valid.
     Ended(Items<Option<Items<H>>>, Ending),
 }
 

@@ -6,14 +6,14 @@ ghost use Rattle.pst_shrink.specs.Shrinking.{IsShrunk, FaultIsReal};
 use crate::round::{Round, try_candidates};
 use crate::{Attempt, ShrinkFault, Shrunk, Taken};
 use pst_case::Case;
-use pst_items::Items;
+use pst_value::Items;
 use std::alloc::Global;
 
 /// Shrinks a case that broke with this history: takes the first of its candidates that breaks, then the first
-/// of that one's candidates, and so on, until no candidate breaks or as many valid cases were driven as
-/// `limit` allows. `ShrinkFault::Attempt` with the fault that an attempt answered; `ShrinkFault::NoMemory`
-/// where memory is refused. At an error the first case and its history are dropped, and `attempt` stands
-/// where its last use left it.
+/// of that one's candidates, and so on, until no candidate breaks or `limit` valid cases were driven.
+///
+/// `ShrinkFault::Attempt`: an attempt returned this fault. `ShrinkFault::NoMemory`: an allocation failed. After
+/// an error the first case and its history are dropped, and `attempt` is as its last use left it.
 pub fn shrink<A: Attempt>(
     alloc: Global,
     first: Case,

@@ -1,7 +1,7 @@
 //! What shrinking gives.
 
 use pst_case::Case;
-use pst_items::Items;
+use pst_value::Items;
 
 /// A case with the history that it broke with.
 #[derive(Debug, Drop)]
@@ -15,23 +15,23 @@ pub struct Taken<H> {
 /// How shrinking ended.
 #[derive(Debug, Clone, Copy, PartialEq, Eq, Drop)]
 pub enum Ending {
-    /// Every candidate of the last case was tried, and none broke.
+    /// Every candidate of the last case was attempted, and none broke.
     Minimal,
     /// As many valid cases were driven as the limit allows, and a candidate of the last case is untried.
     Stopped,
 }
 
-/// A case that was shrunk: the cases that were taken one after the other, and how that ended.
+/// The result of shrinking: the cases that were taken one after the other, and how that ended.
 #[derive(Debug, Drop)]
 pub struct Shrunk<H> {
-    /// The first case and those taken after it, but for the last. It is empty where no candidate of the first
-    /// case broke.
+    /// The first case and those taken after it, except the last. It is empty if no candidate of the first case
+    /// broke.
     pub before: Items<Taken<H>>,
     /// The last case.
     pub last: Taken<H>,
-    /// The histories of each candidate of the last case that was tried, in order, and `None` for one that is
-    /// not valid.
+    /// The histories of each attempted candidate of the last case, in order, and `None` for one that is not
+    /// valid.
     pub tried: Items<Option<Items<H>>>,
-    /// Whether all candidates of the last case were tried.
+    /// Whether all candidates of the last case were attempted.
     pub ending: Ending,
 }

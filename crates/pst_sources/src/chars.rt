@@ -1,8 +1,8 @@
-//! Characters among bytes, and how they are shown.
+//! Characters in UTF-8 bytes, and how messages show them.
 
 use std::alloc::{AllocError, Global};
 
-/// How many bytes a character has, by its first one.
+/// Returns the length in bytes of a character whose first byte is `first`.
 fn width_of(first: u8) -> usize {
     match first {
         0xc0..=0xdf => 2,
@@ -12,7 +12,7 @@ fn width_of(first: u8) -> usize {
     }
 }
 
-/// The character that the bytes at a place spell, and how many they are. `None`: they spell none.
+/// Returns the character at `at` and its length in bytes. `None` if the bytes there are no character.
 pub fn char_at(input: &[u8], at: usize) -> Option<(char, usize)> {
     let width = width_of(*input.get(at)?);
     let bytes = input.get(at..at.saturating_add(width))?;
@@ -22,7 +22,7 @@ pub fn char_at(input: &[u8], at: usize) -> Option<(char, usize)> {
     }
 }
 
-/// The place, or one of the next three, where no byte inside of a character is.
+/// Returns the first of `at` and the next three places that is not inside a character, or `at` if all four are.
 pub fn char_from(input: &[u8], at: usize) -> usize {
     for more in 0..4 {
         let later = at.saturating_add(more);
@@ -34,7 +34,7 @@ pub fn char_from(input: &[u8], at: usize) -> usize {
     at
 }
 
-/// Whether a character is not seen, or changes how others are shown.
+/// Returns whether a character is invisible, or changes how others are displayed.
 fn is_hidden(letter: char) -> bool {
     letter.is_control()
         || matches!(
@@ -43,7 +43,7 @@ fn is_hidden(letter: char) -> bool {
         )
 }
 
-/// A character as it is shown: a tab as a blank, and one that is not seen as `?`.
+/// Returns a character as messages show it: a tab as a blank, and a hidden character as `?`.
 fn shown(letter: char) -> char {
     if letter == '\t' {
         ' '
@@ -54,8 +54,8 @@ fn shown(letter: char) -> char {
     }
 }
 
-/// The characters of the bytes from one place on and before another, as they are shown: a byte that belongs to none as
-/// `?`.
+/// Returns the characters of `input` from `from` up to `end`, as messages show them. A byte that belongs to no
+/// character becomes `?`.
 pub fn shown_chars(
     alloc: Global,
     input: &[u8],

@@ -1,19 +1,19 @@
-//! The item that a `)` too many closed too early, and what heads the items of a file.
+//! Finds the item that an extra `)` closed too early, and the word that heads an item of a file.
 
 use crate::open::file_word;
 use crate::scan::{skip_blank, tree_at};
 use crate::span::Span;
 
-/// An item that was closed already.
+/// An item that is closed already.
 #[derive(Clone, Copy, Debug, PartialEq, Eq, Drop)]
 pub struct ClosedItem {
     /// Its bytes; the last one is the `)` that closes it.
     pub span: Span,
-    /// What it is called: `model`, `case`, `run`, or `tree` if it is none of them.
+    /// Its kind: `model`, `case`, `run`, or `tree` if it is none of them.
     pub called: &'static str,
 }
 
-/// The word that heads the tree at a place, if it is a model, a case or a run.
+/// Returns the word that heads the tree at `at`, if it is a model, a case or a run.
 fn head_at(input: &[u8], at: usize) -> Option<&'static str> {
     match input.get(at) {
         Some(b'(') => file_word(input.get(at.saturating_add(1)..)?),
@@ -21,12 +21,12 @@ fn head_at(input: &[u8], at: usize) -> Option<&'static str> {
     }
 }
 
-/// The word that heads the first tree of a file, if it is a model, a case or a run.
+/// Returns the word that heads the first tree of a file, if it is a model, a case or a run.
 pub fn first_item(input: &[u8]) -> Option<&'static str> {
     head_at(input, skip_blank(input, 0))
 }
 
-/// What an item is called, by the word that heads it.
+/// Returns what messages call an item that the word `head` heads.
 fn called(head: Option<&'static str>) -> &'static str {
     match head {
         Some("model2") => "model",
@@ -35,8 +35,8 @@ fn called(head: Option<&'static str>) -> &'static str {
     }
 }
 
-/// The item that was probably meant to be closed by a `)` that closes nothing: the last model, case or run before it; if
-/// there is none, the last tree before it.
+/// Returns the item that the extra `)` at `stray` was probably meant to close: the last model, case or run before it,
+/// or else the last tree before it.
 pub fn closed_item(input: &[u8], stray: usize) -> Option<ClosedItem> {
     let mut last = None;
     let mut item = None;

@@ -22,9 +22,7 @@ pub struct FilePlace {
     pub place: usize,
 }
 
-/// The text of an input that stands in files: their bytes, one file behind another, with a line end between two.
-///
-/// `AllocError`: memory was refused.
+/// Returns the text of an input: the bytes of its files in order, with a line end between two files.
 pub fn joined(alloc: Global, files: &[SourceFile<'_>]) -> Result<Vec<u8>, AllocError>
     ensures { IfOk result (λ text. text.items ≡ text_of files.now) }
 {
@@ -40,8 +38,8 @@ pub fn joined(alloc: Global, files: &[SourceFile<'_>]) -> Result<Vec<u8>, AllocE
     Ok(text)
 }
 
-/// The file that a place of the text of the files stands in, and the place in this file. The place of the line end
-/// behind a file is the end of that file. `None`: the text ends before the place, or there are no files.
+/// Returns the file that contains `place` of the joined text, and the place in this file. The line end between two
+/// files counts as the end of the first. `None` if the text ends before `place`, or there are no files.
 #[tactic(auto, using(crate::proofs::Places::starting))]
 pub fn locate(files: &[SourceFile<'_>], place: usize) -> Option<FilePlace>
     ensures { MatchOption result (length (text_of files.now) ≤ place) (IsPlaceIn files.now place) }

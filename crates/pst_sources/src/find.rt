@@ -1,9 +1,9 @@
-//! The bytes of a tree that a path leads to.
+//! Finds the bytes of the tree at a path.
 
 use crate::scan::tree_at;
 use crate::span::Span;
 
-/// The first tree behind so many others.
+/// Returns the tree after the first `count` trees from `from` on.
 fn behind(input: &[u8], from: usize, count: usize) -> Span {
     let mut at = from;
     for _ in 0..count {
@@ -12,7 +12,7 @@ fn behind(input: &[u8], from: usize, count: usize) -> Span {
     tree_at(input, at)
 }
 
-/// The tree of a number, from 0, from a place on up to the bracket or the end behind the last one.
+/// Returns tree `number`, from 0, of those that begin at `from` and end before a `)` or the end of the input.
 fn numbered(input: &[u8], from: usize, number: usize) -> Option<Span> {
     let span = behind(input, from, number);
     if input.get(span.start) == Some(&b')') || span.start == span.end {
@@ -22,7 +22,7 @@ fn numbered(input: &[u8], from: usize, number: usize) -> Option<Span> {
     }
 }
 
-/// The part of a number, from 0, of the tree of these bytes.
+/// Returns part `number`, from 0, of the node `tree`.
 fn part_of(input: &[u8], tree: Span, number: usize) -> Option<Span> {
     if input.get(tree.start) == Some(&b'(') {
         numbered(input, tree.start.saturating_add(1), number)
@@ -31,8 +31,8 @@ fn part_of(input: &[u8], tree: Span, number: usize) -> Option<Span> {
     }
 }
 
-/// The bytes of the tree that a path leads to within the tree of these bytes: the number of a part, from 0, then that of
-/// a part in this one, and so on. If there is none, those of the last tree that the path leads to.
+/// Returns the bytes of the tree at `path` in `tree`. The path is the number of a part, from 0, then that of a part of
+/// this part, and so on. If a part is missing, returns the bytes of the last tree on the path.
 pub fn span_in(input: &[u8], tree: Span, path: &[usize]) -> Span {
     let mut found = tree;
     for number in path {
@@ -44,8 +44,8 @@ pub fn span_in(input: &[u8], tree: Span, path: &[usize]) -> Span {
     found
 }
 
-/// The bytes of the tree that a path leads to: the number of a tree of the file, from 0, and then a path within it, as
-/// `span_in` follows it. If the file has no such tree, all its bytes.
+/// Returns the bytes of the tree at `path`: the number of a tree of the file, from 0, and then a path in it, as for
+/// `span_in`. If the file has no such tree, returns all its bytes.
 pub fn span_of(input: &[u8], path: &[usize]) -> Span {
     let all = Span {
         start: 0,

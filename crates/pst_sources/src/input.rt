@@ -1,13 +1,13 @@
 //! An input with its files, and messages at places of it.
 //!
-//! What stands here serves messages, which are tested and not proved.
+//! This module serves messages, which are tested and not proved.
 
 use crate::files::{FilePlace, SourceFile, locate};
 use crate::shown::{LineStart, Place, first_line, line_from, place_of, place_on};
 use crate::span::Span;
 use std::alloc::{AllocError, Global};
 
-/// An input: its files, and their text, as `joined` gives it.
+/// An input: its files, and their text, as `joined` returns it.
 #[derive(Clone, Copy, Drop)]
 pub struct Input<'a> {
     /// The files.
@@ -36,7 +36,7 @@ pub struct LastLine {
     file: usize,
     /// The place of the message in the file.
     place: usize,
-    /// Where its line begins in the file.
+    /// The beginning of its line in the file.
     line: LineStart,
 }
 
@@ -50,7 +50,7 @@ impl LastLine {
         }
     }
 
-    /// The line of a part, counted on from the last one where this comes before it in the same file.
+    /// Returns the line of `part`. It counts on from the last line if that is earlier in the same file.
     fn line_of(&self, part: &FilePart<'_>) -> LineStart {
         let place = part.span.start;
         if self.file == part.number && self.place <= place {
@@ -62,7 +62,7 @@ impl LastLine {
 }
 
 impl<'a> Input<'a> {
-    /// The file that bytes of the input begin in, and the bytes in it.
+    /// Returns the file that contains the beginning of `span`, and the span in this file.
     pub fn part_at(&self, span: Span) -> FilePart<'a> {
         if let Some(FilePlace { file, place }) = locate(self.files, span.start) {
             let number = file;
@@ -85,7 +85,7 @@ impl<'a> Input<'a> {
         }
     }
 
-    /// The name of the file of a place, if another place is in another file.
+    /// Returns the name of the file of `at`, if `other` is in another file.
     fn other_file(&self, at: usize, other: usize) -> Option<&'a str> {
         let found = locate(self.files, at)?;
         let from = locate(self.files, other)?;
@@ -96,14 +96,13 @@ impl<'a> Input<'a> {
         Some(file.name)
     }
 
-    /// The line and the column of a place.
+    /// Returns the line and the column of `at`.
     fn shown_place(&self, alloc: Global, at: usize) -> Result<Place, AllocError> {
         let part = self.part_at(Span { start: at, end: at });
         place_of(alloc, part.bytes, part.span)
     }
 
-    /// The line of a place, as `line 3`; with the name of its file, as `line 3 of FILE`, if another place is in
-    /// another file.
+    /// Returns the line of `at`, as `line 3`, or `line 3 of FILE` if `other` is in another file.
     pub fn line_at(&self, alloc: Global, at: usize, other: usize) -> Result<String, AllocError> {
         let line = self.shown_place(alloc, at)?.line;
         match self.other_file(at, other) {
@@ -112,8 +111,7 @@ impl<'a> Input<'a> {
         }
     }
 
-    /// The line and the column of a place, as `3:7`; with the name of its file, as `FILE:3:7`, if another place is in
-    /// another file.
+    /// Returns the line and the column of `at`, as `3:7`, or `FILE:3:7` if `other` is in another file.
     pub fn place_at(&self, alloc: Global, at: usize, other: usize) -> Result<String, AllocError> {
         let Place { line, column, .. } = self.shown_place(alloc, at)?;
         match self.other_file(at, other) {
@@ -122,8 +120,8 @@ impl<'a> Input<'a> {
         }
     }
 
-    /// A message on bytes of the input: the name of the file, the line and the column, what is said of them, that line
-    /// with the bytes underlined, and the notes, a line each.
+    /// Returns a message on the bytes `span`: the name of the file, the line, the column and `what`; then that line
+    /// with the bytes underlined; then `notes`, a line each.
     pub fn message(
         &self,
         alloc: Global,
@@ -134,8 +132,8 @@ impl<'a> Input<'a> {
         self.next_message(alloc, &mut LastLine::none(), span, what, notes)
     }
 
-    /// A message, as `message` writes it, where others are written before it. Lines are counted on from that of the last
-    /// one, so messages in the order of their places take one pass over the input.
+    /// Returns a message as `message` does, for one of several messages. It counts lines on from `last`, the line of
+    /// the message before it, so messages in the order of their places take one pass over the input.
     pub fn next_message(
         &self,
         alloc: Global,

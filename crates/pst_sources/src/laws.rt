@@ -1,7 +1,7 @@
-//! Where the files of an input begin in its text.
+//! A law on where the files of an input begin in its text.
 ghost use Rattle.pst_sources.specs.Files.{EachStarts};
 
-/// From the place on where a file begins in the text, the file and those behind it stand there.
+/// The text of an input, from the place where a file begins, is the text of this file and the files after it.
 pub fn starts()
     ensures { EachStarts }
 {}

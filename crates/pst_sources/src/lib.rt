@@ -1,7 +1,10 @@
-//! Inputs that stand in several files: their text, which file a place of the text stands in, and messages at places;
-//! and places of trees: their bytes, their line and column, and how the line is shown.
+//! Inputs of several files: their joined text, the file of a place in this text, and messages at places. Also places of
+//! trees: their bytes, their line and column, and the line as messages show it; and notices, which messages and warnings
+//! are made of.
 //!
 //! The places of trees serve messages, which are tested and not proved: no contract says which bytes a path leads to.
+//!
+//! `AllocError` means that an allocation failed.
 #![tactic(auto)]
 
 mod chars;
@@ -10,6 +13,7 @@ mod files;
 mod find;
 mod input;
 mod laws;
+mod notice;
 mod open;
 mod scan;
 mod shown;
@@ -21,6 +25,7 @@ pub use files::{FilePlace, SourceFile, joined, locate};
 pub use find::{span_in, span_of};
 pub use input::{FilePart, Input, LastLine};
 pub use laws::starts;
+pub use notice::{Notice, NoticePlace, Notices, notice_text, place_in, text_of};
 pub use open::{Unclosed, open_item};
 pub use scan::{State, after, is_space, tree_at};
 pub use shown::{LineStart, Place, first_line, line_from, place_of, place_on};

@@ -1,4 +1,4 @@
-//! The item that is probably not closed, where a `)` is missing.
+//! Finds the item that is probably not closed if a `)` is missing.
 
 use crate::scan::{State, after, is_bracket, is_space};
 use crate::span::Span;
@@ -8,7 +8,7 @@ use crate::span::Span;
 pub struct Unclosed {
     /// Its bracket.
     pub item: Span,
-    /// The bracket of the item that begins a line while the first is still open, if there is one.
+    /// The bracket of the next item, if it begins a line while `item` is still open.
     pub next: Option<Span>,
 }
 
@@ -18,7 +18,7 @@ const OF_MODELS: [&str; 6] = ["state", "init", "command", "fun", "postfun", "op"
 /// The items of a file.
 const OF_FILES: [&str; 4] = ["model", "model2", "case", "run"];
 
-/// Whether the bytes begin with the word and a byte that ends it.
+/// Returns whether `bytes` begins with `word`, followed by a byte that ends it or by nothing.
 fn begins_with(bytes: &[u8], word: &str) -> bool {
     match bytes.strip_prefix(word.as_bytes()) {
         Some(rest) => match rest.first() {
@@ -29,7 +29,7 @@ fn begins_with(bytes: &[u8], word: &str) -> bool {
     }
 }
 
-/// The word of items of a file that the bytes begin with, if they do.
+/// Returns the word that heads an item of a file, if `bytes` begins with one.
 pub(crate) fn file_word(bytes: &[u8]) -> Option<&'static str> {
     for word in OF_FILES {
         if begins_with(bytes, word) {
@@ -39,8 +39,8 @@ pub(crate) fn file_word(bytes: &[u8]) -> Option<&'static str> {
     None
 }
 
-/// How many nodes an item stands in, by the bytes behind its bracket: an item of a file in none, an item of a
-/// model in one. `None`: it is no item.
+/// Returns the nesting level of an item: 0 for an item of a file, 1 for an item of a model. `bytes` follows its
+/// bracket. `None` if this is no item.
 fn level_of(bytes: &[u8]) -> Option<usize> {
     if file_word(bytes).is_some() {
         return Some(0);
@@ -53,7 +53,7 @@ fn level_of(bytes: &[u8]) -> Option<usize> {
     None
 }
 
-/// Whether nothing but white space stands between a place and the line end before it.
+/// Returns whether only white space is between `at` and the line end before it.
 fn begins_line(input: &[u8], at: usize) -> bool {
     for back in 0..at.min(input.len()) {
         let before = at - 1 - back;
@@ -66,7 +66,7 @@ fn begins_line(input: &[u8], at: usize) -> bool {
     true
 }
 
-/// The level of the item whose bracket stands at a place, where it begins a line.
+/// Returns the level of the item whose bracket is at `at`, if it begins a line.
 fn item_level(input: &[u8], at: usize) -> Option<usize> {
     let behind = input.get(at.saturating_add(1)..)?;
     let level = level_of(behind)?;
@@ -77,7 +77,7 @@ fn item_level(input: &[u8], at: usize) -> Option<usize> {
     }
 }
 
-/// The bytes of the bracket at a place.
+/// Returns the span of the bracket at `at`.
 fn bracket(at: usize) -> Span {
     Span {
         start: at,
@@ -85,8 +85,8 @@ fn bracket(at: usize) -> Span {
     }
 }
 
-/// The item that is probably not closed: the last one that was begun when an item begins a line inside more
-/// nodes than it may stand in; else the last that was begun at all.
+/// Returns the item that is probably not closed. Only items that begin a line count. If one of them is nested deeper
+/// than its kind may be, this is the item before it; else it is the last item of all.
 pub fn open_item(input: &[u8]) -> Option<Unclosed> {
     let mut state = State::Between;
     let mut depth: usize = 0;

@@ -2,7 +2,7 @@
 
 use crate::span::Span;
 
-/// Where a byte stands.
+/// What a byte is part of.
 #[derive(Clone, Copy, PartialEq, Eq, Drop)]
 pub enum State {
     /// Between trees.
@@ -13,7 +13,7 @@ pub enum State {
     Word,
     /// In a text.
     Text,
-    /// In a text, behind a `\`.
+    /// In a text, after a `\`.
     Escape,
 }
 
@@ -22,7 +22,7 @@ pub fn is_space(byte: u8) -> bool {
     byte == b' ' || byte == b'\t' || byte == b'\n' || byte == b'\r'
 }
 
-/// Where the next byte stands, behind this byte, which stands outside of texts and comments.
+/// Returns the state after `byte`, a byte outside of texts and comments.
 fn outside(byte: u8) -> State {
     match byte {
         b';' => State::Comment,
@@ -38,7 +38,7 @@ fn outside(byte: u8) -> State {
     }
 }
 
-/// Where the next byte stands, behind this byte in that state.
+/// Returns the state after `byte` in `state`.
 pub fn after(state: State, byte: u8) -> State {
     match state {
         State::Between | State::Word => outside(byte),
@@ -58,12 +58,12 @@ pub fn after(state: State, byte: u8) -> State {
     }
 }
 
-/// Whether a byte in that state opens a node, where `+`, or closes one.
+/// Returns whether `byte`, read in `state`, is the bracket `bracket` outside of texts and comments.
 pub fn is_bracket(state: State, byte: u8, bracket: u8) -> bool {
     byte == bracket && (state == State::Between || state == State::Word)
 }
 
-/// The place of the first tree from a place on, or the end of the input.
+/// Returns the place of the first tree from `from` on, or the end of the input.
 pub fn skip_blank(input: &[u8], from: usize) -> usize {
     let mut state = State::Between;
     for at in from..input.len() {
@@ -76,7 +76,7 @@ pub fn skip_blank(input: &[u8], from: usize) -> usize {
     input.len()
 }
 
-/// The place behind a word that begins at a place.
+/// Returns the end of the word that begins at `from`.
 fn word_end(input: &[u8], from: usize) -> usize {
     for at in from..input.len() {
         if outside(input[at]) != State::Word {
@@ -86,7 +86,7 @@ fn word_end(input: &[u8], from: usize) -> usize {
     input.len()
 }
 
-/// The place behind a text or a node that begins at a place, or the end of the input where it is not closed.
+/// Returns the end of the text or the node that begins at `from`, or the end of the input if it is not closed.
 fn closed_end(input: &[u8], from: usize) -> usize {
     let mut state = State::Between;
     let mut depth: usize = 0;
@@ -107,7 +107,7 @@ fn closed_end(input: &[u8], from: usize) -> usize {
     input.len()
 }
 
-/// The bytes of the first tree from a place on; none at the end of the input.
+/// Returns the bytes of the first tree from `from` on, or an empty span at the end of the input.
 pub fn tree_at(input: &[u8], from: usize) -> Span {
     let start = skip_blank(input, from);
     let end = match input.get(start) {

@@ -1,23 +1,23 @@
-//! The line of a place, as it is shown.
+//! The line of a place, as messages show it.
 
 use crate::chars::{char_from, shown_chars};
 use crate::span::Span;
 use std::alloc::{AllocError, Global};
 
-/// The most bytes of a line that are shown.
+/// The maximum number of bytes that messages show of a line.
 const WIDTH: usize = 80;
 
-/// How many bytes before a place are shown of a line that is cut.
+/// The number of bytes that messages show before the place, if the line is cut.
 const BEFORE: usize = 30;
 
-/// A place in a file, and how its line is shown.
+/// A place in a file, with its line as messages show it.
 #[derive(Drop)]
 pub struct Place {
     /// The number of the line, from 1: one more than the line ends before the place.
     pub line: usize,
     /// The number of the byte in its line, from 1. A tab is one byte.
     pub column: usize,
-    /// The line, or what is shown of it.
+    /// The line, or the displayed part of it.
     pub text: String,
     /// Blanks, and a `^` below each character of the place.
     pub marks: String,
@@ -37,8 +37,8 @@ pub fn first_line() -> LineStart {
     LineStart { line: 1, place: 0 }
 }
 
-/// The beginning of the line that a place is in, counted on from an earlier place and the beginning of the line that this
-/// one is in.
+/// Returns the beginning of the line of `place`. It counts on from `from`, an earlier place, whose line begins at
+/// `earlier`.
 pub fn line_from(input: &[u8], earlier: LineStart, from: usize, place: usize) -> LineStart {
     let mut found = earlier;
     for at in from..input.len() {
@@ -55,8 +55,8 @@ pub fn line_from(input: &[u8], earlier: LineStart, from: usize, place: usize) ->
     found
 }
 
-/// The place of the next line end, or of the `\r` before it, or the end of the input. At most two bytes more than are
-/// shown of a line are looked at: where there is no line end among them, the place behind them.
+/// Returns the place of the next line end, or of the `\r` before it, or the end of the input. It reads at most `WIDTH`
+/// + 2 bytes, and returns the place after them if they contain no line end.
 fn line_end(input: &[u8], from: usize) -> usize {
     let most = input.len().min(from.saturating_add(WIDTH + 2));
     let mut end = most;
@@ -75,7 +75,7 @@ fn line_end(input: &[u8], from: usize) -> usize {
     }
 }
 
-/// A character so many times, behind a text.
+/// Appends `mark` to `text` `count` times, but at most `2 * WIDTH` times.
 fn push_many(text: &mut String, mark: char, count: usize) -> Result<(), AllocError> {
     for _ in 0..count.min(2 * WIDTH) {
         text.push(mark)?;
@@ -83,8 +83,8 @@ fn push_many(text: &mut String, mark: char, count: usize) -> Result<(), AllocErr
     Ok(())
 }
 
-/// The place of bytes, with their line, which begins there. Of a line that is longer than 80 bytes a part is shown, with `...` where
-/// it is cut. What goes on in further lines is underlined to the end of the first.
+/// Returns the place of `span` with its line, which begins at `line`. If the line is longer than 80 bytes, only a part
+/// of it is displayed, with `...` where it is cut. A span of several lines is underlined to the end of the first.
 pub fn place_on(
     alloc: Global,
     input: &[u8],
@@ -127,7 +127,7 @@ pub fn place_on(
     })
 }
 
-/// The place of bytes, with their line, as `place_on` gives it.
+/// Returns the place of `span` with its line, as `place_on` does.
 pub fn place_of(alloc: Global, input: &[u8], span: Span) -> Result<Place, AllocError> {
     let line = line_from(input, first_line(), 0, span.start);
     place_on(alloc, input, line, span)

@@ -9,7 +9,7 @@ use Rattle.pst_value.specs.declared.ty.Ty.{Ty}
 use Rattle.pst_model.specs.declared.expr.Expr.{Expr}
 use Rattle.pst_model.specs.declared.expr.Expr as expr
 use Rattle.pst_syntax.specs.Names.{is_free, is_short, is_used_operation}
-use Rattle.pst_words.specs.Integers.{value}
+use Rattle.pst_sexpr.specs.Integers.{value}
 use Rattle.pst_value.specs.Text.{is_i64}
 use Rattle.pst_syntax.specs.Shape.{Shape, TyShape, ClauseShape, Integer, Truth, Quoted, Used, Let, If, And, Or, Unary, Binary, Tuple, At, ListOf, For, Fold, MapOf, Put, Call, Apply, IntType, BoolType, TextType, CallType, TupleType, ListType, MapType, RefType, InEach, WhenTrue, shape_of, ty_shape, clause_shape}
 use Rattle.pst_syntax.specs.Reading.{Read, ◌>>=◌, known, within, each, declared, bound, bound_beside, used_operation, int_of, text_of, item_at, ty_of, expr_of, clause_of, ty_parts, expr_parts, clause_parts, are_few}

@@ -6,7 +6,7 @@ use Rattle.pst_sexpr.specs.declared.form.Form.{Form}
 use Rattle.pst_syntax.specs.declared.fault.FaultKind.{FaultKind}
 use Rattle.pst_syntax.specs.declared.fault.FaultKind.TheVariants.{UnknownForm, BadName, DoubleName, OverLimit}
 use Rattle.pst_syntax.specs.Names.{is_free, is_short, is_used_operation}
-use Rattle.pst_words.specs.Integers.{value}
+use Rattle.pst_sexpr.specs.Integers.{value}
 use Rattle.pst_value.specs.Text.{is_i64}
 use Rattle.pst_syntax.specs.Shape.{Shape, TyShape, ClauseShape, Integer, Truth, Quoted, Used, Let, If, And, Or, Unary, Binary, Tuple, At, ListOf, For, Fold, MapOf, Put, Call, Apply, IntType, BoolType, TextType, CallType, TupleType, ListType, MapType, RefType, InEach, WhenTrue, shape_of, ty_shape, clause_shape}
 use Rattle.pst_syntax.specs.Reading.{are_few}

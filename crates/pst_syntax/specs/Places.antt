@@ -1,6 +1,6 @@
 -- The places of the items of a tuple, from 1 on.
 use Rattle.std.specs.Prelude.{◌&&◌, ℕ, ℤ, pos, negsuc, nat_lt, Bool, false, List}
-use Rattle.pst_words.specs.Integers.{is_integer, value}
+use Rattle.pst_sexpr.specs.Integers.{is_integer, value}
 
 -- an integer from 1 on
 abbrev pub is_positive : ℤ → Bool

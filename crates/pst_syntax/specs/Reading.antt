@@ -11,7 +11,7 @@ use Rattle.pst_model.specs.declared.expr.Clause as clause
 use Rattle.pst_syntax.specs.declared.fault.FaultKind.{FaultKind}
 use Rattle.pst_syntax.specs.declared.fault.FaultKind.TheVariants.{UnknownForm, BadName, DoubleName, OverLimit, NoMemory}
 use Rattle.pst_syntax.specs.Names.{is_free, is_short, is_used_operation}
-use Rattle.pst_words.specs.Integers.{value}
+use Rattle.pst_sexpr.specs.Integers.{value}
 use Rattle.pst_value.specs.Text.{is_i64}
 use Rattle.pst_syntax.specs.Places.{natural}
 use Rattle.pst_syntax.specs.Limits.{max_text, max_parts, ty_room}

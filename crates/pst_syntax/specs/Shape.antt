@@ -13,7 +13,7 @@ use Rattle.pst_syntax.specs.declared.heads.Head.TheVariants as head
 use Rattle.pst_syntax.specs.Heads.{head_of}
 use Rattle.pst_syntax.specs.Names.{is_used}
 use Rattle.pst_syntax.specs.Places.{is_place}
-use Rattle.pst_words.specs.Integers.{is_integer}
+use Rattle.pst_sexpr.specs.Integers.{is_integer}
 
 -- an expression, whose parts are trees yet
 pub data Shape : Type 0 where

@@ -1,4 +1,4 @@
-//! How many trees stand in a tree.
+//! Counts the trees in a tree.
 
 ghost use Rattle.std.specs.Prelude.{◌≡◌, map};
 ghost use Rattle.std.specs.List.{sum};
@@ -6,7 +6,7 @@ ghost use Rattle.pst_syntax.specs.Counting.{trees_in, spent};
 
 use pst_sexpr::Form;
 
-/// The room that is left of so much once a tree and all trees in it are counted; `None` where there is not
+/// The room left of `room` after a tree and all trees in it are counted, or `None` if there is not
 /// enough.
 #[cycle(room)]
 #[tactic(auto, using(crate::proofs::Counted::counted))]

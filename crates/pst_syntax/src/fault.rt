@@ -8,25 +8,25 @@ use std::alloc::{AllocError, AllocFailed};
 use std::error::Error;
 use std::fmt;
 
-/// What is refused. At one tree the first of this list is answered.
+/// Why a model is refused. At one tree the reader returns the first of this list.
 #[derive(Clone, Copy, Debug, PartialEq, Eq, Drop)]
 pub enum FaultKind {
-    /// No form of the language stands here.
+    /// The tree is no form of the language.
     UnknownForm,
-    /// A declared name is not lawful.
+    /// A declared name is not valid.
     BadName,
-    /// What may stand once stands here for the second time.
+    /// Something that may occur once occurs again.
     DoubleName,
     /// A limit is passed.
     OverLimit,
     /// A state, an init, a command or a callback is missing.
     Missing,
-    /// Memory was refused.
+    /// An allocation failed.
     NoMemory,
 }
 
 impl FaultKind {
-    /// The kind's name, as `UnknownForm`.
+    /// The kind's name, such as `UnknownForm`.
     pub fn name(&self) -> &'static str
         ensures { result.now ≡ name_of self.now }
     {
@@ -80,7 +80,7 @@ impl<T: Drop> From<AllocFailed<T>> for FaultKind {
 pub struct SyntaxFault {
     /// What is refused.
     pub kind: FaultKind,
-    /// The item, from 1; 0 for the model itself, and where memory was refused.
+    /// The item, from 1; 0 for the model itself, and if an allocation failed.
     pub item: usize,
 }
 

@@ -4,8 +4,8 @@ ghost use Rattle.std.specs.Prelude.{◌≡◌};
 ghost use Rattle.pst_syntax.specs.ItemShape as spec;
 ghost use Rattle.pst_syntax.specs.ShownItems.{shown_item_option, shown_callback_option, shown_param_option, shown_model_option};
 
-use pst_items::Text;
 use pst_sexpr::{Form, node_of, word_of};
+use pst_value::Text;
 
 /// An item, whose parts are trees yet.
 #[derive(Drop)]

@@ -17,20 +17,19 @@ use crate::item_shape::{
 use crate::limits::{MAX_DECLARED, MAX_EXPR_LEVELS, MAX_PARTS, MAX_TY_LEVELS};
 use crate::names::{declared, is_free, is_name};
 use crate::read::{expr, ty};
-use pst_items::{Boxed, Items, Text};
 use pst_model::{Expr, Fun, Item, Op, Param};
 use pst_sexpr::Form;
-use pst_value::Ty;
+use pst_value::{Boxed, Items, Text, Ty};
 use std::alloc::Global;
 
-/// A type that stands in no other one.
+/// Reads a type that is part of no other type.
 fn whole_ty(alloc: Global, has_maps: bool, form: &Form) -> Result<Ty, FaultKind>
     ensures { Gives result (spec.whole_ty has_maps form.now) }
 {
     ty(alloc, has_maps, form, MAX_TY_LEVELS)
 }
 
-/// An expression that stands in no other one.
+/// Reads an expression that is part of no other expression.
 fn whole_expr(alloc: Global, has_maps: bool, form: &Form) -> Result<Expr, FaultKind>
     ensures { Gives result (spec.whole_expr has_maps form.now) }
 {
@@ -59,7 +58,7 @@ fn param_of(
     Ok(Param { name, ty })
 }
 
-/// The parameter that a tree spells, behind others.
+/// Reads a parameter that follows `params`.
 fn known_param(
     alloc: Global,
     has_maps: bool,
@@ -95,7 +94,7 @@ pub struct Callbacks {
     post: Option<Boxed<Expr>>,
 }
 
-/// The expression of a callback that must stand once.
+/// Reads the expression of a callback that may occur once. `is_taken` says whether it has occurred before.
 fn callback_body(
     alloc: Global,
     has_maps: bool,
@@ -173,7 +172,7 @@ struct AllCallbacks {
     post: Expr,
 }
 
-/// The callbacks, where none is missing.
+/// The callbacks, if none is missing.
 fn all_callbacks(callbacks: Callbacks) -> Option<AllCallbacks>
     ensures { ok_or result Missing ≡ spec.all_callbacks callbacks }
 {
@@ -185,7 +184,7 @@ fn all_callbacks(callbacks: Callbacks) -> Option<AllCallbacks>
     })
 }
 
-/// The callbacks that trees spell, of which none is missing.
+/// The callbacks that trees spell, if none is missing.
 fn whole_callbacks(alloc: Global, has_maps: bool, forms: &[Form]) -> Result<AllCallbacks, FaultKind>
     ensures { Gives result (spec.whole_callbacks has_maps forms.now) }
 {
@@ -199,7 +198,7 @@ pub fn has_state(items: &[Item]) -> bool
     items.iter().any(|item| matches!(item, Item::State(_)))
 }
 
-/// Whether some item gives the opening state: `(init ..)`.
+/// Whether some item gives the initial state: `(init ..)`.
 pub fn has_init(items: &[Item]) -> bool
     ensures { result ≡ list_any spec.is_init items.now }
 {

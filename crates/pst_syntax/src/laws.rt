@@ -25,19 +25,19 @@ pub fn model_language()
     ensures { (source : Source) → IsModel source → KeepsLanguage source }
 {}
 
-/// An expression is refused by the first of its faults, and read where it has none.
+/// An expression is refused by the first of its faults, and read if it has none.
 pub fn first_refusal_of_expr()
     ensures { (has_maps : Bool) (room : ℕ) (form : Form) →
         refusal (expr_of has_maps room form) ≡ first (expr_faults has_maps room form) }
 {}
 
-/// A type is refused by the first of its faults, and read where it has none.
+/// A type is refused by the first of its faults, and read if it has none.
 pub fn first_refusal_of_ty()
     ensures { (has_maps : Bool) (room : ℕ) (form : Form) →
         refusal (ty_of has_maps room form) ≡ first (ty_faults has_maps room form) }
 {}
 
-/// A model is refused by the first of its faults, and read where it has none.
+/// A model is refused by the first of its faults, and read if it has none.
 pub fn first_refusal()
     ensures { (trees : List Form) → refusal (model_of trees) ≡ first (model_faults trees) }
 {}

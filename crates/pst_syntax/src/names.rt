@@ -1,4 +1,4 @@
-//! Lawful names.
+//! The valid names.
 
 ghost use Rattle.std.specs.Prelude.{◌≡◌, Err};
 ghost use Rattle.std.specs.List.{list_all};
@@ -10,7 +10,7 @@ ghost use Rattle.pst_syntax.specs.declared.fault.FaultKind.{FaultKind};
 use crate::fault::FaultKind;
 use crate::heads::head_of;
 use crate::limits::MAX_NAME;
-use pst_items::Text;
+use pst_value::Text;
 use std::alloc::Global;
 
 fn is_name_byte(byte: u8) -> bool
@@ -51,8 +51,8 @@ fn is_short(word: &Text) -> bool
     word.len() <= MAX_NAME
 }
 
-/// Whether a word means something of its own where a name could stand; the words of maps do so only in the
-/// language that has them.
+/// Whether `word` has a meaning of its own at a name's place. The words of maps have one only if the
+/// language has maps.
 #[tactic(auto, unfolding(crate::specs::Names::is_reserved))]
 fn is_reserved(has_maps: bool, word: &str) -> bool
     ensures { result ≡ spec.is_reserved has_maps word.now }
@@ -89,10 +89,10 @@ pub fn is_used_operation(word: &Text) -> bool
     is_name(word) && is_short(word)
 }
 
-/// A copy of a name where it is declared, given whether it is lawful there and whether it is taken.
+/// Copies a declared name. `is_lawful` says whether it is valid there, and `is_taken` whether it is taken.
 ///
-/// `BadName`: it is not lawful. `DoubleName`: it is taken. `OverLimit`: it has more than `MAX_NAME` bytes.
-/// `NoMemory`: memory was refused; a name that is refused takes none.
+/// `BadName`: it is not valid. `DoubleName`: it is taken. `OverLimit`: it has more than `MAX_NAME` bytes.
+/// `NoMemory`: an allocation failed; the other faults do not allocate.
 #[tactic(auto, unfolding(crate::specs::Reading::declared))]
 pub fn declared(
     alloc: Global,

@@ -1,11 +1,11 @@
 //! Words that are places of items.
 
 ghost use Rattle.std.specs.Prelude.{◌≡◌, nat_lt};
+ghost use Rattle.pst_sexpr.specs.Integers.{magnitude, value};
 ghost use Rattle.pst_syntax.specs.Places as spec;
-ghost use Rattle.pst_words.specs.Integers.{magnitude, value};
 
-use pst_items::Text;
-use pst_words::{is_integer, magnitude_of};
+use pst_sexpr::{is_integer, magnitude_of};
+use pst_value::Text;
 
 /// Whether the number that digits spell is not 0.
 fn is_nonzero(digits: &[u8]) -> bool
@@ -17,7 +17,7 @@ fn is_nonzero(digits: &[u8]) -> bool
     }
 }
 
-#[tactic(auto, unfolding(pst_words::specs::Integers::value))]
+#[tactic(auto, unfolding(pst_sexpr::specs::Integers::value))]
 fn is_positive(word: &[u8]) -> bool
     ensures { result ≡ spec.is_positive (value word.now) }
 {

@@ -15,11 +15,9 @@ use crate::limits::{MAX_PARTS, MAX_TY_LEVELS};
 use crate::names::{declared, is_free, is_used_operation};
 use crate::shape::{FoldShape, Shape, shape_of};
 use crate::ty_shape::{ClauseShape, TyShape, clause_shape, ty_shape};
-use pst_items::{Boxed, Items, Text};
 use pst_model::{Clause, Expr};
-use pst_sexpr::Form;
-use pst_value::{LIMIT, Ty};
-use pst_words::value_of;
+use pst_sexpr::{Form, value_of};
+use pst_value::{Boxed, Items, LIMIT, Text, Ty};
 use std::alloc::Global;
 
 /// A bound name.
@@ -37,7 +35,7 @@ fn bound_beside(alloc: Global, has_maps: bool, other: &Text, name: &Text) -> Res
     declared(alloc, is_free(has_maps, name), is_taken, name)
 }
 
-/// The name of an operation where it is used.
+/// The name of an operation at a use of it.
 fn used_operation(alloc: Global, name: &Text) -> Result<Text, FaultKind>
     ensures { Gives result (spec.used_operation name.now) }
 {
@@ -47,7 +45,7 @@ fn used_operation(alloc: Global, name: &Text) -> Result<Text, FaultKind>
     Ok(name.copy(alloc)?)
 }
 
-/// An integer, where it has at most 64 bits.
+/// An integer, if it has at most 64 bits.
 fn int(word: &Text) -> Option<Expr>
     ensures { ok_or result OverLimit ≡ spec.int_of word.now }
 {
@@ -63,7 +61,7 @@ fn text(alloc: Global, text: &Text) -> Result<Expr, FaultKind>
     Ok(Expr::Text(text.copy(alloc)?))
 }
 
-/// An item of a tuple, where its place has at most 64 bits.
+/// An item of a tuple, if its place has at most 64 bits.
 fn item_at(tuple: Boxed<Expr>, place: &Text) -> Option<Expr>
     ensures { ok_or result OverLimit ≡ spec.item_at tuple place.now }
 {
@@ -78,7 +76,7 @@ fn application(alloc: Global, function: &Text, arguments: Items<Expr>) -> Result
     Ok(Expr::Apply(function.copy(alloc)?, arguments))
 }
 
-/// A type, with so many levels of room, in the language with or without maps.
+/// Reads a type with `room` levels of room. `has_maps` says whether the language has maps.
 #[cycle(ty)]
 #[tactic(auto, using(crate::proofs::Rooms::ty_rooms))]
 pub fn ty(alloc: Global, has_maps: bool, form: &Form, room: usize) -> Result<Ty, FaultKind>
@@ -137,7 +135,7 @@ fn tys(alloc: Global, has_maps: bool, forms: &[Form], room: usize) -> Result<Ite
     Ok(types)
 }
 
-/// An expression, with so many levels of room, in the language with or without maps.
+/// Reads an expression with `room` levels of room. `has_maps` says whether the language has maps.
 #[cycle(expr)]
 #[tactic(auto, using(crate::proofs::Rooms::expr_rooms))]
 pub fn expr(alloc: Global, has_maps: bool, form: &Form, room: usize) -> Result<Expr, FaultKind>

@@ -13,9 +13,9 @@ use crate::items::{has_command, has_init, has_state, item_of};
 use crate::limits::MAX_TREES;
 use crate::model::Model;
 use crate::names::{declared, is_name};
-use pst_items::Items;
 use pst_model::{Item, Source};
 use pst_sexpr::{Form, Tree};
+use pst_value::Items;
 use std::alloc::Global;
 
 fn items_of(alloc: Global, has_maps: bool, forms: &[Form]) -> Result<Items<Item>, SyntaxFault>
@@ -69,18 +69,18 @@ fn source_of(alloc: Global, form: &Form) -> Result<Source, SyntaxFault>
     })
 }
 
-/// Reads the model that the first tree spells; further trees are not looked at. It is headed `model`, or
-/// `model2` where its language has maps: in `model` their words are names as others.
+/// Reads the model that the first tree spells, and ignores further trees. Its head is `model`, or `model2` if
+/// its language has maps: in `model` the words of maps are ordinary names.
 ///
-/// The fault is the first one, where each tree is judged before its parts, and these from left to right. Its
-/// item is the one in which it stands, from 1, or 0 for the model itself.
+/// Returns the first fault: each tree is checked before its parts, and these from left to right. The fault's
+/// item is the one that holds it, from 1, or 0 for the model itself.
 ///
 /// `Missing` of item 0: there is no tree, or no state, init or command. `OverLimit` of item 0: the first tree
-/// holds more than `MAX_TREES` trees, or the model's name is too long. `UnknownForm` of item 0: the first
-/// tree is no model. `NoMemory`: memory was refused. What is refused before the items takes no memory, so it
-/// is never `NoMemory`.
+/// holds more than `MAX_TREES` trees, or the model's name is too long. `UnknownForm` of item 0: the first tree
+/// is no model. `NoMemory`: an allocation failed. The checks before the items do not allocate, so what they
+/// refuse is never `NoMemory`.
 pub fn read_model(alloc: Global, trees: &[Tree]) -> Result<Model, SyntaxFault>
-    // The answer is that of the definition, unless memory is refused.
+    // The answer is that of the definition, unless an allocation fails.
     ensures answers { Answers result (model_of trees.now) }
     // No tree, too many trees, no model, or a refused name of the model: the answer is this fault, never
     // `NoMemory`.

@@ -10,11 +10,9 @@ ghost use Rattle.pst_syntax.specs.Shown.{shown_option};
 use crate::heads::{Head, head_of};
 use crate::names::is_used;
 use crate::place::is_place;
-use pst_items::Text;
 use pst_model as model;
-use pst_sexpr::{Form, node_of, word_of};
-use pst_value::KeyTy;
-use pst_words::is_integer;
+use pst_sexpr::{Form, is_integer, node_of, word_of};
+use pst_value::{KeyTy, Text};
 
 /// An expression, whose parts are trees yet.
 #[derive(Drop)]
@@ -52,7 +50,7 @@ pub struct FoldShape<'a> {
     pub body: &'a Form,
 }
 
-/// The trees, or `None` where there are none.
+/// The trees, or `None` if there are no trees.
 pub fn some_of(forms: &[Form]) -> Option<&[Form]>
     ensures { option_copied result ≡ spec.some_of forms.now }
 {

@@ -6,9 +6,8 @@ ghost use Rattle.pst_syntax.specs.Shown.{shown_ty_option, shown_clause_option};
 
 use crate::heads::{Head, head_of};
 use crate::shape::{key_shape, some_of};
-use pst_items::Text;
 use pst_sexpr::{Form, node_of, word_of};
-use pst_value::KeyTy;
+use pst_value::{KeyTy, Text};
 
 /// A type, whose parts are trees yet.
 #[derive(Drop)]

@@ -2,8 +2,7 @@
 ghost use Rattle.std.specs.Prelude.{◌≡◌};
 ghost use Rattle.pst_system.specs.FaultName.{fault_name};
 
-use pst_items::{Items, Text};
-use pst_value::Value;
+use pst_value::{Items, Text, Value};
 
 /// A call of an operation with plain arguments, which hold no variable and no reference.
 #[derive(Debug, PartialEq, Eq, Drop)]
@@ -20,7 +19,7 @@ pub struct RealCall {
 pub enum CallFault {
     /// It refuses the call, by its name, by its arguments or in its state.
     Refused,
-    /// Memory was refused to it.
+    /// An allocation of the system failed.
     NoMemory,
 }
 

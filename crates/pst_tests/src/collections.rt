@@ -1,10 +1,10 @@
 //! A `Vec`, a `Box` and a `String` that contracts see as what they hold.
 
-use pst_items::{Boxed, Items, Text};
+use pst_value::{Boxed, Items, Text};
 use std::alloc::{AllocError, Global};
 use std::test::Fail;
 
-/// What is asked of items on their way from a slice to a `Vec`.
+/// What operations return for items on their way from a slice to a `Vec`.
 fn asked_of_items(alloc: Global) -> Result<String, AllocError> {
     let mut items = Items::from_slice(alloc, &[1u8, 2])?;
     items.push(3)?;
@@ -43,7 +43,7 @@ fn a_box_holds_its_value(rt: HostRuntime) -> Result<(), Fail> {
     Ok(())
 }
 
-/// What is asked of a text, of a copy of it, and of the same text made byte by byte.
+/// What operations return for a text, for a copy of it, and for the same text made byte by byte.
 fn asked_of_text(alloc: Global, text: &Text) -> Result<String, AllocError> {
     let copy = text.copy(alloc)?;
     let mut pushed = Text::new(alloc);

@@ -1,8 +1,7 @@
 //! Copies are equal to what they are copies of.
 ghost use Rattle.std.specs.Prelude.{◌≡◌};
 
-use crate::answers::typed_of;
-use crate::models::{ATLAS, COUNTER, REGISTRY};
+use crate::support::{ATLAS, COUNTER, REGISTRY, typed_of};
 use pst_case::{Run, shape};
 use pst_model::Source;
 use pst_runs::read_runs;
@@ -10,7 +9,7 @@ use pst_sexpr::read;
 use std::alloc::{AllocError, Global};
 use std::test::Fail;
 
-/// Whether the first run behind a model is equal to its copy.
+/// Whether the run that `item` spells is equal to its copy.
 fn is_copied(alloc: Global, model: &str, item: &str) -> Option<bool> {
     let typed = typed_of(alloc, model)?;
     let trees = read(alloc, item.as_bytes()).ok()?;

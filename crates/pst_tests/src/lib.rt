@@ -1,10 +1,8 @@
-//! Tests of the libraries by values that no text spells: copies, collections, interleavings, calls, trees, writers that fail,
-//! code of the machine, and cases that are shrunk.
-//! What texts can ask stands in the tables of `pst_rows`, and what they should not in `pst_hostile_rows`.
+//! Tests of the libraries by values that no text spells: copies, collections, interleavings, calls, trees,
+//! writers that fail, code of the machine, and cases to shrink. Tests by texts are in the tables of `pst_rows`,
+//! and those by malformed texts in `pst_hostile_rows`.
 #![tactic(auto)]
 
-#[cfg(test)]
-mod answers;
 #[cfg(test)]
 mod codes;
 #[cfg(test)]
@@ -14,13 +12,14 @@ mod copies;
 #[cfg(test)]
 mod merges;
 #[cfg(test)]
-mod models;
-#[cfg(test)]
 mod parts;
 #[cfg(test)]
 mod renumbered;
 #[cfg(test)]
+mod short;
+#[cfg(test)]
 mod shrunk;
+pub mod support;
 #[cfg(test)]
 mod trees;
 #[cfg(test)]

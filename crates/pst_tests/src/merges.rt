@@ -24,9 +24,9 @@ impl Command {
 /// The place of no command.
 const NONE: (usize, usize) = (usize::MAX, usize::MAX);
 
-/// A lamp, which is off at first. One command turns it on and one turns it off, one is true only where it is on, and one
-/// faults where it is off. All other commands are true, and leave it. When all branches have ended it may be asked for again: this
-/// is true only where it is on.
+/// A lamp, which is off at first. One command turns it on and one turns it off, one is true only if it is on,
+/// and one faults if it is off. All other commands are true, and leave it. With `asks_last` the end of all
+/// branches is true only if it is on.
 #[derive(Drop)]
 struct Lamp {
     on: Command,
@@ -139,7 +139,7 @@ impl Lamp {
     }
 }
 
-/// What `some` and `every` answer of branches of these lengths.
+/// What `some` and `every` return for branches of these lengths.
 #[derive(Clone, Copy, Drop)]
 struct Case {
     lengths: &'static [usize],
@@ -180,7 +180,7 @@ const CASES: [Case; 11] = [
         some: "Found { word: [1, 0, 1] }",
         every: "Not { word: [0, 1, 1], at: 2, why: False }",
     },
-    // The same place is met with the lamp on, where all is true, and then with it off.
+    // The same place is met with the lamp on, when all is true, and then with it off.
     Case {
         lengths: &[1, 2],
         commands: [(1, 0), (0, 0), (1, 1), NONE],
@@ -196,7 +196,7 @@ const CASES: [Case; 11] = [
         some: "Found { word: [1, 0] }",
         every: "Not { word: [0, 1], at: 0, why: Fault(0) }",
     },
-    // The least merge is false, and the greatest faults sooner than the least that faults.
+    // The first interleaving is false, and the last faults sooner than the first that faults.
     Case {
         lengths: &[1, 3],
         commands: [(1, 0), (1, 1), (0, 0), (1, 2)],
@@ -211,8 +211,8 @@ const CASES: [Case; 11] = [
         some: "Found { word: [0, 2, 1] }",
         every: "Not { word: [0, 1, 2], at: 1, why: False }",
     },
-    // Where the lamp is asked for last, only the interleaving that turns it on last is true to its end, and the other one comes to its end before
-    // it is false.
+    // With `asks_last`, only the interleaving that turns the lamp on last is true to its end, and the other one
+    // comes to its end before it is false.
     Case {
         lengths: &[1, 1],
         commands: [(0, 0), (1, 0), NONE, NONE],
@@ -236,7 +236,7 @@ const CASES: [Case; 11] = [
     },
 ];
 
-/// Whether the searches answer so over branches of these lengths.
+/// Whether the searches return what `case` expects over branches of these lengths.
 fn is_answered_over(alloc: Global, case: &Case, lengths: &[usize]) -> Result<bool, AllocError>
     requires { sum lengths.now + 1 < 2 ^ 32 }
 {
@@ -251,7 +251,7 @@ fn is_answered_over(alloc: Global, case: &Case, lengths: &[usize]) -> Result<boo
     )
 }
 
-/// Whether the searches answer so, of at most three branches of at most eight commands each.
+/// Whether the searches return what `case` expects, for at most three branches of at most eight commands each.
 fn is_answered(alloc: Global, case: &Case) -> Result<bool, AllocError> {
     match case.lengths {
         [] => is_answered_over(alloc, case, &[]),
@@ -271,8 +271,8 @@ fn answers_of_small_branches(rt: HostRuntime) -> Result<(), Fail> {
     Ok(())
 }
 
-/// Whether `some` finds nothing in at most so many steps where the last event of one command is false, and `every` holds in as few
-/// where all events are true. The lamp counts its steps as the searches do.
+/// Whether `some` finds nothing in at most `most` steps if the event of the command `last` is false, and
+/// `every` holds in as few if all events are true. The lamp counts its steps as the searches do.
 fn is_counted(
     alloc: Global,
     lengths: &[usize],
@@ -304,8 +304,8 @@ fn steps_are_counted(rt: HostRuntime) -> Result<(), Fail> {
     Ok(())
 }
 
-/// Whether `some` finds nothing in at most `most` steps where what runs after the branches is false, and `every` holds in as
-/// few where it is true. The searches count that step as the lamp does.
+/// Whether `some` finds nothing in at most `most` steps if what runs after the branches is false, and `every`
+/// holds in as few if it is true. The searches count that step as the lamp does.
 fn is_counted_to_the_end(alloc: Global, lengths: &[usize], most: usize) -> Result<bool, AllocError>
     requires { sum lengths.now + 1 < 2 ^ 32 }
 {

@@ -1,15 +1,14 @@
 //! The parts of a well-typed model, and its calls.
 
-use crate::answers::typed_of;
-use crate::models::{COUNTER, REGISTRY};
+use crate::support::{COUNTER, REGISTRY, typed_of};
 use pst_eval::{Callbacks, Plain};
-use pst_rules::Typed;
+use pst_model::Typed;
 use pst_typing::{model_name, operation_name, operation_parameters, operation_result};
 use pst_value::Value;
 use std::alloc::{AllocError, Global};
 use std::test::Fail;
 
-/// The operation of a number: its name, its parameters' names and types, its result type.
+/// The operation `number`: its name, how many parameters it has, and its result type.
 fn operation_answer(alloc: Global, typed: &Typed, number: u32) -> Result<String, AllocError> {
     let Some(name) = operation_name(typed, number) else {
         return String::from_str(alloc, "none");
@@ -42,7 +41,7 @@ fn operations_of_the_registry(rt: HostRuntime) -> Result<(), Fail> {
     Ok(())
 }
 
-/// How many calls are listed in the opening state, and the turns left.
+/// How many calls are listed in the initial state, and the turns left.
 fn calls_answer(alloc: Global, typed: &Typed) -> Result<String, AllocError> {
     let plain = Plain::new(typed);
     let (state, _) = match plain.init(alloc)? {

@@ -1,8 +1,7 @@
 //! Values with new numbers.
 
 use pst_case::renumber_value;
-use pst_items::{Boxed, Items};
-use pst_value::{Key, Value};
+use pst_value::{Boxed, Items, Key, Value};
 use std::alloc::{AllocError, Global};
 use std::test::Fail;
 

@@ -1,48 +1,14 @@
 //! Trees that are written.
-ghost use Rattle.std.specs.Prelude.{Bool, List, ℕ, Option, Some};
 
-use pst_items::Text;
-use pst_sexpr::{Form, Tree, read, write};
-use pst_sink::{Failed, Out, Sink, put_all, put_each};
+use crate::short::Short;
+use pst_sexpr::{Form, Out, Sink, Tree, put_all, put_each, read, write};
+use pst_value::Text;
 use std::alloc::{AllocError, Global};
 use std::test::Fail;
 
-/// A sink in memory with room for a number of bytes.
-#[derive(Drop)]
-struct Memory {
-    bytes: Vec<u8>,
-    room: usize,
-    broken: bool,
-}
-
-impl Sink for Memory {
-    ghost taken = { λ memory. Some memory.bytes.items };
-
-    ghost broken = { λ memory. memory.broken };
-
-    fn put(&mut self, bytes: &[u8]) -> Result<usize, Failed> {
-        if bytes.is_empty() {
-            return Ok(0);
-        }
-        if self.bytes.len() >= self.room || self.bytes.push(bytes[0]).is_err() {
-            self.broken = true;
-            return Err(Failed);
-        }
-        Ok(1)
-    }
-
-    fn has_failed(&self) -> bool {
-        self.broken
-    }
-}
-
-/// Whether a tree is written to a sink as far as it has room, and the sink has failed where that is not the whole.
+/// Whether a tree is written to a sink as far as it has room, and the sink has failed if that is not the whole.
 fn is_written_so_far(alloc: Global, tree: &Tree, written: &[u8], room: usize) -> bool {
-    let mut sink = Memory {
-        bytes: Vec::new(alloc),
-        room,
-        broken: false,
-    };
+    let mut sink = Short::new(alloc, room);
     let is_whole = write(tree, &mut sink).is_ok();
     is_whole == (room >= written.len())
         && sink.has_failed() == !is_whole
@@ -64,7 +30,7 @@ fn writes_what_it_read(rt: HostRuntime) {
     }
 }
 
-/// What is written of trees, a line end and some bytes behind them, where nothing fails.
+/// The bytes written for trees, a line end and some bytes after it, if nothing fails.
 fn written_of(alloc: Global, trees: &[Tree]) -> Option<Vec<u8>> {
     let mut sink = Out::new(Vec::new(alloc));
     for tree in trees {

@@ -1,9 +1,8 @@
 //! Clients that are texts, the lines of calls, and the values of answers.
 
 use pst_clients::{Answer, Clients, Connection, Notes, answer_of, call_line};
-use pst_items::{Boxed, Items, Text};
 use pst_system::{RealCall, System};
-use pst_value::{Key, KeyTy, Ty, Value};
+use pst_value::{Boxed, Items, Key, KeyTy, Text, Ty, Value};
 use std::alloc::{AllocError, Global};
 use std::sync::{Arc, Wait};
 use std::test::Fail;
@@ -11,7 +10,8 @@ use std::test::Fail;
 /// Clients whose lines are known.
 type KnownClients<'a, H> = Clients<H, &'a [u8], Vec<u8>>;
 
-/// One client, that prints these lines whatever it is asked. The model has one operation, which answers an integer.
+/// One client that prints these lines, whatever the request. The model has one operation, with an integer
+/// result.
 fn one_client<'a, H: Wait + Send + Sync + Drop>(
     rt: H,
     alloc: Global,
@@ -33,7 +33,7 @@ fn put(alloc: Global, arg: Value) -> Result<RealCall, AllocError> {
     Ok(RealCall { op: 0, name, args })
 }
 
-/// What one reset and then calls are answered, each behind a blank.
+/// The answers to one reset and then `calls` calls, each after a space.
 fn answers<H: Wait + Send + Sync + Drop>(
     alloc: Global,
     clients: &mut KnownClients<'_, H>,
@@ -66,12 +66,14 @@ fn lines_answer_in_turn(rt: HostRuntime) -> Result<(), Fail> {
 fn notes_say_what_went_wrong(rt: HostRuntime) -> Result<(), Fail> {
     let alloc = rt.alloc();
     let notes = Arc::new(alloc, Notes::new(alloc)?)?;
-    let lines = "true\nfailed: no\nhello\n[1,\"a\"]\n";
-    let _ = answers(alloc, &mut one_client(rt, alloc, &notes, lines)?, 4)?;
+    let lines = "true\nfailed: no\nhello\nhello\nnull\n[1,\"a\"]\n";
+    let _ = answers(alloc, &mut one_client(rt, alloc, &notes, lines)?, 6)?;
     let wanted = "client 1-1: [\"put\",1] was not answered: the client has gone
 client 1-1: [\"put\",1] was answered with failed: no
 client 1-1: [\"put\",1] was answered with what is no value: hello
-client 1-1: [\"put\",1] was answered with another type: [1,\"a\"]
+client 1-1: [\"put\",1] was answered with what is no value: null; for an option answer [] or [x] (docs/language.md, Patterns)
+client: 1 more like these
+client 1-1: [\"put\",1] was answered with another type: [1,\"a\"]; type int is a number such as 7
 ";
     assert_eq!(rt; notes.text()?.as_str(), wanted);
     Ok(())

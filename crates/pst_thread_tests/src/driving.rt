@@ -3,16 +3,15 @@ ghost use Rattle.std.specs.Prelude.{◌≡◌};
 
 use crate::echo::Echo;
 use crate::hostile::{Liar, NoGet, Odd, ThreeFlags, TwoFlags};
-use crate::models::{COUNTER, MEETING, SAYING};
 use pst_case::{Case, History, Run, shape};
 use pst_driver::{DriveFault, run};
 use pst_eval::Plain;
 use pst_judge::{Valid, valid};
-use pst_rules::Typed;
+use pst_model::Typed;
 use pst_runs::read_runs;
 use pst_sexpr::read;
 use pst_system::BoxedSystem;
-use pst_typing::load;
+use pst_tests::support::{COUNTER, MEETING, SAYING, typed_of};
 use std::alloc::Global;
 use std::sync::Wait;
 use std::test::Fail;
@@ -25,11 +24,6 @@ const ECHOING: &str = "(model2 echo (state int) (init 0) (command (list call))
   (op table ((m (map text int))) (map text int) (pre true) (next s) (post (= r m)))
   (op values ((hs (map int (ref int)))) (map int int) (pre true) (next s) (post true))
   (op other ((m (map bool int))) (map int int) (pre true) (next s) (post true)))";
-
-fn typed_of(alloc: Global, text: &str) -> Option<Typed> {
-    let file = load(alloc, text.as_bytes()).ok()?.ok()?;
-    Some(file.typed)
-}
 
 fn run_of(alloc: Global, typed: &Typed, item: &str) -> Option<Run> {
     let trees = read(alloc, item.as_bytes()).ok()?;
@@ -72,7 +66,7 @@ fn case_has_replies<R: Threads + Wait>(
     }
 }
 
-/// Whether the case of a run, driven on the system, has the replies of the run. `None` where there is no run.
+/// Whether the case of a run, driven on the system, has the replies of the run. `None` if there is no run.
 pub fn is_driven_so<R: Threads + Wait>(
     rt: &R,
     alloc: Global,
@@ -170,7 +164,8 @@ fn maps_are_driven(rt: HostRuntime) -> Result<(), Fail> {
     Ok(())
 }
 
-/// A variable stands for the result of the branch's own command, behind those of the branch beside it.
+/// A variable in a branch is the result of the branch's own command, whose number follows those of the other
+/// branch.
 #[test]
 fn a_branch_uses_its_own_results(rt: HostRuntime) -> Result<(), Fail> {
     let alloc = rt.alloc();

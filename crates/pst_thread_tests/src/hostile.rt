@@ -1,8 +1,7 @@
 //! Systems that only tests use.
 
-use pst_items::{Boxed, Text};
 use pst_system::{CallFault, RealCall, System};
-use pst_value::Value;
+use pst_value::{Boxed, Text, Value};
 use std::alloc::{AllocError, Global};
 use std::sync::atomic::{AtomicBool, AtomicU64, Ordering};
 use std::thread;
@@ -16,7 +15,7 @@ pub struct TwoFlags {
 }
 
 impl TwoFlags {
-    /// Two flags that are not raised, each looked for so many times.
+    /// Two flags that are not raised. `meet` looks for the other flag at most `looks` times.
     pub fn new(looks: u32) -> TwoFlags {
         TwoFlags {
             first: AtomicBool::new(false),
@@ -184,7 +183,8 @@ impl System for Odd {
     }
 }
 
-/// Three flags. `meet n`, n from 1 to 3, raises flag n, looks for both others, yielding, and answers whether it saw them.
+/// Three flags. `meet n`, n from 1 to 3, raises flag n, looks for both other flags, yielding, and answers
+/// whether it saw them.
 #[derive(Drop)]
 pub struct ThreeFlags {
     first: AtomicBool,

@@ -12,8 +12,6 @@ mod hostile;
 #[cfg(test)]
 mod ledgers;
 #[cfg(test)]
-mod models;
-#[cfg(test)]
 mod overhearing;
 #[cfg(test)]
 mod samples;

@@ -2,15 +2,15 @@
 
 use crate::driving::is_driven_so;
 use crate::hostile::{Liar, NoGet, Odd};
-use crate::models::{COUNTER, SAYING};
 use pst_driver::{MOST_KEPT, Misfits, Overheard, misfits_text};
 use pst_system::BoxedSystem;
+use pst_tests::support::{COUNTER, SAYING};
 use pst_typing::load;
 use std::alloc::{AllocError, Global};
 use std::sync::Arc;
 use std::test::Fail;
 
-/// Two calls at once, to each of which a liar answers true.
+/// Two calls at once, to both of which a liar answers true.
 const TWO_MISFITS: &str =
     "(run (prefix) (left (get)) (right (get)) (replies () (misfit) (misfit)))";
 
@@ -82,7 +82,7 @@ fn what_fits_is_not_noted(rt: HostRuntime) -> Result<(), Fail> {
     Ok(())
 }
 
-/// Without a place for misfits, and before a model stands there, nothing is noted.
+/// Nothing is noted without a place for misfits, or before there is a model.
 #[test]
 fn nothing_is_noted_without_a_model(rt: HostRuntime) -> Result<(), Fail> {
     let alloc = rt.alloc();

@@ -1,10 +1,10 @@
 //! What `pst run` writes of cases that are driven on the sample systems.
 
-use crate::models::{COUNTER, MEETING, REGISTRY};
 use pst_cli::{Absence, Status, known_system, refuse_text, run_text};
 use pst_samples::{Counter, Meet, Queue, Registry, Stuck};
-use pst_sink::Out;
+use pst_sexpr::Out;
 use pst_system::BoxedSystem;
+use pst_tests::support::{COUNTER, MEETING, REGISTRY};
 use std::alloc::{AllocError, Global};
 use std::sync::Wait;
 use std::test::Fail;
@@ -18,10 +18,10 @@ const QUEUE: &str = "(model q (state (list int)) (init (list int))
     (next (for ((in i (range 1 (len s)))) (nth s i)))
     (post (= r (if (= (len s) 0) s (list int (nth s 0)))))))";
 
-/// A model, an item, and what `pst run` answers and writes of them.
+/// A model, an item, and the status and the text of `pst run` for them.
 type Row = (&'static str, &'static str, Status, &'static str);
 
-/// What `pst run` writes of a model and an item on the system, and its status.
+/// The status and the text of `pst run` for a model and an item on the system.
 fn written<R: Threads + Wait>(
     rt: &R,
     alloc: Global,
@@ -35,7 +35,7 @@ fn written<R: Threads + Wait>(
     Ok((status, out.into_inner()))
 }
 
-/// How many rows there are of which `pst run` answers or writes otherwise on the system.
+/// How many rows have another status or text of `pst run` on the system.
 fn missed<R: Threads + Wait>(
     rt: &R,
     alloc: Global,

@@ -1,9 +1,8 @@
 //! Calls of the sample systems.
 
-use pst_items::{Items, Text};
 use pst_samples::{Counter, Flags, Meet, Pair, Queue, Racy, Registry, Side, Stuck};
 use pst_system::{BoxedSystem, RealCall, call_box, reset_box};
-use pst_value::Value;
+use pst_value::{Items, Text, Value};
 use std::alloc::{AllocError, Global};
 use std::sync::Arc;
 use std::test::Fail;
@@ -18,7 +17,7 @@ fn call_of(alloc: Global, name: &str, numbers: &[i64]) -> Result<RealCall, Alloc
     Ok(RealCall { op: 0, name, args })
 }
 
-/// What a system answers to calls, one behind the other, each behind a blank.
+/// The system's answers to the calls in order, each after a space.
 fn answers(
     alloc: Global,
     system: &BoxedSystem,

@@ -1,5 +1,6 @@
 //! Trials of plans on systems.
 
+mod early;
 mod ended;
 mod plans;
 mod resets;

@@ -1,4 +1,4 @@
-//! Driving a case as often as the settings say, and judging what was recorded.
+//! Drives a case repeatedly, and judges the histories.
 ghost use Rattle.std.specs.Prelude.{◌≡◌, ◌+◌, IfOk, IfErr};
 ghost use Rattle.pst_shrink.specs.Outcomes.{drives};
 ghost use Rattle.pst_trial.specs.JudgedRuns.{IsJudgedRun, IsAnswer, MayFail};
@@ -9,9 +9,9 @@ use crate::run::JudgedRun;
 use pst_case::Case;
 use pst_driver::DriveFault;
 use pst_gen::if_accepted;
-use pst_items::Items;
 use pst_judge::{Valid, verdict};
 use pst_shrink::{Attempt, Outcome};
+use pst_value::Items;
 use std::alloc::Global;
 
 /// Drives a valid case, and judges what was recorded.
@@ -34,7 +34,7 @@ fn drive_once<D: Driver>(
     Ok(JudgedRun { history, verdict })
 }
 
-/// Drives a valid case as often as the settings of the plan say, and stops at the first history that is not
+/// Drives a valid case up to `repeats` times, a setting of the plan, and stops at the first history that is not
 /// explained.
 pub(crate) fn drive_repeatedly<D: Driver>(
     alloc: Global,
@@ -64,8 +64,8 @@ pub(crate) fn drive_repeatedly<D: Driver>(
     Ok(Outcome::Held(runs))
 }
 
-/// Attempts at the shrink candidates of a trial: each that is valid by the plan's model is driven as often as
-/// the settings say, while its histories are explained.
+/// Attempts at the shrink candidates of a trial: each that is valid by the plan's model is driven up to
+/// `repeats` times, while its histories are explained.
 #[derive(Drop)]
 pub(crate) struct Attempts<'a, D> {
     pub alloc: Global,

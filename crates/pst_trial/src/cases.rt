@@ -10,7 +10,7 @@ use pst_judge::Valid;
 use rand_pcg::Pcg64;
 use std::alloc::{AllocError, Global};
 
-/// The case of the trial of a number, which is valid, or the fault of the callback for which the number has no case.
+/// Returns the valid case of trial `number`, or the fault of a callback if the trial has no case.
 pub fn trial_case(
     alloc: Global,
     plan: &Plan,

@@ -5,13 +5,13 @@ ghost use Rattle.pst_case.specs.Matches.{matches};
 use pst_case::History;
 use pst_driver::DriveFault;
 use pst_judge::Valid;
-use pst_rules::Typed;
+use pst_model::Typed;
 use std::alloc::Global;
 
-/// What drives valid cases and records their histories, such as threads on a system.
+/// Drives valid cases and records their histories, such as with threads on a system.
 ///
-/// Each implementation names the histories and the faults that it may answer. Nothing else is known of them,
-/// but that a history matches its case.
+/// Each implementation names the histories and the faults that it may return. Only one more thing is known: a
+/// history matches its case.
 pub trait Driver {
     ghost use Rattle.pst_case.specs.OfModel.{OfModel};
     ghost use Rattle.pst_case.specs.declared.history.History.{History};
@@ -21,7 +21,7 @@ pub trait Driver {
     /// The histories that it may record of a case.
     ghost may_drive: { Self → OfModel → History → Type 0 };
 
-    /// The faults that it may answer in place of a history.
+    /// The faults that it may return in place of a history.
     ghost may_fail: { Self → OfModel → DriveFault → Type 0 };
 
     /// What a drive leaves as it was, as a relation of the value before and the value after.
@@ -41,7 +41,7 @@ pub trait Driver {
     /// Two drives in a row keep what each of them keeps.
     ghost keeps_trans: { (a b c : Self) → keeps a b → keeps b c → keeps a c };
 
-    /// What it may record and answer stays, as long as that is kept.
+    /// What it may record and return stays the same, as long as `keeps` holds.
     ghost steady: { (a b : Self) → keeps a b
         → IsSteady (may_drive b) (may_drive a) (may_fail b) (may_fail a) };
 }

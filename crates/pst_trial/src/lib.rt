@@ -1,9 +1,9 @@
-//! Trials: each generates a case of a plan, drives it on a system, judges what was recorded, and shrinks the
-//! case where a history is not explained.
+//! Trials: each generates a case of a plan, drives it on a system, judges the histories, and shrinks the case
+//! if a history is not explained.
 //!
-//! A trial answers a `Record`, which is sound by its data alone: the case is the one that is generated from
-//! the plan's seed and the trial's number, each verdict is that of its history, and each case that was taken
-//! while it was shrunk is a valid candidate of the one before.
+//! A trial returns a `Record`, which is sound by its data alone: the case is the one generated from the plan's
+//! seed and the trial's number, each verdict is that of its history, and each case that shrinking took is a
+//! valid candidate of the one before.
 #![tactic(auto)]
 
 mod attempts;

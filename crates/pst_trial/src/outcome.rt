@@ -1,16 +1,16 @@
-//! What a trial came to.
+//! The outcome of a trial.
 use crate::run::JudgedRun;
 use pst_case::Case;
 use pst_eval::Place;
-use pst_items::Items;
 use pst_shrink::Shrunk;
+use pst_value::Items;
 
-/// What a trial came to.
+/// The outcome of a trial.
 #[derive(Debug, Drop)]
 pub enum TrialOutcome {
     /// No case was generated, since a callback faults at this place.
     GenFaulted(Place),
-    /// The case was driven as often as the settings say, and each history is explained.
+    /// The case was driven `repeats` times, a setting of the plan, and each history is explained.
     Passed {
         /// The case of the trial.
         case: Case,

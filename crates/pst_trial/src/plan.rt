@@ -3,7 +3,7 @@ ghost use Rattle.std.specs.Prelude.{◌≡◌, MatchResult};
 
 use crate::settings::Settings;
 use pst_compile::{Compiled, compile};
-use pst_rules::Typed;
+use pst_model::Typed;
 use std::alloc::{AllocError, Global};
 use std::marker::Model;
 
@@ -31,8 +31,8 @@ impl Model for Plan {
 impl Plan {
     ghost use Rattle.pst_trial.specs.Settings.{AreInRange};
 
-    /// A plan for the trials of a model. `AllocError`, with the model handed back, where memory is refused to
-    /// its compilation.
+    /// Compiles a model, and returns a plan for its trials. `AllocError`, with the model handed back, if
+    /// compilation fails.
     pub fn new(alloc: Global, typed: Typed, settings: Settings) -> Result<Plan, (Typed, AllocError)>
         requires ranges { AreInRange settings }
         ensures plan { MatchResult result

@@ -8,7 +8,7 @@ use pst_ledger::Numbered;
 use std::marker::Model;
 use std::sync::Arc;
 
-/// What a trial of a plan came to. Only `trial` and `trial_by` make one, and it is sound by its data alone:
+/// The result of a trial of a plan. Only `trial` and `trial_by` make one, and it is sound by its data alone:
 /// no system is named. Contracts see it as the plan, the number and the outcome.
 #[derive(Drop)]
 pub struct Record {
@@ -34,7 +34,7 @@ impl Model for Record {
 impl Record {
     ghost use Rattle.pst_trial.specs.Sound.{IsSound};
 
-    /// Keeps what a trial came to.
+    /// Makes the record of a trial.
     pub(crate) fn new(plan: Arc<Plan>, number: u64, outcome: TrialOutcome) -> Record
         requires { IsSound (arc_value plan) number outcome }
         ensures { result ≡ record { plan = arc_value plan; number = number; outcome = outcome } }
@@ -60,7 +60,7 @@ impl Record {
         &self.plan
     }
 
-    /// What the trial came to.
+    /// The outcome of the trial.
     pub fn outcome(&self) -> &TrialOutcome
         ensures same { result.now ≡ self.now.outcome }
         ensures sound { IsSound self.now.plan self.now.number self.now.outcome }

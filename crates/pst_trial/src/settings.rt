@@ -2,22 +2,22 @@
 ghost use Rattle.std.specs.Prelude.{◌↔◌, IsTrue};
 ghost use Rattle.pst_trial.specs.Settings.{AreInRange};
 
-/// The most trials of a plan.
+/// The maximum number of trials of a plan.
 pub const MAX_TRIALS: u32 = 100_000;
 
-/// The most commands of a script.
+/// The maximum number of commands of a script.
 pub const MAX_COMMANDS: u32 = 64;
 
-/// The most branches of a case.
+/// The maximum number of branches of a case.
 pub const MAX_BRANCHES: u32 = 4;
 
-/// The most commands of a suffix.
+/// The maximum number of commands of a suffix.
 pub const MAX_SUFFIX: u32 = 8;
 
-/// The most drives of one case.
+/// The maximum number of drives of one case.
 pub const MAX_REPEATS: u32 = 20;
 
-/// The most cases that are driven while one is shrunk.
+/// The maximum number of cases that are driven while one is shrunk.
 pub const MAX_LIMIT: u32 = 10_000;
 
 /// The settings of a plan.
@@ -27,15 +27,15 @@ pub struct Settings {
     pub seed: u64,
     /// How many trials there are, at most 100,000.
     pub trials: u32,
-    /// The most commands of a script, 1 to 64.
+    /// The maximum number of commands of a script, 1 to 64.
     pub commands: u32,
     /// How many branches run at once, 1 to 4. With 1 no command runs in a branch.
     pub branches: u32,
-    /// The most commands of the suffix, at most 8.
+    /// The maximum number of commands of the suffix, at most 8.
     pub suffix: u32,
-    /// How often a case is driven while its histories are explained, 1 to 20.
+    /// How many times a case is driven while its histories are explained, 1 to 20.
     pub repeats: u32,
-    /// The most cases that are driven while one is shrunk, at most 10,000.
+    /// The maximum number of cases that are driven while one is shrunk, at most 10,000.
     pub limit: u32,
 }
 

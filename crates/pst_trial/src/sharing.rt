@@ -4,7 +4,7 @@ ghost use Rattle.std.specs.Thread.{IsSend, IsSync};
 ghost use Rattle.std.specs.contracts.option.Option.{the_row as option_row};
 ghost use Rattle.pst_case.specs.contracts.case.Case.{the_row as case_row};
 ghost use Rattle.pst_eval.specs.contracts.place.Place.{the_row as place_row};
-ghost use Rattle.pst_items.specs.contracts.items.Items.{the_row as items_row};
+ghost use Rattle.pst_value.specs.contracts.items.Items.{the_row as items_row};
 ghost use Rattle.pst_shrink.specs.contracts.shrunk.Shrunk.{the_row as shrunk_row};
 ghost use Rattle.pst_shrink.specs.contracts.shrunk.Taken.{the_row as taken_row};
 ghost use Rattle.pst_trial.specs.contracts.run.JudgedRun.{the_row as run_row};
@@ -17,10 +17,10 @@ use crate::run::JudgedRun;
 use pst_case::Case;
 use pst_compile::Compiled;
 use pst_eval::Place;
-use pst_items::Items;
 use pst_machine::Code;
-use pst_rules::Typed;
+use pst_model::Typed;
 use pst_shrink::Taken;
+use pst_value::Items;
 
 /// What is `Send` may be sent to a thread.
 fn may_send<T: Send>()

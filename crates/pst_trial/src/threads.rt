@@ -14,7 +14,7 @@ use crate::trials::trial_by;
 use pst_case::History;
 use pst_driver::{DriveFault, run};
 use pst_judge::Valid;
-use pst_rules::Typed;
+use pst_model::Typed;
 use pst_system::{BoxedSystem, System};
 use std::alloc::Global;
 use std::sync::{Arc, Wait};
@@ -68,13 +68,13 @@ impl<'a, R: Threads + Wait> Driver for ThreadDriver<'a, R> {
     ghost steady = { λ a b p. steady_of p.1 };
 }
 
-/// A trial of a plan on a system, with a thread for each branch: generates the case of the trial's number,
-/// drives it while its histories are explained, as often as the settings say, and shrinks it where one is
-/// not. The record holds the plan shared.
+/// Runs a trial of a plan on a system, with a thread for each branch: generates the case of the trial's number,
+/// drives it while its histories are explained, up to the repeats of the settings, and shrinks it if one is
+/// not. The record shares the plan.
 ///
-/// The fault is that of the drive that failed, also while a case is shrunk, and then there is no record:
-/// `ResetFailed` where the system refused a reset; `NoThread` where a thread could not be started; `NoMemory`
-/// where memory is refused. The call waits for as long as the calls of the system do.
+/// The fault is that of the drive that failed, also while a case is shrunk, and then there is no record.
+/// `ResetFailed`: the system refused a reset. `NoThread`: a thread could not be started. `NoMemory`: an
+/// allocation failed. The call waits for as long as the calls of the system do.
 pub fn trial<R: Threads + Wait>(
     rt: &R,
     alloc: Global,

@@ -16,9 +16,9 @@ use crate::record::Record;
 use crate::run::JudgedRun;
 use pst_case::Case;
 use pst_driver::DriveFault;
-use pst_items::Items;
 use pst_judge::Valid;
 use pst_shrink::{Outcome, ShrinkFault, shrink};
+use pst_value::Items;
 use std::alloc::Global;
 use std::sync::Arc;
 
@@ -52,7 +52,7 @@ fn shrunk_case<D: Driver>(
     }
 }
 
-/// Drives a valid case, and shrinks it where a run is not explained.
+/// Drives a valid case, and shrinks it if a run is not explained.
 fn tried_case<D: Driver>(
     alloc: Global,
     plan: &Plan,
@@ -77,8 +77,8 @@ fn tried_case<D: Driver>(
     }
 }
 
-/// What the trial of a number comes to: the case of its words is generated, driven, judged, and shrunk where
-/// a run is not explained.
+/// Returns the outcome of trial `number`: generates its case, drives and judges it, and shrinks it if a run is
+/// not explained.
 fn outcome_of<D: Driver>(
     alloc: Global,
     plan: &Plan,
@@ -95,12 +95,11 @@ fn outcome_of<D: Driver>(
     }
 }
 
-/// A trial of a plan by its number: generates the case of the number's random words, drives it as often as
-/// the settings say while its histories are explained, and shrinks it where one is not. The record holds the
-/// plan shared.
+/// Runs a trial of a plan by its number: generates the case of the number's random words, drives it up to
+/// `repeats` times while its histories are explained, and shrinks it if one is not. The record shares the plan.
 ///
-/// The fault is that of the drive that failed, also while a case is shrunk, or `NoMemory`, and then there is
-/// no record.
+/// The fault is that of the drive that failed, also while a case is shrunk, or `NoMemory`, and then there is no
+/// record.
 pub fn trial_by<D: Driver>(
     alloc: Global,
     plan: &Arc<Plan>,

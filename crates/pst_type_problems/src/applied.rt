@@ -13,7 +13,7 @@ use pst_typing::Kind;
 use std::alloc::{AllocError, Global};
 use std::fmt::Display;
 
-/// The function of a name.
+/// The function `name`.
 fn function<'a>(items: &'a [Item], name: &str) -> Option<&'a Fun> {
     for item in items {
         if let Item::Fun(fun) = item {
@@ -25,7 +25,7 @@ fn function<'a>(items: &'a [Item], name: &str) -> Option<&'a Fun> {
     None
 }
 
-/// Whether an argument has the type of a parameter, by their numbers from 0.
+/// Whether argument `argument` has the type of parameter `parameter`, both counted from 0.
 fn fits(
     leaf: &Leaf<'_>,
     params: &[Param],
@@ -38,7 +38,7 @@ fn fits(
     }
 }
 
-/// The number of the first argument, from one on, of another type than its parameter.
+/// The number of the first argument, from `from` on, that has another type than its parameter.
 fn first_ill(leaf: &Leaf<'_>, params: &[Param], from: usize) -> Result<Option<usize>, AllocError> {
     for place in from..params.len() {
         if !fits(leaf, params, place, place)? {
@@ -48,8 +48,8 @@ fn first_ill(leaf: &Leaf<'_>, params: &[Param], from: usize) -> Result<Option<us
     Ok(None)
 }
 
-/// Whether the first argument that does not fit would fit in the other order with a second one, where the rest
-/// fits.
+/// Whether exactly two arguments do not fit, and both would fit if they were swapped. `first` is the number of the
+/// first of them.
 fn are_swapped(leaf: &Leaf<'_>, params: &[Param], first: usize) -> Result<bool, AllocError> {
     let Some(second) = first_ill(leaf, params, first.saturating_add(1))? else {
         return Ok(false);
@@ -63,12 +63,13 @@ fn are_swapped(leaf: &Leaf<'_>, params: &[Param], first: usize) -> Result<bool, 
     Ok(first_ill(leaf, params, second.saturating_add(1))?.is_none())
 }
 
-/// The same problem with what is declared.
+/// The problem `refused`, with the declaration.
 fn with_signature(alloc: Global, refused: Option<Problem>, declared: &Signature<'_>) -> Judged {
     with_note(alloc, refused, format_args!("declared: {declared}"))
 }
 
-/// An argument, by its number from 0 and its number in its tree, of another type than its parameter.
+/// The problem of argument `place`, counted from 0, which has another type than its parameter. `part` is its number in
+/// the tree.
 fn ill_argument(
     alloc: Global,
     leaf: &Leaf<'_>,
@@ -90,7 +91,8 @@ fn ill_argument(
     with_signature(alloc, refused, declared)
 }
 
-/// The same, with a hint where two arguments would fit in the other order.
+/// The problem of argument `place`, as [`ill_argument`] returns it, with a hint if two arguments would fit in the other
+/// order.
 fn ill_order(
     alloc: Global,
     leaf: &Leaf<'_>,
@@ -106,7 +108,7 @@ fn ill_order(
     Ok(refused)
 }
 
-/// Another number of arguments than there are parameters.
+/// The problem of arguments whose number is not that of the parameters.
 fn ill_number(alloc: Global, leaf: &Leaf<'_>, declared: &Signature<'_>) -> Judged {
     let name = declared.name;
     let takes = counted(declared.params.len(), "argument");
@@ -119,7 +121,8 @@ fn ill_number(alloc: Global, leaf: &Leaf<'_>, declared: &Signature<'_>) -> Judge
     with_signature(alloc, refused, declared)
 }
 
-/// Arguments, of which the first has a number in their tree, that do not fit parameters.
+/// The problem of arguments that do not fit the parameters, if one does not. `first` is the number of the first
+/// argument in the tree.
 fn arguments(alloc: Global, leaf: &Leaf<'_>, declared: &Signature<'_>, first: usize) -> Judged {
     if leaf.kinds.len() != declared.params.len() {
         return ill_number(alloc, leaf, declared);
@@ -130,7 +133,7 @@ fn arguments(alloc: Global, leaf: &Leaf<'_>, declared: &Signature<'_>, first: us
     }
 }
 
-/// The problem of the name at a part of the tree, with the operations or the functions that there are.
+/// The problem of the unknown name `name` at part `part` of the tree, with the known operations or functions.
 fn unknown_at(
     alloc: Global,
     leaf: &Leaf<'_>,
@@ -148,7 +151,7 @@ fn unknown_at(
     )
 }
 
-/// A call of an operation.
+/// The problem of a call of an operation, if it has one.
 pub fn called(alloc: Global, leaf: &Leaf<'_>) -> Judged {
     let Some(name) = word_of(tree_in(leaf.form, 1)) else {
         return Ok(None);
@@ -167,7 +170,7 @@ pub fn called(alloc: Global, leaf: &Leaf<'_>) -> Judged {
     }
 }
 
-/// A function that no item declares, with a note.
+/// The problem of a function that no item declares, with a note.
 fn no_function_noted<N: Display + Drop>(
     alloc: Global,
     leaf: &Leaf<'_>,
@@ -183,8 +186,8 @@ fn no_function_noted<N: Display + Drop>(
     )
 }
 
-/// A function that no item declares, with the known name that may be meant, or with the functions that there
-/// are.
+/// The problem of a function that no item declares, with the known name that is probably meant, or with the known
+/// functions.
 fn no_function_near(alloc: Global, leaf: &Leaf<'_>, name: &str) -> Judged {
     match nearest_head(alloc, leaf.has_maps, name)? {
         Some(hint) => no_function_noted(alloc, leaf, name, hint),
@@ -192,7 +195,7 @@ fn no_function_near(alloc: Global, leaf: &Leaf<'_>, name: &str) -> Judged {
     }
 }
 
-/// A function that no item declares.
+/// The problem of a function that no item declares.
 fn no_function(alloc: Global, leaf: &Leaf<'_>, name: &str) -> Judged {
     if let Some(hint) = in_place_of(name) {
         return no_function_noted(alloc, leaf, name, format_args!("hint: {hint}"));
@@ -212,7 +215,7 @@ fn no_function(alloc: Global, leaf: &Leaf<'_>, name: &str) -> Judged {
     no_function_near(alloc, leaf, name)
 }
 
-/// Why a function that stands in the model may not be applied here, if it may not.
+/// The problem of a declared function that may not be applied here, if it may not.
 fn not_here(alloc: Global, leaf: &Leaf<'_>, fun: &Fun) -> Judged {
     let name = fun.name.as_str();
     if function(leaf.context.earlier, name).is_none() {
@@ -236,7 +239,7 @@ fn not_here(alloc: Global, leaf: &Leaf<'_>, fun: &Fun) -> Judged {
     Ok(None)
 }
 
-/// An application of a function.
+/// The problem of an application of a function, if it has one.
 pub fn applied(alloc: Global, leaf: &Leaf<'_>, name: &str) -> Judged {
     let Some(fun) = function(leaf.context.items, name) else {
         return no_function(alloc, leaf, name);

@@ -6,7 +6,6 @@ use crate::operands::{
 };
 use crate::spelling::spelled;
 use crate::trees::{clauses_of, goes_over_list, head_word};
-use pst_items::{Items, Text};
 use pst_model::Expr;
 use pst_problems::{
     Judged, Listed, Problem, TypeText, is_of_maps, key_word, nearest, noted, with_note, wrong,
@@ -14,7 +13,7 @@ use pst_problems::{
 };
 use pst_sexpr::{Form as Tree, word_of};
 use pst_typing::{Context, Form, Kind};
-use pst_value::{KeyTy, Ty};
+use pst_value::{Items, KeyTy, Text, Ty};
 use std::alloc::{AllocError, Global};
 use std::fmt::Display;
 
@@ -33,7 +32,7 @@ pub struct Leaf<'a> {
     pub has_maps: bool,
 }
 
-/// The same problem with the names that the part sees.
+/// The problem `found`, with the names that the part sees.
 fn with_names(alloc: Global, leaf: &Leaf<'_>, found: Option<Problem>) -> Judged {
     if leaf.names.is_empty() {
         let called = leaf.called;
@@ -43,7 +42,7 @@ fn with_names(alloc: Global, leaf: &Leaf<'_>, found: Option<Problem>) -> Judged 
     with_note(alloc, found, format_args!("names known here: {names}"))
 }
 
-/// A hint for a name that stands for something in callbacks alone.
+/// A hint for a name that only callbacks see.
 fn callback_hint(name: &str) -> Option<&'static str> {
     match name {
         "s" => Some("hint: only callbacks see the state `s`: give it as a parameter"),
@@ -52,7 +51,7 @@ fn callback_hint(name: &str) -> Option<&'static str> {
     }
 }
 
-/// A name that stands for nothing, with the names that the part sees.
+/// The problem of the name `name`, which nothing has here. A note lists the names that the part sees.
 fn no_meaning(alloc: Global, leaf: &Leaf<'_>, name: &str) -> Judged {
     let called = leaf.called;
     let what = format_args!("{called}: nothing has the name `{name}` here");
@@ -60,12 +59,12 @@ fn no_meaning(alloc: Global, leaf: &Leaf<'_>, name: &str) -> Judged {
     with_names(alloc, leaf, found)
 }
 
-/// A name that stands for nothing, with a hint.
+/// The problem of the name `name`, which nothing has here, with a hint.
 fn unknown_noted<N: Display + Drop>(alloc: Global, leaf: &Leaf<'_>, name: &str, hint: N) -> Judged {
     with_note(alloc, no_meaning(alloc, leaf, name)?, hint)
 }
 
-/// A name that stands for nothing, with a hint if there is one.
+/// The problem of the name `name`, which nothing has here, with a hint if there is one.
 fn unknown(alloc: Global, leaf: &Leaf<'_>, name: &str) -> Judged {
     if let Some(hint) = callback_hint(name) {
         return unknown_noted(alloc, leaf, name, hint);
@@ -76,7 +75,7 @@ fn unknown(alloc: Global, leaf: &Leaf<'_>, name: &str) -> Judged {
     }
 }
 
-/// The first part from one on that has another type than the wanted one.
+/// The problem of the first part that has another type than `wanted`.
 fn each_of(alloc: Global, leaf: &Leaf<'_>, head: &str, wanted: &Ty) -> Judged {
     let wanted = Kind::of(alloc, wanted)?;
     for (place, kind) in leaf.kinds.iter().enumerate() {
@@ -88,7 +87,7 @@ fn each_of(alloc: Global, leaf: &Leaf<'_>, head: &str, wanted: &Ty) -> Judged {
     Ok(None)
 }
 
-/// A choice of two expressions.
+/// The problem of an `if`, if it has one.
 fn choice(alloc: Global, leaf: &Leaf<'_>) -> Judged {
     let [test, yes, no] = leaf.kinds else {
         return Ok(None);
@@ -100,7 +99,7 @@ fn choice(alloc: Global, leaf: &Leaf<'_>) -> Judged {
     }
 }
 
-/// A comparison by order.
+/// The problem of a comparison by order, if it has one.
 fn order(alloc: Global, leaf: &Leaf<'_>, head: &str, first: &Kind, second: &Kind) -> Judged {
     match first.form(alloc)? {
         Form::Int | Form::Text => {
@@ -115,7 +114,7 @@ fn order(alloc: Global, leaf: &Leaf<'_>, head: &str, first: &Kind, second: &Kind
     }
 }
 
-/// A comparison by `=`.
+/// The problem of a comparison by `=`, if it has one.
 fn equality(alloc: Global, leaf: &Leaf<'_>, first: &Kind, second: &Kind) -> Judged {
     if let Some(found) = wanted_type(alloc, leaf, "`=` compares one type", 2, first, second)? {
         return Ok(Some(found));
@@ -132,7 +131,7 @@ fn equality(alloc: Global, leaf: &Leaf<'_>, first: &Kind, second: &Kind) -> Judg
     )
 }
 
-/// Two references.
+/// The problem of a `same`, if it has one.
 fn sameness(alloc: Global, leaf: &Leaf<'_>, first: &Kind, second: &Kind) -> Judged {
     match first.form(alloc)? {
         Form::Ref(_) => wanted_type(alloc, leaf, "`same` compares one type", 2, first, second),
@@ -140,7 +139,7 @@ fn sameness(alloc: Global, leaf: &Leaf<'_>, first: &Kind, second: &Kind) -> Judg
     }
 }
 
-/// The item of a list at a place.
+/// The problem of an `nth`, if it has one.
 fn place_in_list(alloc: Global, leaf: &Leaf<'_>, list: &Kind, place: &Kind) -> Judged {
     match (list.form(alloc)?, place.form(alloc)?) {
         (Form::List(_), _) => {
@@ -157,7 +156,7 @@ fn place_in_list(alloc: Global, leaf: &Leaf<'_>, list: &Kind, place: &Kind) -> J
     }
 }
 
-/// The value of a reference.
+/// The problem of a `deref`, if it has one.
 fn dereference(alloc: Global, leaf: &Leaf<'_>) -> Judged {
     if !leaf.context.is_post {
         return noted(
@@ -173,7 +172,7 @@ fn dereference(alloc: Global, leaf: &Leaf<'_>) -> Judged {
     }
 }
 
-/// A length, or two texts or lists in a row.
+/// The problem of a `len` or a `++`, if it has one.
 fn sequence(alloc: Global, leaf: &Leaf<'_>, head: &str) -> Judged {
     let Some(first) = leaf.kinds.first() else {
         return Ok(None);
@@ -186,7 +185,7 @@ fn sequence(alloc: Global, leaf: &Leaf<'_>, head: &str) -> Judged {
     }
 }
 
-/// The item of a tuple at a place.
+/// The problem of an `at`, if it has one.
 fn place_in_tuple(alloc: Global, leaf: &Leaf<'_>) -> Judged {
     let Some(found) = leaf.kinds.first() else {
         return Ok(None);
@@ -200,7 +199,7 @@ fn place_in_tuple(alloc: Global, leaf: &Leaf<'_>) -> Judged {
     wrong_at(alloc, leaf.path, 2, what)
 }
 
-/// The type of the keys, as of values.
+/// The type of the values that are keys of the type `keys`.
 fn key_type(keys: KeyTy) -> Ty {
     match keys {
         KeyTy::Int => Ty::Int,
@@ -209,7 +208,7 @@ fn key_type(keys: KeyTy) -> Ty {
     }
 }
 
-/// A key of another type than those of the map.
+/// The problem of a key of another type than the keys of the map, if it has one.
 fn ill_key(alloc: Global, leaf: &Leaf<'_>, keys: KeyTy) -> Judged {
     let Some(found) = leaf.kinds.get(1) else {
         return Ok(None);
@@ -220,7 +219,7 @@ fn ill_key(alloc: Global, leaf: &Leaf<'_>, keys: KeyTy) -> Judged {
     wanted_type(alloc, leaf, what, 2, &wanted, found)
 }
 
-/// A key or a value of another type than those of the map.
+/// The problem of a key or a value of another type than those of the map, if there is one.
 fn ill_entry(alloc: Global, leaf: &Leaf<'_>, keys: KeyTy, value: &Kind) -> Judged {
     if let Some(found) = ill_key(alloc, leaf, keys)? {
         return Ok(Some(found));
@@ -231,7 +230,7 @@ fn ill_entry(alloc: Global, leaf: &Leaf<'_>, keys: KeyTy, value: &Kind) -> Judge
     }
 }
 
-/// A form of maps.
+/// The problem of a form of maps, if it has one.
 fn of_map(alloc: Global, leaf: &Leaf<'_>, head: &str) -> Judged {
     let Some(map) = leaf.kinds.first() else {
         return Ok(None);
@@ -242,7 +241,7 @@ fn of_map(alloc: Global, leaf: &Leaf<'_>, head: &str) -> Judged {
     }
 }
 
-/// An item of a list, by its number in the tree, of another type than the items have.
+/// The problem of an item of a list that has the type `found` instead of `wanted`. `part` is its number in the tree.
 fn ill_item(alloc: Global, leaf: &Leaf<'_>, part: usize, wanted: &Ty, found: &Kind) -> Judged {
     let wanted = TypeText(wanted);
     let found = spelled(alloc, found)?;
@@ -250,7 +249,7 @@ fn ill_item(alloc: Global, leaf: &Leaf<'_>, part: usize, wanted: &Ty, found: &Ki
     wrong_at(alloc, leaf.path, part, what)
 }
 
-/// A list with an item of another type.
+/// The problem of the first item of a list that has another type, if there is one.
 fn of_list(alloc: Global, leaf: &Leaf<'_>) -> Judged {
     let Expr::List(wanted, _) = leaf.expr else {
         return Ok(None);
@@ -272,7 +271,7 @@ fn fits_clause(alloc: Global, clause: &Tree, found: &Kind) -> Result<bool, Alloc
     }
 }
 
-/// A clause, by its number, of another type.
+/// The problem of clause `place`, which has another type.
 fn ill_clause(alloc: Global, leaf: &Leaf<'_>, clause: &Tree, place: usize, found: &Kind) -> Judged {
     let mut path = Vec::from_slice(alloc, leaf.path)?;
     path.extend_from_slice(&[1, place])?;
@@ -284,7 +283,7 @@ fn ill_clause(alloc: Global, leaf: &Leaf<'_>, clause: &Tree, place: usize, found
     wrong_at(alloc, path.as_slice(), 1, what)
 }
 
-/// A comprehension with a clause of another type.
+/// The problem of the first clause of a comprehension that has another type, if there is one.
 fn of_for(alloc: Global, leaf: &Leaf<'_>) -> Judged {
     for (place, clause) in clauses_of(leaf.form).iter().enumerate() {
         let Some(found) = leaf.kinds.get(place) else {
@@ -297,7 +296,7 @@ fn of_for(alloc: Global, leaf: &Leaf<'_>) -> Judged {
     Ok(None)
 }
 
-/// A fold over no list, or whose body is of another type than its first value.
+/// The problem of a fold over no list, or with a body of another type than its first value.
 fn of_fold(alloc: Global, leaf: &Leaf<'_>) -> Judged {
     match leaf.kinds {
         [_, first, body] => wanted_type(

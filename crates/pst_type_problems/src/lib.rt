@@ -1,7 +1,7 @@
 //! What is wrong with a model that is not well typed.
 //!
-//! What stands here is tested and not proved: that it ends and does nothing unsafe is all that its proofs say.
-//! That the part which is looked at is ill is proved of `pst_typing`.
+//! The messages are tested, not proved: the proofs only say that the code terminates and does nothing unsafe.
+//! `pst_typing` proves that the part in question is ill-typed.
 #![tactic(auto)]
 
 mod applied;

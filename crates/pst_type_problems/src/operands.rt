@@ -7,7 +7,7 @@ use pst_typing::{Form, Kind};
 use std::alloc::Global;
 use std::fmt::Display;
 
-/// The same problem, with a hint where a reference stands in the place of its value.
+/// The problem `refused`, with a hint if a reference is in the place of its value.
 fn with_reference_hint(
     alloc: Global,
     refused: Option<Problem>,
@@ -27,7 +27,7 @@ fn with_reference_hint(
     )
 }
 
-/// The same problem, with a hint where a map stands in the place of a list.
+/// The problem `refused`, with a hint if a map is in the place of a list.
 fn with_keys_hint(alloc: Global, refused: Option<Problem>, found: &Kind) -> Judged {
     match found.form(alloc)? {
         Form::Map(_, _) => with_note(
@@ -39,7 +39,7 @@ fn with_keys_hint(alloc: Global, refused: Option<Problem>, found: &Kind) -> Judg
     }
 }
 
-/// An expression, by the path of its tree, of another type than the wanted one.
+/// The problem of the expression at `path`, which has the type `found` instead of `wanted`.
 pub fn other_type<D: Display + Drop>(
     alloc: Global,
     path: &[usize],
@@ -57,7 +57,7 @@ pub fn other_type<D: Display + Drop>(
     with_reference_hint(alloc, refused, wanted, found)
 }
 
-/// A part, by its number in its tree, that may have another type than the wanted one.
+/// The problem of part `part` of a tree, if its type `found` is another than `wanted`.
 pub fn wanted_type<D: Display + Drop>(
     alloc: Global,
     leaf: &Leaf<'_>,
@@ -73,7 +73,7 @@ pub fn wanted_type<D: Display + Drop>(
     other_type(alloc, path.as_slice(), what, wanted, found)
 }
 
-/// The first part of another kind than its form takes.
+/// The problem of the first part, which has another kind than its form takes.
 pub fn ill_first<D: Display + Drop>(
     alloc: Global,
     leaf: &Leaf<'_>,
@@ -84,7 +84,7 @@ pub fn ill_first<D: Display + Drop>(
     wrong_at(alloc, leaf.path, 1, format_args!("{what}, found {found}"))
 }
 
-/// The first part of `at` that is no tuple.
+/// The problem of the first part of `at`, which is no tuple.
 pub fn wanted_tuple(alloc: Global, leaf: &Leaf<'_>, found: &Kind) -> Judged {
     let refused = ill_first(alloc, leaf, "`at` takes a tuple", found)?;
     match found.form(alloc)? {
@@ -97,7 +97,7 @@ pub fn wanted_tuple(alloc: Global, leaf: &Leaf<'_>, found: &Kind) -> Judged {
     }
 }
 
-/// The first part, of a form that takes a text or a list, that is neither.
+/// The problem of a form that takes a text or a list, and whose first part is neither.
 pub fn wanted_sequence(alloc: Global, leaf: &Leaf<'_>, head: &str, found: &Kind) -> Judged {
     let refused = ill_first(
         alloc,
@@ -108,7 +108,7 @@ pub fn wanted_sequence(alloc: Global, leaf: &Leaf<'_>, head: &str, found: &Kind)
     with_keys_hint(alloc, refused, found)
 }
 
-/// A part, by its number in the tree of a path, that is no list.
+/// The problem of part `part` of the tree that `path` leads to, which is no list.
 pub fn wanted_list(alloc: Global, path: &[usize], what: &str, part: usize, found: &Kind) -> Judged {
     let has = spelled(alloc, found)?;
     let refused = wrong_at(
@@ -120,7 +120,7 @@ pub fn wanted_list(alloc: Global, path: &[usize], what: &str, part: usize, found
     with_keys_hint(alloc, refused, found)
 }
 
-/// The first part of a form of maps that is no map.
+/// The problem of a form of maps whose first part is no map.
 pub fn wanted_map(alloc: Global, leaf: &Leaf<'_>, head: &str, found: &Kind) -> Judged {
     let is_second = match leaf.kinds.get(1) {
         Some(second) => matches!(second.form(alloc)?, Form::Map(_, _)),

@@ -6,8 +6,8 @@ use pst_problems::key_word;
 use pst_typing::{Form, Kind};
 use std::alloc::{AllocError, Global};
 
-/// The most forms of a type that are shown: a type may have more forms than memory holds, since its equal parts are
-/// shared. `..` stands for the others.
+/// The greatest number of forms of a type in a message. `..` replaces the others. A type may have more forms than
+/// memory holds, because its equal parts are shared.
 const MOST_FORMS: usize = 64;
 
 /// A type, as it is written.
@@ -18,7 +18,7 @@ pub fn spelled(alloc: Global, kind: &Kind) -> Result<String, AllocError> {
     Ok(text)
 }
 
-/// Adds a type. Its forms are taken off `left`.
+/// Adds a type, and subtracts the number of its forms from `left`.
 #[cycle(spell)]
 fn spell(text: &mut String, alloc: Global, kind: &Kind, left: &mut usize) -> Result<(), AllocError>
     ensures { left.new ≤ left.old }
@@ -43,7 +43,7 @@ fn spell(text: &mut String, alloc: Global, kind: &Kind, left: &mut usize) -> Res
     }
 }
 
-/// Adds the opening of a type, its last part and the closing bracket.
+/// Adds `opening`, the last part of a type, and a closing bracket.
 #[cycle(spell)]
 fn spell_last(
     text: &mut String,
@@ -59,7 +59,7 @@ fn spell_last(
     text.push_str(")")
 }
 
-/// Adds the type of tuples of kinds.
+/// Adds the type of tuples with items of `kinds`.
 #[cycle(spell)]
 fn spell_all(
     text: &mut String,

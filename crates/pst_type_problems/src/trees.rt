@@ -4,7 +4,7 @@ use pst_problems::head_of;
 use pst_sexpr::{Form, node_of};
 use std::alloc::AllocError;
 
-/// The head word of a node, or an empty word where none heads it.
+/// The head word of a node, or an empty word if it has none.
 pub fn head_word(form: &Form) -> &str {
     match head_of(form) {
         Some(head) => head.as_str(),
@@ -12,7 +12,7 @@ pub fn head_word(form: &Form) -> &str {
     }
 }
 
-/// The tree of a number in another, or this one where it holds no such tree.
+/// Tree `number` in `form`, or `form` itself if it holds no such tree.
 pub fn tree_in(form: &Form, number: usize) -> &Form {
     match node_of(form) {
         Some(trees) => trees.get(number).unwrap_or(form),
@@ -33,13 +33,13 @@ pub fn goes_over_list(clause: &Form) -> bool {
     head_word(clause) == "in"
 }
 
-/// Goes from a tree to the one of a number in it: lengthens the path, and gives the tree.
+/// Goes from a tree to tree `number` in it: extends `path`, and returns that tree.
 fn enter<'a>(path: &mut Vec<usize>, form: &'a Form, number: usize) -> Result<&'a Form, AllocError> {
     path.push(number)?;
     Ok(tree_in(form, number))
 }
 
-/// Goes from the tree of a comprehension to that of a clause's expression, or to that of the body.
+/// Goes from the tree of a comprehension to the expression of clause `part`, or to the body if it has no such clause.
 fn enter_for<'a>(
     path: &mut Vec<usize>,
     form: &'a Form,
@@ -53,8 +53,7 @@ fn enter_for<'a>(
     enter(path, clause, if goes_over_list(clause) { 2 } else { 1 })
 }
 
-/// Goes from the tree of an expression to that of a part, by its number: lengthens the path, and gives the
-/// tree.
+/// Goes from the tree of an expression to its part `part`: extends `path`, and returns the tree of the part.
 pub fn enter_part<'a>(
     path: &mut Vec<usize>,
     form: &'a Form,

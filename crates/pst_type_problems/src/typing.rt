@@ -11,7 +11,7 @@ use pst_typing::{Blame, Context, Found, Kind, Scope, find, holds_call, holds_ref
 use pst_value::Ty;
 use std::alloc::{AllocError, Global};
 
-/// Where an expression stands: its tree, the path to it, what it is called, and the type that it must have.
+/// The place of an expression: its tree, the path to it, what it is called, and the type that it must have.
 #[derive(Drop)]
 pub struct Site<'a> {
     pub form: &'a Form,
@@ -22,8 +22,8 @@ pub struct Site<'a> {
     pub has_maps: bool,
 }
 
-/// Where an item stands: the items of its model, the type of the state, the tree of the item, and its number
-/// in the tree of the model.
+/// The place of an item: the items of its model, the type of the state, the tree of the item, and its number in the
+/// tree of the model.
 #[derive(Clone, Copy, Drop)]
 pub struct Here<'a> {
     pub items: &'a [Item],
@@ -34,8 +34,8 @@ pub struct Here<'a> {
     pub has_maps: bool,
 }
 
-/// Goes from the tree of an expression to that of a part in it, by the numbers of the parts that lead there:
-/// lengthens the path, and gives the tree.
+/// Goes from the tree of an expression to the part in it that the numbers `parts` lead to: extends `path`, and returns
+/// the tree of the part.
 fn enter_parts<'a>(
     path: &mut Vec<usize>,
     form: &'a Form,
@@ -74,7 +74,7 @@ fn blamed(
     diagnose(alloc, &leaf)
 }
 
-/// What is wrong with the kind that an expression was found to have, if something is.
+/// The problem of an expression of the kind `found`, if it has to have another kind.
 fn of_kind(alloc: Global, site: &Site<'_>, found: &Kind) -> Judged {
     if found.same(alloc, site.wanted)? {
         return Ok(None);
@@ -111,7 +111,7 @@ fn context_of(alloc: Global, items: &[Item], is_post: bool) -> Context<'_> {
     }
 }
 
-/// The body of the callback of a word, where the tree is that callback.
+/// The body of the callback `word`, if the tree is this callback.
 fn body_of<'a>(form: &'a Form, word: &str) -> Option<&'a Form> {
     match node_of(form)? {
         [_, body] if head_word(form) == word => Some(body),
@@ -119,7 +119,7 @@ fn body_of<'a>(form: &'a Form, word: &str) -> Option<&'a Form> {
     }
 }
 
-/// The number and the body of the callback of a word among the parts of an operation.
+/// The number and the body of the callback `word` among the parts of an operation.
 fn callback<'a>(form: &'a Form, word: &str) -> Option<(usize, &'a Form)> {
     for (number, part) in node_of(form)?.iter().enumerate() {
         if number >= 4 {
@@ -131,7 +131,7 @@ fn callback<'a>(form: &'a Form, word: &str) -> Option<(usize, &'a Form)> {
     None
 }
 
-/// Adds what is wrong with the callback of a word.
+/// Adds what is wrong with the callback `word`.
 fn tell_callback(
     problems: &mut Vec<Problem>,
     expr: &Expr,
@@ -220,7 +220,7 @@ fn of_declared(alloc: Global, op: &Op, number: usize) -> Judged {
     )
 }
 
-/// What is wrong with an operation: the types that it declares, and each of its callbacks.
+/// Adds what is wrong with an operation: the types that it declares, and each of its callbacks.
 fn tell_operation(
     problems: &mut Vec<Problem>,
     alloc: Global,
@@ -278,7 +278,7 @@ fn tell_init(
     tell_expression(problems, expr, &context, &scope, &site)
 }
 
-/// Adds what is wrong with the calls to pick from, which see the state.
+/// Adds what is wrong with the item `command`, which sees the state.
 fn tell_command(
     problems: &mut Vec<Problem>,
     alloc: Global,
@@ -324,9 +324,9 @@ fn tell_item(
     }
 }
 
-/// What is wrong with the item of a number, from 1, of a model that is not well typed, and with those behind it: the
-/// problem that the model is refused for first. Each is independent of the others, since functions and operations are
-/// used by the types that they declare.
+/// The problems of item `number`, counted from 1, of a model that is not well typed, and of the items after it. The
+/// problem that the model is refused for comes first. Each is independent of the others, because functions and
+/// operations are used by the types that they declare.
 pub fn type_problems(
     alloc: Global,
     source: &Source,

@@ -1,8 +1,8 @@
 //! The part of an expression that a path leads to, and the names that it sees.
 
-use pst_items::{Items, Text};
 use pst_model::{Clause, Expr};
 use pst_typing::Scope;
+use pst_value::{Items, Text};
 use std::alloc::{AllocError, Global};
 
 /// The names of a scope, the inner ones last.
@@ -25,7 +25,7 @@ pub fn names_in(alloc: Global, scope: &Scope<'_>) -> Result<Items<Text>, AllocEr
     }
 }
 
-/// The expression of a number, or the whole where there is none.
+/// Expression `part` of `exprs`, or `whole` if it has no such expression.
 fn one_of<'a>(whole: &'a Expr, exprs: &'a Items<Expr>, part: usize) -> &'a Expr {
     match exprs.get(part) {
         Some(expr) => expr,
@@ -33,7 +33,7 @@ fn one_of<'a>(whole: &'a Expr, exprs: &'a Items<Expr>, part: usize) -> &'a Expr 
     }
 }
 
-/// The part of a comprehension. Adds the names that it sees.
+/// Part `part` of a comprehension. Adds the names that the part sees.
 fn part_of_for<'a>(
     alloc: Global,
     names: &mut Items<Text>,
@@ -59,7 +59,7 @@ fn part_of_for<'a>(
     Ok(body)
 }
 
-/// The part of a number. Adds the names that it sees.
+/// Part `part` of an expression. Adds the names that the part sees.
 fn part_of<'a>(
     alloc: Global,
     names: &mut Items<Text>,
@@ -103,7 +103,7 @@ fn part_of<'a>(
     }
 }
 
-/// The part of an expression that a path leads to. Adds the names that it sees.
+/// The part of an expression that `path` leads to. Adds the names that the part sees.
 pub fn part_at<'a>(
     alloc: Global,
     names: &mut Items<Text>,

@@ -5,7 +5,7 @@ use Rattle.pst_model.specs.declared.expr.Expr.{Expr, out-Expr}
 use Rattle.pst_model.specs.declared.expr.Expr.TheVariants as expr
 use Rattle.pst_model.specs.declared.model.Item.{Item}
 use Rattle.std.specs.declared.alloc.AllocError.{AllocError}
-use Rattle.pst_rules.specs.Rules.{Context}
+use Rattle.pst_model.specs.Rules.{Context}
 use Rattle.pst_typing.specs.Blamed.{Typing, Seen, type_seen, Leads, Parts, parts_for, IsBlamed}
 use Rattle.pst_typing.specs.ByParts.{by_form}
 use Rattle.pst_typing.specs.Decision.{◌>>=◌, type_of}

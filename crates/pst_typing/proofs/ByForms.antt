@@ -11,7 +11,7 @@ use Rattle.pst_model.specs.declared.expr.Unary.{Unary}
 use Rattle.pst_model.specs.declared.model.Fun.{Fun}
 use Rattle.pst_model.specs.declared.model.Item.{Item}
 use Rattle.pst_model.specs.declared.model.Op.{Op}
-use Rattle.pst_rules.specs.Rules.{Context, signature}
+use Rattle.pst_model.specs.Rules.{Context, signature}
 use Rattle.pst_typing.specs.Blamed.{Seen, type_seen, let_parts, if_parts, two_parts, one_part, fold_parts, each_part, body_seen, with_name, Parts, parts_int, parts_bool, parts_text, parts_name, parts_let, parts_if, parts_and, parts_or, parts_unary, parts_binary, parts_tuple, parts_at, parts_list, parts_for, parts_fold, parts_map, parts_put, parts_call, parts_apply, ForParts, for_body, for_in, for_ends_in, for_when}
 use Rattle.pst_typing.specs.ByParts.{of_if, of_both, of_unary, of_binary, of_at, all_are, fits_clause, fits_at, of_for, of_fold, of_put, each_is, by_form}
 use Rattle.pst_typing.specs.Decision.{◌>>=◌, where_true, Finds, Part, item_type, part_type, keys_type, values_type, unary_type, binary_type, all_types, all_have, each_has, built_type, operation_called, type_at, type_of, part_of, part_at}

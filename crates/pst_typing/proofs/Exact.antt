@@ -4,7 +4,7 @@ use Rattle.std.specs.List.{AllByRecursion}
 use Rattle.std.specs.Prelude.{nat_eq}
 use Rattle.std.specs.Cmp.Lexicographic.{pointwise, bytes_decides}
 use Rattle.std.proofs.lemmas.Bool.Decides.{Decides-eqb}
-use Rattle.pst_items.proofs.Exact.{IsExactAt, IsExactChoice, by_exact, both_first, both_second, lists_exact}
+use Rattle.pst_value.proofs.ItemsExact.{IsExactAt, IsExactChoice, by_exact, both_first, both_second, lists_exact}
 use Rattle.pst_typing.specs.declared.kinds.node.Node.{Node}
 use Rattle.pst_typing.specs.declared.kinds.node.Node.TheVariants as node
 use Rattle.pst_typing.specs.contracts.kinds.node.Node as enum

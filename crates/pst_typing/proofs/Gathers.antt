@@ -3,10 +3,10 @@ use Rattle.std.proofs.Common.{◌≡◌, ℕ, zero, suc, ◌+◌, ◌<◌, List,
 use Rattle.std.proofs.lemmas.List.{map-append, length-append, take_more}
 use Rattle.std.specs.declared.alloc.AllocError.{AllocError}
 use Rattle.pst_model.specs.Parts.{Name}
+use Rattle.pst_model.specs.Rules.{Context}
 use Rattle.pst_model.specs.declared.expr.Clause.{Clause}
 use Rattle.pst_model.specs.declared.expr.Clause.TheVariants as clause
 use Rattle.pst_model.specs.declared.expr.Expr.{Expr}
-use Rattle.pst_rules.specs.Rules.{Context}
 use Rattle.pst_typing.specs.Blamed.{Typing, Seen, type_seen, Leads, IsBlamed, each_part, let_parts, fold_parts, ForParts, for_body, for_in, for_ends_in, for_when}
 use Rattle.pst_typing.specs.Decision.{◌>>=◌, item_type}
 use Rattle.pst_typing.specs.Gathering.{kind_found, item_in, AreBlamed, IsFound, inside, most_blames, nothing, with_found, LeadsOn, AllLeadOn, IsGathered, AreClausesOf}

@@ -2,7 +2,7 @@
 use Rattle.std.proofs.Common.{◌≡◌, ℕ, zero, suc, ◌+◌, ◌<◌, ◌≤◌, Bool, false, List, [], ◌∷◌, ◌++◌, map, length, get_or, take, refl, sym, ap, ◌∙◌, arith, length-take}
 use Rattle.std.proofs.lemmas.List.{take_more, get_or-take}
 use Rattle.std.specs.List.{list_any}
-use Rattle.pst_rules.specs.Kinds.{holds_ref}
+use Rattle.pst_model.specs.Kinds.{holds_ref}
 use Rattle.pst_typing.proofs.Holding.{holds_ref-Int, holds_ref-Truth, holds_ref-Text, holds_ref-Tuple, holds_ref-ListOf, holds_ref-MapOf, holds_ref-Ref, holds_ref-Call}
 use Rattle.pst_typing.specs.Forms.{held_at, node_holds}
 use Rattle.pst_typing.specs.Nodes.{type_at, node_type, AreBelow, IsBelow}

@@ -1,9 +1,9 @@
 -- `holds_ref` and `holds_call` at each form of a type.
 use Rattle.std.proofs.Common.{◌≡◌, ℕ, zero, suc, ◌<◌, length, get_or, arith, Bool, true, false, ◌||◌, List, [], ◌∷◌, map, refl, sym, ap, ◌∙◌}
 use Rattle.std.specs.List.{list_any}
+use Rattle.pst_model.specs.Kinds.{holds_ref, holds_ref_at, holds_call, holds_call_at}
 use Rattle.pst_model.specs.Parts.{types_of}
 use Rattle.pst_model.specs.declared.model.Param.{Param}
-use Rattle.pst_rules.specs.Kinds.{holds_ref, holds_ref_at, holds_call, holds_call_at}
 use Rattle.pst_value.proofs.Holding.{list_any-map}
 use Rattle.pst_value.specs.declared.key.KeyTy.{KeyTy}
 use Rattle.pst_value.specs.declared.ty.Ty.{Ty, Int, Bool as Truth, Text, Tuple, List as ListOf, Map as MapOf, Ref, Call, fold-Ty, fold-roll-Ty}

@@ -4,7 +4,7 @@ use Rattle.std.proofs.lemmas.List.{append-nil, reverse-append}
 use Rattle.pst_model.specs.Parts.{state_of}
 use Rattle.pst_model.specs.declared.model.Item.{Item}
 use Rattle.pst_model.specs.declared.model.Source.{Source}
-use Rattle.pst_rules.specs.WellTyped.{WellItem, WellItems, WellModel}
+use Rattle.pst_model.specs.WellTyped.{WellItem, WellItems, WellModel}
 use Rattle.pst_typing.specs.Items.{first_ill}
 use Rattle.pst_typing.specs.Least.{IsWhole, IsIll, Judged}
 use Rattle.pst_typing.proofs.WellItems.{all_well, least_ill}

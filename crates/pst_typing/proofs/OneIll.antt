@@ -1,9 +1,9 @@
 -- A model has one least item that is not well typed, at most.
 use Rattle.std.proofs.Common.{◌≡◌, ◌+◌, ℕ, suc, List, [], ◌∷◌, ◌++◌, length, reverse, Some, refl, sym, ap, ◌∙◌, subst, append_assoc}
 use Rattle.std.proofs.lemmas.List.{append-nil, reverse-append}
+use Rattle.pst_model.specs.WellTyped.{WellItem, WellItems}
 use Rattle.pst_model.specs.declared.model.Item.{Item}
 use Rattle.pst_model.specs.declared.model.Source.{Source}
-use Rattle.pst_rules.specs.WellTyped.{WellItem, WellItems}
 use Rattle.pst_typing.specs.Least.{IsLeastIll, IsIll}
 use Rattle.pst_value.specs.declared.ty.Ty.{Ty}
 

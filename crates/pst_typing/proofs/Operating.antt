@@ -5,7 +5,7 @@ use Rattle.pst_model.specs.declared.expr.Binary.{Binary}
 use Rattle.pst_model.specs.declared.expr.Binary.TheVariants.{Add, Sub, Mul, Div, Rem, Less, LessEqual, Equal, Same, Append, Nth, Range, Get, Has, Del}
 use Rattle.pst_model.specs.declared.expr.Unary.{Unary}
 use Rattle.pst_model.specs.declared.expr.Unary.TheVariants.{Not, Len, Deref, Keys}
-use Rattle.pst_rules.specs.Rules.{is_arithmetic, is_order, key_type, OperatesOnOne, operates_not, operates_len_text, operates_len_list, operates_deref, operates_keys, OperatesOnTwo, operates_arithmetic, operates_order_int, operates_order_text, operates_equal, operates_same, operates_append_text, operates_append_list, operates_nth, operates_get, operates_has, operates_del, operates_range}
+use Rattle.pst_model.specs.Rules.{is_arithmetic, is_order, key_type, OperatesOnOne, operates_not, operates_len_text, operates_len_list, operates_deref, operates_keys, OperatesOnTwo, operates_arithmetic, operates_order_int, operates_order_text, operates_equal, operates_same, operates_append_text, operates_append_list, operates_nth, operates_get, operates_has, operates_del, operates_range}
 use Rattle.pst_typing.specs.Decision.{where_true, item_at, item_type, parts_at, part_types, referred_at, referred_type, is_ref_at, is_ref, is_sequence_at, keys_at, keys_type, values_at, values_type, both_int, are_ordered, unary_type, binary_type}
 use Rattle.pst_typing.proofs.Exactly.{exact, same_refl, then_some, where_some, some_is, is_found, both}
 use Rattle.pst_value.specs.Equality.{same_ty}

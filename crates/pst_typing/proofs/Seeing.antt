@@ -1,8 +1,8 @@
 -- Names that are seen, collected in turn.
 use Rattle.std.proofs.Common.{◌≡◌, ℕ, ◌+◌, ◌<◌, List, [], ◌∷◌, ◌++◌, map, length, get_or, take, refl, sym, ap, ◌∙◌}
 use Rattle.std.proofs.lemmas.List.{take_more}
+use Rattle.pst_model.specs.Rules.{context_of}
 use Rattle.pst_model.specs.declared.model.Param.{Param}
-use Rattle.pst_rules.specs.Rules.{context_of}
 use Rattle.pst_typing.specs.Scope.{name_seen}
 use Rattle.pst_typing.specs.declared.scope.Seen.{Seen}
 

@@ -8,7 +8,7 @@ use Rattle.pst_model.specs.declared.expr.Clause.TheVariants as clause
 use Rattle.pst_model.specs.declared.expr.Expr.{Expr, Expr-F, roll-Expr, map-Expr, fold-roll-Expr, ind-Expr}
 use Rattle.pst_model.specs.declared.expr.Expr.TheVariants as expr
 use Rattle.pst_model.specs.declared.model.Item.{Item}
-use Rattle.pst_rules.specs.Rules.{Context, key_type, Judgement, Has, Have, AllHave, Builds, Typed, typed_int, typed_bool, typed_text, typed_name, typed_let, typed_if, typed_and, typed_or, typed_unary, typed_binary, typed_tuple, typed_at, typed_list, typed_map, typed_put, typed_for, typed_fold, typed_call, typed_apply, typed_none, typed_more, typed_empty, typed_each, typed_body, typed_in, typed_when}
+use Rattle.pst_model.specs.Rules.{Context, key_type, Judgement, Has, Have, AllHave, Builds, Typed, typed_int, typed_bool, typed_text, typed_name, typed_let, typed_if, typed_and, typed_or, typed_unary, typed_binary, typed_tuple, typed_at, typed_list, typed_map, typed_put, typed_for, typed_fold, typed_call, typed_apply, typed_none, typed_more, typed_empty, typed_each, typed_body, typed_in, typed_when}
 use Rattle.pst_typing.specs.Decision.{Finds, Part, all_types, all_have, each_has, built_type, type_at, part_at, type_of, part_of}
 use Rattle.pst_typing.proofs.Exactly.{then_some, where_some, some_is, is_found, both}
 use Rattle.pst_typing.proofs.Operating.{item_is, parts_is, map_is, values_are, unary_some, binary_some}

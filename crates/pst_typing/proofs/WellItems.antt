@@ -6,8 +6,8 @@ use Rattle.pst_model.specs.declared.expr.Expr.{Expr}
 use Rattle.pst_model.specs.declared.model.Item.{Item}
 use Rattle.pst_model.specs.declared.model.Item.TheVariants as item
 use Rattle.pst_model.specs.declared.model.Op.{Op}
-use Rattle.pst_rules.specs.Rules.{Context, Has, Typed}
-use Rattle.pst_rules.specs.WellTyped.{WellOperation, WellItem, WellItems}
+use Rattle.pst_model.specs.Rules.{Context, Has, Typed}
+use Rattle.pst_model.specs.WellTyped.{WellOperation, WellItem, WellItems}
 use Rattle.pst_typing.specs.Decision.{type_of}
 use Rattle.pst_typing.specs.Items.{well_operation, well_item, first_ill}
 use Rattle.pst_typing.specs.Least.{IsLeastIll}

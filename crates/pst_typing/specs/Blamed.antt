@@ -1,13 +1,13 @@
 -- A part of an expression that has no type, while all its own parts have one: these types.
 use Rattle.std.specs.Prelude.{◌≡◌, ℤ, ℕ, Bool, List, [], ◌∷◌, map, Option, Some, None, slice_get, MatchOption}
 use Rattle.pst_model.specs.Parts.{Name}
+use Rattle.pst_model.specs.Rules.{Context}
 use Rattle.pst_model.specs.declared.expr.Binary.{Binary}
 use Rattle.pst_model.specs.declared.expr.Clause.{Clause}
 use Rattle.pst_model.specs.declared.expr.Clause.TheVariants as clause
 use Rattle.pst_model.specs.declared.expr.Expr.{Expr}
 use Rattle.pst_model.specs.declared.expr.Expr.TheVariants as expr
 use Rattle.pst_model.specs.declared.expr.Unary.{Unary}
-use Rattle.pst_rules.specs.Rules.{Context}
 use Rattle.pst_typing.specs.Decision.{◌>>=◌, item_type}
 use Rattle.pst_value.specs.declared.key.KeyTy.{KeyTy}
 use Rattle.pst_value.specs.declared.ty.Ty.{Ty}

@@ -1,12 +1,12 @@
 -- The type of an expression by the types of its parts.
 use Rattle.std.specs.Prelude.{◌&&◌, ◌||◌, not, ℕ, nat_le, Bool, true, false, List, [], ◌∷◌, length, reverse, slice_get, Option, Some, None}
 use Rattle.pst_model.specs.Parts.{Name, types_of}
+use Rattle.pst_model.specs.Rules.{Context, type_named, signature}
 use Rattle.pst_model.specs.declared.expr.Binary.{Binary}
 use Rattle.pst_model.specs.declared.expr.Clause.{Clause, Clause-F, out-Clause}
 use Rattle.pst_model.specs.declared.expr.Expr.{Expr, Expr-F, out-Expr}
 use Rattle.pst_model.specs.declared.expr.Unary.{Unary}
 use Rattle.pst_model.specs.declared.model.Item.{Item}
-use Rattle.pst_rules.specs.Rules.{Context, type_named, signature}
 use Rattle.pst_typing.specs.Decision.{◌>>=◌, where_true, part_type, keys_type, values_type, unary_type, binary_type, operation_called}
 use Rattle.pst_typing.specs.declared.context.Context.{Context as Surroundings}
 use Rattle.pst_value.specs.Equality.{same_ty}

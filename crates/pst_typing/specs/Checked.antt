@@ -1,7 +1,7 @@
 -- What the check of a model answers.
 use Rattle.std.specs.Prelude.{◌≡◌, Result, Ok, Err, ⊤}
+use Rattle.pst_model.specs.WellTyped.{WellModel}
 use Rattle.pst_model.specs.declared.model.Source.{Source}
-use Rattle.pst_rules.specs.WellTyped.{WellModel}
 use Rattle.pst_typing.specs.Least.{IsIll}
 use Rattle.pst_typing.specs.declared.type_fault.TypeFault.{TypeFault}
 use Rattle.pst_typing.specs.declared.type_fault.TypeFault.TheVariants.{Item, NoMemory}

@@ -1,6 +1,8 @@
 -- The type that the rules give an expression, if there is one, form by form.
 use Rattle.std.specs.Prelude.{◌&&◌, ◌||◌, not, ℕ, ◌^◌, nat_lt, nat_le, Bool, true, false, if◌then◌else◌, List, [], ◌∷◌, length, Option, Some, None}
+use Rattle.pst_model.specs.Kinds.{holds_ref}
 use Rattle.pst_model.specs.Parts.{Name, number_of, operation_of, types_of}
+use Rattle.pst_model.specs.Rules.{Context, type_named, signature, key_type}
 use Rattle.pst_model.specs.declared.expr.Binary.{Binary}
 use Rattle.pst_model.specs.declared.expr.Binary.TheVariants.{Add, Sub, Mul, Div, Rem, Less, LessEqual, Equal, Same, Append, Nth, Range, Get, Has, Del}
 use Rattle.pst_model.specs.declared.expr.Clause.{Clause, Clause-F, fold-Clause}
@@ -9,8 +11,6 @@ use Rattle.pst_model.specs.declared.expr.Unary.{Unary}
 use Rattle.pst_model.specs.declared.expr.Unary.TheVariants.{Not, Len, Deref, Keys}
 use Rattle.pst_model.specs.declared.model.Item.{Item}
 use Rattle.pst_model.specs.declared.model.Op.{Op}
-use Rattle.pst_rules.specs.Kinds.{holds_ref}
-use Rattle.pst_rules.specs.Rules.{Context, type_named, signature, key_type}
 use Rattle.pst_value.specs.Equality.{same_ty}
 use Rattle.pst_value.specs.Fits.{is_ty}
 use Rattle.pst_value.specs.Subst.{numbered}

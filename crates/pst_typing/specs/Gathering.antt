@@ -1,8 +1,8 @@
 -- What is known of an expression and of its parts.
 use Rattle.std.specs.Prelude.{◌≡◌, ℕ, ◌+◌, List, [], ◌∷◌, ◌++◌, length, map, take, Option, Some, None, ⊤}
+use Rattle.pst_model.specs.Rules.{Context}
 use Rattle.pst_model.specs.declared.expr.Clause.{Clause}
 use Rattle.pst_model.specs.declared.expr.Expr.{Expr}
-use Rattle.pst_rules.specs.Rules.{Context}
 use Rattle.pst_typing.specs.Blamed.{Typing, Seen, AreTypes, Leads, Parts, ForParts, IsBlamed}
 use Rattle.pst_typing.specs.Decision.{◌>>=◌, item_type}
 use Rattle.pst_typing.specs.declared.blame.Blame.{Blame}

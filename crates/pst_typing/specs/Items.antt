@@ -6,9 +6,9 @@ use Rattle.pst_model.specs.declared.expr.Expr.{Expr}
 use Rattle.pst_model.specs.declared.model.Item.{Item}
 use Rattle.pst_model.specs.declared.model.Item.TheVariants as item
 use Rattle.pst_model.specs.declared.model.Op.{Op}
-use Rattle.pst_rules.specs.Kinds.{holds_ref, holds_call}
-use Rattle.pst_rules.specs.Rules.{Context, context_of}
-use Rattle.pst_rules.specs.WellTyped.{name_s, all_of, pre_context, next_context, post_context}
+use Rattle.pst_model.specs.Kinds.{holds_ref, holds_call}
+use Rattle.pst_model.specs.Rules.{Context, context_of}
+use Rattle.pst_model.specs.WellTyped.{name_s, all_of, pre_context, next_context, post_context}
 use Rattle.pst_typing.specs.Decision.{type_of}
 use Rattle.pst_value.specs.Fits.{is_ty}
 use Rattle.pst_value.specs.declared.ty.Ty.{Ty}

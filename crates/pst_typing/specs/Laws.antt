@@ -1,10 +1,10 @@
 -- The decision agrees with the rules.
 use Rattle.std.specs.Prelude.{◌≡◌, ℕ, Bool, true, List, [], Some, None}
+use Rattle.pst_model.specs.Rules.{Context, Has, Typed}
+use Rattle.pst_model.specs.WellTyped.{WellItem, WellItems, WellModel}
 use Rattle.pst_model.specs.declared.expr.Expr.{Expr}
 use Rattle.pst_model.specs.declared.model.Item.{Item}
 use Rattle.pst_model.specs.declared.model.Source.{Source}
-use Rattle.pst_rules.specs.Rules.{Context, Has, Typed}
-use Rattle.pst_rules.specs.WellTyped.{WellItem, WellItems, WellModel}
 use Rattle.pst_typing.specs.Decision.{type_of}
 use Rattle.pst_typing.specs.Items.{well_item, first_ill}
 use Rattle.pst_typing.specs.Least.{IsLeastIll, IsIll}

@@ -1,10 +1,10 @@
 -- The least item that is not well typed, and what the check of a model answers.
 use Rattle.std.specs.Prelude.{◌≡◌, ℕ, ◌+◌, List, [], ◌∷◌, ◌++◌, length, reverse, Option, Some, None}
 use Rattle.pst_model.specs.Parts.{state_of, opening_of, calls_of}
+use Rattle.pst_model.specs.WellTyped.{WellItem, WellItems, WellModel}
 use Rattle.pst_model.specs.declared.expr.Expr.{Expr}
 use Rattle.pst_model.specs.declared.model.Item.{Item}
 use Rattle.pst_model.specs.declared.model.Source.{Source}
-use Rattle.pst_rules.specs.WellTyped.{WellItem, WellItems, WellModel}
 use Rattle.pst_value.specs.declared.ty.Ty.{Ty}
 
 -- a state, an opening state and the calls stand there

@@ -1,7 +1,7 @@
 -- What an input begins with: a well-typed model, or its first refusal.
 use Rattle.std.specs.Prelude.{◌≡◌, ◌≤◌, ℕ, List, [], ◌∷◌, ◌++◌, length, Ok, Err, codes, decimal}
+use Rattle.pst_model.specs.WellTyped.{WellModel}
 use Rattle.pst_model.specs.declared.model.Source.{Source}
-use Rattle.pst_rules.specs.WellTyped.{WellModel}
 use Rattle.pst_sexpr.specs.Fault as sexpr
 use Rattle.pst_sexpr.specs.Reading.{max_bytes, Spells, IsFault}
 use Rattle.pst_sexpr.specs.declared.form.Form.{Form}

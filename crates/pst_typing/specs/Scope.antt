@@ -3,7 +3,7 @@ use Rattle.std.specs.Prelude.{List, ◌∷◌, map, reverse}
 use Rattle.pst_model.specs.declared.expr.Clause.{Clause}
 use Rattle.pst_model.specs.Parts.{Name}
 use Rattle.pst_model.specs.declared.expr.Expr.{Expr}
-use Rattle.pst_rules.specs.Rules.{Context, context_of}
+use Rattle.pst_model.specs.Rules.{Context, context_of}
 use Rattle.pst_typing.specs.Decision.{Finds, Part, type_of, part_of}
 use Rattle.pst_typing.specs.declared.context.Context.{Context as Surroundings}
 use Rattle.pst_typing.specs.declared.scope.Names.{Names, Outer, With' as Within}

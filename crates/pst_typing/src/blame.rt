@@ -1,7 +1,7 @@
 //! What a search for the kind of an expression returns.
 
 use crate::kinds::Kind;
-use pst_items::Items;
+use pst_value::Items;
 
 /// A part of an expression that has no type, though its own parts have one.
 #[derive(Drop)]

@@ -17,9 +17,8 @@ use crate::operators::{
 };
 use crate::refusal::Refusal;
 use crate::scope::{Names, find_name, function_called, operation_called};
-use pst_items::Items;
 use pst_model::{Binary, Clause, Expr, Param, Unary};
-use pst_value::{KeyTy, LIMIT, Ty};
+use pst_value::{Items, KeyTy, LIMIT, Ty};
 use std::alloc::{AllocError, Global};
 
 /// The kind of an expression by the kinds of its parts. If it has none, it is to blame itself.
@@ -139,7 +138,7 @@ fn of_at(alloc: Global, kinds: &[Kind], place: u64) -> Result<Kind, Refusal>
     part_type(alloc, tuple, place)
 }
 
-/// The kind of lists of a type, of a number of items that all have it.
+/// The kind of a list of `number` items, all of type `ty`.
 fn of_list(alloc: Global, ty: &Ty, number: usize, kinds: &[Kind]) -> Result<Kind, Refusal>
     ensures { Answers (spec.of_list ty.now number kinds.now) result }
 {
@@ -200,7 +199,7 @@ fn of_map(alloc: Global, keys: KeyTy, ty: &Ty) -> Result<Kind, Refusal>
     Ok(Kind::of(alloc, ty)?.map(alloc, keys)?)
 }
 
-/// The kind of a map with a key and its value, where both have the types that the map gives them.
+/// The kind of a map with a key and its value, if both have the map's types.
 fn of_put(alloc: Global, kinds: &[Kind]) -> Result<Kind, Refusal>
     ensures { Answers (spec.of_put kinds.now) result }
 {
@@ -215,7 +214,7 @@ fn of_put(alloc: Global, kinds: &[Kind]) -> Result<Kind, Refusal>
     kept(value.same(alloc, &values)?, map)
 }
 
-/// `call`, where the operation of the name takes such arguments.
+/// `call`, if the operation `name` takes arguments of these kinds.
 fn of_call(context: &Context<'_>, name: &[u8], kinds: &[Kind]) -> Result<Kind, Refusal>
     ensures { Answers (spec.of_call context.now.items.now name.now kinds.now) result }
 {
@@ -228,7 +227,7 @@ fn of_call(context: &Context<'_>, name: &[u8], kinds: &[Kind]) -> Result<Kind, R
     kind_of(context.alloc, &Ty::Call)
 }
 
-/// The kind of the result of the function of the name, where it takes such arguments.
+/// The kind of the result of the function `name`, if it takes arguments of these kinds.
 fn of_applied(context: &Context<'_>, name: &[u8], kinds: &[Kind]) -> Result<Kind, Refusal>
     ensures { Answers
         (spec.of_applied (reverse context.now.earlier.now) context.now.is_post name.now kinds.now) result }

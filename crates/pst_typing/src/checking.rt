@@ -6,13 +6,12 @@ ghost use Rattle.pst_typing.specs.Least.{IsWhole, Judged};
 
 use crate::items::first_ill;
 use crate::type_fault::TypeFault;
-use pst_model::{Source, state_of};
-use pst_rules::Typed;
+use pst_model::{Source, Typed, state_of};
 use pst_syntax::Model;
 use pst_syntax::laws::{model_items, model_language, model_operations};
 use std::alloc::{AllocError, Global};
 
-/// The number of the least item that is not well typed.
+/// The number of the first item that is not well typed.
 #[tactic(auto, using(crate::proofs::Judging::judged))]
 fn judge(alloc: Global, source: &Source) -> Result<Option<usize>, AllocError>
     requires { IsWhole source.now }
@@ -25,9 +24,9 @@ fn judge(alloc: Global, source: &Source) -> Result<Option<usize>, AllocError>
     }
 }
 
-/// Checks a model. It answers the model as well typed, or gives it back with a fault.
+/// Checks a model. Returns it as well typed, or gives it back with a fault.
 ///
-/// `Item`: the least item that is not well typed. `NoMemory`: memory was refused.
+/// `Item`: the first item that is not well typed. `NoMemory`: an allocation failed.
 pub fn check(alloc: Global, model: Model) -> Result<Typed, (Model, TypeFault)>
     ensures { Checks model result }
 {

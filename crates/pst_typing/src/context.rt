@@ -9,6 +9,6 @@ pub struct Context<'a> {
     pub items: &'a [Item],
     /// The items before the place of the expression, whose functions it may apply.
     pub earlier: &'a [Item],
-    /// Whether it stands in mode post, where a reference has a value.
+    /// Whether the expression is in mode post, in which a reference has a value.
     pub is_post: bool,
 }

@@ -11,8 +11,8 @@ use crate::by_parts::judged;
 use crate::context::Context;
 use crate::gathered::{Gathered, item_found};
 use crate::scope::{Names, Scope, names_seen};
-use pst_items::{Boxed, Text};
 use pst_model::{Clause, Expr};
+use pst_value::{Boxed, Text};
 use std::alloc::AllocError;
 
 /// The kind of an expression among the names of a scope, or the parts that are to blame if it has none.

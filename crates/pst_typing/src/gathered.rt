@@ -7,7 +7,7 @@ use crate::blame::{Blame, Found};
 use crate::kinds::Kind;
 use crate::operators::item_type;
 use crate::refusal::Refusal;
-use pst_items::Items;
+use pst_value::Items;
 use std::alloc::{AllocError, Global};
 
 /// How many blames are kept. A message shows 20 problems, and says whether there are more.
@@ -60,7 +60,7 @@ impl Gathered {
     }
 }
 
-/// The first of some blames and of those within the part of a number.
+/// The first `MOST_BLAMES` of `blames` and then `more`, which are the blames within part `number`.
 fn with_blames(
     alloc: Global,
     blames: Items<Blame>,
@@ -78,7 +78,7 @@ fn with_blames(
     Ok(Items::from_vec(all))
 }
 
-/// The blame within the part of a number, as a blame within the whole.
+/// A blame within part `number`, as a blame within the whole.
 fn inside(alloc: Global, number: usize, blame: Blame) -> Result<Blame, AllocError>
     ensures { IfOk result (λ outer. outer ≡ spec.inside number blame) }
 {

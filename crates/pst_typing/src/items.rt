@@ -1,6 +1,6 @@
 //! Items that are well typed.
 ghost use Rattle.std.specs.Prelude.{◌≡◌, true, false, [], ◌∷◌, reverse, IfOk};
-ghost use Rattle.pst_rules.specs.WellTyped as rules;
+ghost use Rattle.pst_model.specs.WellTyped as rules;
 ghost use Rattle.pst_typing.specs.Items as spec;
 ghost use Rattle.pst_typing.specs.Scope.{names_of, type_in};
 ghost use Rattle.pst_value.specs.Fits.{is_ty};

@@ -7,20 +7,19 @@ pub fn types_are_exact()
     ensures typed { TypedIsFound }
 {}
 
-/// An item passes the test just where the rules call it well typed.
+/// An item passes the test exactly if the rules call it well typed.
 pub fn items_are_exact()
     ensures passed { PassedIsWell }
     ensures well { WellIsPassed }
 {}
 
-/// The number that the search gives is that of the least item that is not well typed; where it gives none,
-/// all are.
+/// The search finds the first item that is not well typed. If it finds none, all items are well typed.
 pub fn first_ill_is_least()
     ensures none { NoneIsWell }
     ensures some { SomeIsLeast }
 {}
 
-/// A model of which an item is not well typed is not well typed.
+/// A model with an item that is not well typed is not well typed.
 pub fn ill_is_not_well()
     ensures { IllIsNotWell }
 {}

@@ -1,5 +1,5 @@
-//! The type checker of the model language, and `load`: from bytes to a well-typed model and the trees behind it, or the
-//! first refusal.
+//! The type checker of the model language, and `load`, which reads bytes as a well-typed model and the trees
+//! after it, or returns the first refusal. `AllocError` means that an allocation failed.
 #![tactic(auto)]
 
 mod blame;

@@ -11,7 +11,7 @@ pub enum Refusal {
     Unread(SexprFault),
     /// The first tree is no model.
     NoModel(SyntaxFault),
-    /// The number, from 1, of the least item of the model that is not well typed.
+    /// The number, from 1, of the first item of the model that is not well typed.
     IllTyped(usize),
 }
 

@@ -1,6 +1,6 @@
-//! Loading a model: from bytes to a well-typed model and the trees behind it, or the first refusal.
+//! Loads a model: reads bytes as a well-typed model and the trees after it, or returns the first refusal.
 ghost use Rattle.std.specs.Prelude.{◌≡◌, IfOk, MatchResult};
-ghost use Rattle.pst_rules.specs.WellTyped.{WellModel};
+ghost use Rattle.pst_model.specs.WellTyped.{WellModel};
 ghost use Rattle.pst_syntax.specs.Items.{model_of};
 ghost use Rattle.pst_typing.specs.Least.{IsIll};
 ghost use Rattle.pst_typing.specs.Loading.{IsFile, Holds, IsRefusal, items_of};
@@ -8,12 +8,12 @@ ghost use Rattle.pst_typing.specs.Loading.{IsFile, Holds, IsRefusal, items_of};
 use crate::checking::check;
 use crate::load_refusal::Refusal;
 use crate::type_fault::TypeFault;
-use pst_rules::Typed;
+use pst_model::Typed;
 use pst_sexpr::{FaultKind, Tree, read};
 use pst_syntax::{Model, SyntaxFault, read_model};
 use std::alloc::{AllocError, Global};
 
-/// A file of trees, of which the first spells a well-typed model.
+/// A file of trees, the first of which spells a well-typed model.
 #[derive(Drop)]
 pub struct ModelFile {
     /// The model.
@@ -54,7 +54,7 @@ fn model_in(alloc: Global, trees: &[Tree]) -> Result<Result<Model, SyntaxFault>,
     }
 }
 
-/// The model where it is well typed, and else the number of its least item that is not.
+/// The model if it is well typed, or else the number of its first item that is not.
 fn typed_of(alloc: Global, model: Model) -> Result<Result<Typed, usize>, AllocError>
     ensures { IfOk result
         (λ checked. MatchResult checked (λ typed. (typed ≡ model) × WellModel model)
@@ -67,8 +67,8 @@ fn typed_of(alloc: Global, model: Model) -> Result<Result<Typed, usize>, AllocEr
     }
 }
 
-/// The well-typed model that an input begins with, and all trees of the input; or its first refusal, that of its bytes before that
-/// of the model, and that before the model's types. `AllocError` where memory is refused.
+/// Returns the well-typed model at the start of an input and all trees of the input, or the first refusal. A
+/// fault of the bytes comes first, then one of the model's syntax, then one of its types.
 pub fn load(alloc: Global, input: &[u8]) -> Result<Result<ModelFile, Refusal>, AllocError>
     ensures { IfOk result (λ read. MatchResult read
         (λ file. Holds input.now file.typed file.trees.items)
@@ -88,7 +88,7 @@ pub fn load(alloc: Global, input: &[u8]) -> Result<Result<ModelFile, Refusal>, A
     }
 }
 
-/// The trees behind the model: all but the first.
+/// The trees after the model: all but the first.
 pub fn items_of(trees: &[Tree]) -> &[Tree]
     ensures { result.now ≡ items_of trees.now }
 {

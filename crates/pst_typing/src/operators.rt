@@ -3,7 +3,7 @@ ghost use Rattle.std.specs.Prelude.{◌≡◌, ◌&&◌, true, Some, IfOk};
 ghost use Rattle.std.specs.List.{list_all};
 ghost use Rattle.std.specs.Option.{option_copied};
 ghost use Rattle.pst_model.specs.declared.expr.Unary.TheVariants.{Keys};
-ghost use Rattle.pst_rules.specs.Rules as rules;
+ghost use Rattle.pst_model.specs.Rules as rules;
 ghost use Rattle.pst_typing.specs.Answers.{Answers};
 ghost use Rattle.pst_typing.specs.Decision as spec;
 ghost use Rattle.pst_value.specs.Equality.{same_ty};

@@ -3,10 +3,8 @@ ghost use Rattle.std.specs.Prelude.{◌≡◌};
 ghost use Rattle.std.specs.Option.{option_copied};
 ghost use Rattle.pst_typing.specs.Operations as spec;
 
-use pst_items::Text;
-use pst_model::{Param, operation_of};
-use pst_rules::Typed;
-use pst_value::Ty;
+use pst_model::{Param, Typed, operation_of};
+use pst_value::{Text, Ty};
 
 /// The name of the model.
 pub fn model_name(typed: &Typed) -> &Text
@@ -15,7 +13,7 @@ pub fn model_name(typed: &Typed) -> &Text
     &typed.source().name
 }
 
-/// The name of the operation of a number, from 0.
+/// The name of operation `number`, from 0.
 pub fn operation_name(typed: &Typed, number: u32) -> Option<&Text>
     ensures { option_copied result ≡ spec.operation_name typed.now.items number }
 {
@@ -23,7 +21,7 @@ pub fn operation_name(typed: &Typed, number: u32) -> Option<&Text>
     Some(&operation.name)
 }
 
-/// The type of the results of the operation of a number, from 0.
+/// The result type of operation `number`, from 0.
 pub fn operation_result(typed: &Typed, number: u32) -> Option<&Ty>
     ensures { option_copied result ≡ spec.operation_result typed.now.items number }
 {
@@ -31,7 +29,7 @@ pub fn operation_result(typed: &Typed, number: u32) -> Option<&Ty>
     Some(&operation.result)
 }
 
-/// The parameters, with their types, of the operation of a number, from 0.
+/// The parameters, with their types, of operation `number`, from 0.
 pub fn operation_parameters(typed: &Typed, number: u32) -> Option<&[Param]>
     ensures { option_copied result ≡ spec.operation_parameters typed.now.items number }
 {

@@ -5,7 +5,7 @@ use std::alloc::AllocError;
 pub enum Refusal {
     /// It is not well typed.
     Ill,
-    /// Memory was refused.
+    /// An allocation failed.
     NoMemory,
 }
 

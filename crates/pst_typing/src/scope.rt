@@ -1,7 +1,7 @@
-//! What names stand for: variables, operations and functions.
+//! What names mean: variables, operations and functions.
 ghost use Rattle.std.specs.Prelude.{◌≡◌, map, reverse, IfOk};
 ghost use Rattle.std.specs.Option.{option_copied};
-ghost use Rattle.pst_rules.specs.Rules as rules;
+ghost use Rattle.pst_model.specs.Rules as rules;
 ghost use Rattle.pst_typing.specs.Decision as decision;
 ghost use Rattle.pst_typing.specs.Answers.{Answers};
 ghost use Rattle.pst_typing.specs.Scope.{names_of, names_in, name_seen};
@@ -9,8 +9,8 @@ ghost use Rattle.pst_typing.specs.Scope.{names_of, names_in, name_seen};
 use crate::kinds::Kind;
 use crate::operators::copied;
 use crate::refusal::Refusal;
-use pst_items::Items;
 use pst_model::{Fun, Item, Op, Param, number_of, operation_of};
+use pst_value::Items;
 use std::alloc::{AllocError, Global};
 
 /// The names that an expression sees with their types, the inner ones first.
@@ -68,7 +68,7 @@ pub fn names_seen(alloc: Global, scope: &Scope<'_>) -> Result<Items<Seen>, Alloc
     }
 }
 
-/// The kind of a name among those that the whole expression sees.
+/// The kind of `name` among the names that the whole expression sees.
 fn kind_seen<'a>(seen: &'a [Seen], name: &[u8]) -> Option<&'a Kind>
     ensures { option_copied result ≡ rules.type_named (map name_seen seen.now) name.now }
 {

@@ -9,14 +9,14 @@ use std::fmt;
 /// Why the check of a model does not call it well typed.
 #[derive(Clone, Copy, Debug, PartialEq, Eq, Drop)]
 pub enum TypeFault {
-    /// The number, from 1, of the least item that is not well typed.
+    /// The number, from 1, of the first item that is not well typed.
     Item(usize),
-    /// Memory was refused.
+    /// An allocation failed.
     NoMemory,
 }
 
 impl TypeFault {
-    /// The name of its kind, as `Item`.
+    /// The name of its kind, such as `Item`.
     pub fn name(&self) -> &'static str
         ensures { result.now ≡ fault_name self.now }
     {

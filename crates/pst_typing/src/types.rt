@@ -2,12 +2,12 @@
 ghost use Rattle.std.specs.Prelude.{◌≡◌};
 ghost use Rattle.std.specs.List.{list_any};
 ghost use Rattle.pst_model.specs.Parts.{types_of};
-ghost use Rattle.pst_rules.specs.Kinds as kinds;
+ghost use Rattle.pst_model.specs.Kinds as kinds;
 
 use pst_model::Param;
 use pst_value::Ty;
 
-/// Whether `ref` or `call` stands in a type.
+/// Whether `ref` or `call` occurs in a type.
 #[cycle(refs)]
 #[tactic(auto, using(crate::proofs::Holding::refs))]
 pub fn holds_ref(ty: &Ty) -> bool
@@ -33,7 +33,7 @@ fn any_holds_ref(types: &[Ty]) -> bool
     false
 }
 
-/// Whether `call` stands in a type.
+/// Whether `call` occurs in a type.
 #[cycle(calls)]
 #[tactic(auto, using(crate::proofs::Holding::calls))]
 pub fn holds_call(ty: &Ty) -> bool
@@ -59,7 +59,7 @@ fn any_holds_call(types: &[Ty]) -> bool
     false
 }
 
-/// Whether `call` stands in the type of a parameter.
+/// Whether `call` occurs in the type of a parameter.
 pub fn parameters_hold_call(params: &[Param]) -> bool
     ensures { result ≡ list_any kinds.holds_call (types_of params.now) }
 {

@@ -6,5 +6,6 @@ pub mod Keys
 pub mod Laws
 pub mod Subst
 pub mod Text
+pub mod formers
 -- what these are made of
 pub mod Equality

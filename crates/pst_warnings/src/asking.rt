@@ -1,4 +1,4 @@
-//! The condition of a replay that asks preconditions.
+//! The condition of a replay that checks preconditions.
 
 use pst_eval::Callbacks;
 use pst_judge::{Condition, Event, truth};

@@ -1,33 +1,32 @@
-//! The callbacks of a model while a script is generated: a bounded number of steps is made, and the commands are kept.
+//! The callbacks of a model while a script is generated. They take a bounded number of steps, and record the commands.
 ghost use Rattle.std.specs.Prelude.{◌≡◌};
 
 use pst_case::Command;
 use pst_compile::Compiled;
 use pst_eval::Callbacks;
-use pst_items::Items;
-use pst_value::{Fault, Value};
+use pst_value::{Fault, Items, Value};
 use std::alloc::{AllocError, Global};
 use std::cell::{Cell, RefCell};
 
-/// What a callback answers: a value and the turns left, or a fault, unless memory is refused.
+/// The result of a callback: a value and the turns left, or a fault.
 type Answer = Result<Result<(Value, u32), Fault>, AllocError>;
 
 /// The turns that a callback starts with.
 const MAX_TURNS: u32 = 1_000_000;
 
-/// For so many values in the state, a call takes one step more.
+/// A call takes one more step for each group of this number of values in the state.
 const VALUES_IN_A_STEP: u64 = 16;
 
-/// The callbacks of a compiled model, with a number of steps. A call of a callback takes one step, one more for each of its
-/// turns, and one more for every 16 values in the last state. If no steps are left, a call returns `AllocError`, which ends
-/// the generation of a script.
+/// The callbacks of a compiled model, with a limit on their steps. A call of a callback takes one step, one more for
+/// each of its turns, and one more for every 16 values in the last state. If no steps are left, a call returns
+/// `AllocError`, which ends the generation of a script.
 #[derive(Drop)]
 pub struct Bounded<'a> {
     compiled: &'a Compiled,
     steps_left: Cell<u64>,
     /// The steps that each call takes for the size of the last state.
     steps_of_state: Cell<u64>,
-    /// The commands since the last call of `init` of which `next` was called, and then the one whose `pre` faulted.
+    /// The commands since the last call of `init`: those whose `next` was called, then the one whose `pre` faulted.
     commands: RefCell<Items<Command>>,
 }
 
@@ -55,7 +54,7 @@ fn size_of(value: &Value) -> u64 {
     inner.saturating_add(1)
 }
 
-/// How many values are in values.
+/// How many values are in `values`, themselves among them.
 #[cycle(size)]
 fn sum_of_sizes(values: &[Value]) -> u64 {
     let mut sum: u64 = 0;
@@ -65,7 +64,7 @@ fn sum_of_sizes(values: &[Value]) -> u64 {
     sum
 }
 
-/// A command of copied arguments.
+/// A command of the operation `op` with copies of `arguments`.
 fn command_of(alloc: Global, op: u32, arguments: &[Value]) -> Result<Command, AllocError> {
     let mut args = Items::new(alloc);
     for argument in arguments {
@@ -75,7 +74,7 @@ fn command_of(alloc: Global, op: u32, arguments: &[Value]) -> Result<Command, Al
 }
 
 impl<'a> Bounded<'a> {
-    /// The callbacks of a model, with a number of steps.
+    /// The callbacks of `compiled`, which may take `steps` steps.
     pub fn new(alloc: Global, compiled: &'a Compiled, steps: u64) -> Bounded<'a>
         ensures { result.compiled.now ≡ compiled.now }
     {
@@ -97,7 +96,7 @@ impl<'a> Bounded<'a> {
         self.commands.into_inner()
     }
 
-    /// Begins a call. `AllocError`: no steps are left.
+    /// Begins a call. Returns `AllocError` if no steps are left.
     fn begin(&self) -> Result<(), AllocError> {
         if self.steps_left.get() == 0 {
             return Err(AllocError);
@@ -112,7 +111,7 @@ impl<'a> Bounded<'a> {
         self.steps_left.set(left.saturating_sub(steps));
     }
 
-    /// Takes the steps of a call that ended and gives a state, if it does not fault.
+    /// Takes the steps of a call that ended, and whose value, if it does not fault, is a state.
     fn end_with_state(&self, ended: &Result<(Value, u32), Fault>) {
         if let Ok((state, _)) = ended {
             self.steps_of_state.set(size_of(state) / VALUES_IN_A_STEP);
@@ -127,7 +126,7 @@ impl<'a> Bounded<'a> {
         }
     }
 
-    /// Keeps a command of the script.
+    /// Records a command of the script.
     fn keep(&self, alloc: Global, op: u32, arguments: &[Value]) -> Result<(), AllocError> {
         let command = command_of(alloc, op, arguments)?;
         match self.commands.try_borrow_mut() {

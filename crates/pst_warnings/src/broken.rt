@@ -2,16 +2,16 @@
 
 use pst_explain::broken_text;
 use pst_judge::{Judged, Verdict};
+use pst_messages::{commands_of, place_of};
+use pst_model::Typed;
 use pst_rejudge::Answer;
-use pst_rules::Typed;
-use pst_run_problems::{commands_of, place_of};
 use pst_runs::read_runs;
 use pst_sexpr::{Form, Tree, node_of, read, word_of};
 use pst_sources::{Input, span_of};
 use std::alloc::{AllocError, Global};
 use std::slice;
 
-/// The items that are broken: the first of them, and how many there are.
+/// The broken items: the first of them, and how many there are.
 #[derive(Drop)]
 struct Broken {
     /// The number of the first, from 1.
@@ -21,7 +21,7 @@ struct Broken {
     count: usize,
 }
 
-/// Adds an item if it is broken.
+/// Adds item `item` if it is broken.
 fn with_item(broken: Option<Broken>, item: usize, judged: &Judged) -> Option<Broken> {
     let Judged::Verdict(Verdict::Broken(command)) = judged else {
         return broken;
@@ -46,7 +46,7 @@ fn with_item(broken: Option<Broken>, item: usize, judged: &Judged) -> Option<Bro
     }
 }
 
-/// Whether a tree is headed by the word `replies`.
+/// Whether a tree has the head `replies`.
 fn is_replies(form: &Form) -> bool {
     match node_of(form).unwrap_or(&[]).first() {
         Some(head) => match word_of(head) {
@@ -57,7 +57,8 @@ fn is_replies(form: &Form) -> bool {
     }
 }
 
-/// The path to the reply of a command of an item. The replies of each part are a tree after the head of the replies.
+/// The path to the reply to command `command` of item `item`, or to the item if it has no such reply. Each part has a
+/// tree of its replies after the head `replies`.
 fn path_of(
     alloc: Global,
     form: &Form,
@@ -75,7 +76,7 @@ fn path_of(
     }
 }
 
-/// Why the item of a tree is broken.
+/// The sentence that says why the item `tree` is broken.
 fn sentence_of(
     alloc: Global,
     typed: &Typed,
@@ -121,9 +122,11 @@ fn text_of(
     Ok(Some(text))
 }
 
-/// Why the first broken one of the items that were judged is broken, for a person to read, and how many others are. `typed`
-/// is the model of the input, and `judged` are the judgements on all items in their order. The trees of the input are read
-/// once more if an item is broken. `None`: none is. `AllocError`: memory was refused.
+/// Says why the first broken item is broken, and how many others are, for a person to read. Returns `None` if no item
+/// is broken.
+///
+/// `typed` is the model of the input, and `judged` are the judgements on all items in their order. If an item is
+/// broken, the function reads the trees of the input once more; it returns `None` if that fails.
 pub fn broken_run(
     alloc: Global,
     typed: &Typed,
@@ -143,7 +146,8 @@ pub fn broken_run(
     }
 }
 
-/// The same of the items to which there is an answer. `trees` are the trees of the input. `AllocError`: memory was refused.
+/// Says why the first broken item is broken, and how many others are, for a person to read. Returns `None` if no item
+/// is broken. `answers` are the answers to all items in their order, and `trees` are the trees of the input.
 pub fn broken_answer(
     alloc: Global,
     typed: &Typed,

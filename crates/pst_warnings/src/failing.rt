@@ -31,14 +31,14 @@ pub fn conditional(alloc: Global, items: &[Item]) -> Result<Vec<bool>, AllocErro
     Ok(marks)
 }
 
-/// Whether one of the commands calls an operation that is marked.
+/// Whether one of the commands calls a marked operation.
 fn any_marked(marks: &[bool], commands: &[Command]) -> bool {
     commands
         .iter()
         .any(|command| marks.get(command.op as usize) == Some(&true))
 }
 
-/// Whether a command of a case calls an operation that is marked.
+/// Whether a command of a case calls a marked operation.
 pub fn calls_marked(marks: &[bool], case: &Case) -> bool {
     any_marked(marks, case.prefix.as_slice())
         || case
@@ -60,7 +60,7 @@ fn are_known(results: &[Option<Value>]) -> bool
     }
 }
 
-/// How many commands stand in the branches before one.
+/// How many commands are in the branches before branch `branch`.
 fn in_branches_before(case: &Case, branch: usize) -> usize {
     let mut count: usize = 0;
     for commands in case.branches.as_slice().iter().take(branch) {
@@ -69,7 +69,7 @@ fn in_branches_before(case: &Case, branch: usize) -> usize {
     count
 }
 
-/// The number of the command that comes in the interleaving of a word behind so many others.
+/// The number, from 1, of the command at `place`, from 0, in the interleaving `word`.
 fn number_at(case: &Case, word: &[usize], place: usize) -> usize {
     let behind = case.prefix.len();
     let letter = place.saturating_sub(behind);
@@ -90,8 +90,8 @@ fn number_at(case: &Case, word: &[usize], place: usize) -> usize {
         .saturating_add(1)
 }
 
-/// The first command of a recorded run whose precondition is not true in the interleaving of a word, which explains the
-/// run; none where each is true.
+/// The first command of a recorded run whose precondition is not true in the interleaving `word`, which explains the
+/// run. Returns `None` if each is true, or if a result of the run is not known.
 pub fn first_failing<C: Callbacks>(
     callbacks: &C,
     alloc: Global,

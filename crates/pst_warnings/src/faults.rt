@@ -7,17 +7,15 @@ use pst_case::Command;
 use pst_compile::{Compiled, compile};
 use pst_eval::{Callback, Place};
 use pst_explain::explain_script;
-use pst_model::Item;
-use pst_notices::Notice;
-use pst_rules::Typed;
-use pst_sources::Input;
+use pst_model::{Item, Typed};
+use pst_sources::{Input, Notice};
 use pst_typing::load;
 use std::alloc::{AllocError, Global};
 
 /// The width of lines.
 const WIDTH: usize = 80;
 
-/// The number of the item `init`, from 0, that of the item `command`, or that of the operation of a number.
+/// The number, from 0, of the item of `callback`: `init`, `command`, or the operation with the number `operation`.
 fn item_of(items: &[Item], callback: Callback, operation: u32) -> usize {
     let mut operations: u32 = 0;
     for (number, item) in items.iter().enumerate() {
@@ -37,8 +35,8 @@ fn item_of(items: &[Item], callback: Callback, operation: u32) -> usize {
     0
 }
 
-/// The path to the expression of the callback that faults. In the tree of an operation, its callbacks come after its head,
-/// its name, its parameters and its type.
+/// The path to the expression of the callback that faults. In the tree of an operation, its callbacks come after its
+/// head, its name, its parameters and its type.
 fn path_of(
     alloc: Global,
     items: &[Item],
@@ -70,7 +68,7 @@ fn explanation(alloc: Global, typed: &Typed, script: FaultyScript) -> Result<Str
     }
 }
 
-/// How many scripts fault. If not all were generated, their number says nothing.
+/// The text that says how many scripts fault. It has no number if not all scripts were generated.
 fn count_text(alloc: Global, scripts: &Scripts) -> Result<String, AllocError> {
     let count = scripts.count;
     let faulty = scripts.faulty;
@@ -119,9 +117,11 @@ pub fn on_faults(
     Ok(warnings)
 }
 
-/// Why a trial of a campaign has no case, if a callback faults in its script, in the lines of `pst explain`. `input` begins
-/// with the model, `seed` and `commands` are those of the campaign's plan, and `number` is that of the trial. `None`: the
-/// model is refused, or no callback faults. `AllocError`: memory was refused.
+/// Says why a trial of a campaign has no case, if a callback faults in its script, in the lines of `pst explain`.
+/// Returns `None` if the model is refused, or no callback faults.
+///
+/// `input` begins with the model, `seed` and `commands` are those of the campaign's plan, and `number` is the number of
+/// the trial.
 pub fn genfault_text(
     alloc: Global,
     input: &[u8],

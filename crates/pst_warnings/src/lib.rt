@@ -1,7 +1,8 @@
-//! Warnings on what is accepted: what in a model is probably not meant, and recorded runs that an interleaving explains in
-//! which a precondition is not true. And what is said of a run that is broken, and of a trial without a case.
+//! Warnings on accepted inputs: likely mistakes in a model, and recorded runs whose explaining interleaving has a
+//! precondition that is not true. Also messages on broken runs, and on trials without a case.
 //!
-//! What stands here is tested and not proved: that it ends and does nothing unsafe is all that its proofs say.
+//! The messages are tested, not proved: the proofs only say that the code terminates and does nothing unsafe.
+//! `AllocError` means that an allocation failed.
 #![tactic(auto)]
 
 mod asking;

@@ -1,12 +1,12 @@
-//! Where the commands of an item stand.
+//! The places of the commands of an item.
 
+use pst_messages::{Part, commands_of, located, place_of};
 use pst_problems::short_text;
-use pst_run_problems::{Part, commands_of, located, place_of};
 use pst_sexpr::Form;
 use std::alloc::{AllocError, Global};
 use std::fmt;
 
-/// Where a command stands, and how it is spelled.
+/// The place of a command, and its spelling.
 #[derive(Drop)]
 pub struct Spot {
     /// The path to its tree.
@@ -17,7 +17,7 @@ pub struct Spot {
     pub call: String,
 }
 
-/// The letter of the part of a number.
+/// The letter of part `number`.
 fn letter_of(parts: &[Part<'_>], number: usize) -> char {
     match parts.get(number) {
         Some(part) if part.is_prefix => 'P',
@@ -47,7 +47,7 @@ impl fmt::Display for Place {
     }
 }
 
-/// The place of a command of a number, from 1, in its case.
+/// The place of command `command`, counted from 1, in its case.
 fn place_in(parts: &[Part<'_>], command: usize) -> Option<Place> {
     let (part, offset) = place_of(parts, command)?;
     Some(Place {
@@ -56,14 +56,14 @@ fn place_in(parts: &[Part<'_>], command: usize) -> Option<Place> {
     })
 }
 
-/// Numbers behind a first one.
+/// The path of `first` and then `rest`.
 fn path_of(alloc: Global, first: usize, rest: &[usize]) -> Result<Vec<usize>, AllocError> {
     let mut path = Vec::from_slice(alloc, &[first])?;
     path.extend_from_slice(rest)?;
     Ok(path)
 }
 
-/// Where the command of a number, from 1, of the item of a number stands. `AllocError`: memory was refused.
+/// The spot of command `command`, counted from 1, of item `item`. `None` if the item has no such command.
 pub fn spot_of(
     alloc: Global,
     form: &Form,

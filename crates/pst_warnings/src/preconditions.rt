@@ -1,4 +1,4 @@
-//! Warnings on recorded runs that an interleaving explains in which a precondition is not true.
+//! Warnings on recorded runs whose explaining interleaving has a precondition that is not true.
 ghost use Rattle.std.specs.Prelude.{◌≡◌, All};
 ghost use Rattle.pst_runs.specs.Lawful.{AreLawful, IsLawful};
 
@@ -9,21 +9,19 @@ use crate::warning::warning;
 use pst_case::Run;
 use pst_eval::Callbacks;
 use pst_judge::{Judged, Verdict};
-use pst_model::Source;
-use pst_notices::notice_text;
+use pst_model::{Source, Typed};
 use pst_rejudge::Answer;
-use pst_rules::Typed;
 use pst_runs::read_runs;
 use pst_sexpr::{Tree, read};
-use pst_sources::Input;
+use pst_sources::{Input, notice_text};
 use pst_value::Value;
 use std::alloc::{AllocError, Global};
 use std::slice;
 
-/// The most warnings on preconditions that are written.
+/// The greatest number of warnings on preconditions in a text.
 const MOST: usize = 8;
 
-/// What is warned of: an input, its model, and the operations of which a precondition is asked.
+/// The subject of the warnings: an input, its model, and the operations whose precondition is not just `true`.
 #[derive(Drop)]
 struct Subject<'a> {
     input: Input<'a>,
@@ -38,7 +36,7 @@ struct Found {
     count: usize,
 }
 
-/// The warning on a command of the item of a number, from 1, of the trees of the input.
+/// The warning on a command of item `item`, counted from 1, of the input.
 fn on_command(
     alloc: Global,
     subject: &Subject<'_>,
@@ -55,7 +53,7 @@ fn on_command(
     }
 }
 
-/// The warning on a command of an item where it stands, with the state before it.
+/// The warning on the command at `spot`, with the state before it.
 fn at_spot(
     alloc: Global,
     subject: &Subject<'_>,
@@ -80,7 +78,7 @@ fn at_spot(
     notice_text(alloc, &subject.input, &warning)
 }
 
-/// Adds the recorded run of an item that the interleaving of a word explains, if it is warned of.
+/// Adds the recorded run of item `item`, which the interleaving `word` explains, if it gets a warning.
 fn add_run<C: Callbacks>(
     found: &mut Found,
     callbacks: &C,
@@ -105,7 +103,7 @@ fn add_run<C: Callbacks>(
     Ok(())
 }
 
-/// The word of the interleaving that explains a recorded run, where one does.
+/// The interleaving that explains a recorded run, if one does.
 fn word_of(judged: &Judged) -> Option<&[usize]> {
     match judged {
         Judged::Verdict(Verdict::Explained(word)) => Some(word.as_slice()),
@@ -113,7 +111,7 @@ fn word_of(judged: &Judged) -> Option<&[usize]> {
     }
 }
 
-/// The text of the warnings on what was found in the trees of the input, if there are some.
+/// The text of the warnings on the items in `found`; `None` if it is empty.
 fn text_of(
     alloc: Global,
     subject: &Subject<'_>,
@@ -137,7 +135,8 @@ fn text_of(
     }
 }
 
-/// Adds the items that are warned of, of those that were judged and of which the first has the number, from 1.
+/// Adds the items of `runs` that get a warning. `judged` are their judgements, and `first` is the number of the first
+/// one, from 1.
 fn add_runs<C: Callbacks>(
     found: &mut Found,
     callbacks: &C,
@@ -166,7 +165,7 @@ fn add_runs<C: Callbacks>(
     Ok(())
 }
 
-/// Adds the items of parts that are warned of, of those that were judged.
+/// Adds the items of all `parts` that get a warning. `judged` are their judgements in their order.
 fn add_parts<C: Callbacks>(
     found: &mut Found,
     callbacks: &C,
@@ -195,7 +194,7 @@ fn add_parts<C: Callbacks>(
     Ok(())
 }
 
-/// Adds the item of a number, from 1, of the trees of the input, where it was judged and is warned of.
+/// Adds item `item`, counted from 1, of the input if it was judged and gets a warning.
 fn add_answer<C: Callbacks>(
     found: &mut Found,
     callbacks: &C,
@@ -231,7 +230,7 @@ fn add_answer<C: Callbacks>(
     }
 }
 
-/// What is warned of in an input, if there is an operation whose precondition is another expression than `true`.
+/// The subject of the warnings on an input; `None` if the precondition of each operation is the expression `true`.
 fn subject_of<'a>(
     alloc: Global,
     typed: &'a Typed,
@@ -249,7 +248,7 @@ fn subject_of<'a>(
     }))
 }
 
-/// Nothing that is warned of.
+/// No items.
 fn nothing_found(alloc: Global) -> Found {
     Found {
         first: Vec::new(alloc),
@@ -257,14 +256,13 @@ fn nothing_found(alloc: Global) -> Found {
     }
 }
 
-/// Warnings on items that were judged, for a person to read, each in the form of a message: a recorded run that an
-/// interleaving explains in which a precondition is not true. `typed` is the model of the input, `parts` are the items
-/// behind it in one part or more, and `judged` are the judgements on them in their order. `None` where there are none. The
-/// trees of the input are read once more where there are some.
+/// Warns of judged recorded runs whose explaining interleaving has a precondition that is not true. Returns the
+/// warnings as messages for a person to read, or `None` if there are no warnings. The text has at most eight warnings,
+/// and then the number of further ones.
 ///
-/// Of the warnings eight are written, and behind them how many more there are.
-///
-/// `AllocError`: memory was refused. Where it is refused to the trees, the answer is `None`.
+/// `typed` is the model of the input, `parts` are the items after it in one part or more, and `judged` are the
+/// judgements on them in their order. If there are warnings, the function reads the trees of the input once more; it
+/// returns `None` if that fails.
 pub fn warnings_on_runs<C: Callbacks>(
     callbacks: &C,
     alloc: Global,
@@ -289,10 +287,8 @@ pub fn warnings_on_runs<C: Callbacks>(
     }
 }
 
-/// The same warnings, where items that are refused leave the others their verdicts: on the items to which there is an
-/// answer. `trees` are the trees of the input.
-///
-/// `AllocError`: memory was refused.
+/// Warns as [`warnings_on_runs`] does, if some items of the input may be refused: on the items that were judged.
+/// `answers` are the answers to all items in their order, and `trees` are the trees of the input.
 pub fn warnings_on_answers<C: Callbacks>(
     callbacks: &C,
     alloc: Global,

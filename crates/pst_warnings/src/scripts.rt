@@ -6,29 +6,28 @@ use pst_case::Command;
 use pst_compile::Compiled;
 use pst_eval::Place;
 use pst_gen::generate;
-use pst_items::Items;
 use pst_judge::Valid;
-use pst_model::Item;
-use pst_rules::Typed;
+use pst_model::{Item, Typed};
+use pst_value::Items;
 use rand_pcg::Pcg64;
 use std::alloc::{AllocError, Global};
 
-/// The most scripts that are generated for warnings.
+/// The greatest number of scripts to generate for warnings.
 pub const SCRIPTS: u32 = 16;
 
-/// The most commands of a script.
+/// The greatest number of commands of a script.
 pub const COMMANDS: u32 = 16;
 
-/// How many steps the callbacks may take before the generation of scripts for warnings ends, as `Bounded` counts them. A call
-/// that has begun goes on to its end.
+/// How many steps the callbacks may take before the generation of scripts for warnings ends, as `Bounded` counts them.
+/// A call that has begun runs to its end.
 const STEPS: u64 = 1_000_000;
 
 /// A script in which a callback faults.
 #[derive(Drop)]
 pub struct FaultyScript {
-    /// Its commands; where `pre` or `next` faults, that of the faulting call is the last.
+    /// Its commands. If `pre` or `next` faults, the command of that call is the last.
     pub commands: Items<Command>,
-    /// Where the callback faults.
+    /// The place where the callback faults.
     pub place: Place,
 }
 
@@ -58,8 +57,8 @@ pub struct Scripts {
     pub is_cut: bool,
 }
 
-/// Generates a script of the random words of a trial: the seed and the number of the trial choose them. `steps` are those
-/// that the callbacks may take, and then those that are left.
+/// Generates the script of trial `number`. `seed` and `number` choose its random words. `steps` are the steps that the
+/// callbacks may take, and afterwards the steps that are left.
 fn generated(
     alloc: Global,
     compiled: &Compiled,
@@ -94,8 +93,8 @@ fn generated(
     }
 }
 
-/// Why no case of a trial is generated, if a callback faults there. The seed and the number of the trial choose the random
-/// words, and `commands` is the most commands of a script. `AllocError`: memory was refused.
+/// The script of trial `number` if a callback faults in it, so that the trial has no case. `seed` and `number` choose
+/// its random words, and `commands` is the greatest number of its commands.
 pub fn faulty_script(
     alloc: Global,
     compiled: &Compiled,
@@ -124,7 +123,7 @@ fn unmarked(alloc: Global, typed: &Typed) -> Result<Vec<bool>, AllocError> {
     Ok(marks)
 }
 
-/// Sets the marks of the operations that commands call.
+/// Sets the marks of the operations that `commands` call.
 fn mark(marks: &mut Vec<bool>, commands: &[Command]) {
     for command in commands {
         if let Some(mark) = marks.get_mut(command.op as usize) {
@@ -156,8 +155,7 @@ impl Scripts {
     }
 }
 
-/// Generates scripts of a model, always of the same random words, up to a number of scripts and of steps. `AllocError`: memory
-/// was refused.
+/// Generates scripts of a model, always of the same random words, up to a limit on the scripts and on the steps.
 pub fn generated_scripts(alloc: Global, compiled: &Compiled) -> Result<Scripts, AllocError> {
     let mut scripts = Scripts {
         called: unmarked(alloc, compiled.typed())?,

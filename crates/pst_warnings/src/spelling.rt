@@ -5,7 +5,7 @@ use pst_value::{Key, Value};
 use std::alloc::{AllocError, Global};
 use std::fmt;
 
-/// The most bytes that are shown of a value.
+/// The greatest number of bytes of a value in a warning.
 const MOST: usize = 60;
 
 /// Writes a text between quotes.
@@ -29,7 +29,7 @@ fn write_key<W: fmt::Write>(f: &mut fmt::Formatter<W>, key: &Key) -> fmt::Result
     }
 }
 
-/// The name of an operation, by its number from 0.
+/// The name of operation `number`, counted from 0.
 fn name_of(model: &Source, number: u32) -> &str {
     match operation_of(model.items.as_slice(), number as usize) {
         Some(operation) => operation.name.as_str(),
@@ -37,7 +37,7 @@ fn name_of(model: &Source, number: u32) -> &str {
     }
 }
 
-/// A value as items spell it, of a model; a reference as `$n=` and the value that it names; a call as its operation and
+/// A value of `model` as items spell it. A reference is `$n=` and the value that it names; a call is its operation and
 /// its arguments.
 #[derive(Clone, Copy, Drop)]
 struct Spelled<'a> {
@@ -77,7 +77,7 @@ fn write_value<W: fmt::Write>(
     }
 }
 
-/// Writes a word and values behind it, in brackets.
+/// Writes `head` and then `values`, in brackets.
 #[cycle(write_value)]
 fn write_node<W: fmt::Write>(
     f: &mut fmt::Formatter<W>,
@@ -112,7 +112,7 @@ fn write_map<W: fmt::Write>(
     f.write_str(")")
 }
 
-/// A value as items spell it, of which at most 60 bytes are shown.
+/// A value as items spell it: all of it, or its first 60 bytes and `...`.
 pub fn shown(alloc: Global, model: &Source, value: &Value) -> Result<String, AllocError> {
     let value = Spelled { model, value };
     let whole = format!(in alloc; "{value}")?;

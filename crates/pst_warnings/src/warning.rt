@@ -4,14 +4,13 @@ use crate::faults::on_faults;
 use crate::scripts::{COMMANDS, SCRIPTS, generated_scripts};
 use pst_compile::{Compiled, compile};
 use pst_model::Item;
-use pst_notices::{Notice, Notices, text_of};
 use pst_sexpr::{Form, Tree, node_of, word_of};
-use pst_sources::{Input, SourceFile, span_of};
+use pst_sources::{Input, Notice, Notices, SourceFile, span_of, text_of};
 use pst_typing::{ModelFile, items_of, load};
 use std::alloc::{AllocError, Global};
 use std::fmt::Display;
 
-/// The warning on the tree that a path leads to, with a note. `AllocError`: memory was refused.
+/// The warning on the tree that `path` leads to, with a note.
 pub fn warning<D: Display + Drop, N: Display + Drop>(
     alloc: Global,
     input: &Input<'_>,
@@ -30,7 +29,7 @@ pub fn warning<D: Display + Drop, N: Display + Drop>(
     })
 }
 
-/// The number of the tree of an item of a model, by the number of the item from 0: its head and its name come before.
+/// The number of the tree of item `item`, counted from 0, in its model. The head and the name of the model come first.
 pub fn tree_of(item: usize) -> usize {
     item.saturating_add(2)
 }
@@ -52,7 +51,7 @@ fn none_offered(alloc: Global, input: &Input<'_>, items: &[Item]) -> Result<Noti
     )
 }
 
-/// The warning that no script calls an operation.
+/// The warning that no script calls the operation `name`.
 fn never_called(
     alloc: Global,
     input: &Input<'_>,
@@ -68,7 +67,7 @@ fn never_called(
     )
 }
 
-/// The warnings on the operations of a model, by which of them scripts call.
+/// The warnings on the operations that no script calls. `called` says for each whether one does.
 fn on_operations(
     alloc: Global,
     input: &Input<'_>,
@@ -88,8 +87,8 @@ fn on_operations(
     Ok(warnings)
 }
 
-/// The warnings on generated scripts of a model. If they are not all generated, nothing is said of operations that none of
-/// them calls.
+/// The warnings on generated scripts of a model. If not all scripts are generated, there are no warnings on operations
+/// that none of them calls.
 fn on_scripts(
     alloc: Global,
     input: &Input<'_>,
@@ -113,7 +112,7 @@ fn on_scripts(
     Ok(warnings)
 }
 
-/// Whether a tree is headed as a model is.
+/// Whether a tree has the head of a model.
 fn is_model(form: &Form) -> bool {
     match node_of(form).unwrap_or(&[]).first() {
         Some(head) => match word_of(head) {
@@ -124,7 +123,7 @@ fn is_model(form: &Form) -> bool {
     }
 }
 
-/// Adds the warnings on further models behind the first.
+/// Adds the warnings on further models after the first.
 fn add_on_trees(
     alloc: Global,
     input: &Input<'_>,
@@ -147,15 +146,13 @@ fn add_on_trees(
     Ok(())
 }
 
-/// Warnings on an input whose model is accepted: scripts in which a callback faults, an operation that no generated script
-/// calls, a model of which no call may be made at first, and a second model after the first. There are none if the model is
-/// refused.
+/// Warnings on an input whose model is accepted: scripts in which a callback faults, an operation that no generated
+/// script calls, a model in whose initial state no call may be made, and a second model after the first. There are no
+/// warnings if the model is refused.
 ///
-/// At most sixteen scripts of at most sixteen commands are generated, always of the same random words, and their callbacks
-/// take a bounded number of steps. If a callback faults in one of them, or the steps do not suffice for all, nothing is said
-/// of calls.
-///
-/// `AllocError`: memory was refused.
+/// The function generates at most sixteen scripts of at most sixteen commands, always of the same random words, and
+/// their callbacks take a bounded number of steps. If a callback faults in one of them, or the steps do not suffice for
+/// all, there are no warnings on calls.
 pub fn warnings_in(alloc: Global, input: &Input<'_>) -> Result<Notices, AllocError> {
     let Ok(ModelFile { typed, trees }) = load(alloc, input.bytes)? else {
         return Ok(Notices::none(alloc));
@@ -171,10 +168,8 @@ pub fn warnings_in(alloc: Global, input: &Input<'_>) -> Result<Notices, AllocErr
     })
 }
 
-/// The warnings on an input, as [`warnings_in`] finds them, for a person to read. `input` is the text of the files. `None`:
-/// there are none.
-///
-/// `AllocError`: memory was refused.
+/// The warnings on an input, as [`warnings_in`] finds them, for a person to read. `input` is the text of `files`.
+/// Returns `None` if there are no warnings.
 pub fn warnings_of(
     alloc: Global,
     files: &[SourceFile<'_>],

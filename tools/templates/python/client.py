@@ -1,5 +1,8 @@
 #!/usr/bin/env python3
-"""A client of @NAME@.model. Call your own system in place of this class. A method has the name of its operation."""
+"""A client of @NAME@.model. Call your own object in place of this class. A method has the name of its operation.
+
+Each reset makes a new `System()`, in the initial state of the model. For a server use `pst new NAME --server`.
+"""
 import threading
 from pst_client import serve
 

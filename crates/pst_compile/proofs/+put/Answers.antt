@@ -1,5 +1,5 @@
 use Rattle.std.proofs.Common.{◌≡◌, ◌+◌, length, sym, ap, ◌∙◌, arith}
-use Rattle.pst_meaning.proofs.Weights.{item_weight}
+use Rattle.pst_eval.proofs.Weights.{item_weight}
 use Rattle.pst_compile.specs.Scopes.{scope_of, code_in}
 use Rattle.pst_compile.proofs.Loading.{code_next, registers_next}
 use Rattle.pst_compile.proofs.+put.Goals as goal

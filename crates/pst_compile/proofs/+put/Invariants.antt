@@ -1,5 +1,5 @@
 use Rattle.std.proofs.Common.{◌≡◌, ◌+◌, ◌*◌, ◌++◌, map, drop}
-use Rattle.pst_meaning.specs.Weight.{weight, clause_weight, total}
+use Rattle.pst_eval.specs.Weight.{weight, clause_weight, total}
 use Rattle.pst_compile.specs.Code.{load_all, all_at}
 use Rattle.pst_compile.specs.Scopes.{scope_of, code_in}
 use Rattle.pst_compile.proofs.+put.Given as goal

@@ -1,4 +1,4 @@
-//! What the calls on cases and runs answer.
+//! Results of the calls on cases and runs.
 ghost use Rattle.std.specs.Prelude.{◌≡◌, IfOk};
 ghost use Rattle.pst_runs.specs.Lawful.{AreLawful};
 
@@ -10,9 +10,9 @@ use pst_cli::{Status, judge_text};
 use pst_eval::Plain;
 use pst_gen::{generate, if_accepted};
 use pst_judge::{Valid, verdict};
-use pst_rules::Typed;
+use pst_model::Typed;
 use pst_runs::{RunFaultKind, WriteFault, read_runs, write_runs};
-use pst_sink::Out;
+use pst_sexpr::Out;
 use pst_typing::items_of;
 use rand_pcg::Pcg64;
 use std::alloc::{AllocError, Global};
@@ -32,7 +32,7 @@ fn runs_of(alloc: Global, typed: &Typed) -> Result<Vec<Run>, Refused>
     }
 }
 
-/// `read_runs` and `write_runs`: the items as they are written.
+/// Calls `read_runs` and `write_runs`, and returns the written items.
 pub fn runs_answer(alloc: Global) -> Result<String, Refused> {
     let typed = typed_of(alloc)?;
     let runs = runs_of(alloc, &typed)?;
@@ -44,7 +44,7 @@ pub fn runs_answer(alloc: Global) -> Result<String, Refused> {
     }
 }
 
-/// `verdict`, which asks `some`: the verdict on the run.
+/// Calls `verdict`, which uses `some`, and returns the verdict on the run.
 pub fn verdict_answer(alloc: Global) -> Result<String, Refused> {
     let typed = typed_of(alloc)?;
     let runs = runs_of(alloc, &typed)?;
@@ -58,7 +58,7 @@ pub fn verdict_answer(alloc: Global) -> Result<String, Refused> {
     Ok(verdict.text(alloc)?)
 }
 
-/// Whether a case is valid.
+/// Returns `valid`, or an error if the case is not valid.
 fn valid_text(alloc: Global, typed: &Typed, case: Case) -> Result<String, Refused> {
     match if_accepted(&Plain::new(typed), alloc, typed, case)? {
         Some(_) => Ok(String::from_str(alloc, "valid")?),
@@ -66,7 +66,7 @@ fn valid_text(alloc: Global, typed: &Typed, case: Case) -> Result<String, Refuse
     }
 }
 
-/// `if_accepted`, which asks `every`: whether the case of the run is valid.
+/// Calls `if_accepted`, which uses `every`, and returns whether the case of the run is valid.
 pub fn valid_answer(alloc: Global) -> Result<String, Refused> {
     let typed = typed_of(alloc)?;
     let runs = runs_of(alloc, &typed)?;
@@ -76,13 +76,13 @@ pub fn valid_answer(alloc: Global) -> Result<String, Refused> {
     }
 }
 
-/// A case, as it is shown.
+/// Returns the case in its `Debug` form.
 fn case_text(alloc: Global, valid: &Valid) -> Result<String, AllocError> {
     let case = valid.shaped().case();
     format!(in alloc; "{case:?}")
 }
 
-/// `generate`: a case of four commands.
+/// Calls `generate` and returns a case of four commands.
 pub fn generate_answer(alloc: Global) -> Result<String, Refused> {
     let typed = typed_of(alloc)?;
     let mut words = Pcg64::new(7, 0);
@@ -92,7 +92,7 @@ pub fn generate_answer(alloc: Global) -> Result<String, Refused> {
     }
 }
 
-/// `rejudge`, in `judge_text`: the lines of the items.
+/// Calls `judge_text`, which uses `rejudge`, and returns the lines of the items.
 pub fn rejudge_answer<R: Threads + Sync>(rt: &R, alloc: Global) -> Result<String, Refused> {
     let mut out = Out::new(Vec::new(alloc));
     let status = judge_text(rt, alloc, COUNTER_AND_ITEMS.as_bytes(), &mut out);

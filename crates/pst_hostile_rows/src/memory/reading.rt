@@ -1,12 +1,11 @@
-//! What the calls from bytes to a compiled model answer.
+//! Results of the calls from bytes to a compiled model.
 
 use crate::memory::refused::Refused;
 use crate::models::COUNTER_AND_ITEMS;
 use pst_compile::{Compiled, compile, listing};
+use pst_model::Typed;
 use pst_print::print_model;
-use pst_rules::Typed;
-use pst_sexpr::{FaultKind, Tree, read, write};
-use pst_sink::Out;
+use pst_sexpr::{FaultKind, Out, Tree, read, write};
 use pst_syntax::{FaultKind as ModelFaultKind, Model, read_model};
 use pst_typing::{TypeFault, check, model_name};
 use std::alloc::Global;
@@ -64,7 +63,7 @@ fn spelling_of(alloc: Global, tree: &Tree) -> Result<String, Refused> {
     }
 }
 
-/// `read`: the last tree of the text.
+/// Calls `read` and returns the last tree of the text.
 pub fn read_answer(alloc: Global) -> Result<String, Refused> {
     match trees_of(alloc)?.last() {
         Some(tree) => spelling_of(alloc, tree),
@@ -72,19 +71,19 @@ pub fn read_answer(alloc: Global) -> Result<String, Refused> {
     }
 }
 
-/// `read_model` and `print_model`: the model as it is printed.
+/// Calls `read_model` and `print_model`, and returns the printed model.
 pub fn model_answer(alloc: Global) -> Result<String, Refused> {
     let model = model_of(alloc)?;
     spelling_of(alloc, &print_model(alloc, &model)?)
 }
 
-/// `check`: the name of the well-typed model.
+/// Calls `check` and returns the name of the well-typed model.
 pub fn check_answer(alloc: Global) -> Result<String, Refused> {
     let typed = typed_of(alloc)?;
     Ok(String::from_str(alloc, model_name(&typed).as_str())?)
 }
 
-/// `compile` and `listing`: the code.
+/// Calls `compile` and `listing`, and returns the code.
 pub fn compile_answer(alloc: Global) -> Result<String, Refused> {
     let code = listing(alloc, &compiled_of(alloc)?)?;
     text_of(alloc, code.as_slice())

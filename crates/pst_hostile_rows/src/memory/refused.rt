@@ -1,13 +1,13 @@
-//! Why a call gave no answer.
+//! Why a call has no result.
 
 use std::alloc::{AllocError, AllocFailed};
 
-/// Why a call gave no answer.
+/// Why a call has no result.
 #[derive(Clone, Copy, Drop)]
 pub enum Refused {
-    /// Memory was refused, or a thread, which needs memory.
+    /// An allocation failed, or a thread could not start, which needs memory.
     NoMemory,
-    /// Anything else, by a name: no call of this program should say it.
+    /// Any other reason, by its name. No call of this program should return it.
     Otherwise(&'static str),
 }
 

@@ -1,16 +1,16 @@
-//! What trials, reports and campaigns on the system `stuck` answer.
+//! Results of trials, reports and campaigns on the system `stuck`.
 ghost use Rattle.std.specs.Prelude.{◌≡◌, length};
 ghost use Rattle.pst_report.specs.InOrder.{AreOf};
 
 use crate::memory::reading::text_of;
 use crate::memory::refused::Refused;
-use crate::models::ONE;
 use pst_campaign::{CampaignFault, Unwatched, campaign};
 use pst_ledger::{Closed, Entry};
 use pst_report::report;
 use pst_samples::Stuck;
-use pst_sink::Out;
+use pst_sexpr::Out;
 use pst_system::BoxedSystem;
+use pst_tests::support::ONE;
 use pst_trial::{Plan, Record, Settings, TrialFault, trial};
 use pst_typing::load;
 use std::alloc::{AllocError, Global};
@@ -38,7 +38,7 @@ fn plan_of(alloc: Global) -> Result<Arc<Plan>, Refused> {
     }
 }
 
-/// The whole of a record.
+/// Returns the record as text.
 fn record_text(alloc: Global, record: &Record) -> Result<String, AllocError> {
     let outcome = record.outcome();
     format!(in alloc; "{outcome:?}")
@@ -58,13 +58,13 @@ fn record_of<R: Threads + Wait>(
     }
 }
 
-/// `trial`: the record of the first trial.
+/// Runs `trial` and returns the record of the first trial.
 pub fn trial_answer<R: Threads + Wait>(rt: &R, alloc: Global) -> Result<String, Refused> {
     let record = record_of(rt, alloc, &plan_of(alloc)?)?;
     Ok(record_text(alloc, &record)?)
 }
 
-/// Whether each number has a record.
+/// Returns whether each trial has a record.
 fn are_done(entries: &[Entry<Record>]) -> bool {
     for entry in entries {
         if !matches!(entry, Entry::Done(_)) {
@@ -74,7 +74,7 @@ fn are_done(entries: &[Entry<Record>]) -> bool {
     true
 }
 
-/// The report of what came of each number, where each has a record.
+/// Returns the report of the campaign, if each trial has a record.
 fn report_of(alloc: Global, plan: &Plan, closed: &Closed<Record>) -> Result<String, Refused>
     requires trials { length closed.now ≡ plan.now.settings.trials }
     requires records { AreOf plan.now 0 closed.now }
@@ -89,7 +89,7 @@ fn report_of(alloc: Global, plan: &Plan, closed: &Closed<Record>) -> Result<Stri
     }
 }
 
-/// The report of a campaign.
+/// Runs a campaign and returns its report.
 fn report_by<R: Threads + Wait + Sync>(
     rt: &R,
     alloc: Global,
@@ -102,14 +102,14 @@ fn report_by<R: Threads + Wait + Sync>(
     }
 }
 
-/// `report`, of a campaign of one worker.
+/// Runs a campaign of one worker and returns its `report`.
 pub fn report_answer<R: Threads + Wait + Sync>(rt: &R, alloc: Global) -> Result<String, Refused> {
     let mut systems: Vec<BoxedSystem> = Vec::new(alloc);
     systems.push(Box::new(alloc, Stuck)?)?;
     report_by(rt, alloc, plan_of(alloc)?, systems)
 }
 
-/// What came of a number: its record, or why it was lost.
+/// Returns the record of a trial, or why it was lost.
 fn entry_text(alloc: Global, entry: &Entry<Record>) -> Result<String, AllocError> {
     match entry {
         Entry::Done(record) => record_text(alloc, record),
@@ -118,7 +118,7 @@ fn entry_text(alloc: Global, entry: &Entry<Record>) -> Result<String, AllocError
     }
 }
 
-/// What came of each number, a line for each.
+/// Returns a line for each trial.
 fn entries_text(alloc: Global, entries: &[Entry<Record>]) -> Result<String, AllocError> {
     let mut text = String::new(alloc);
     for entry in entries {
@@ -129,7 +129,7 @@ fn entries_text(alloc: Global, entries: &[Entry<Record>]) -> Result<String, Allo
     Ok(text)
 }
 
-/// What a campaign leaves of each number.
+/// Runs a campaign and returns a line for each trial.
 fn entries_by<R: Threads + Wait + Sync>(
     rt: &R,
     alloc: Global,
@@ -143,7 +143,7 @@ fn entries_by<R: Threads + Wait + Sync>(
     }
 }
 
-/// `campaign`, of so many workers: what came of each number.
+/// Runs `campaign` with `workers` workers and returns a line for each trial.
 pub fn campaign_answer<R: Threads + Wait + Sync>(
     rt: &R,
     alloc: Global,

@@ -4,9 +4,9 @@ ghost use Rattle.pst_runs.specs.Written as spec;
 
 use crate::write::values::each_value;
 use pst_case::{Case, Command};
-use pst_items::Items;
 use pst_model::{Source, operation_of};
 use pst_sexpr::{Form, headed, list_of};
+use pst_value::Items;
 use std::alloc::{AllocError, Global};
 
 fn command_form(alloc: Global, model: &Source, command: &Command) -> Result<Form, AllocError>
@@ -33,7 +33,7 @@ fn each_command(
     Ok(forms)
 }
 
-/// A word, and commands.
+/// Returns a node of `word` and the commands.
 fn section_form(
     alloc: Global,
     model: &Source,
@@ -59,7 +59,7 @@ fn each_branch(
     Ok(forms)
 }
 
-/// Two branches as `left` and `right`, and others as `branches`.
+/// Returns the trees of the branches: two as `left` and `right`, any other number as `branches`.
 fn branches_forms(
     alloc: Global,
     model: &Source,
@@ -82,7 +82,7 @@ fn branches_forms(
     }
 }
 
-/// The trees of a case: its prefix, its branches, and its suffix, where it has commands.
+/// Returns the trees of a case: its prefix, its branches, and its suffix, if it has commands.
 pub fn case_forms(alloc: Global, model: &Source, case: &Case) -> Result<Items<Form>, AllocError>
     ensures { IfOk result (λ forms. forms ≡ spec.case_forms model.now case.now) }
 {

@@ -2,7 +2,7 @@
 ghost use Rattle.std.specs.Prelude.{◌≡◌};
 ghost use Rattle.pst_runs.specs.WriteFaultName.{fault_name};
 
-use pst_sink::WriteFailed;
+use pst_sexpr::WriteFailed;
 use std::alloc::AllocError;
 use std::error::Error;
 use std::fmt;
@@ -12,7 +12,7 @@ use std::fmt;
 pub enum WriteFault {
     /// The writer has failed. A beginning of the text went out.
     WriteFailed,
-    /// Memory was refused. Nothing went out, and the writer has not failed.
+    /// An allocation failed. Nothing went out, and the writer has not failed.
     NoMemory,
 }
 

@@ -9,8 +9,7 @@ ghost use Rattle.pst_sexpr.specs.Lawful.{IsTree};
 use crate::write::cases::case_forms;
 use crate::write::replies::replies_form;
 use pst_case::{Case, History, Run};
-use pst_model::Source;
-use pst_rules::Typed;
+use pst_model::{Source, Typed};
 use pst_sexpr::{Form, Tree, headed};
 use std::alloc::{AllocError, Global};
 
@@ -32,8 +31,8 @@ fn item_form(
     }
 }
 
-/// A lawful run is read from its tree. This takes no memory: it only learns what the types of the model and
-/// of the case keep.
+/// Proves that a valid run is read from its tree. It allocates nothing: it only uses the invariants of the types of the
+/// model and of the case.
 pub fn is_read(typed: &Typed, run: &Run)
     requires { IsLawful typed.now run.now }
     ensures { IsRead typed.now run.now }
@@ -42,11 +41,10 @@ pub fn is_read(typed: &Typed, run: &Run)
     let _case = run.shaped.case();
 }
 
-/// The tree of a run: a `case` where it has no history, and else a `run`. It is read as an equal run.
+/// Returns the tree of a run: a `case` if it has no history, or else a `run`. It is read as an equal run.
 ///
-/// Two branches are written as `left` and `right`, three or four as `branches`; a suffix of no commands is
-/// not written. The run must be one of the model, and its history must match. `AllocError` where memory is
-/// refused.
+/// Two branches are written as `left` and `right`, three or four as `branches`; an empty suffix is not written. The run
+/// must be one of the model, and its history must match.
 pub fn run_tree(alloc: Global, typed: &Typed, run: &Run) -> Result<Tree, AllocError>
     requires { IsLawful typed.now run.now }
     // What is written of the run.

@@ -4,8 +4,8 @@ ghost use Rattle.pst_runs.specs.Written as spec;
 
 use crate::write::values::value_form;
 use pst_case::{History, Reply};
-use pst_items::Items;
 use pst_sexpr::{Form, headed, list_of, word};
+use pst_value::Items;
 use std::alloc::{AllocError, Global};
 
 fn reply_form(alloc: Global, reply: &Reply) -> Result<Form, AllocError>
@@ -40,8 +40,8 @@ fn each_list(alloc: Global, branches: &[Items<Reply>]) -> Result<Items<Form>, Al
     Ok(forms)
 }
 
-/// The tree of a history: a list for the prefix, one for each branch, and one for the suffix, where it has
-/// commands.
+/// Returns the tree of a history: a list for the prefix, one for each branch, and one for the suffix if it is not
+/// empty.
 pub fn replies_form(alloc: Global, history: &History) -> Result<Form, AllocError>
     ensures { IfOk result (λ form. form ≡ spec.replies_form history.now) }
 {

@@ -4,9 +4,8 @@ ghost use Rattle.std.specs.Fmt.{signed_decimal};
 ghost use Rattle.pst_sexpr.specs.declared.form.Form.TheVariants.{Node, Word};
 ghost use Rattle.pst_runs.specs.Written.{entries_form, key_form, truth_word, value_form};
 
-use pst_items::{Items, Text};
 use pst_sexpr::{Form, headed, word};
-use pst_value::{Key, Value};
+use pst_value::{Items, Key, Text, Value};
 use std::alloc::{AllocError, Global};
 
 fn integer(alloc: Global, number: i64) -> Result<Form, AllocError>
@@ -52,8 +51,8 @@ fn entry_form(alloc: Global, key: &Key, value: Form) -> Result<Form, AllocError>
     Ok(Form::Node(parts))
 }
 
-/// The tree of a value. A reference is written as its value, and a call as its arguments: neither stands in a
-/// lawful run.
+/// Returns the tree of a value. A reference is written as its value, and a call as its arguments: a valid run contains
+/// neither.
 #[cycle(value_form)]
 #[tactic(auto, using(crate::proofs::Forms::value_forms))]
 pub fn value_form(alloc: Global, value: &Value) -> Result<Form, AllocError>

@@ -5,18 +5,17 @@ ghost use Rattle.pst_runs.specs.Lawful.{AreLawful};
 ghost use Rattle.pst_runs.specs.Lines.{line_of, lines_of, WritesLines};
 ghost use Rattle.pst_runs.specs.Written.{run_forms};
 ghost use Rattle.pst_sexpr.specs.Reading.{Spells};
-ghost use Rattle.pst_sink.specs.Writing.{Writes};
+ghost use Rattle.pst_sexpr.specs.Writing.{Writes};
 
 use crate::write::fault::WriteFault;
 use crate::write::items::{is_read, run_tree};
 use pst_case::Run;
-use pst_rules::Typed;
-use pst_sexpr::{Tree, write};
-use pst_sink::{Sink, WriteFailed, put_all};
+use pst_model::Typed;
+use pst_sexpr::{Sink, Tree, WriteFailed, put_all, write};
 use std::alloc::{AllocError, Global};
 
-/// The lines of lawful runs spell their trees, and these are read as the runs. This takes no memory: it only
-/// learns what `is_read` says of each run.
+/// Proves that the lines of valid runs spell their trees, and that these are read as the runs. It allocates nothing: it
+/// only uses `is_read` for each run.
 fn are_read(typed: &Typed, runs: &[Run])
     requires { AreLawful typed.now runs.now }
     ensures spelled { Spells (lines_of (run_forms typed.now runs.now)) (run_forms typed.now runs.now) }
@@ -61,13 +60,13 @@ fn write_lines<W: Sink>(trees: &[Tree], writer: &mut W) -> Result<(), WriteFaile
     Ok(())
 }
 
-/// Writes each run as one tree, in its one spelling, with a line end after it. What is written is read as
-/// equal runs, where it is no more than a file may have (`MAX_BYTES`).
+/// Writes each run as one tree, in its one spelling, with a line end after it. The output is read as equal runs, if it
+/// has no more bytes than a file may have (`MAX_BYTES`).
 ///
-/// Each run must be one of the model, its history must match, and the writer must not have failed. All trees
-/// are made before the first is written.
-/// `WriteFailed`: the writer has failed, and a beginning of the lines went out.
-/// `NoMemory`: memory was refused; nothing went out, and the writer has not failed.
+/// Each run must be one of the model, its history must match, and the writer must not have failed. All trees are made
+/// before the first is written.
+/// `WriteFailed` means that the writer has failed and a beginning of the lines went out.
+/// `NoMemory` means that an allocation failed; nothing went out, and the writer has not failed.
 pub fn write_runs<W: Sink>(
     alloc: Global,
     typed: &Typed,

@@ -3,12 +3,12 @@
 use crate::codes::functions::{
     applies_itself, constant_map, identity, jump_to_itself, kept_keys, last_put, sum, unwritten,
 };
-use pst_items::Items;
 use pst_machine::{Code, FunCode, Instr};
+use pst_value::Items;
 use std::alloc::{AllocError, Global};
 use std::test::Fail;
 
-/// Whether the code is refused, and one function with so many instructions is handed back.
+/// Whether the code is refused, and one function with `length` instructions is handed back.
 fn is_handed_back(functions: Items<FunCode>, length: usize) -> bool {
     match Code::check(functions) {
         Ok(_) => false,
@@ -31,7 +31,7 @@ fn a_function_that_applies_itself_is_refused(rt: HostRuntime) -> Result<(), Fail
     Ok(())
 }
 
-/// The arguments, the registers and the instructions of the only function, where the code is lawful.
+/// How many arguments, registers and instructions the only function has, if the code is valid.
 fn sizes(functions: Items<FunCode>) -> Option<(u32, u32, usize)> {
     let code = Code::check(functions).ok()?;
     match code.functions() {

@@ -1,9 +1,8 @@
 //! Functions by hand.
 
-use pst_items::{Boxed, Items, Text};
 use pst_machine::{FunCode, Instr};
 use pst_model::{Binary, Unary};
-use pst_value::{Key, Value};
+use pst_value::{Boxed, Items, Key, Text, Value};
 use std::alloc::{AllocError, Global};
 
 /// Code of one function with these instructions.
@@ -92,7 +91,7 @@ pub fn kept_keys(alloc: Global) -> Result<Items<FunCode>, AllocError> {
     one_function(alloc, 0, 5, body)
 }
 
-/// The value of key 4 after 9 and then 8 are put there, where 4 is a key of the map.
+/// The value of key 4 after 9 and then 8 are put there, if 4 is a key of the map.
 pub fn last_put(alloc: Global) -> Result<Items<FunCode>, AllocError> {
     let body = [
         Instr::Const(0, empty_map(alloc)?),

@@ -3,13 +3,12 @@
 use crate::codes::functions::{
     copied_list, division, kept_keys, last_put, missing_key, sum, unwritten,
 };
-use pst_items::Items;
 use pst_machine::{Code, FunCode, Outcome};
-use pst_value::Value;
+use pst_value::{Items, Value};
 use std::alloc::{AllocError, Global};
 use std::test::Fail;
 
-/// The first function's outcome; none where the code is refused.
+/// The first function's outcome, or `None` if the code is refused.
 fn outcome_of(
     alloc: Global,
     functions: Items<FunCode>,
@@ -36,7 +35,7 @@ fn list_argument(alloc: Global, items: &[i64]) -> Result<Items<Value>, AllocErro
     Ok(args)
 }
 
-/// The first function's outcome on integers in a list, as it is shown; `refused` where the code is.
+/// The first function's outcome on integers in a list, as text; `refused` if the code is.
 fn shown_on_list(
     alloc: Global,
     functions: Items<FunCode>,
@@ -49,7 +48,7 @@ fn shown_on_list(
     }
 }
 
-/// The first function's outcome without arguments or turns, as it is shown; `refused` where the code is.
+/// The first function's outcome without arguments or turns, as text; `refused` if the code is.
 fn shown_alone(alloc: Global, functions: Items<FunCode>) -> Result<String, AllocError> {
     match outcome_of(alloc, functions, Items::new(alloc), 0)? {
         Some(outcome) => format!(in alloc; "{outcome:?}"),

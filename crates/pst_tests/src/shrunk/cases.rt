@@ -5,8 +5,7 @@ ghost use Rattle.pst_case.specs.Shape.{commands_of, joined};
 ghost use Rattle.pst_shrink.specs.Weight.{weight};
 
 use pst_case::{Case, Command};
-use pst_items::{Boxed, Items};
-use pst_value::{Key, Value};
+use pst_value::{Boxed, Items, Key, Value};
 use std::alloc::{AllocError, Global};
 
 /// The variable of a digit.
@@ -75,7 +74,7 @@ pub(crate) fn case_of(alloc: Global, text: &str) -> Result<Case, AllocError> {
     })
 }
 
-/// Whether the commands of the branches are at most so many.
+/// Whether the branches have at most `room` commands together.
 #[tactic(auto, using(pst_shrink::proofs::Counting::counting))]
 fn are_within(branches: &[Items<Command>], room: usize) -> bool
     ensures { OnTrue result (length (joined branches.now) ≤ room) }

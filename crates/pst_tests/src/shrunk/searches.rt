@@ -2,13 +2,13 @@
 
 use crate::shrunk::cases::{case_of, is_small};
 use pst_case::{Case, Command};
-use pst_items::Items;
 use pst_shrink::{Attempt, Ending, Outcome, ShrinkFault, Shrunk, shrink};
+use pst_value::Items;
 use std::alloc::Global;
 use std::test::Fail;
 
-/// Holds a case without commands for not valid, and breaks where a command has operation `a`. It fails once
-/// so many cases are driven.
+/// Holds a case without commands for not valid, and breaks if a command has operation `a`. It fails after
+/// `fails_after` driven cases.
 #[derive(Drop)]
 struct Breaks {
     alloc: Global,

@@ -1,4 +1,4 @@
-//! Seats that claim where nothing is left, and that come back in any order.
+//! Seats that claim when nothing is left, and that come back in any order.
 ghost use Rattle.std.specs.Prelude.{◌≡◌};
 
 use crate::ledgers::notes::Note;
@@ -48,9 +48,9 @@ fn close_in_order(
     }
 }
 
-/// What comes of three numbers, where the first seat ends its own and claims twice more, the second loses its
-/// own, and the third holds its own at the end. The seats come back in the order of that number. `None` where a
-/// call answers otherwise.
+/// Closes a ledger of three numbers. The first seat ends its own and claims twice more, the second loses its
+/// own, and the third still holds its own. `order` says in which order the seats come back. `None` if a call
+/// answers otherwise.
 fn closed_in_order(alloc: Global, order: u8) -> Result<Option<Closed<Note>>, AllocError> {
     let (ledger, mut seats) = Ledger::<Note>::open(alloc, 3, 3)?;
     let Some(mut third) = seats.pop() else {

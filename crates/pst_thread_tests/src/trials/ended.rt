@@ -1,17 +1,18 @@
 //! Trials that pass, that generate no case, and that a reset ends.
 
-use crate::trials::plans::{COUNTER, ONE, TOP, one_command, plan_of, record_of};
+use crate::trials::plans::{one_command, plan_of, record_of};
 use crate::trials::resets::Resets;
 use pst_eval::Callback;
 use pst_samples::Counter;
 use pst_system::BoxedSystem;
+use pst_tests::support::{COUNTER, ONE, TOP};
 use pst_trial::{Record, Settings, TrialFault, TrialOutcome, trial};
 use std::alloc::Global;
 use std::sync::Wait;
 use std::test::Fail;
 use std::thread::Threads;
 
-/// The commands of the suffix and the runs of a trial, where it passes.
+/// How many suffix commands and how many runs a trial has, if it passed.
 fn passed(record: &Record) -> Option<(usize, usize)> {
     match record.outcome() {
         TrialOutcome::Passed { case, runs } => Some((case.suffix.len(), runs.len())),
@@ -19,7 +20,7 @@ fn passed(record: &Record) -> Option<(usize, usize)> {
     }
 }
 
-/// The same of trial 3 of a counter with a suffix of two commands.
+/// What `passed` returns for trial 3 of a counter with a suffix of two commands.
 fn passed_counter<R: Threads + Wait>(
     rt: &R,
     alloc: Global,
@@ -40,7 +41,7 @@ fn a_counter_passes(rt: HostRuntime) -> Result<(), Fail> {
     Ok(())
 }
 
-/// The number of the trial and of the command where a callback of the model faults, where no case is generated.
+/// The trial's number, and the command's number and the callback that faults, if no case is generated.
 fn faulted(record: &Record) -> Option<(u64, u32, Callback)> {
     match record.outcome() {
         TrialOutcome::GenFaulted(place) => Some((record.number(), place.command, place.callback)),
@@ -48,7 +49,7 @@ fn faulted(record: &Record) -> Option<(u64, u32, Callback)> {
     }
 }
 
-/// The same of trial 7 of a number that cannot grow.
+/// What `faulted` returns for trial 7 of `TOP`, a number that cannot grow.
 fn faulted_top<R: Threads + Wait>(
     rt: &R,
     alloc: Global,
@@ -65,7 +66,7 @@ fn a_callback_faults(rt: HostRuntime) -> Result<(), Fail> {
     Ok(())
 }
 
-/// The fault of trial 0 of a counter without `get`, where there is one.
+/// The fault of trial 0 of a counter without `get`, if there is one.
 fn fault<R: Threads + Wait>(
     rt: &R,
     alloc: Global,

@@ -3,14 +3,14 @@
 use pst_system::{CallFault, RealCall, System};
 use pst_value::Value;
 
-/// Answers 0 to every call, and refuses every reset after so many.
+/// Answers 0 to every call, and refuses a reset if none is left.
 #[derive(Drop)]
 pub(crate) struct Resets {
     left: u32,
 }
 
 impl Resets {
-    /// A system that can be reset so many times.
+    /// A system that can be reset `left` times.
     pub(crate) fn new(left: u32) -> Resets {
         Resets { left }
     }

@@ -1,13 +1,14 @@
 //! Trials whose case is shrunk.
 
-use crate::trials::plans::{COUNTER, ONE, one_command, plan_of, record_of};
+use crate::trials::plans::{one_command, plan_of, record_of};
 use pst_case::Case;
 use pst_eval::Plain;
 use pst_gen::if_accepted;
-use pst_rules::Typed;
+use pst_model::Typed;
 use pst_samples::{Racy, Stuck};
 use pst_shrink::Ending;
 use pst_system::BoxedSystem;
+use pst_tests::support::{COUNTER, ONE};
 use pst_trial::{Plan, Record, Settings, TrialOutcome, trial};
 use std::alloc::{AllocError, Global};
 use std::sync::{Arc, Wait};
@@ -105,7 +106,7 @@ fn failure(alloc: Global, typed: &Typed, record: &Record) -> Option<(usize, usiz
     Some((first, size(last), accepted))
 }
 
-/// The same of the trial of a number of a plan, where it fails.
+/// What `failure` returns for trial `number` of a plan.
 fn failure_of<R: Threads + Wait>(
     rt: &R,
     alloc: Global,
@@ -117,7 +118,7 @@ fn failure_of<R: Threads + Wait>(
     failure(alloc, plan.typed(), &record)
 }
 
-/// The same of the first trial that fails.
+/// What `failure` returns for the first trial that fails.
 fn first_failure<R: Threads + Wait>(
     rt: &R,
     alloc: Global,
@@ -150,7 +151,7 @@ fn a_race_is_found(rt: HostRuntime) -> Result<(), Fail> {
     Ok(())
 }
 
-/// The same of trial 0 of a counter on the system that answers 0, whose every `inc` is wrong.
+/// What `failure` returns for trial 0 of a counter on the system that answers 0, so that every `inc` is wrong.
 fn failure_on_stuck<R: Threads + Wait>(
     rt: &R,
     alloc: Global,

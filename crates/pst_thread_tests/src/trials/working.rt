@@ -2,19 +2,20 @@
 ghost use Rattle.std.specs.Prelude.{◌≡◌, None};
 ghost use Rattle.std.specs.Arc.{arc_value};
 
-use crate::trials::plans::{ONE, plan_of};
+use crate::trials::plans::plan_of;
 use crate::trials::resets::Resets;
 use pst_campaign::work;
 use pst_ledger::{Cause, Closed, Entry, Ledger};
 use pst_samples::Stuck;
 use pst_system::BoxedSystem;
+use pst_tests::support::ONE;
 use pst_trial::{Plan, Record, Settings, may_share_records, trial};
 use std::alloc::Global;
 use std::sync::{Arc, Wait};
 use std::test::Fail;
 use std::thread::Threads;
 
-/// A plan of twelve trials, each of which is driven once.
+/// A plan of twelve trials, each driven once.
 fn twelve(alloc: Global) -> Option<Arc<Plan>> {
     let settings = Settings {
         trials: 12,

@@ -4,13 +4,12 @@ ghost use Rattle.std.specs.Prelude.{◌≡◌, ◌<◌, length, map, IfOk};
 ghost use Rattle.std.specs.List.{list_any};
 ghost use Rattle.pst_typing.specs.Forms as spec;
 ghost use Rattle.pst_typing.specs.Nodes.{type_at, AreBelow, IsBelow};
-ghost use Rattle.pst_rules.specs.Kinds as kinds;
+ghost use Rattle.pst_model.specs.Kinds as kinds;
 
 use crate::kinds::kind::Kind;
 use crate::kinds::node::Node;
 use crate::kinds::nodes::Nodes;
-use pst_items::Items;
-use pst_value::KeyTy;
+use pst_value::{Items, KeyTy};
 use std::alloc::{AllocError, Global};
 use std::rc::Rc;
 

@@ -1,7 +1,7 @@
 //! Types whose equal parts are shared.
 
 ghost use Rattle.std.specs.Prelude.{◌≡◌, ◌<◌, length, IfOk};
-ghost use Rattle.pst_rules.specs.Kinds as kinds;
+ghost use Rattle.pst_model.specs.Kinds as kinds;
 ghost use Rattle.pst_typing.specs.Adding.{AreAdded, IsAdded};
 ghost use Rattle.pst_typing.specs.Forms.{formed};
 ghost use Rattle.pst_typing.specs.Nodes.{type_at};
@@ -11,8 +11,7 @@ ghost use Rattle.pst_value.specs.declared.ty.Ty.TheVariants as ty;
 use crate::kinds::form::{Form, form_of, node_holds_ref};
 use crate::kinds::node::Node;
 use crate::kinds::nodes::Nodes;
-use pst_items::Items;
-use pst_value::{KeyTy, Ty};
+use pst_value::{Items, KeyTy, Ty};
 use std::alloc::{AllocError, Global};
 use std::marker::Model;
 use std::rc::Rc;

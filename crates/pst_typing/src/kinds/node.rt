@@ -1,5 +1,4 @@
-use pst_items::Items;
-use pst_value::KeyTy;
+use pst_value::{Items, KeyTy};
 
 /// One form of a type, whose parts are numbers of nodes.
 #[derive(Debug, PartialEq, Eq, Hash, Drop)]

@@ -8,7 +8,7 @@ ghost use Rattle.pst_value.specs.Equality.{same_ty};
 
 use crate::kinds::node::Node;
 use indexmap::IndexSet;
-use pst_items::Items;
+use pst_value::Items;
 use std::alloc::{AllocError, Global};
 use std::marker::Model;
 
@@ -51,7 +51,7 @@ impl Nodes {
         self.nodes.len()
     }
 
-    /// The node of a number.
+    /// The node with this number.
     pub fn get(&self, number: usize) -> &Node
         requires { number < length self.now }
         ensures has_type { node_type self.now result.now ≡ type_at self.now number }
@@ -63,7 +63,7 @@ impl Nodes {
         }
     }
 
-    /// The number of a node. It is added if there is none like it.
+    /// Returns the number of `node`, which is added if it is new.
     pub fn add(&mut self, node: Node) -> Result<usize, AllocError>
         requires { IsBelow (length self.old) node }
         ensures { IfOk result (λ number. IsAdded self.old self.new number (node_type self.old node)) }
@@ -89,7 +89,7 @@ impl Nodes {
         self.nodes.as_slice() == others.nodes.as_slice()
     }
 
-    /// The number of the type that a node of others has. What it needs is added.
+    /// Copies the type of node `root` of `others`, and returns its number.
     pub fn take_over(
         &mut self,
         alloc: Global,

@@ -3,11 +3,11 @@ use Rattle.pst_cli.proofs.campaign.campaign_output.Goals as goal
 
 pub returns-in-Ok : goal.returns-in-Ok
 returns-in-Ok g c =
-    accepted_output _ c.args.settings c.args.systems.items c.args.input.now c.in-Ok.file.typed c.in-Ok.file.trees.items
+    accepted_output _ _ c.args.settings c.args.systems.items c.args.input.now c.in-Ok.file.typed c.in-Ok.file.trees.items
     (rw c.in-Ok.is at c.in_ok-file.ensures) c.output_for.result c.output_for.ensures
 
 pub returns-in-Err : goal.returns-in-Err
 returns-in-Err g c =
-    refused_output _ c.args.settings c.args.systems.items c.args.input.now c.in-Err.refusal
+    refused_output _ _ c.args.settings c.args.systems.items c.args.input.now c.in-Err.refusal
     (rw c.in-Err.is at c.in_ok-file.ensures) c.refusal_output.result c.refusal_output.ensures.text
     c.refusal_output.ensures.status

@@ -10,18 +10,18 @@ report_output-requires-clause-records g c =
     let Of : PlanView → Type 0 = λ p. AreOf p 0 c.in-Ok.closed in
     let same : arc_value c.in_ok-clone.field-0 ≡ c.deref.result.now =
     c.in_ok-clone.ensures.cases ∙ sym c.deref.ensures in
-    subst Of same (all_of _ _ _ (arc_value c.in_ok-clone.field-0) c.args.systems.items c.in-Ok.closed c.in-Ok.ensures.given)
+    subst Of same (all_of _ _ _ _ (arc_value c.in_ok-clone.field-0) c.args.systems.items c.in-Ok.closed c.in-Ok.ensures.given)
 
 pub returns-in-Ok : goal.returns-in-Ok
 returns-in-Ok g c =
     let same : arc_value c.in_ok-clone.field-0 ≡ c.deref.result.now =
     c.in_ok-clone.ensures.cases ∙ sym c.deref.ensures in
-    reported_output _ c.args.settings c.args.systems.items c.args.typed c.deref.result.now
+    reported_output _ _ c.args.settings c.args.systems.items c.args.typed c.deref.result.now
     (arc_value c.in_ok-clone.field-0) c.in-Ok.closed c.in-Ok.ensures.number (c.deref.ensures ∙ c.in_ok-plan.ensures) same
     c.in-Ok.ensures.count c.in-Ok.ensures.given c.report_output.result c.report_output.ensures.text
     c.report_output.ensures.status
 
 pub returns : goal.returns
 returns g c =
-    not_started_output _ c.args.settings c.args.systems.items c.args.typed c.in-Err.fault c.in-Err.ensures.fault
+    not_started_output _ _ c.args.settings c.args.systems.items c.args.typed c.in-Err.fault c.in-Err.ensures.fault
     c.not_started.result c.not_started.ensures.reason c.not_started.ensures.text c.not_started.ensures.status

@@ -1,7 +1,7 @@
 use Rattle.std.proofs.Common.{refl}
 use Rattle.pst_cli.specs.KeepingOn.{answered}
 use Rattle.pst_typing.specs.Loading.{items_of}
-use Rattle.pst_stream.specs.Lines.{lines_of}
+use Rattle.pst_rejudge.specs.Lines.{lines_of}
 use Rattle.pst_cli.proofs.laws.streams_are_files.Goals as goal
 
 pub returns : goal.returns

@@ -1,16 +1,18 @@
-use Rattle.std.proofs.Common.{◌∙◌, subst}
-use Rattle.pst_cli.proofs.Reporting.{driven_report}
-use Rattle.pst_cli.specs.RunOutput.{lost}
-use Rattle.pst_judge.specs.Validity.{IsValid}
-use Rattle.pst_model.specs.declared.model.Source.{Source}
+use Rattle.std.proofs.Common.{◌≡◌}
+use Rattle.pst_cli.proofs.Reporting.{if_ok_both, reported_so}
+use Rattle.pst_cli.specs.ItemReports.{report_status, report_text}
+use Rattle.pst_cli.specs.RunOutput.{IsReported}
+use Rattle.pst_cli.specs.declared.output.Output.{Output}
 use Rattle.pst_cli.proofs.run.valid_report.Goals as goal
 
-pub returns-in-Ok-clause-reported : goal.returns-in-Ok-clause-reported
-returns-in-Ok-clause-reported g c =
-    driven_report c.args.compiled.now _ _ _ c.args.number c.args.valid c.in-Ok.history c.requires.model c.into_shaped.ensures.validity (rw c.typed.ensures at c.in-Ok.ensures.matches) (rw c.typed.ensures at c.in-Ok.ensures.driven)
-    c.run_report.result (rw c.into_shaped.ensures.same at c.run_report.ensures)
-
-pub returns-in_ok-line-in-Err-clause-reported : goal.returns-in_ok-line-in-Err-clause-reported
-returns-in_ok-line-in-Err-clause-reported g c =
-    let Valid : Source → Type 0 = λ n. IsValid n c.args.valid.case in
-    lost (subst Valid c.requires.model c.shaped-shaped.ensures.validity) c.in-Err.fault c.in-Err.ensures.fault (c.new.ensures.text ∙ c.in_ok-line-in-Err.ensures) c.new.ensures.status
+pub returns-clause-reported : goal.returns-clause-reported
+returns-clause-reported g c =
+    let s = (g.dyn-1.0.entry c.args.system.now.vtable).1 in
+    let value = c.args.system.now.value in
+    let report = c.in_ok-report.report in
+    let HasText : Output → Type 0 = λ o. o.text.items ≡ report_text c.args.number report in
+    let HasStatus : Output → Type 0 = λ o. o.status ≡ report_status report in
+    let IsSo : Output → Type 0 = λ o. IsReported c.args.compiled.now (s.answers value) (s.fails value) (s.reset_fails value) c.args.number c.args.valid.case o.text.items o.status in
+    if_ok_both HasText HasStatus IsSo
+    (λ o t e. reported_so c.args.compiled.now (s.answers value) (s.fails value) (s.reset_fails value) c.args.number c.args.valid.case report o.text.items o.status c.in_ok-report.ensures.report t e)
+    c.report_output.result c.report_output.ensures.text c.report_output.ensures.status

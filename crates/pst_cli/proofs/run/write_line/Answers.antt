@@ -1,4 +1,4 @@
-use Rattle.pst_sink.proofs.Sequence.{one_then_two}
+use Rattle.pst_sexpr.proofs.Sequence.{one_then_two}
 use Rattle.pst_cli.proofs.run.write_line.Goals as goal
 
 pub returns : goal.returns

@@ -1,8 +1,7 @@
 use Rattle.std.proofs.Common.{◌≡◌, [], ◌∷◌, ◌++◌, ap, ◌∙◌, rules}
-use Rattle.pst_objects.specs.declared.field.Field.TheVariants.{Words}
-use Rattle.pst_objects.specs.declared.field.Name.TheVariants as name
+use Rattle.pst_json_verdicts.specs.declared.field.Field.TheVariants.{Words}
+use Rattle.pst_json_verdicts.specs.declared.field.Name.TheVariants as name
 use Rattle.pst_report.specs.Object.{case_fields, drive_fields, judged_fields, missing_fields, status_word}
-use Rattle.pst_report.specs.Status.{campaign_status}
 use Rattle.pst_report.proofs.Fields.{five_parts}
 use Rattle.pst_report.proofs.object.report_fields.Goals as goal
 
@@ -13,7 +12,7 @@ returns c =
     let two = c.add_cases.new.fields.items in
     let three = c.add_drives.new.fields.items in
     let four = c.add_judged.new.fields.items in
-    let head : one ≡ Words name.Verdict (status_word (campaign_status c.args.closed.now)) ∷ Words name.Model p.model.name ∷ [] = search rules in
+    let head : one ≡ Words name.Verdict (status_word c.args.status) ∷ Words name.Model p.model.name ∷ [] = search rules in
     five_parts one two three four c.add_missing.new.fields.items _ _ _ _ _ head
     (c.in_ok-add_cases.ensures ∙ ap (λ s. one ++ case_fields s) c.settings.ensures.same)
     (c.in_ok-add_drives.ensures ∙ ap (λ s. two ++ drive_fields s) c.settings-2.ensures.same)

@@ -55,7 +55,8 @@ function check(model, makeSystem, options = []) {
     execFile(process.env.PST ?? "pst", words, (error, report, explanation) => {
       sockets.forEach((socket) => socket.destroy());
       fs.rmSync(folder, { recursive: true });
-      error ? reject(new Error(report ? `${explanation}\n${report}` : `${error.message}${explanation}`)) : resolve(report);
+      if (error?.code === "ENOENT") reject(new Error("no program pst: set PST or put it on PATH"));
+      else error ? reject(new Error(report ? `${explanation}\n${report}` : `${error.message}${explanation}`)) : resolve(report);
     });
   });
 }

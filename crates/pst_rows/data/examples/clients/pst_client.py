@@ -59,6 +59,15 @@ def serve(make_system):
         thread.join()
 
 
+def find_program():
+    """Returns the program: PST names it, or it is on the PATH, or this file is in the folder of `pst`."""
+    launchers = [folder / "pst" for folder in pathlib.Path(__file__).resolve().parents if (folder / "tools" / "with-clients").is_file()]
+    for program in [os.environ.get("PST"), shutil.which("pst"), *map(str, launchers)]:
+        if program:
+            return program
+    raise RuntimeError("no program pst: set PST or put it on PATH")
+
+
 def check(model, make_system, trials=200, branches=2, limit=200, timeout=None, **options):
     """Runs a campaign on systems of this process, and raises an AssertionError that explains its smallest failure, if it has any.
 
@@ -66,8 +75,7 @@ def check(model, make_system, trials=200, branches=2, limit=200, timeout=None, *
     has a method for each operation. Other arguments are options of `pst campaign`, as in `seed=7, repeats=20`. The test fails too if the
     campaign takes more than `timeout` seconds, as when a call hangs.
     """
-    program = os.environ.get("PST") or shutil.which("pst") or str(pathlib.Path(__file__).resolve().parents[5] / "pst")
-    words = [program, "campaign", None, str(model), "--workers", "1", "--branches", str(branches)]
+    words = [find_program(), "campaign", None, str(model), "--workers", "1", "--branches", str(branches)]
     options.update(trials=trials, limit=limit)
     words += [word for name, value in options.items() for word in (f"--{name}", str(value))]
     with tempfile.TemporaryDirectory() as folder:

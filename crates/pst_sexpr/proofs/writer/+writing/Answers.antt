@@ -1,7 +1,7 @@
 use Rattle.std.proofs.Common.{◌++◌, ◌∷◌, [], refl, ap, sym, ◌∙◌, map, arith}
 use Rattle.pst_sexpr.specs.Spelling.{escape, spaced, spelling}
 use Rattle.pst_sexpr.proofs.Spelled.{spelling_word, spelling_text, spelling_node, next_part}
-use Rattle.pst_sink.proofs.Sequence.{nothing_yet, then_all, then_fails, then_last, writes_is}
+use Rattle.pst_sexpr.proofs.Sequence.{nothing_yet, then_all, then_fails, then_last, writes_is}
 use Rattle.pst_sexpr.proofs.writer.+writing.Goals as goal
 
 pub write_form-returns-in-Word : goal.write_form-returns-in-Word

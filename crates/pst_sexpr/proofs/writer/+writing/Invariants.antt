@@ -1,6 +1,6 @@
 use Rattle.std.proofs.Common.{drop, map}
 use Rattle.pst_sexpr.specs.Spelling.{spaced, spelling}
-use Rattle.pst_sink.proofs.Sequence.{WritesUpTo}
+use Rattle.pst_sexpr.proofs.Sequence.{WritesUpTo}
 use Rattle.pst_sexpr.proofs.Spelled.{left_of}
 use Rattle.pst_sexpr.proofs.writer.+writing.Given as goal
 

@@ -1,5 +1,5 @@
 use Rattle.std.proofs.Common.{arith}
-use Rattle.pst_sink.proofs.Sequence.{then_all, then_fails}
+use Rattle.pst_sexpr.proofs.Sequence.{then_all, then_fails}
 use Rattle.pst_sexpr.proofs.Spelled.{escape_at}
 use Rattle.pst_sexpr.proofs.writer.write_quoted.Goals as goal
 

@@ -1,6 +1,6 @@
 use Rattle.std.proofs.Common.{drop}
 use Rattle.pst_sexpr.specs.Spelling.{escape}
-use Rattle.pst_sink.proofs.Sequence.{WritesUpTo}
+use Rattle.pst_sexpr.proofs.Sequence.{WritesUpTo}
 use Rattle.pst_sexpr.proofs.writer.write_quoted.Given as goal
 
 abbrev pub invariant-loop-byte : goal.invariant-loop-byte

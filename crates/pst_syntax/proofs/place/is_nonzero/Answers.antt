@@ -1,6 +1,6 @@
 use Rattle.std.proofs.Common.{sym, ◌∙◌}
-use Rattle.pst_words.specs.Integers.{magnitude}
-use Rattle.pst_words.proofs.Growing.{wide_is_positive, narrow_is_positive}
+use Rattle.pst_sexpr.specs.Integers.{magnitude}
+use Rattle.pst_sexpr.proofs.Growing.{wide_is_positive, narrow_is_positive}
 use Rattle.pst_syntax.proofs.place.is_nonzero.Goals as goal
 
 pub returns-in-Some : goal.returns-in-Some

@@ -1,7 +1,7 @@
 use Rattle.std.proofs.Common.{refl, sym, ◌∙◌, reverse, arith}
 use Rattle.pst_typing.specs.Blamed.{parts_int, parts_bool, parts_text, parts_name, parts_let, parts_if, parts_and, parts_or, parts_unary, parts_binary, parts_tuple, parts_at, parts_list, parts_fold, parts_map, parts_put, parts_call, parts_apply}
 use Rattle.pst_typing.specs.Scope.{names_in, type_in}
-use Rattle.pst_meaning.proofs.Weights.{item_weight}
+use Rattle.pst_eval.proofs.Weights.{item_weight}
 use Rattle.pst_typing.proofs.Blaming.{named_leaf, named, named_for, judged_ok, ill_parts}
 use Rattle.pst_typing.proofs.Gathers.{ok_one, ok_more, ok_let, ok_let_ill, fold_no_list, fold_no_first, fold_goes, each_more, ok_body, ok_when, ok_in, in_ends}
 use Rattle.pst_typing.proofs.expressions.+find.Goals as goal

@@ -2,7 +2,7 @@ use Rattle.std.proofs.Common.{◌+◌, ◌*◌, map, take}
 use Rattle.pst_typing.specs.Blamed.{each_part}
 use Rattle.pst_typing.specs.Gathering.{IsGathered}
 use Rattle.pst_typing.specs.Scope.{names_in, type_in}
-use Rattle.pst_meaning.specs.Weight.{weight, clause_weight, total}
+use Rattle.pst_eval.specs.Weight.{weight, clause_weight, total}
 use Rattle.pst_typing.proofs.expressions.+find.Given as goal
 
 abbrev pub decreases-find_kind : goal.decreases-find_kind

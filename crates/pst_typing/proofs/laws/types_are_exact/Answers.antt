@@ -1,4 +1,4 @@
-use Rattle.pst_rules.specs.Rules.{Has}
+use Rattle.pst_model.specs.Rules.{Has}
 use Rattle.pst_typing.proofs.Complete.{complete}
 use Rattle.pst_typing.proofs.Sound.{found_right}
 use Rattle.pst_typing.proofs.laws.types_are_exact.Goals as goal

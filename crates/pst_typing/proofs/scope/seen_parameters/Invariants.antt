@@ -1,5 +1,5 @@
 use Rattle.std.proofs.Common.{◌≡◌, map, take}
-use Rattle.pst_rules.specs.Rules.{context_of}
+use Rattle.pst_model.specs.Rules.{context_of}
 use Rattle.pst_typing.specs.Scope.{name_seen}
 use Rattle.pst_typing.proofs.scope.seen_parameters.Given as goal
 

@@ -1,5 +1,5 @@
 use Rattle.std.proofs.Common.{◌≡◌, true, sym, ap, ◌∙◌, get_or}
-use Rattle.pst_rules.specs.Kinds.{holds_call}
+use Rattle.pst_model.specs.Kinds.{holds_call}
 use Rattle.pst_typing.proofs.Holding.{calls_among}
 use Rattle.pst_typing.proofs.types.parameters_hold_call.Goals as goal
 

@@ -96,6 +96,9 @@ func Check(t *testing.T, model string, newSystem func() Calls, options ...string
 	if program == "" {
 		program = "pst"
 	}
+	if _, err := exec.LookPath(program); err != nil {
+		t.Fatal("no program pst: set PST or put it on PATH")
+	}
 	folder := t.TempDir()
 	for branch := 1; branch <= 2; branch++ {
 		for _, end := range []string{"calls", "answers"} {

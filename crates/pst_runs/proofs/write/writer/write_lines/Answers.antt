@@ -1,6 +1,6 @@
 use Rattle.pst_runs.proofs.Lines.{next_line}
 use Rattle.pst_runs.proofs.write.writer.write_lines.Goals as goal
-use Rattle.pst_sink.proofs.Sequence.{then_all, then_fails}
+use Rattle.pst_sexpr.proofs.Sequence.{then_all, then_fails}
 
 pub returns-in_err-write_line : goal.returns-in_err-write_line
 returns-in_err-write_line g c =

@@ -1,5 +1,5 @@
 use Rattle.std.proofs.Common.{drop}
-use Rattle.pst_sink.proofs.Sequence.{WritesUpTo}
+use Rattle.pst_sexpr.proofs.Sequence.{WritesUpTo}
 use Rattle.pst_runs.specs.Lines.{lines_of}
 use Rattle.pst_runs.proofs.write.writer.write_lines.Given as goal
 

@@ -1,0 +1,94 @@
+//! The explanation of the least failure of a campaign, with a note if its first call is wrong in the initial state.
+
+use crate::explained;
+use pst_case::{Case, Command, History, Reply};
+use pst_cli::explain_run;
+use pst_value::Items;
+use std::alloc::{AllocError, Global};
+
+/// The width of lines.
+const WIDTH: usize = 80;
+
+/// The words of an explanation of one wrong answer.
+const ONE_WRONG: &str = "This answer cannot be right";
+
+/// The note.
+const NOTE: &str = "  The first call is already wrong in the initial state of the model: does reset
+  restore that state, and has each worker (PST_WORKER) a system of its own?
+";
+
+/// Returns the command that is called before all others, and its reply: the first of the prefix, or of the only branch
+/// that has commands.
+fn first_of<'a>(case: &'a Case, history: &'a History) -> Option<(&'a Command, &'a Reply)> {
+    if let Some(command) = case.prefix.get(0) {
+        return Some((command, history.prefix.get(0)?));
+    }
+    let mut first = None;
+    let replies = history.branches.as_slice();
+    for (branch, replies) in case.branches.as_slice().iter().zip(replies.iter()) {
+        if let Some(command) = branch.get(0) {
+            if first.is_some() {
+                return None;
+            }
+            first = Some((command, replies.get(0)?));
+        }
+    }
+    first
+}
+
+/// Returns two empty branches.
+fn no_branches<T: Drop>(alloc: Global) -> Result<Items<Items<T>>, AllocError> {
+    let mut branches = Items::new(alloc);
+    branches.push(Items::new(alloc))?;
+    branches.push(Items::new(alloc))?;
+    Ok(branches)
+}
+
+/// Returns a run of one command.
+fn run_of(alloc: Global, command: &Command, reply: &Reply) -> Result<(Case, History), AllocError> {
+    let mut commands = Items::new(alloc);
+    commands.push(command.copy(alloc)?)?;
+    let mut replies = Items::new(alloc);
+    replies.push(reply.copy(alloc)?)?;
+    let case = Case {
+        prefix: commands,
+        branches: no_branches(alloc)?,
+        suffix: Items::new(alloc),
+    };
+    let history = History {
+        prefix: replies,
+        branches: no_branches(alloc)?,
+        suffix: Items::new(alloc),
+    };
+    Ok((case, history))
+}
+
+/// Returns whether the first call of a run has an answer that is wrong in the initial state of the model.
+fn begins_wrong(
+    alloc: Global,
+    input: &[u8],
+    case: &Case,
+    history: &History,
+) -> Result<bool, AllocError> {
+    let Some((command, reply)) = first_of(case, history) else {
+        return Ok(false);
+    };
+    let (case, history) = run_of(alloc, command, reply)?;
+    match explain_run(alloc, input, case, history, WIDTH)? {
+        Some(text) => match std::str::from_utf8(text.as_slice()) {
+            Ok(text) => Ok(text.contains(ONE_WRONG)),
+            Err(_) => Ok(false),
+        },
+        None => Ok(false),
+    }
+}
+
+/// Writes why no interleaving explains the least failure of a campaign, to standard error, and the note if it applies.
+/// The model is at the beginning of `input`. If an allocation fails or a text cannot be written, nothing else is said.
+pub fn explain_least<R: Eprint>(rt: &R, alloc: Global, input: &[u8], case: Case, history: History) {
+    let begins_wrong = begins_wrong(alloc, input, &case, &history);
+    explained::report(rt, alloc, "the least failure:", input, case, history);
+    if begins_wrong == Ok(true) {
+        let _ = eprint!(rt; "{NOTE}");
+    }
+}

@@ -1,0 +1,106 @@
+//! The end of a campaign when a file appears. The kit has no handler of signals: the launcher makes the file at Ctrl-C.
+
+use crate::input;
+use clap::ArgMatches;
+use pst_campaign::EarlyEnd;
+use std::alloc::{AllocError, Global};
+use std::rt::Files;
+use std::sync::atomic::{AtomicBool, Ordering};
+use std::sync::{Arc, Wait};
+use std::thread::{JoinHandle, Parker, Threads};
+use std::time::Duration;
+
+/// How many milliseconds pass between two looks.
+const PAUSE: u64 = 100;
+
+/// What the thread that looks for the file shares with the one that ends it.
+#[derive(Drop)]
+pub struct Watched {
+    name: String,
+    has_appeared: Arc<AtomicBool>,
+    is_over: AtomicBool,
+    parker: Parker,
+}
+
+/// Looks for the file until it is there or the campaign is over.
+pub fn look<R: Wait + Files>(rt: &R, watched: &Watched) {
+    for _ in rt.forever() {
+        if input::can_be_opened(rt, watched.name.as_str()) {
+            watched.has_appeared.store(true, Ordering::SeqCst);
+            return;
+        }
+        if watched.is_over.load(Ordering::SeqCst) {
+            return;
+        }
+        watched
+            .parker
+            .park_timeout(rt, Duration::from_millis(PAUSE));
+    }
+}
+
+/// A thread that looks for the file.
+#[derive(Drop)]
+pub struct StopFile {
+    watched: Arc<Watched, Global>,
+    thread: JoinHandle<()>,
+}
+
+/// The name of the file that ends a campaign, if the arguments give one.
+fn name<'a>(matches: &ArgMatches<'a>) -> Option<&'a str> {
+    match matches.subcommand() {
+        Some(("campaign", words)) => words.get_str("stop-file"),
+        _ => None,
+    }
+}
+
+/// Whether the file is there that ends a campaign, in a place that threads share. None if the arguments name no file.
+pub fn first_look<R: Files>(
+    rt: &R,
+    alloc: Global,
+    matches: &ArgMatches<'_>,
+) -> Result<Option<Arc<AtomicBool>>, AllocError> {
+    let Some(name) = name(matches) else {
+        return Ok(None);
+    };
+    let is_there = input::can_be_opened(rt, name);
+    Ok(Some(Arc::new(alloc, AtomicBool::new(is_there))?))
+}
+
+/// What the thread that looks for the file shares, if the arguments name a file.
+pub fn shared_watch(
+    alloc: Global,
+    matches: &ArgMatches<'_>,
+    has_appeared: &Arc<AtomicBool>,
+) -> Option<Arc<Watched, Global>> {
+    let watched = Watched {
+        name: String::from_str(alloc, name(matches)?).ok()?,
+        has_appeared: Arc::try_clone(has_appeared).ok()?,
+        is_over: AtomicBool::new(false),
+        parker: Parker::new(),
+    };
+    Arc::new(alloc, watched).ok()
+}
+
+impl StopFile {
+    /// The thread that looks for the file, which `main` starts: only there is the handle known that it takes along.
+    pub fn new(watched: Arc<Watched, Global>, thread: JoinHandle<()>) -> StopFile {
+        StopFile { watched, thread }
+    }
+
+    /// Ends the thread, and waits for it.
+    pub fn end<R: Threads + Wait>(self, rt: &R) {
+        let StopFile { watched, thread } = self;
+        watched.is_over.store(true, Ordering::SeqCst);
+        watched.parker.unpark();
+        thread.join(rt)
+    }
+}
+
+/// When a campaign ends before all its trials have run, by the arguments.
+pub fn early_end(matches: &ArgMatches<'_>, has_appeared: Option<Arc<AtomicBool>>) -> EarlyEnd {
+    let most = match matches.subcommand() {
+        Some(("campaign", words)) => words.get_one("max-failures"),
+        _ => None,
+    };
+    EarlyEnd::new(most, has_appeared)
+}

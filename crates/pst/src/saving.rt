@@ -1,0 +1,140 @@
+//! Files of the failures of a campaign.
+
+use crate::input::STANDARD_INPUT;
+use crate::quoting::push_word;
+use clap::ArgMatches;
+use pst_cli::Status;
+use pst_clients::Folder;
+use pst_report::NumberedFailure;
+use std::alloc::{AllocError, Global};
+use std::io;
+use std::rt::Files;
+
+/// The folder that the failures of a campaign are saved in, and the comments of each file.
+#[derive(Drop)]
+pub struct Saving<'a> {
+    folder: &'a str,
+    seed: u64,
+    /// The arguments of a command before the file that it drives.
+    command: String,
+}
+
+/// A number of 64 bits that bytes have, by FNV-1a.
+fn number_of(bytes: &[u8]) -> u64 {
+    let mut number: u64 = 0xcbf2_9ce4_8422_2325;
+    for byte in bytes {
+        number = (number ^ *byte as u64).wrapping_mul(0x0100_0000_01b3);
+    }
+    number
+}
+
+/// The arguments that name clients: what the launcher wrote into their folder, or else a word in place of their command.
+fn clients<R: Files + AllocGlobal>(rt: &R, folder: Folder<'_>) -> Result<String, AllocError> {
+    let alloc = rt.alloc();
+    let name = folder.name;
+    let file = format!(in alloc; "{name}/arguments")?;
+    match std::fs::read_to_string(rt, file.as_str()) {
+        Ok(arguments) => Ok(arguments),
+        Err(_) => String::from_str(alloc, "--client COMMAND"),
+    }
+}
+
+/// The arguments of a command that drives cases on the systems of a campaign, before the file of the cases.
+fn command<R: Files + AllocGlobal>(
+    rt: &R,
+    words: &ArgMatches<'_>,
+    name: &str,
+) -> Result<String, AllocError> {
+    let alloc = rt.alloc();
+    let mut command = String::from_str(alloc, "pst run ")?;
+    match Folder::named(name) {
+        Some(folder) => command.push_str(clients(rt, folder)?.as_str())?,
+        None => command.push_str(name)?,
+    }
+    command.push_str(" --repeats 20 ")?;
+    match words.get_strs("FILE") {
+        Some(&[model]) if model != STANDARD_INPUT => push_word(&mut command, model)?,
+        _ => command.push_str("MODEL")?,
+    }
+    Ok(command)
+}
+
+/// The text of a file: comments that say where the failure is from and how its case is driven again, and the run.
+fn text_of(
+    alloc: Global,
+    saving: &Saving<'_>,
+    file: &str,
+    numbered: &NumberedFailure,
+) -> Result<Vec<u8>, AllocError> {
+    let NumberedFailure { number, failure } = numbered;
+    let (seed, verdict) = (saving.seed, failure.verdict.as_str());
+    let mut text = format!(in alloc; "; Seed {seed}, trial {number}: {verdict}\n")?;
+    let mut command = saving.command.clone()?;
+    command.push_str(" ")?;
+    push_word(&mut command, file)?;
+    if !command.as_str().contains('\n') {
+        let line = format!(in alloc; "; {command}\n")?;
+        text.push_str(line.as_str())?;
+    }
+    let mut text = text.into_bytes();
+    text.extend_from_slice(failure.run.as_slice())?;
+    Ok(text)
+}
+
+impl<'a> Saving<'a> {
+    /// Makes the folder `folder`, unless it is there, for the failures of a campaign on the systems `name`. If it cannot be
+    /// made, standard error says why.
+    pub fn begin<R: Files + Eprint + AllocGlobal>(
+        rt: &R,
+        words: &ArgMatches<'_>,
+        folder: &'a str,
+        seed: u64,
+        name: &str,
+    ) -> Result<Saving<'a>, Status> {
+        if let Err(error) = std::fs::create_dir_all(rt, folder) {
+            let _ = eprintln!(rt; "pst: cannot make {folder}: {error}");
+            return Err(Status::Lost);
+        }
+        match command(rt, words, name) {
+            Ok(command) => Ok(Saving {
+                folder,
+                seed,
+                command,
+            }),
+            Err(AllocError) => Err(Status::Lost),
+        }
+    }
+
+    /// Writes the file of a failure.
+    fn write<R: Files + AllocGlobal>(&self, rt: &R, numbered: &NumberedFailure) -> io::Result<()> {
+        let alloc = rt.alloc();
+        let case = number_of(numbered.failure.case.as_slice());
+        let folder = self.folder;
+        let file = format!(in alloc; "{folder}/failure-{case:016x}.runs")?;
+        let text = text_of(alloc, self, file.as_str(), numbered)?;
+        std::fs::write(rt, file.as_str(), text.as_slice())
+    }
+
+    /// Saves failures, and says on standard error how many there are, unless it is to be quiet. The status is `Lost` if one
+    /// cannot be written, and else `Accepted`.
+    pub fn save<R: Files + Eprint + AllocGlobal>(
+        &self,
+        rt: &R,
+        failures: &[NumberedFailure],
+        is_quiet: bool,
+    ) -> Status {
+        let folder = self.folder;
+        for numbered in failures {
+            if let Err(error) = self.write(rt, numbered) {
+                let _ = eprintln!(rt; "pst: cannot write a failure to {folder}: {error}");
+                return Status::Lost;
+            }
+        }
+        let count = failures.len();
+        if count > 0 && !is_quiet {
+            let failures = if count == 1 { "failure" } else { "failures" };
+            let _ = eprintln!(rt; "pst: saved {count} {failures} in {folder}");
+        }
+        Status::Accepted
+    }
+}

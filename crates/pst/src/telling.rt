@@ -1,0 +1,139 @@
+//! A line on a terminal that says how far a command is.
+
+use crate::summary::add_number;
+use pst_cli::Steps;
+use std::alloc::{AllocError, Global};
+use std::sync::atomic::{AtomicBool, Ordering};
+use std::sync::{Arc, Wait};
+use std::thread::{Builder, JoinHandle, Parker, Threads};
+use std::time::Duration;
+
+/// How many milliseconds pass before the line is written again.
+const PAUSE: u64 = 250;
+
+/// What the thread that writes the line shares with the one that does the work.
+#[derive(Drop)]
+struct Told {
+    steps: Steps,
+    /// What is done with an item, as `explained`.
+    word: &'static str,
+    is_over: AtomicBool,
+    parker: Parker,
+}
+
+/// Adds how many seconds `left` items take, if that is known: `thousands` thousandths of an item took `milliseconds`.
+fn add_rest(
+    line: &mut String,
+    alloc: Global,
+    left: u64,
+    thousands: u64,
+    milliseconds: u64,
+) -> Result<(), AllocError> {
+    let Some(seconds) = left.saturating_mul(milliseconds).checked_div(thousands) else {
+        return Ok(());
+    };
+    line.push_str(", ")?;
+    add_number(line, alloc, seconds as usize)?;
+    line.push_str(" s left")
+}
+
+/// The line after some milliseconds, as `1,204 of 10,000 explained, 512 a second, 17 s left`. It leaves out what is not known.
+fn line_of(
+    alloc: Global,
+    steps: &Steps,
+    word: &str,
+    milliseconds: u64,
+) -> Result<String, AllocError> {
+    let done = steps.done();
+    let thousands = done.saturating_mul(1000);
+    let rate = thousands.checked_div(milliseconds).unwrap_or(0);
+    let mut line = String::new(alloc);
+    add_number(&mut line, alloc, done as usize)?;
+    if let Some(all) = steps.all() {
+        line.push_str(" of ")?;
+        add_number(&mut line, alloc, all as usize)?;
+    }
+    line.push_str(" ")?;
+    line.push_str(word)?;
+    line.push_str(", ")?;
+    add_number(&mut line, alloc, rate as usize)?;
+    line.push_str(" a second")?;
+    if let Some(all) = steps.all() {
+        add_rest(
+            &mut line,
+            alloc,
+            all.saturating_sub(done),
+            thousands,
+            milliseconds,
+        )?;
+    }
+    Ok(line)
+}
+
+/// Writes the line again and again until the work is over, and takes it away then.
+fn tell<R: Wait + Eprint>(rt: &R, alloc: Global, told: &Told) {
+    let mut milliseconds = 0u64;
+    for _ in rt.forever() {
+        told.parker.park_timeout(rt, Duration::from_millis(PAUSE));
+        if told.is_over.load(Ordering::SeqCst) {
+            break;
+        }
+        milliseconds = milliseconds.saturating_add(PAUSE);
+        if let Ok(line) = line_of(alloc, &told.steps, told.word, milliseconds) {
+            let _ = eprint!(rt; "\r\x1b[K{line}");
+        }
+    }
+    if milliseconds > 0 {
+        let _ = eprint!(rt; "\r\x1b[K");
+    }
+}
+
+/// The steps of a command, and the thread that displays how many are done, if there is one.
+#[derive(Drop)]
+pub struct Telling {
+    told: Arc<Told, Global>,
+    thread: Option<JoinHandle<()>>,
+}
+
+impl Telling {
+    /// Begins the steps of a command. `word` is what is done with an item, as `explained`. From now on a line displays the
+    /// steps, if it is wanted and there is a thread for it.
+    pub fn begin<R: Threads + Wait + Eprint + Copy + Drop + Send + 'static>(
+        rt: &R,
+        alloc: Global,
+        is_told: bool,
+        word: &'static str,
+    ) -> Result<Telling, AllocError> {
+        let told = Told {
+            steps: Steps::new(),
+            word,
+            is_over: AtomicBool::new(false),
+            parker: Parker::new(),
+        };
+        let told = Arc::new(alloc, told)?;
+        if !is_told {
+            return Ok(Telling { told, thread: None });
+        }
+        let own = Arc::try_clone(&told)?;
+        let rt = *rt;
+        let thread = Builder::new()
+            .spawn(&rt, move || tell(&rt, alloc, &own))
+            .ok();
+        Ok(Telling { told, thread })
+    }
+
+    /// The steps.
+    pub fn steps(&self) -> &Steps {
+        &self.told.steps
+    }
+
+    /// Ends the thread, and waits for it.
+    pub fn end<R: Threads + Wait>(self, rt: &R) {
+        let Telling { told, thread } = self;
+        told.is_over.store(true, Ordering::SeqCst);
+        told.parker.unpark();
+        if let Some(thread) = thread {
+            thread.join(rt)
+        }
+    }
+}

@@ -1,0 +1,121 @@
+//! When a campaign ends before all its trials have run.
+
+use crate::watch::Watch;
+use pst_ledger::Cause;
+use pst_trial::{Record, TrialOutcome};
+use std::alloc::Global;
+use std::sync::Arc;
+use std::sync::atomic::{AtomicBool, AtomicU64, Ordering};
+
+/// One who watches a campaign, and says whether it is over.
+pub trait Ending: Watch {
+    ghost use Rattle.std.specs.Prelude.{IsTrue};
+
+    /// That it may end a campaign before all numbers are drawn.
+    ghost may_end: { Self → Type 0 };
+
+    /// Whether the campaign is over. A worker draws no number once it is, and trials that have begun are run to their end.
+    fn is_over(&self) -> bool
+        ensures { IsTrue result → may_end self.now };
+}
+
+/// One who watches a campaign whose trials all run.
+#[derive(Clone, Copy, Drop)]
+pub struct ToTheEnd<'a, K> {
+    pub watch: &'a K,
+}
+
+impl<'a, K: Watch> Watch for ToTheEnd<'a, K> {
+    fn trial_ended(&self, ended: &Result<Record, Cause>) {
+        self.watch.trial_ended(ended);
+    }
+
+    fn campaign_ended(&self) {
+        self.watch.campaign_ended();
+    }
+}
+
+impl<'a, K: Watch> Ending for ToTheEnd<'a, K> {
+    ghost may_end = { λ _. ⊥ };
+
+    fn is_over(&self) -> bool {
+        false
+    }
+}
+
+/// Ends a campaign once some of its trials did not pass, or when it is interrupted.
+#[derive(Drop)]
+pub struct EarlyEnd {
+    /// How many trials that did not pass end the campaign, if there is a limit.
+    most: Option<u64>,
+    /// How many did not pass so far.
+    failures: AtomicU64,
+    /// Whether the campaign was interrupted, if that may happen.
+    interrupted: Option<Arc<AtomicBool>>,
+}
+
+impl EarlyEnd {
+    ghost use Rattle.std.specs.Prelude.{◌≡◌, IsTrue, IsSome};
+
+    /// The end of a campaign in which no trial has ended.
+    pub fn new(most: Option<u64>, interrupted: Option<Arc<AtomicBool>>) -> EarlyEnd
+        ensures limit { result.most ≡ most }
+        ensures interrupt { result.interrupted ≡ interrupted }
+    {
+        EarlyEnd {
+            most,
+            failures: AtomicU64::new(0),
+            interrupted,
+        }
+    }
+
+    /// Whether enough trials did not pass for the campaign to be over.
+    fn has_enough(&self) -> bool
+        ensures { IsTrue result → IsSome self.now.most }
+    {
+        match self.most {
+            Some(most) => self.failures.load(Ordering::SeqCst) >= most,
+            None => false,
+        }
+    }
+
+    /// Whether the campaign was interrupted.
+    fn is_interrupted(&self) -> bool
+        ensures { IsTrue result → IsSome self.now.interrupted }
+    {
+        match &self.interrupted {
+            Some(interrupted) => interrupted.load(Ordering::SeqCst),
+            None => false,
+        }
+    }
+}
+
+/// Whether the record is one of a trial that did not pass.
+fn has_failed(record: &Record) -> bool {
+    match record.outcome() {
+        TrialOutcome::Passed { .. } => false,
+        TrialOutcome::Failed { .. } | TrialOutcome::GenFaulted(_) => true,
+    }
+}
+
+impl Watch for EarlyEnd {
+    fn trial_ended(&self, ended: &Result<Record, Cause>) {
+        if let Ok(record) = ended
+            && has_failed(record)
+        {
+            self.failures.fetch_add(1, Ordering::SeqCst);
+        }
+    }
+
+    fn campaign_ended(&self) {}
+}
+
+impl Ending for EarlyEnd {
+    ghost use Rattle.std.specs.Prelude.{◌⊎◌, IsSome};
+
+    ghost may_end = { λ e. IsSome e.most ⊎ IsSome e.interrupted };
+
+    fn is_over(&self) -> bool {
+        self.has_enough() || self.is_interrupted()
+    }
+}

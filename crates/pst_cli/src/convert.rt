@@ -1,0 +1,86 @@
+//! `pst convert`.
+ghost use Rattle.std.specs.Prelude.{◌≡◌, false, IfOk};
+ghost use Rattle.pst_cli.specs.ConvertOutput.{IsConvertOutput, line_in, lines_in};
+ghost use Rattle.pst_cli.specs.Sending.{Prints};
+ghost use Rattle.pst_runs.specs.Lawful.{AreLawful, IsLawful};
+
+use crate::items::{ModelAndRuns, read_in_order};
+use crate::output::{Output, send};
+use crate::run::tree_line;
+use crate::status::Status;
+use pst_case::Run;
+use pst_json_runs::json_line;
+use pst_model::Typed;
+use pst_sexpr::Sink;
+use std::alloc::{AllocError, Global};
+
+/// How items are spelled.
+#[derive(Clone, Copy, Debug, PartialEq, Eq, Drop)]
+pub enum ItemForm {
+    /// As trees.
+    Trees,
+    /// As JSON.
+    Json,
+}
+
+/// An item on a line.
+pub(crate) fn line_in(
+    alloc: Global,
+    form: ItemForm,
+    typed: &Typed,
+    run: &Run,
+) -> Result<Vec<u8>, AllocError>
+    requires { IsLawful typed.now run.now }
+    ensures { IfOk result (λ line. line.items ≡ line_in form typed.now run.now) }
+{
+    match form {
+        ItemForm::Trees => tree_line(alloc, typed, run),
+        ItemForm::Json => json_line(alloc, typed, run),
+    }
+}
+
+/// Items, one on each line.
+fn lines_in(
+    alloc: Global,
+    form: ItemForm,
+    typed: &Typed,
+    runs: &[Run],
+) -> Result<Vec<u8>, AllocError>
+    requires { AreLawful typed.now runs.now }
+    ensures { IfOk result (λ text. text.items ≡ lines_in form typed.now runs.now) }
+{
+    let mut text = Vec::new(alloc);
+    let mut rest = runs;
+    while let Some((run, others)) = rest.split_first() {
+        text.extend_from_slice(line_in(alloc, form, typed, run)?.as_slice())?;
+        rest = others;
+    }
+    Ok(text)
+}
+
+/// The items of an input in a form, or its first refusal.
+fn convert_output(alloc: Global, input: &[u8], form: ItemForm) -> Result<Output, AllocError>
+    ensures { IfOk result (λ output. IsConvertOutput form input.now output.text.items output.status) }
+{
+    let ModelAndRuns { compiled, runs } = match read_in_order(alloc, input)? {
+        Ok(read) => read,
+        Err(output) => return Ok(output),
+    };
+    let text = lines_in(alloc, form, compiled.typed(), runs.as_slice())?;
+    Ok(Output {
+        text,
+        status: Status::Accepted,
+    })
+}
+
+/// Writes the items of the input in a form, one on each line, or the first refusal alone, and returns the status.
+pub fn convert_text<W: Sink>(alloc: Global, input: &[u8], form: ItemForm, sink: &mut W) -> Status
+    requires { W.broken sink.old ≡ false }
+    ensures { Prints (IsConvertOutput form input.now)
+        (W.taken sink.old) (W.taken sink.new) (W.broken sink.new) result }
+{
+    match convert_output(alloc, input, form) {
+        Ok(output) => send(output.text.as_slice(), output.status, sink),
+        Err(AllocError) => send(b"refused memory\n", Status::Lost, sink),
+    }
+}

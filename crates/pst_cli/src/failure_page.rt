@@ -1,0 +1,176 @@
+//! The page of a campaign's failures.
+ghost use Rattle.pst_judge.specs.Judgement.{IsJudgement};
+ghost use Rattle.pst_runs.specs.Lawful.{IsLawful};
+
+use crate::compiled::load_compiled;
+use crate::explained_run::run_of;
+use pst_case::{Case, History, Run};
+use pst_compile::Compiled;
+use pst_explain::explain_item;
+use pst_json::{
+    AFTER_DATA, AFTER_ITEMS, AFTER_NO_ITEM, BEFORE_DATA, BETWEEN_ITEMS, CampaignFacts,
+    campaign_start, trial_json,
+};
+use pst_judge::{Judged, judge_one};
+use pst_ledger::Entry;
+use pst_shrink::Taken;
+use pst_sources::SourceFile;
+use pst_trial::{JudgedRun, Plan, Record, TrialOutcome};
+use std::alloc::{AllocError, Global};
+
+/// The most failures that a page has.
+const MOST: usize = 100;
+
+/// A trial that failed.
+#[derive(Drop)]
+pub struct TrialFailure {
+    /// Its number, from 0.
+    trial: usize,
+    /// The case that its case was shrunk to.
+    case: Case,
+    /// The history that this case failed with.
+    history: History,
+}
+
+/// The failures of a campaign: of those that were shrunk to the same run the first, and at most 100.
+#[derive(Drop)]
+pub struct CampaignFailures {
+    facts: CampaignFacts,
+    each: Vec<TrialFailure>,
+}
+
+/// Whether one of the failures was shrunk to this run.
+fn has_run(failures: &[TrialFailure], taken: &Taken<JudgedRun>) -> bool {
+    for failure in failures {
+        if failure.case == taken.case && failure.history == taken.history.history {
+            return true;
+        }
+    }
+    false
+}
+
+/// The run that the case of a trial was shrunk to, if the trial failed.
+fn last_run(entry: &Entry<Record>) -> Option<&Taken<JudgedRun>> {
+    match entry {
+        Entry::Done(record) => match record.outcome() {
+            TrialOutcome::Failed { earlier: _, shrunk } => Some(&shrunk.last),
+            _ => None,
+        },
+        _ => None,
+    }
+}
+
+impl CampaignFailures {
+    /// The failures of a campaign.
+    pub(crate) fn of(
+        alloc: Global,
+        plan: &Plan,
+        entries: &[Entry<Record>],
+    ) -> Result<CampaignFailures, AllocError> {
+        let mut each: Vec<TrialFailure> = Vec::new(alloc);
+        let mut failed = 0u64;
+        for (trial, entry) in entries.iter().enumerate() {
+            let Some(taken) = last_run(entry) else {
+                continue;
+            };
+            failed = failed.saturating_add(1);
+            if each.len() < MOST && !has_run(each.as_slice(), taken) {
+                each.push(TrialFailure {
+                    trial,
+                    case: taken.case.copy(alloc)?,
+                    history: taken.history.history.copy(alloc)?,
+                })?;
+            }
+        }
+        let settings = plan.settings();
+        let facts = CampaignFacts {
+            seed: settings.seed,
+            trials: settings.trials as u64,
+            failed,
+        };
+        Ok(CampaignFailures { facts, each })
+    }
+}
+
+/// The explanation of a judged run as JSON. `number` is its number on the page, and `trial` that of its trial.
+fn judged_json<'a>(
+    alloc: Global,
+    compiled: &'a Compiled,
+    run: &'a Run,
+    judged: &'a Judged,
+    number: usize,
+    trial: usize,
+) -> Result<Vec<u8>, AllocError>
+    requires lawful { IsLawful compiled.now run.now }
+    requires judged { IsJudgement compiled.now run.now judged.now }
+{
+    let typed = compiled.typed();
+    let explanation = explain_item(compiled, alloc, typed, run, judged, number, None)?;
+    trial_json(alloc, &explanation, trial)
+}
+
+/// The explanation of a failure as JSON. `number` is its number on the page. `None`: it is no run of the model.
+fn failure_json(
+    alloc: Global,
+    compiled: &Compiled,
+    number: usize,
+    failure: TrialFailure,
+) -> Result<Option<Vec<u8>>, AllocError> {
+    let TrialFailure {
+        trial,
+        case,
+        history,
+    } = failure;
+    let Some(run) = run_of(alloc, compiled.typed(), case, history)? else {
+        return Ok(None);
+    };
+    let judged = judge_one(compiled, alloc, &run)?;
+    Ok(Some(judged_json(alloc, compiled, &run, &judged, number, trial)?))
+}
+
+/// Adds the explanations of failures, and the end of their document.
+fn add_failures(
+    text: &mut Vec<u8>,
+    alloc: Global,
+    compiled: &Compiled,
+    failures: Vec<TrialFailure>,
+) -> Result<(), AllocError> {
+    let mut count = 0usize;
+    for failure in failures {
+        let number = count.saturating_add(1);
+        if let Some(json) = failure_json(alloc, compiled, number, failure)? {
+            if count > 0 {
+                text.extend_from_slice(BETWEEN_ITEMS.as_bytes())?;
+            }
+            text.extend_from_slice(json.as_slice())?;
+            count = number;
+        }
+    }
+    let end = if count == 0 {
+        AFTER_NO_ITEM
+    } else {
+        AFTER_ITEMS
+    };
+    text.extend_from_slice(end.as_bytes())
+}
+
+/// The page that explains the failures of a campaign on the model that the input begins with. `files` are the files of the
+/// input. `None`: the model is refused.
+pub fn campaign_page(
+    alloc: Global,
+    files: &[SourceFile<'_>],
+    input: &[u8],
+    failures: CampaignFailures,
+) -> Result<Option<Vec<u8>>, AllocError> {
+    let Ok(file) = load_compiled(alloc, input)? else {
+        return Ok(None);
+    };
+    let CampaignFailures { facts, each } = failures;
+    let compiled = &file.compiled;
+    let start = campaign_start(alloc, files, facts, compiled.typed().source())?;
+    let mut text = Vec::from_slice(alloc, BEFORE_DATA.as_bytes())?;
+    text.extend_from_slice(start.as_slice())?;
+    add_failures(&mut text, alloc, compiled, each)?;
+    text.extend_from_slice(AFTER_DATA.as_bytes())?;
+    Ok(Some(text))
+}

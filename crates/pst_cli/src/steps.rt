@@ -1,0 +1,43 @@
+//! How far a command is.
+
+use std::sync::atomic::{AtomicU64, Ordering};
+
+/// How far a command is, for another thread to look at.
+#[derive(Drop)]
+pub struct Steps {
+    done: AtomicU64,
+    all: AtomicU64,
+}
+
+impl Steps {
+    /// Nothing is done, and how much there is to do is not known.
+    pub fn new() -> Steps {
+        Steps {
+            done: AtomicU64::new(0),
+            all: AtomicU64::new(0),
+        }
+    }
+
+    /// How many items are done.
+    pub fn done(&self) -> u64 {
+        self.done.load(Ordering::SeqCst)
+    }
+
+    /// How many items there are, if that is known.
+    pub fn all(&self) -> Option<u64> {
+        match self.all.load(Ordering::SeqCst) {
+            0 => None,
+            all => Some(all),
+        }
+    }
+
+    /// Notes that there are `all` items.
+    pub(crate) fn expect(&self, all: usize) {
+        self.all.store(all as u64, Ordering::SeqCst);
+    }
+
+    /// So many more items are done.
+    pub(crate) fn add(&self, count: usize) {
+        self.done.fetch_add(count as u64, Ordering::SeqCst);
+    }
+}

@@ -1,0 +1,57 @@
+use Rattle.std.proofs.Common.{◌≡◌, ◌<◌, ◌≤◌, map, reverse, sym, arith}
+use Rattle.std.proofs.lemmas.Result.{err_from_is_err_and}
+use Rattle.pst_eval.specs.Env.{env_of, mean_in, parts_in, functions_in}
+use Rattle.pst_eval.specs.Meaning.{visit}
+use Rattle.pst_eval.proofs.Means.{mean_for}
+use Rattle.pst_eval.proofs.Steps.{stops_on, all_stops, all_goes, each_stops, each_goes, visit_in, visit_when, fold_in}
+use Rattle.pst_eval.proofs.Weights.{item_weight}
+use Rattle.pst_eval.proofs.evaluation.+eval.Goals as goal
+
+pub eval-returns-in-For : goal.eval-returns-in-For
+eval-returns-in-For t c =
+    rw (c.in-For.is, mean_for c.args.context.now.items.now (functions_in c.args.context.now) c.in-For.clauses c.in-For.body) (rw (c.as_slice-in-For.ensures, c.get-in-For.ensures) at c.comprehension.ensures)
+
+pub eval_all-eval-requires : goal.eval_all-eval-requires
+eval_all-eval-requires t c =
+    let h = rw (sym c.expr-item.is) at (item_weight c.args.exprs.now c.loop-expr.expr-index c.expr-item.result c.loop-expr-test.true) in
+    (omega (arith, h), tt)
+
+pub eval_all-returns-in_err-eval : goal.eval_all-returns-in_err-eval
+eval_all-returns-in_err-eval t c =
+    let p = err_from_is_err_and c.from_residual.result c.from_residual.ensures.1 in
+    rw (p.1, p.2) (all_stops (mean_in c.args.context.now) c.args.exprs.now c.loop-expr.expr-index c.expr-item.result c.loop-expr.all (env_of c.args.env.now) c.loop-expr.turns c.args.turns.now _ c.loop-expr-test.true c.expr-item.is c.loop-expr.invariant c.in_err-eval.ensures)
+
+pub eval_all-loop-expr-preserved : goal.eval_all-loop-expr-preserved
+eval_all-loop-expr-preserved t c =
+    all_goes (mean_in c.args.context.now) c.args.exprs.now c.loop-expr.expr-index c.expr-item.result c.loop-expr.all c.push.new.self (env_of c.args.env.now) c.loop-expr.turns c.args.turns.now c.eval.new.turns c.in_ok-eval.field-0
+    c.loop-expr-test.true c.expr-item.is c.loop-expr.invariant c.in_ok-eval.ensures c.in_ok-push.ensures.ok
+
+pub visit_each-returns-in_err-more : goal.visit_each-returns-in_err-more
+visit_each-returns-in_err-more t c =
+    let p = err_from_is_err_and c.from_residual-in_err-more.result c.from_residual-in_err-more.ensures.1 in
+    rw (p.1, p.2) (each_stops (visit (parts_in c.args.context.now c.args.rest.now) (mean_in c.args.context.now c.args.body.now)) c.args.name.now (env_of c.args.env.now) c.args.items.now c.loop-item.item-index c.item-item.result c.loop-item.built c.args.built c.loop-item.turns c.args.turns.now c.take_turn.new.turns _ c.loop-item-test.true c.item-item.is c.in_ok-take_turn.ensures c.loop-item.invariant c.in_err-more.ensures)
+
+pub visit_each-loop-item-preserved : goal.visit_each-loop-item-preserved
+visit_each-loop-item-preserved t c =
+    each_goes (visit (parts_in c.args.context.now c.args.rest.now) (mean_in c.args.context.now c.args.body.now)) c.args.name.now (env_of c.args.env.now) c.args.items.now c.loop-item.item-index c.item-item.result c.loop-item.built c.args.built c.in_ok-more.more c.loop-item.turns c.args.turns.now c.take_turn.new.turns c.visit.new.turns c.loop-item-test.true c.item-item.is c.in_ok-take_turn.ensures c.loop-item.invariant c.in_ok-more.ensures
+
+pub visit-returns-in-In : goal.visit-returns-in-In
+visit-returns-in-In t c =
+    let e = visit_in c.args.context.now.items.now (functions_in c.args.context.now) c.args.clauses.now c.in-Some.rest.now c.in-Some.first.now c.in-In.name c.in-In.list (mean_in c.args.context.now c.args.body.now) (env_of c.args.env.now) c.args.built c.in_ok-items-in-In.items c.in_ok-value-in-In.value c.args.turns.now c.eval-in-In.new.turns c.in-Some.ensures c.in-In.is c.in_ok-value-in-In.ensures c.in_ok-items-in-In.ensures in
+    rw e (rw (c.as_bytes.ensures, c.as_slice.ensures) at c.visit_each.ensures)
+
+pub comprehension-returns-in_err-built : goal.comprehension-returns-in_err-built
+comprehension-returns-in_err-built t c =
+    let p = err_from_is_err_and c.from_residual.result c.from_residual.ensures.1 in
+    rw (p.1, p.2) (stops_on _ _ _ (rw c.new.ensures at c.in_err-built.ensures))
+
+pub eval-returns-in_ok-first-in-Fold : goal.eval-returns-in_ok-first-in-Fold
+eval-returns-in_ok-first-in-Fold t c =
+    let e = fold_in c.args.context.now.items.now (functions_in c.args.context.now) c.in-Fold.name c.in-Fold.list c.in-Fold.acc c.in-Fold.first c.in-Fold.body c.args.expr.now (env_of c.args.env.now) c.in_ok-items-in-Fold.items c.in_ok-value-in-Fold.value c.in_ok-first-in-Fold.first c.args.turns.now c.eval-in-Fold.new.turns c.eval-in-Fold-2.new.turns c.in-Fold.is (rw c.get-in-Fold.ensures at c.in_ok-value-in-Fold.ensures) c.in_ok-items-in-Fold.ensures (rw c.get-in-Fold-2.ensures at c.in_ok-first-in-Fold.ensures) in
+    rw e (rw (c.get-in-Fold-3.ensures, c.as_bytes-in-Fold.ensures, c.as_bytes-in-Fold-2.ensures, c.as_slice-in-Fold.ensures) at c.fold_over.ensures)
+
+pub visit-returns-then-branch : goal.visit-returns-then-branch
+visit-returns-then-branch t c =
+    let holds = rw c.if-branch.true at c.in_ok-truth_of-in-When.ensures in
+    let e = visit_when c.args.context.now.items.now (functions_in c.args.context.now) c.args.clauses.now c.in-Some.rest.now c.in-Some.first.now c.in-When.test (mean_in c.args.context.now c.args.body.now) (env_of c.args.env.now) c.args.built c.in_ok-value-in-When.value c.args.turns.now c.eval-in-When.new.turns c.in-Some.ensures c.in-When.is c.in_ok-value-in-When.ensures holds in
+    rw e c.visit.ensures

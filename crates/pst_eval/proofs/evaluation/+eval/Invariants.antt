@@ -1,0 +1,43 @@
+use Rattle.std.proofs.Common.{◌≡◌, [], ◌∷◌, ◌+◌, ◌*◌, map, reverse, drop}
+use Rattle.pst_eval.specs.Env.{env_of, mean_in, parts_in}
+use Rattle.pst_eval.specs.Meaning.{all_from, visit, visit_each, fold_over}
+use Rattle.pst_eval.specs.Weight.{weight, clause_weight, functions_weight, total}
+use Rattle.pst_eval.proofs.evaluation.+eval.Given as goal
+
+abbrev pub decreases-eval : goal.decreases-eval
+decreases-eval l = 4 * (weight l.expr.now + functions_weight (reverse l.context.now.earlier.now))
+
+abbrev pub decreases-eval_truth : goal.decreases-eval_truth
+decreases-eval_truth l = 4 * (weight l.expr.now + functions_weight (reverse l.context.now.earlier.now)) + 1
+
+abbrev pub decreases-eval_all : goal.decreases-eval_all
+decreases-eval_all l = 4 * (total (map weight l.exprs.now) + functions_weight (reverse l.context.now.earlier.now)) + 1
+
+abbrev pub decreases-comprehension : goal.decreases-comprehension
+decreases-comprehension l = 4 * (total (map clause_weight l.clauses.now) + weight l.body.now + functions_weight (reverse l.context.now.earlier.now)) + 2
+
+abbrev pub decreases-visit : goal.decreases-visit
+decreases-visit l = 4 * (total (map clause_weight l.clauses.now) + weight l.body.now + functions_weight (reverse l.context.now.earlier.now)) + 1
+
+abbrev pub decreases-visit_each : goal.decreases-visit_each
+decreases-visit_each l = 4 * (total (map clause_weight l.rest.now) + weight l.body.now + functions_weight (reverse l.context.now.earlier.now)) + 2
+
+abbrev pub decreases-fold_over : goal.decreases-fold_over
+decreases-fold_over l = 4 * (weight l.body.now + functions_weight (reverse l.context.now.earlier.now)) + 1
+
+abbrev pub decreases-apply : goal.decreases-apply
+decreases-apply l = 4 * functions_weight (reverse l.context.now.earlier.now) + 1
+
+abbrev pub invariant-eval_all-loop-expr : goal.invariant-eval_all-loop-expr
+invariant-eval_all-loop-expr l =
+    all_from l.all (map (mean_in l.context) (drop l.expr-index l.exprs)) (env_of l.env) l.turns ≡ all_from [] (map (mean_in l.context) l.exprs) (env_of l.env) l.initial.turns
+
+abbrev pub invariant-visit_each-loop-item : goal.invariant-visit_each-loop-item
+invariant-visit_each-loop-item l =
+    let next = visit (parts_in l.context l.rest) (mean_in l.context l.body) in
+    visit_each next l.name (env_of l.env) (drop l.item-index l.items) l.built l.turns ≡ visit_each next l.name (env_of l.env) l.items l.initial.built l.initial.turns
+
+abbrev pub invariant-fold_over-loop-item : goal.invariant-fold_over-loop-item
+invariant-fold_over-loop-item l =
+    let f = fold_over (mean_in l.context l.body) l.name l.acc (env_of l.env) in
+    f (drop l.item-index l.items) l.built l.turns ≡ f l.items l.initial.built l.initial.turns

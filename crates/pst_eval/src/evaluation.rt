@@ -1,0 +1,320 @@
+//! The meaning of the model language, and its evaluation by recursion on the expression.
+ghost use Rattle.std.specs.Prelude.{◌≡◌, [], ◌∷◌, map, reverse, MatchOption};
+ghost use Rattle.pst_eval.specs.Meaning as spec;
+ghost use Rattle.pst_eval.specs.Env.{env_of, mean_in, parts_in, functions_in};
+ghost use Rattle.pst_model.specs.Parts.{number_of};
+ghost use Rattle.pst_operators.specs.Answers.{Answers, Meets};
+
+use crate::context::Context;
+use crate::env::{Env, look_up};
+use pst_model::{Clause, Expr, Item, number_of};
+use pst_operators::{
+    Stop, append, binary_of_owned, item, items_of, put, take_turn, truth_of, unary,
+};
+use pst_value::{Boxed, Items, Value};
+
+/// The value of an expression in its environment. Each turn is taken from `turns`, which is unspecified after
+/// an `Err`.
+#[cycle(eval)]
+pub fn eval(
+    expr: &Expr,
+    context: &Context<'_>,
+    env: &Env<'_>,
+    turns: &mut u32,
+) -> Result<Value, Stop>
+    ensures { Meets (mean_in context.now expr.now (env_of env.now) turns.old) result turns.new }
+{
+    match expr {
+        Expr::Int(number) => Ok(Value::Int(*number)),
+        Expr::Bool(truth) => Ok(Value::Bool(*truth)),
+        Expr::Text(text) => Ok(Value::Text(text.copy(context.alloc)?)),
+        Expr::Name(name) => look_up(env, context.alloc, name.as_bytes()),
+        Expr::Let(name, bound, body) => {
+            let value = eval(bound.get(), context, env, turns)?;
+            let inner = Env::With(name.as_bytes(), &value, &*env);
+            eval(body.get(), context, &inner, turns)
+        }
+        Expr::If(test, then, other) => {
+            if eval_truth(test.get(), context, env, turns)? {
+                eval(then.get(), context, env, turns)
+            } else {
+                eval(other.get(), context, env, turns)
+            }
+        }
+        Expr::And(first, second) => {
+            if !eval_truth(first.get(), context, env, turns)? {
+                return Ok(Value::Bool(false));
+            }
+            Ok(Value::Bool(eval_truth(second.get(), context, env, turns)?))
+        }
+        Expr::Or(first, second) => {
+            if eval_truth(first.get(), context, env, turns)? {
+                return Ok(Value::Bool(true));
+            }
+            Ok(Value::Bool(eval_truth(second.get(), context, env, turns)?))
+        }
+        Expr::Unary(operator, operand) => {
+            let value = eval(operand.get(), context, env, turns)?;
+            unary(context.alloc, *operator, &value)
+        }
+        Expr::Map(_, _) => Ok(Value::Map(
+            Boxed::new(context.alloc, Items::new(context.alloc))?,
+            Boxed::new(context.alloc, Items::new(context.alloc))?,
+        )),
+        Expr::Put(map, key, value) => {
+            let map = eval(map.get(), context, env, turns)?;
+            let key = eval(key.get(), context, env, turns)?;
+            let value = eval(value.get(), context, env, turns)?;
+            put(context.alloc, map, &key, value)
+        }
+        Expr::Binary(operator, first, second) => {
+            let left = eval(first.get(), context, env, turns)?;
+            let right = eval(second.get(), context, env, turns)?;
+            binary_of_owned(context.alloc, *operator, left, right)
+        }
+        Expr::Tuple(exprs) => Ok(Value::Tuple(eval_all(exprs.as_slice(), context, env, turns)?)),
+        Expr::At(tuple, place) => {
+            let value = eval(tuple.get(), context, env, turns)?;
+            item(context.alloc, *place, &value)
+        }
+        Expr::List(_, exprs) => Ok(Value::List(eval_all(exprs.as_slice(), context, env, turns)?)),
+        Expr::For(clauses, body) => {
+            comprehension(clauses.as_slice(), body.get(), context, env, turns)
+        }
+        Expr::Fold(name, list, acc, first, body) => {
+            let value = eval(list.get(), context, env, turns)?;
+            let items = items_of(value)?;
+            let first = eval(first.get(), context, env, turns)?;
+            fold_over(
+                body.get(),
+                context,
+                name.as_bytes(),
+                acc.as_bytes(),
+                env,
+                turns,
+                items.as_slice(),
+                first,
+            )
+        }
+        Expr::Call(name, exprs) => {
+            let arguments = eval_all(exprs.as_slice(), context, env, turns)?;
+            call_of(context.items, name.as_bytes(), arguments)
+        }
+        Expr::Apply(name, exprs) => {
+            let arguments = eval_all(exprs.as_slice(), context, env, turns)?;
+            apply(context, name.as_bytes(), arguments.as_slice(), turns)
+        }
+    }
+}
+
+/// The value of an expression, as a bool.
+#[cycle(eval)]
+fn eval_truth(
+    expr: &Expr,
+    context: &Context<'_>,
+    env: &Env<'_>,
+    turns: &mut u32,
+) -> Result<bool, Stop>
+    ensures { Meets (spec.truth (mean_in context.now expr.now) (env_of env.now) turns.old) result turns.new }
+{
+    let value = eval(expr, context, env, turns)?;
+    truth_of(&value)
+}
+
+#[cycle(eval)]
+fn eval_all(
+    exprs: &[Expr],
+    context: &Context<'_>,
+    env: &Env<'_>,
+    turns: &mut u32,
+) -> Result<Items<Value>, Stop>
+    ensures { Meets (spec.all (map (mean_in context.now) exprs.now) (env_of env.now) turns.old) result
+        turns.new }
+{
+    let mut all = Items::new(context.alloc);
+    for expr in exprs {
+        all.push(eval(expr, context, env, turns)?)?;
+    }
+    Ok(all)
+}
+
+#[cycle(eval)]
+fn comprehension(
+    clauses: &[Clause],
+    body: &Expr,
+    context: &Context<'_>,
+    env: &Env<'_>,
+    turns: &mut u32,
+) -> Result<Value, Stop>
+    ensures { Meets
+        (spec.comprehension (parts_in context.now clauses.now) (mean_in context.now body.now) (env_of env.now)
+        turns.old) result turns.new }
+{
+    let built = visit(
+        clauses,
+        body,
+        context,
+        env,
+        turns,
+        Items::new(context.alloc),
+    )?;
+    Ok(Value::List(built))
+}
+
+/// What the clauses append to the list built so far.
+#[cycle(eval)]
+fn visit(
+    clauses: &[Clause],
+    body: &Expr,
+    context: &Context<'_>,
+    env: &Env<'_>,
+    turns: &mut u32,
+    built: Items<Value>,
+) -> Result<Items<Value>, Stop>
+    ensures { Meets
+        (spec.visit (parts_in context.now clauses.now) (mean_in context.now body.now) (env_of env.now) built
+        turns.old) result turns.new }
+{
+    match split_first(clauses) {
+        None => {
+            let value = eval(body, context, env, turns)?;
+            append(built, value)
+        }
+        Some((first, rest)) => match first {
+            Clause::In(name, list) => {
+                let value = eval(list, context, env, turns)?;
+                let items = items_of(value)?;
+                visit_each(
+                    rest,
+                    body,
+                    context,
+                    name.as_bytes(),
+                    env,
+                    turns,
+                    items.as_slice(),
+                    built,
+                )
+            }
+            Clause::When(test) => {
+                let value = eval(test, context, env, turns)?;
+                if truth_of(&value)? {
+                    visit(rest, body, context, env, turns, built)
+                } else {
+                    Ok(built)
+                }
+            }
+        },
+    }
+}
+
+/// What the other clauses append for each item.
+#[cycle(eval)]
+fn visit_each(
+    rest: &[Clause],
+    body: &Expr,
+    context: &Context<'_>,
+    name: &[u8],
+    env: &Env<'_>,
+    turns: &mut u32,
+    items: &[Value],
+    mut built: Items<Value>,
+) -> Result<Items<Value>, Stop>
+    ensures { Meets
+        (spec.visit_each (spec.visit (parts_in context.now rest.now) (mean_in context.now body.now)) name.now
+        (env_of env.now) items.now built turns.old) result turns.new }
+{
+    for item in items {
+        take_turn(turns)?;
+        let inner = Env::With(&*name, item, &*env);
+        let more = visit(rest, body, context, &inner, turns, built)?;
+        built = more;
+    }
+    Ok(built)
+}
+
+/// What is built of each item in turn.
+#[cycle(eval)]
+fn fold_over(
+    body: &Expr,
+    context: &Context<'_>,
+    name: &[u8],
+    acc: &[u8],
+    env: &Env<'_>,
+    turns: &mut u32,
+    items: &[Value],
+    mut built: Value,
+) -> Result<Value, Stop>
+    ensures { Meets
+        (spec.fold_over (mean_in context.now body.now) name.now acc.now (env_of env.now) items.now built
+        turns.old) result turns.new }
+{
+    for item in items {
+        take_turn(turns)?;
+        let outer = Env::With(&*name, item, &*env);
+        let inner = Env::With(&*acc, &built, &outer);
+        let next = eval(body, context, &inner, turns)?;
+        built = next;
+    }
+    Ok(built)
+}
+
+/// What the last earlier function of the name does.
+#[cycle(eval)]
+fn apply(
+    context: &Context<'_>,
+    name: &[u8],
+    arguments: &[Value],
+    turns: &mut u32,
+) -> Result<Value, Stop>
+    ensures { Meets (spec.applied (functions_in context.now) name.now arguments.now turns.old) result
+        turns.new }
+{
+    let Some((last, earlier)) = split_last(context.earlier) else {
+        return Err(Stop::Stuck);
+    };
+    let inner = Context {
+        alloc: context.alloc,
+        items: context.items,
+        earlier,
+    };
+    match last {
+        Item::Fun(fun) => {
+            if fun.name.as_bytes() != name {
+                return apply(&inner, name, arguments, turns);
+            }
+            if fun.params.len() != arguments.len() {
+                return Err(Stop::Stuck);
+            }
+            take_turn(turns)?;
+            let frame = Env::Frame(fun.params.as_slice(), arguments);
+            eval(&fun.body, &inner, &frame, turns)
+        }
+        _ => apply(&inner, name, arguments, turns),
+    }
+}
+
+/// A call of the operation of the name, as a value.
+fn call_of(items: &[Item], name: &[u8], arguments: Items<Value>) -> Result<Value, Stop>
+    ensures { Answers (spec.call_of (number_of items.now name.now) arguments) result }
+{
+    let Some(number) = number_of(items, name) else {
+        return Err(Stop::Stuck);
+    };
+    match u32::try_from(number) {
+        Ok(number) => Ok(Value::Call(number, arguments)),
+        Err(_) => Err(Stop::Stuck),
+    }
+}
+
+fn split_last(items: &[Item]) -> Option<(&Item, &[Item])>
+    ensures { MatchOption result (reverse items.now ≡ [])
+        (λ p. reverse items.now ≡ p.0.now ∷ reverse p.1.now) }
+{
+    items.split_last()
+}
+
+fn split_first(clauses: &[Clause]) -> Option<(&Clause, &[Clause])>
+    ensures { MatchOption result (clauses.now ≡ []) (λ p. clauses.now ≡ p.0.now ∷ p.1.now) }
+{
+    clauses.split_first()
+}

@@ -1,2 +1,0 @@
-pub mod Descending
-pub mod Failing

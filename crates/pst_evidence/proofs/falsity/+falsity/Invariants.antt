@@ -1,9 +1,0 @@
-use Rattle.std.proofs.Common.{◌+◌, ◌*◌}
-use Rattle.pst_meaning.specs.Weight.{weight}
-use Rattle.pst_evidence.proofs.falsity.+falsity.Given as goal
-
-abbrev pub decreases-false_part_of : goal.decreases-false_part_of
-decreases-false_part_of l = 2 * weight l.expr.now + 1
-
-abbrev pub decreases-inner_part : goal.decreases-inner_part
-decreases-inner_part l = 2 * weight l.expr.now

@@ -1,0 +1,200 @@
+//! Writes a search in the language of Graphviz.
+
+use crate::labels::{add_label, add_name, add_quoted};
+use crate::position::Position;
+use crate::search::{Move, Search, Target};
+use pst_scene::{Scene, add, dead_end_text, text_of, value_text};
+use std::alloc::{AllocError, Global};
+
+/// The style of all nodes and edges.
+const STYLE: &str =
+    "  node [shape=box, fontname=monospace];\n  edge [fontname=monospace];\n  fontname=monospace;\n";
+
+/// Whether a command may come next at position `number`, and the search has not expanded it.
+fn is_left(scene: &Scene<'_>, search: &Search<'_>, number: usize, position: &Position) -> bool {
+    position.level() < scene.all.len() && !search.is_tried(number)
+}
+
+/// Whether the search stopped before its end.
+fn is_part(scene: &Scene<'_>, search: &Search<'_>) -> bool {
+    for (number, position) in search.positions.iter().enumerate() {
+        if is_left(scene, search, number, position) {
+            return true;
+        }
+    }
+    false
+}
+
+/// Adds the title, and a note if the search stopped before its end.
+fn add_title(
+    out: &mut Vec<u8>,
+    alloc: Global,
+    scene: &Scene<'_>,
+    search: &Search<'_>,
+    title: &str,
+) -> Result<(), AllocError> {
+    let mut text = text_of(alloc, title)?;
+    if is_part(scene, search) {
+        add(
+            &mut text,
+            "\nnot all: what follows the dashed positions is left out",
+        )?;
+    }
+    add(out, "  labelloc=t;\n  label=")?;
+    add_quoted(out, text.as_slice())?;
+    add(out, ";\n")
+}
+
+/// Adds a position with its state.
+fn add_position(
+    out: &mut Vec<u8>,
+    alloc: Global,
+    scene: &Scene<'_>,
+    search: &Search<'_>,
+    number: usize,
+    position: &Position,
+) -> Result<(), AllocError> {
+    let state = value_text(alloc, scene.model, &position.state)?;
+    add(out, "  ")?;
+    add_name(out, alloc, "p", number)?;
+    add(out, " [")?;
+    add_label(out, alloc, state.as_slice())?;
+    if is_left(scene, search, number, position) {
+        add(out, ", style=dashed")?;
+    }
+    add(out, "];\n")
+}
+
+/// Puts the positions after `level` commands side by side.
+fn add_level(
+    out: &mut Vec<u8>,
+    alloc: Global,
+    search: &Search<'_>,
+    level: usize,
+) -> Result<(), AllocError> {
+    add(out, "  { rank=same;")?;
+    for (number, position) in search.positions.iter().enumerate() {
+        if position.level() == level {
+            add(out, " ")?;
+            add_name(out, alloc, "p", number)?;
+            add(out, ";")?;
+        }
+    }
+    add(out, " }\n")
+}
+
+/// How many levels have positions.
+fn levels(search: &Search<'_>) -> usize {
+    let mut levels = 0usize;
+    for position in &search.positions {
+        levels = levels.max(position.level().saturating_add(1));
+    }
+    levels
+}
+
+/// Adds an edge with the command of a move.
+fn add_edge(
+    out: &mut Vec<u8>,
+    alloc: Global,
+    scene: &Scene<'_>,
+    step: &Move<'_>,
+    letter: &str,
+    to: usize,
+    style: &str,
+) -> Result<(), AllocError> {
+    let text = step.call.with_reply(alloc, scene.model)?;
+    add(out, "  ")?;
+    add_name(out, alloc, "p", step.from)?;
+    add(out, " -> ")?;
+    add_name(out, alloc, letter, to)?;
+    add(out, " [")?;
+    add_label(out, alloc, text.as_slice())?;
+    add(out, style)?;
+    add(out, "];\n")
+}
+
+/// Adds a dead end, with the reason.
+fn add_dead_end(
+    out: &mut Vec<u8>,
+    alloc: Global,
+    number: usize,
+    why: &[u8],
+    style: &str,
+) -> Result<(), AllocError> {
+    add(out, "  ")?;
+    add_name(out, alloc, "d", number)?;
+    add(out, " [")?;
+    add_label(out, alloc, why)?;
+    add(out, style)?;
+    add(out, "];\n")
+}
+
+/// The style of an edge or dead end for a command that cannot come next.
+const RED: &str = ", color=red, fontcolor=red";
+
+/// The style of the edge for move `number`, which leads to a position.
+fn style_of(search: &Search<'_>, number: usize) -> &'static str {
+    if search.shown.iter().any(|shown| *shown == number) {
+        ", style=bold"
+    } else {
+        ""
+    }
+}
+
+/// Adds a move, and the dead end that it leads to.
+fn add_move(
+    out: &mut Vec<u8>,
+    alloc: Global,
+    scene: &Scene<'_>,
+    search: &Search<'_>,
+    number: usize,
+    step: &Move<'_>,
+) -> Result<(), AllocError> {
+    match &step.target {
+        Target::Position(to) => {
+            add_edge(out, alloc, scene, step, "p", *to, style_of(search, number))
+        }
+        Target::DeadEnd(dead_end) => {
+            let why = dead_end_text(alloc, scene.model, dead_end)?;
+            add_dead_end(out, alloc, number, why.as_slice(), RED)?;
+            add_edge(out, alloc, scene, step, "d", number, RED)
+        }
+    }
+}
+
+/// Adds the positions, and puts those after equally many commands side by side.
+fn add_positions(
+    out: &mut Vec<u8>,
+    alloc: Global,
+    scene: &Scene<'_>,
+    search: &Search<'_>,
+) -> Result<(), AllocError> {
+    for (number, position) in search.positions.iter().enumerate() {
+        add_position(out, alloc, scene, search, number, position)?;
+    }
+    for level in 0..levels(search) {
+        add_level(out, alloc, search, level)?;
+    }
+    Ok(())
+}
+
+/// The search as Graphviz text, under a title.
+pub fn drawn(
+    alloc: Global,
+    scene: &Scene<'_>,
+    search: &Search<'_>,
+    title: &str,
+) -> Result<Vec<u8>, AllocError> {
+    let mut out = text_of(alloc, "digraph search {\n")?;
+    add(&mut out, STYLE)?;
+    add_title(&mut out, alloc, scene, search, title)?;
+    if search.positions.is_empty() {
+        add_dead_end(&mut out, alloc, 0, b"the initial state faults", RED)?;
+    }
+    add_positions(&mut out, alloc, scene, search)?;
+    for (number, step) in search.moves.iter().enumerate() {
+        add_move(&mut out, alloc, scene, search, number, step)?;
+    }
+    add(&mut out, "}\n")?;
+    Ok(out)
+}

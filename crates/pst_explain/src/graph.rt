@@ -1,0 +1,56 @@
+//! The graph of an item.
+ghost use Rattle.std.specs.Prelude.{◌≡◌};
+ghost use Rattle.pst_judge.specs.Judgement.{HistoryMatches, IsJudgement};
+
+use crate::drawing::drawn;
+use crate::path::shown_calls;
+use crate::search::{search_of, shown_path};
+use pst_case::Run;
+use pst_eval::Callbacks;
+use pst_judge::{Judged, Verdict};
+use pst_model::Typed;
+use pst_scene::scene_of;
+use std::alloc::{AllocError, Global};
+
+/// The addition to the title if the graph shows only the interleaving of the verdict.
+const PATH_ALONE: &str = "\nthe interleaving and its dead ends; --all draws the whole search";
+
+/// Whether an interleaving explains the run.
+fn is_explained(judged: &Judged) -> bool {
+    matches!(judged, Judged::Verdict(Verdict::Explained(_)))
+}
+
+/// Draws the search of an item as a graph for Graphviz. `judged` is the item's judgement, and `number` its number.
+///
+/// A node is a position of the search: how far each part of the item has come, and the state there. Positions after
+/// equally many commands are side by side. An edge is a command with its answer. A command that cannot come next leads,
+/// in red, to a dead end with the reason. The edges of the interleaving of the verdict are bold. For an explained run,
+/// draws only these and the dead ends beside them, unless `all` is true. The search expands the first 300 positions,
+/// and all along the bold edges; positions that it leaves are dashed, and the title says so.
+pub fn graph_item<C: Callbacks>(
+    callbacks: &C,
+    alloc: Global,
+    typed: &Typed,
+    run: &Run,
+    judged: &Judged,
+    number: usize,
+    all: bool,
+) -> Result<Vec<u8>, AllocError>
+    requires shaped { run.now.shaped.model ≡ C.model callbacks.now }
+    requires matches { HistoryMatches (C.model callbacks.now) run.now }
+    requires judged { IsJudgement (C.model callbacks.now) run.now judged.now }
+{
+    let scene = scene_of(alloc, typed, run)?;
+    let shown = shown_calls(callbacks, alloc, &scene, judged)?;
+    let is_path = is_explained(judged) && !all;
+    let search = if is_path {
+        shown_path(alloc, &scene, shown.as_slice())?
+    } else {
+        search_of(alloc, &scene, shown.as_slice())?
+    };
+    let verdict = judged.text(alloc)?;
+    let verdict = verdict.as_str();
+    let rest = if is_path { PATH_ALONE } else { "" };
+    let title = format!(in alloc; "{number} {verdict}{rest}")?;
+    drawn(alloc, &scene, &search, title.as_str())
+}

@@ -1,0 +1,122 @@
+//! Positions of a search, and the commands that may come next there.
+
+use pst_scene::{Call, Part, Scene};
+use pst_value::Value;
+use std::alloc::{AllocError, Global};
+
+/// A position of a search: how many commands of each part come before it, and the state there.
+#[derive(Drop)]
+pub struct Position {
+    /// How many commands of the prefix, of each branch and of the suffix come before it.
+    counts: Vec<usize>,
+    /// The state there.
+    pub state: Value,
+}
+
+/// The index of a part in the counts of a position.
+fn part_number(scene: &Scene<'_>, part: Part) -> usize {
+    match part {
+        Part::Prefix => 0,
+        Part::Branch(branch) => branch.saturating_add(1),
+        Part::Suffix => scene.calls.branches.len().saturating_add(1),
+    }
+}
+
+impl Position {
+    /// The position before all commands.
+    pub fn first(alloc: Global, scene: &Scene<'_>, state: Value) -> Result<Position, AllocError> {
+        let mut counts = Vec::new(alloc);
+        counts.push(0)?;
+        for _branch in &scene.calls.branches {
+            counts.push(0)?;
+        }
+        counts.push(0)?;
+        Ok(Position { counts, state })
+    }
+
+    /// A position that is equal to this one.
+    pub fn copied(&self, alloc: Global) -> Result<Position, AllocError> {
+        Ok(Position {
+            counts: Vec::from_slice(alloc, self.counts.as_slice())?,
+            state: self.state.copy(alloc)?,
+        })
+    }
+
+    /// Whether the two positions are equal.
+    pub fn is(&self, other: &Position) -> bool {
+        self.counts.as_slice() == other.counts.as_slice() && self.state == other.state
+    }
+
+    /// How many commands of the prefix, of each branch and of the suffix are before the position.
+    pub fn counts(&self) -> &[usize] {
+        self.counts.as_slice()
+    }
+
+    /// How many commands come before the position.
+    pub fn level(&self) -> usize {
+        let mut level = 0usize;
+        for count in &self.counts {
+            level = level.saturating_add(*count);
+        }
+        level
+    }
+
+    /// The position after the next command of `part`, which leads to `state`.
+    pub fn behind(
+        &self,
+        alloc: Global,
+        scene: &Scene<'_>,
+        part: Part,
+        state: Value,
+    ) -> Result<Position, AllocError> {
+        let wanted = part_number(scene, part);
+        let mut counts = Vec::new(alloc);
+        for (number, count) in self.counts.iter().enumerate() {
+            let more = usize::from(number == wanted);
+            counts.push(count.saturating_add(more))?;
+        }
+        Ok(Position { counts, state })
+    }
+
+    /// The next command of a part.
+    fn next_of<'a>(&self, scene: &Scene<'_>, part: Part, calls: &[Call<'a>]) -> Option<Call<'a>> {
+        let count = self.counts.get(part_number(scene, part))?;
+        calls.get(*count).copied()
+    }
+
+    /// The next command of each branch.
+    fn next_of_branches<'a>(
+        &self,
+        alloc: Global,
+        scene: &Scene<'a>,
+    ) -> Result<Vec<Call<'a>>, AllocError> {
+        let mut next = Vec::new(alloc);
+        for (number, branch) in scene.calls.branches.iter().enumerate() {
+            if let Some(call) = self.next_of(scene, Part::Branch(number), branch.as_slice()) {
+                next.push(call)?;
+            }
+        }
+        Ok(next)
+    }
+
+    /// The commands that may come next: that of the prefix, or one of each branch, or that of the suffix.
+    pub fn next_calls<'a>(
+        &self,
+        alloc: Global,
+        scene: &Scene<'a>,
+    ) -> Result<Vec<Call<'a>>, AllocError> {
+        let mut one = Vec::new(alloc);
+        if let Some(call) = self.next_of(scene, Part::Prefix, scene.calls.prefix.as_slice()) {
+            one.push(call)?;
+            return Ok(one);
+        }
+        let next = self.next_of_branches(alloc, scene)?;
+        if !next.is_empty() {
+            return Ok(next);
+        }
+        if let Some(call) = self.next_of(scene, Part::Suffix, scene.calls.suffix.as_slice()) {
+            one.push(call)?;
+        }
+        Ok(one)
+    }
+}

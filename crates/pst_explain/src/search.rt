@@ -1,0 +1,286 @@
+//! The search of an item: positions, and the commands that it tries there.
+
+use crate::position::Position;
+use pst_scene::{Call, DeadEnd, Outcome, Scene, initial_state, outcome_of};
+use std::alloc::{AllocError, Global};
+
+/// The search expands the first positions, up to this number, and those along the displayed interleaving.
+const MOST_POSITIONS: usize = 300;
+
+/// The target of a command.
+#[derive(Drop)]
+pub enum Target<'a> {
+    /// The command leads to the position with this number.
+    Position(usize),
+    /// The command cannot come next there.
+    DeadEnd(DeadEnd<'a>),
+}
+
+/// A command that the search tries at a position.
+#[derive(Drop)]
+pub struct Move<'a> {
+    /// The number of the position.
+    pub from: usize,
+    /// The command.
+    pub call: Call<'a>,
+    /// The target of the command.
+    pub target: Target<'a>,
+}
+
+/// A search, or the beginning of one.
+#[derive(Drop)]
+pub struct Search<'a> {
+    /// The positions that it met. The first is the one before all commands; the list is empty if the initial state
+    /// faults.
+    pub positions: Vec<Position>,
+    /// The commands that it tried.
+    pub moves: Vec<Move<'a>>,
+    /// The numbers of the moves along the displayed interleaving.
+    pub shown: Vec<usize>,
+}
+
+/// The index of the position in `positions`.
+fn number_of(positions: &[Position], wanted: &Position) -> Option<usize> {
+    for (number, position) in positions.iter().enumerate() {
+        if position.is(wanted) {
+            return Some(number);
+        }
+    }
+    None
+}
+
+/// The number of the move that a command makes at a position, and the position that it leads to.
+fn step_of(moves: &[Move<'_>], from: usize, command: u32) -> Option<(usize, usize)> {
+    for (number, step) in moves.iter().enumerate() {
+        if step.from == from && step.call.number == command {
+            return match step.target {
+                Target::Position(to) => Some((number, to)),
+                Target::DeadEnd(_) => None,
+            };
+        }
+    }
+    None
+}
+
+impl<'a> Search<'a> {
+    /// The number of the position. Adds the position if it is new.
+    fn place(&mut self, position: Position) -> Result<usize, AllocError> {
+        if let Some(number) = number_of(self.positions.as_slice(), &position) {
+            return Ok(number);
+        }
+        let number = self.positions.len();
+        self.positions.push(position)?;
+        Ok(number)
+    }
+
+    /// Tries a command at position `from`.
+    fn try_call(
+        &mut self,
+        alloc: Global,
+        scene: &Scene<'a>,
+        from: usize,
+        position: &Position,
+        call: Call<'a>,
+    ) -> Result<(), AllocError> {
+        let target = match outcome_of(alloc, scene, &position.state, &call)? {
+            Outcome::Leads(state) => {
+                let next = position.behind(alloc, scene, call.part, state)?;
+                Target::Position(self.place(next)?)
+            }
+            Outcome::Refused(why) => Target::DeadEnd(why),
+        };
+        self.moves.push(Move { from, call, target })?;
+        Ok(())
+    }
+
+    /// Expands position `from`: tries each command that may come next there.
+    fn go_on(&mut self, alloc: Global, scene: &Scene<'a>, from: usize) -> Result<(), AllocError> {
+        let Some(position) = self.positions.get(from) else {
+            return Ok(());
+        };
+        let position = position.copied(alloc)?;
+        let next = position.next_calls(alloc, scene)?;
+        for call in &next {
+            self.try_call(alloc, scene, from, &position, *call)?;
+        }
+        Ok(())
+    }
+
+    /// Expands the positions along the commands, and notes their moves.
+    fn go_along(
+        &mut self,
+        alloc: Global,
+        scene: &Scene<'a>,
+        calls: &[Call<'_>],
+    ) -> Result<(), AllocError> {
+        let mut at = 0usize;
+        self.go_on(alloc, scene, at)?;
+        for call in calls {
+            let Some((number, next)) = step_of(self.moves.as_slice(), at, call.number) else {
+                return Ok(());
+            };
+            self.shown.push(number)?;
+            at = next;
+            self.go_on(alloc, scene, at)?;
+        }
+        Ok(())
+    }
+
+    /// Whether the search has tried a command at position `number`.
+    pub fn is_tried(&self, number: usize) -> bool {
+        self.moves.iter().any(|step| step.from == number)
+    }
+
+    /// Expands each position until there are more than `most`, and returns whether there are at most `most`.
+    fn go_on_within(
+        &mut self,
+        alloc: Global,
+        scene: &Scene<'a>,
+        most: usize,
+    ) -> Result<bool, AllocError> {
+        for number in 0..most {
+            if self.positions.len() > most {
+                return Ok(false);
+            }
+            if !self.is_tried(number) {
+                self.go_on(alloc, scene, number)?;
+            }
+        }
+        Ok(self.positions.len() <= most)
+    }
+
+    /// Expands those of the first `MOST_POSITIONS` positions that have no moves yet.
+    fn go_on_from_rest(&mut self, alloc: Global, scene: &Scene<'a>) -> Result<(), AllocError> {
+        for number in 0..MOST_POSITIONS {
+            if !self.is_tried(number) {
+                self.go_on(alloc, scene, number)?;
+            }
+        }
+        Ok(())
+    }
+}
+
+/// The search of an item along the commands of the displayed interleaving.
+fn begun<'a>(
+    alloc: Global,
+    scene: &Scene<'a>,
+    shown: &[Call<'_>],
+) -> Result<Search<'a>, AllocError> {
+    let mut search = Search {
+        positions: Vec::new(alloc),
+        moves: Vec::new(alloc),
+        shown: Vec::new(alloc),
+    };
+    let Some(state) = initial_state(alloc, scene)? else {
+        return Ok(search);
+    };
+    let first = Position::first(alloc, scene, state)?;
+    search.positions.push(first)?;
+    search.go_along(alloc, scene, shown)?;
+    Ok(search)
+}
+
+/// The new number of position `number`, if only the positions `kept` stay.
+fn kept_number(kept: &[usize], number: usize) -> usize {
+    kept.iter().filter(|other| **other < number).count()
+}
+
+/// The numbers of the positions along the displayed interleaving.
+fn shown_positions(alloc: Global, search: &Search<'_>) -> Result<Vec<usize>, AllocError> {
+    let mut numbers = Vec::new(alloc);
+    if !search.positions.is_empty() {
+        numbers.push(0)?;
+    }
+    for number in &search.shown {
+        if let Some(step) = search.moves.get(*number) {
+            if let Target::Position(to) = step.target {
+                numbers.push(to)?;
+            }
+        }
+    }
+    Ok(numbers)
+}
+
+impl<'a> Search<'a> {
+    /// Adds a move of a larger search, of which the positions `kept` stay, if the move is along the displayed
+    /// interleaving or leads to a dead end.
+    fn keep_move(
+        &mut self,
+        step: Move<'a>,
+        is_shown: bool,
+        kept: &[usize],
+    ) -> Result<(), AllocError> {
+        let Move { from, call, target } = step;
+        if !kept.contains(&from) {
+            return Ok(());
+        }
+        let from = kept_number(kept, from);
+        let target = match target {
+            Target::Position(to) if is_shown => Target::Position(kept_number(kept, to)),
+            Target::Position(_) => return Ok(()),
+            Target::DeadEnd(why) => Target::DeadEnd(why),
+        };
+        if is_shown {
+            self.shown.push(self.moves.len())?;
+        }
+        self.moves.push(Move { from, call, target })?;
+        Ok(())
+    }
+}
+
+/// The displayed interleaving, with the dead ends beside it, and nothing else of its search.
+pub fn shown_path<'a>(
+    alloc: Global,
+    scene: &Scene<'a>,
+    shown: &[Call<'_>],
+) -> Result<Search<'a>, AllocError> {
+    let search = begun(alloc, scene, shown)?;
+    let kept = shown_positions(alloc, &search)?;
+    let mut path = Search {
+        positions: Vec::new(alloc),
+        moves: Vec::new(alloc),
+        shown: Vec::new(alloc),
+    };
+    let Search {
+        positions,
+        moves,
+        shown,
+    } = search;
+    for (number, position) in positions.into_iter().enumerate() {
+        if kept.contains(&number) {
+            path.positions.push(position)?;
+        }
+    }
+    for (number, step) in moves.into_iter().enumerate() {
+        path.keep_move(step, shown.contains(&number), kept.as_slice())?;
+    }
+    Ok(path)
+}
+
+/// The search of an item from its initial state on. It first expands the positions along the displayed interleaving,
+/// and then the others in the order in which it met them, up to the limit.
+pub fn search_of<'a>(
+    alloc: Global,
+    scene: &Scene<'a>,
+    shown: &[Call<'_>],
+) -> Result<Search<'a>, AllocError> {
+    let mut search = begun(alloc, scene, shown)?;
+    search.go_on_from_rest(alloc, scene)?;
+    Ok(search)
+}
+
+/// The whole search of an item, if it has at most `most` positions. It first expands the positions along the displayed
+/// interleaving. It has no positions if the initial state faults.
+pub fn whole_search<'a>(
+    alloc: Global,
+    scene: &Scene<'a>,
+    shown: &[Call<'_>],
+    most: usize,
+) -> Result<Option<Search<'a>>, AllocError> {
+    let mut search = begun(alloc, scene, shown)?;
+    if search.go_on_within(alloc, scene, most)? {
+        Ok(Some(search))
+    } else {
+        Ok(None)
+    }
+}

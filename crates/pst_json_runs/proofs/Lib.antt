@@ -1,0 +1,11 @@
+pub mod Views
+pub mod Levels
+pub mod Lawful
+pub mod LineTrees
+pub mod Utf8
+pub mod Rising
+pub mod ValueBack
+pub mod SpelledBack
+pub mod CommandBack
+pub mod ReplyBack
+pub mod ItemBack

@@ -1,0 +1,285 @@
+//! The trees of items.
+ghost use Rattle.std.specs.Prelude.{◌≡◌, IfOk};
+ghost use Rattle.std.specs.Option.{option_map};
+ghost use Rattle.json.specs.Value.{items_view, value_view};
+ghost use Rattle.pst_json_runs.specs.Shown.{shown};
+ghost use Rattle.pst_json_runs.specs.Trees as spec;
+
+use crate::commands::{command_forms, items_in, nothing};
+use crate::replies::{list_forms, others};
+use crate::spelled::if_spelled;
+use json::Value as Json;
+use pst_model::Source;
+use pst_sexpr::{Form, headed, list_of};
+use pst_value::Items;
+use std::alloc::{AllocError, Global};
+
+#[tactic(auto, using(crate::proofs::Views::views))]
+fn is_array(json: &Json<'_>) -> bool
+    ensures { result ≡ spec.is_array (value_view json.now) }
+{
+    match json {
+        Json::Array(_) => true,
+        _ => false,
+    }
+}
+
+fn are_arrays(parts: &[Json<'_>]) -> bool
+    ensures { result ≡ spec.are_arrays (items_view parts.now) }
+{
+    for part in parts {
+        if !is_array(part) {
+            return false;
+        }
+    }
+    true
+}
+
+/// Whether it is an array of arrays.
+fn are_parts(json: &Json<'_>) -> bool
+    ensures { result ≡ spec.are_parts (value_view json.now) }
+{
+    is_array(json) && are_arrays(items_in(json))
+}
+
+/// Whether it is an array, if it is there.
+fn is_part(json: Option<&Json<'_>>) -> bool
+    ensures { result ≡ spec.is_part (shown json.entry) }
+{
+    match json {
+        Some(json) => is_array(json),
+        None => true,
+    }
+}
+
+fn are_branches(json: Option<&Json<'_>>) -> bool
+    ensures { result ≡ spec.are_branches (shown json.entry) }
+{
+    match json {
+        Some(json) => are_parts(json),
+        None => false,
+    }
+}
+
+fn are_lists(json: Option<&Json<'_>>) -> bool
+    ensures { result ≡ spec.are_lists (shown json.entry) }
+{
+    match json {
+        Some(json) => are_parts(json),
+        None => true,
+    }
+}
+
+fn count(json: Option<&Json<'_>>) -> usize
+    ensures { result ≡ spec.count (shown json.entry) }
+{
+    match json {
+        Some(_) => 1,
+        None => 0,
+    }
+}
+
+/// How many of the parts of an item are there.
+fn named(json: &Json<'_>) -> usize
+    ensures { result ≡ spec.named (value_view json.now) }
+{
+    count(json.get("prefix"))
+        + count(json.get("branches"))
+        + count(json.get("suffix"))
+        + count(json.get("replies"))
+}
+
+#[tactic(auto, using(crate::proofs::Views::views))]
+fn size_of(json: &Json<'_>) -> usize
+    ensures { result ≡ spec.size_of (value_view json.now) }
+{
+    match json {
+        Json::Object(members) => members.len(),
+        _ => 0,
+    }
+}
+
+/// Whether it is an object with the parts of an item, each once, and nothing else.
+fn is_item(json: &Json<'_>) -> bool
+    ensures { result ≡ spec.is_item (value_view json.now) }
+{
+    size_of(json) == named(json)
+        && is_part(json.get("prefix"))
+        && are_branches(json.get("branches"))
+        && is_part(json.get("suffix"))
+        && are_lists(json.get("replies"))
+}
+
+/// A word, and the commands of a part, if it is there.
+fn section(
+    alloc: Global,
+    model: &Source,
+    word: &str,
+    part: Option<&Json<'_>>,
+) -> Result<Form, AllocError>
+    ensures { IfOk result (λ form. form ≡ spec.section model.now word.now (shown part.entry)) }
+{
+    match part {
+        Some(part) => headed(alloc, word, command_forms(alloc, model, items_in(part))?),
+        None => headed(alloc, word, Items::new(alloc)),
+    }
+}
+
+fn branch_forms(
+    alloc: Global,
+    model: &Source,
+    branches: &[Json<'_>],
+) -> Result<Items<Form>, AllocError>
+    ensures { IfOk result (λ forms. forms ≡ spec.branch_forms model.now (items_view branches.now)) }
+{
+    let mut forms = Items::new(alloc);
+    for branch in branches {
+        forms.push(Form::Node(command_forms(alloc, model, items_in(branch))?))?;
+    }
+    Ok(forms)
+}
+
+/// Two branches as `left` and `right`.
+fn two_forms(
+    alloc: Global,
+    model: &Source,
+    branches: &[Json<'_>],
+) -> Result<Items<Form>, AllocError>
+    ensures { IfOk result (λ forms. forms ≡ spec.two_forms model.now (items_view branches.now)) }
+{
+    let left = section(alloc, model, "left", branches.first())?;
+    let right = section(alloc, model, "right", others(branches).first())?;
+    let mut forms = list_of(alloc, left)?;
+    forms.push(right)?;
+    Ok(forms)
+}
+
+/// Another number of branches.
+fn many_forms(
+    alloc: Global,
+    model: &Source,
+    branches: &[Json<'_>],
+) -> Result<Items<Form>, AllocError>
+    ensures { IfOk result (λ forms. forms ≡ spec.many_forms model.now (items_view branches.now)) }
+{
+    let forms = branch_forms(alloc, model, branches)?;
+    list_of(alloc, headed(alloc, "branches", forms)?)
+}
+
+/// Two branches as `left` and `right`, or another number of branches.
+#[tactic(auto, using(crate::proofs::Views::views))]
+fn branches_forms(
+    alloc: Global,
+    model: &Source,
+    branches: &[Json<'_>],
+) -> Result<Items<Form>, AllocError>
+    ensures { IfOk result (λ forms. forms ≡ spec.branches_forms model.now (items_view branches.now)) }
+{
+    if branches.len() == 2 {
+        two_forms(alloc, model, branches)
+    } else {
+        many_forms(alloc, model, branches)
+    }
+}
+
+fn suffix_forms(
+    alloc: Global,
+    model: &Source,
+    suffix: Option<&Json<'_>>,
+) -> Result<Items<Form>, AllocError>
+    ensures { IfOk result (λ forms. forms ≡ spec.suffix_forms model.now (shown suffix.entry)) }
+{
+    match suffix {
+        Some(json) => list_of(alloc, section(alloc, model, "suffix", Some(json))?),
+        None => Ok(Items::new(alloc)),
+    }
+}
+
+/// The lists of replies to the parts of an item.
+fn replies_of(
+    alloc: Global,
+    model: &Source,
+    json: &Json<'_>,
+    lists: &[Json<'_>],
+) -> Result<Items<Form>, AllocError>
+    ensures { IfOk result (λ forms.
+        forms ≡ spec.lists_in model.now (value_view json.now) (items_view lists.now)) }
+{
+    match json.get("branches") {
+        Some(branches) => list_forms(
+            alloc,
+            model,
+            json.get("prefix"),
+            items_in(branches),
+            json.get("suffix"),
+            lists,
+        ),
+        None => list_forms(
+            alloc,
+            model,
+            json.get("prefix"),
+            &[],
+            json.get("suffix"),
+            lists,
+        ),
+    }
+}
+
+fn replies_forms(
+    alloc: Global,
+    model: &Source,
+    json: &Json<'_>,
+    replies: Option<&Json<'_>>,
+) -> Result<Items<Form>, AllocError>
+    ensures { IfOk result (λ forms.
+        forms ≡ spec.replies_forms model.now (value_view json.now) (shown replies.entry)) }
+{
+    match replies {
+        Some(lists) => {
+            let lists = replies_of(alloc, model, json, items_in(lists))?;
+            list_of(alloc, headed(alloc, "replies", lists)?)
+        }
+        None => Ok(Items::new(alloc)),
+    }
+}
+
+/// The branches of an item.
+fn item_branches(
+    alloc: Global,
+    model: &Source,
+    branches: Option<&Json<'_>>,
+) -> Result<Items<Form>, AllocError>
+    ensures { IfOk result (λ forms. forms ≡ spec.branches_forms model.now (spec.part (shown branches.entry))) }
+{
+    match branches {
+        Some(branches) => branches_forms(alloc, model, items_in(branches)),
+        None => branches_forms(alloc, model, &[]),
+    }
+}
+
+/// The parts of an item, which is a case if it has no replies.
+fn whole_form(alloc: Global, model: &Source, json: &Json<'_>) -> Result<Form, AllocError>
+    ensures { IfOk result (λ form. form ≡ spec.whole_form model.now (value_view json.now)) }
+{
+    let prefix = section(alloc, model, "prefix", json.get("prefix"))?;
+    let mut forms = list_of(alloc, prefix)?;
+    forms.append(item_branches(alloc, model, json.get("branches"))?)?;
+    let mut more = suffix_forms(alloc, model, json.get("suffix"))?;
+    more.append(replies_forms(alloc, model, json, json.get("replies"))?)?;
+    forms.append(more)?;
+    match json.get("replies") {
+        Some(_) => headed(alloc, "run", forms),
+        None => headed(alloc, "case", forms),
+    }
+}
+
+/// The tree of an item. It is `()` if the JSON has another form than an item, or if the tree has no spelling.
+pub fn item_form(alloc: Global, model: &Source, json: &Json<'_>) -> Result<Form, AllocError>
+    ensures { IfOk result (λ form. form ≡ spec.item_form model.now (value_view json.now)) }
+{
+    if is_item(json) {
+        Ok(if_spelled(whole_form(alloc, model, json)?, nothing(alloc)))
+    } else {
+        Ok(nothing(alloc))
+    }
+}

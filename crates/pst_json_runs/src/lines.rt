@@ -1,0 +1,81 @@
+//! Texts with JSON items.
+ghost use Rattle.std.specs.Prelude.{◌≡◌, IfOk};
+ghost use Rattle.pst_json_runs.specs.Lines as spec;
+ghost use Rattle.pst_sexpr.specs.Lawful.{IsTree};
+
+use crate::commands::nothing;
+use crate::items::item_form;
+use json::{Error, Scratch, Value as Json};
+use pst_model::Source;
+use pst_sexpr::{Form, Out, Tree, WriteFailed, write};
+use std::alloc::{AllocError, Global};
+
+/// Whether a line has a JSON item: its first byte is `{`.
+pub fn has_json(line: &[u8]) -> bool
+    ensures { result ≡ spec.has_json line.now }
+{
+    match line.first() {
+        Some(byte) => *byte == b'{',
+        None => false,
+    }
+}
+
+/// The tree of the JSON item on a line.
+#[tactic(auto, using(crate::proofs::Utf8::utf8))]
+fn line_form(alloc: Global, model: &Source, line: &[u8]) -> Result<Form, AllocError>
+    ensures { IfOk result (λ form. form ≡ spec.line_form model.now line.now) }
+{
+    let Ok(text) = str::from_utf8(line) else {
+        return Ok(nothing(alloc));
+    };
+    let mut scratch = Scratch::new(alloc);
+    match Json::parse(alloc, text, &mut scratch) {
+        Ok(json) => item_form(alloc, model, &json),
+        Err(Error::OutOfMemory) => Err(AllocError),
+        Err(Error::Invalid) => Ok(nothing(alloc)),
+        Err(Error::DuplicateKey | Error::TooLong) => unreachable!(),
+    }
+}
+
+/// The tree of the JSON item on a line. It is `()` if the line is no JSON.
+pub fn json_tree(alloc: Global, model: &Source, line: &[u8]) -> Result<Tree, AllocError>
+    ensures tree { IfOk result (λ tree. tree ≡ spec.line_form model.now line.now) }
+    ensures lawful { IfOk result (λ tree. IsTree tree) }
+{
+    let form = line_form(alloc, model, line)?;
+    Ok(Tree::new(form))
+}
+
+/// A line with its JSON item as a tree, if it has one.
+fn tree_line(alloc: Global, model: &Source, line: Vec<u8>) -> Result<Vec<u8>, AllocError>
+    ensures { IfOk result (λ text. text.items ≡ spec.tree_line model.now line.items) }
+{
+    if !has_json(line.as_slice()) {
+        return Ok(line);
+    }
+    let tree = json_tree(alloc, model, line.as_slice())?;
+    let mut out = Out::new(Vec::new(alloc));
+    match write(&tree, &mut out) {
+        Ok(()) => Ok(out.into_inner()),
+        Err(WriteFailed) => Err(AllocError),
+    }
+}
+
+/// The text of trees that a text with JSON items stands for: each line that begins with `{` as the tree of its item.
+pub fn trees_text(alloc: Global, model: &Source, text: &[u8]) -> Result<Vec<u8>, AllocError>
+    ensures { IfOk result (λ trees. trees.items ≡ spec.trees_text model.now text.now) }
+{
+    let mut trees = Vec::new(alloc);
+    let mut line = Vec::new(alloc);
+    for byte in text {
+        if *byte == b'\n' {
+            trees.append(&mut tree_line(alloc, model, line)?)?;
+            trees.push(b'\n')?;
+            line = Vec::new(alloc);
+        } else {
+            line.push(*byte)?;
+        }
+    }
+    trees.append(&mut tree_line(alloc, model, line)?)?;
+    Ok(trees)
+}

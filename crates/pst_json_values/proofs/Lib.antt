@@ -1,0 +1,4 @@
+pub mod Levels
+pub mod Wanted
+pub mod Wrote
+pub mod ReadBack

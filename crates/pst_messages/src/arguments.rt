@@ -1,0 +1,55 @@
+//! Problems of the arguments of commands.
+
+use crate::command::{behind_head, head_word};
+use crate::ill::Ill;
+use crate::values::{Search, Wanted, problem_in};
+use pst_model::Op;
+use pst_problems::{Judged, Problem, Signature, counted, operation, with_note, wrong};
+use pst_sexpr::Form;
+use std::alloc::Global;
+
+/// The problem of a command with `found` arguments of `op`, which takes another number.
+fn other_count(alloc: Global, path: &[usize], op: &Op, found: usize) -> Judged {
+    let name = op.name.as_str();
+    let takes = counted(op.params.len(), "argument");
+    wrong(
+        alloc,
+        path,
+        format_args!("`{name}` takes {takes}, here it has {found}"),
+    )
+}
+
+/// The problem of the arguments of a command of `op`.
+fn argument_problem(
+    alloc: Global,
+    search: &Search<'_>,
+    path: &[usize],
+    form: &Form,
+    op: &Op,
+) -> Judged {
+    let found = behind_head(form).len();
+    let params = op.params.as_slice();
+    if found != params.len() {
+        return other_count(alloc, path, op, found);
+    }
+    let other = Some(Ill::Argument);
+    problem_in(alloc, search, path, form, Wanted::Call(params), other)
+}
+
+/// The problem `found`, if there is one, with the declaration of `op`.
+fn with_declared(alloc: Global, found: Option<Problem>, op: &Op) -> Judged {
+    let declared = Signature {
+        name: op.name.as_str(),
+        params: op.params.as_slice(),
+        gives: &op.result,
+    };
+    with_note(alloc, found, format_args!("declared: {declared}"))
+}
+
+/// The problem of a command whose arguments spell other values than its operation takes.
+pub fn bad_argument(alloc: Global, search: &Search<'_>, path: &[usize], form: &Form) -> Judged {
+    match operation(search.source.items.as_slice(), head_word(form)) {
+        Some(op) => with_declared(alloc, argument_problem(alloc, search, path, form, op)?, op),
+        None => Ok(None),
+    }
+}

@@ -1,0 +1,97 @@
+//! The faults of commands and replies, and the messages about them.
+
+use crate::shown::wrong_tree;
+use pst_problems::{Judged, TypeText, key_word, noted, short_text, wrong};
+use pst_sexpr::Form;
+use pst_value::{KeyTy, Ty};
+use std::alloc::Global;
+
+/// A fault of a command or a reply.
+#[derive(Clone, Copy, Drop)]
+pub enum Ill<'a> {
+    /// A tree, which the message shows between these texts.
+    Tree {
+        before: &'static str,
+        form: &'a Form,
+        after: &'static str,
+    },
+    /// A tree that spells no value of the type.
+    OtherType(&'a Form, &'a Ty),
+    /// A key of another type than this.
+    OtherKey(&'a Form, KeyTy),
+    /// A key, and the key before it, which is not less.
+    Falls(&'a Form, &'a Form),
+    /// A variable in command `command` that names command `number`, which is not earlier.
+    Later {
+        number: usize,
+        command: usize,
+    },
+    /// A variable that names the command with this number, which is in another branch.
+    OtherBranch(usize),
+    /// An argument with a fault about which nothing more is known.
+    Argument,
+}
+
+/// The problem of `key`, which is not greater than `before`, the key before it.
+fn falls(alloc: Global, path: &[usize], key: &Form, before: &Form) -> Judged {
+    let key = short_text(alloc, key)?;
+    wrong_tree(
+        alloc,
+        path,
+        format_args!("the keys of a map rise, and `{key}` stands behind "),
+        before,
+        "",
+    )
+}
+
+/// The problem of a variable in command `command` that names command `number`, which is not earlier.
+fn later(alloc: Global, path: &[usize], number: usize, command: usize) -> Judged {
+    noted(
+        alloc,
+        path,
+        format_args!("${number} is no result of an earlier command: this is command {command}"),
+        "commands are numbered from 1: the prefix, each branch, the suffix",
+    )
+}
+
+/// The problem of a variable that names command `number`, which is in another branch.
+fn other_branch(alloc: Global, path: &[usize], number: usize) -> Judged {
+    noted(
+        alloc,
+        path,
+        format_args!("${number} is the result of a command of another branch"),
+        "a command sees the results of the prefix and of earlier commands of its own branch",
+    )
+}
+
+/// The problem of the fault `ill`, if there is one, at the tree that `path` leads to.
+pub fn ill_problem(alloc: Global, path: &[usize], ill: Option<Ill<'_>>) -> Judged {
+    let Some(ill) = ill else {
+        return Ok(None);
+    };
+    match ill {
+        Ill::Tree {
+            before,
+            form,
+            after,
+        } => wrong_tree(alloc, path, before, form, after),
+        Ill::OtherType(form, wanted) => {
+            let wanted = TypeText(wanted);
+            let before = format_args!("wanted {wanted}, found ");
+            wrong_tree(alloc, path, before, form, "")
+        }
+        Ill::OtherKey(form, wanted) => {
+            let wanted = key_word(wanted);
+            let before = format_args!("wanted a key of type {wanted}, found ");
+            wrong_tree(alloc, path, before, form, "")
+        }
+        Ill::Falls(key, before) => falls(alloc, path, key, before),
+        Ill::Later { number, command } => later(alloc, path, number, command),
+        Ill::OtherBranch(number) => other_branch(alloc, path, number),
+        Ill::Argument => wrong(
+            alloc,
+            path,
+            "an argument is of another type, or spells no value",
+        ),
+    }
+}

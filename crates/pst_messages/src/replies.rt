@@ -1,0 +1,157 @@
+//! The replies of a run.
+
+use crate::command::{Part, behind_head, is_headed, place_of, trees_in};
+use crate::ill::{Ill, ill_problem};
+use crate::values::{Search, Wanted, problem_in};
+use pst_problems::{Judged, Problem, counted, noted, with_note, wrong};
+use pst_sexpr::{Form, node_of};
+use std::alloc::Global;
+
+/// A reply: the numbers that lead to it from its item, and its tree.
+#[derive(Clone, Copy, Drop)]
+struct Reply<'a> {
+    place: usize,
+    list: usize,
+    offset: usize,
+    form: &'a Form,
+}
+
+/// The number of the `(replies ..)` tree among the trees of a run, and its lists.
+fn lists_of(form: &Form) -> Option<(usize, &[Form])> {
+    for (place, part) in trees_in(form).iter().enumerate() {
+        if is_headed(part, "replies") {
+            return Some((place, behind_head(part)));
+        }
+    }
+    None
+}
+
+/// The replies of list `number`, counted from 0.
+fn replies_in(lists: &[Form], number: usize) -> &[Form] {
+    match lists.get(number) {
+        Some(list) => trees_in(list),
+        None => &[],
+    }
+}
+
+/// The problem of a part with `replies` replies, which has another number of commands.
+fn other_count(alloc: Global, path: &[usize], part: &Part<'_>, replies: usize) -> Judged {
+    let called = part.called;
+    let has = counted(part.commands.len(), "command");
+    if replies == 1 {
+        return wrong(alloc, path, format_args!("{called}: 1 reply for {has}"));
+    }
+    wrong(
+        alloc,
+        path,
+        format_args!("{called}: {replies} replies for {has}"),
+    )
+}
+
+/// The problem of a run with `lists` lists of replies for `parts` parts, which differ in number.
+fn other_lists(alloc: Global, path: &[usize], lists: usize, parts: usize) -> Judged {
+    let found = counted(lists, "list");
+    let wanted = counted(parts, "part");
+    noted(
+        alloc,
+        path,
+        format_args!("{found} of replies for {wanted}"),
+        "the replies of the prefix come first, then those of each branch, then those of the suffix",
+    )
+}
+
+/// The problem of the first part with another number of replies than of commands. Each part has a list of replies.
+/// `place` is the number of the `(replies ..)` tree.
+fn list_problem(
+    alloc: Global,
+    item: usize,
+    place: usize,
+    lists: &[Form],
+    parts: &[Part<'_>],
+) -> Judged {
+    for (number, part) in parts.iter().enumerate() {
+        let replies = replies_in(lists, number).len();
+        if part.commands.len() != replies {
+            let path = [item, place, number.saturating_add(1)];
+            return other_count(alloc, &path, part, replies);
+        }
+    }
+    Ok(None)
+}
+
+/// The problem of a run whose replies do not fit its parts and commands.
+pub fn no_fit(alloc: Global, item: usize, form: &Form, parts: &[Part<'_>]) -> Judged {
+    match lists_of(form) {
+        Some((place, lists)) if lists.len() == parts.len() => {
+            list_problem(alloc, item, place, lists, parts)
+        }
+        Some((place, lists)) => other_lists(alloc, &[item, place], lists.len(), parts.len()),
+        None => Ok(None),
+    }
+}
+
+/// The reply to command `command`, counted from 1.
+fn reply_of<'a>(form: &'a Form, parts: &[Part<'_>], command: usize) -> Option<Reply<'a>> {
+    let Some((number, offset)) = place_of(parts, command) else {
+        return None;
+    };
+    let Some((place, lists)) = lists_of(form) else {
+        return None;
+    };
+    match replies_in(lists, number).get(offset) {
+        Some(form) => Some(Reply {
+            place,
+            list: number.saturating_add(1),
+            offset,
+            form,
+        }),
+        None => None,
+    }
+}
+
+/// The problem of a tree at `path` that spells no reply.
+fn reply_problem(alloc: Global, search: &Search<'_>, path: &[usize], form: &Form) -> Judged {
+    let other = Some(Ill::Tree {
+        before: "",
+        form,
+        after: " spells no reply",
+    });
+    if node_of(form).is_none() {
+        return ill_problem(alloc, path, other);
+    }
+    problem_in(alloc, search, path, form, Wanted::Any, other)
+}
+
+/// The problem `found`, if there is one, with a note on how replies are written.
+fn with_written(alloc: Global, found: Option<Problem>, has_maps: bool) -> Judged {
+    let maps = if has_maps {
+        ", (map (k v) ..) with rising keys"
+    } else {
+        ""
+    };
+    with_note(
+        alloc,
+        found,
+        format_args!(
+            "a reply is an integer, true, false, a text, (tuple v ..), (list v ..){maps}, misfit, failed or not-run"
+        ),
+    )
+}
+
+/// The problem of a run in which the reply to command `command`, counted from 1, spells no reply.
+pub fn bad_reply(
+    alloc: Global,
+    search: &Search<'_>,
+    item: usize,
+    form: &Form,
+    command: usize,
+) -> Judged {
+    match reply_of(form, search.parts, command) {
+        Some(reply) => {
+            let path = [item, reply.place, reply.list, reply.offset];
+            let found = reply_problem(alloc, search, &path, reply.form)?;
+            with_written(alloc, found, search.source.has_maps)
+        }
+        None => Ok(None),
+    }
+}

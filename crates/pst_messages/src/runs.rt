@@ -1,0 +1,147 @@
+//! Refused cases and runs.
+
+use crate::arguments::bad_argument;
+use crate::command::{Command, Part, command_at, commands_of, head_word};
+use crate::replies::{bad_reply, no_fit};
+use crate::shape::bad_form;
+use crate::values::{Search, Sought, Wanted, problem_in};
+use pst_case::CaseFaultKind;
+use pst_model::Source;
+use pst_problems::{Judged, Problem, below, unknown_among, wrong};
+use pst_runs::{RunFault, RunFaultKind};
+use pst_sexpr::Form;
+use std::alloc::{AllocError, Global};
+
+/// The problem of the part at `path`, which has more than `most` commands.
+fn too_many(alloc: Global, path: &[usize], part: &Part<'_>, most: usize) -> Judged {
+    let called = part.called;
+    let number = part.commands.len();
+    wrong(
+        alloc,
+        path,
+        format_args!("{called} has {number} commands, at most {most}"),
+    )
+}
+
+/// The problem of a part of item `item`, which has more than `most` commands.
+fn part_problem(alloc: Global, item: usize, part: &Part<'_>, most: usize) -> Judged {
+    match part.branch {
+        Some(branch) => too_many(alloc, &[item, part.place, branch], part, most),
+        None => too_many(alloc, &[item, part.place], part, most),
+    }
+}
+
+/// The problem of an item in which a part, or all branches together, have too many commands.
+fn over_limit(alloc: Global, item: usize, parts: &[Part<'_>]) -> Judged {
+    let mut together: usize = 0;
+    for part in parts {
+        let number = part.commands.len();
+        let most = if part.is_prefix { 64 } else { 8 };
+        if number > most {
+            return part_problem(alloc, item, part, most);
+        }
+        if part.is_branch {
+            together = together.saturating_add(number);
+        }
+    }
+    wrong(
+        alloc,
+        &[item],
+        format_args!("the branches have {together} commands together, at most 16"),
+    )
+}
+
+/// The problem of the command at `path`, which has a fault of `kind`.
+fn command_problem(
+    alloc: Global,
+    search: &Search<'_>,
+    path: &[usize],
+    form: &Form,
+    kind: CaseFaultKind,
+) -> Judged {
+    match kind {
+        CaseFaultKind::UnknownOp => {
+            let path = below(path, alloc, 0)?;
+            let items = search.source.items.as_slice();
+            unknown_among(alloc, items, path.as_slice(), head_word(form), true)
+        }
+        CaseFaultKind::BadArgument => bad_argument(alloc, search, path, form),
+        _ => problem_in(alloc, search, path, form, Wanted::Any, None),
+    }
+}
+
+/// The problem of command `number`, counted from 1, of item `item`.
+fn bad_command(
+    alloc: Global,
+    search: &Search<'_>,
+    item: usize,
+    kind: CaseFaultKind,
+    number: usize,
+) -> Judged {
+    let Some(Command { part, offset, form }) = command_at(search.parts, number) else {
+        return Ok(None);
+    };
+    match part.branch {
+        Some(branch) => {
+            let path = [item, part.place, branch, offset];
+            command_problem(alloc, search, &path, form, kind)
+        }
+        None => {
+            let path = [item, part.place, offset.saturating_add(1)];
+            command_problem(alloc, search, &path, form, kind)
+        }
+    }
+}
+
+/// What a search for the tree at fault looks for.
+fn sought_by(kind: RunFaultKind, command: usize) -> Sought {
+    match kind {
+        RunFaultKind::Case(CaseFaultKind::ForwardVar) => Sought::Later(command),
+        RunFaultKind::Case(CaseFaultKind::CrossVar | CaseFaultKind::NoMemory) => {
+            Sought::OtherBranch(command)
+        }
+        _ => Sought::Value,
+    }
+}
+
+/// The problem of an item with the fault `fault`, if it is found.
+fn fault_problem(alloc: Global, search: &Search<'_>, form: &Form, fault: RunFault) -> Judged {
+    let RunFault { run, command, kind } = fault;
+    let command = command as usize;
+    match kind {
+        RunFaultKind::BadForm => bad_form(alloc, run, form),
+        RunFaultKind::NotAFit => no_fit(alloc, run, form, search.parts),
+        RunFaultKind::BadReply => bad_reply(alloc, search, run, form, command),
+        RunFaultKind::Case(CaseFaultKind::OverLimit) => over_limit(alloc, run, search.parts),
+        RunFaultKind::Case(kind) => bad_command(alloc, search, run, kind, command),
+    }
+}
+
+/// The problem of an item about which only the fault is known.
+fn refused(alloc: Global, fault: RunFault) -> Judged {
+    let kind = fault.kind.name();
+    wrong(
+        alloc,
+        &[fault.run],
+        format_args!("the item is refused: {kind}"),
+    )
+}
+
+/// The problem of a case or a run that is refused with `fault`.
+pub fn run_problem(
+    alloc: Global,
+    source: &Source,
+    form: &Form,
+    fault: RunFault,
+) -> Result<Option<Problem>, AllocError> {
+    let parts = commands_of(alloc, form)?;
+    let search = Search {
+        source,
+        parts: parts.as_slice(),
+        sought: sought_by(fault.kind, fault.command as usize),
+    };
+    match fault_problem(alloc, &search, form, fault)? {
+        Some(found) => Ok(Some(found)),
+        None => refused(alloc, fault),
+    }
+}

@@ -1,0 +1,18 @@
+//! Problems that show a tree.
+
+use pst_problems::{Judged, short_text, wrong};
+use pst_sexpr::Form;
+use std::alloc::Global;
+use std::fmt::Display;
+
+/// A problem at `path` whose text shows `tree` between `before` and `after`.
+pub fn wrong_tree<D: Display + Drop>(
+    alloc: Global,
+    path: &[usize],
+    before: D,
+    tree: &Form,
+    after: &str,
+) -> Judged {
+    let tree = short_text(alloc, tree)?;
+    wrong(alloc, path, format_args!("{before}`{tree}`{after}"))
+}

@@ -1,5 +1,0 @@
-pub mod Apart
-pub mod Coding
-pub mod Feeding
-pub mod Numbers
-pub mod Same

@@ -1,0 +1,287 @@
+//! Tokens, laid out on lines.
+
+use crate::measure::Measure;
+use crate::style::{Rule, Style, style_of, style_without_head};
+use crate::tokens::{Kind, Token, bytes_of};
+use std::alloc::{AllocError, Global};
+
+/// The columns of a line.
+const WIDTH: usize = 80;
+
+/// A node that is open.
+#[derive(Clone, Copy, Drop)]
+struct Frame {
+    style: Style,
+    /// The whole node is on one line.
+    is_flat: bool,
+    /// How many parts have begun, the head among them.
+    parts: usize,
+    /// The last part is on several lines.
+    was_broken: bool,
+}
+
+/// What separates a token from the token before it.
+#[derive(Clone, Copy, Debug, PartialEq, Eq, Drop)]
+enum Joint {
+    None,
+    Space,
+    /// A new line, which begins in the column.
+    Line(usize),
+}
+
+/// The text so far.
+#[derive(Drop)]
+pub struct Layout<'a> {
+    input: &'a [u8],
+    tokens: &'a [Token],
+    measures: &'a [Measure],
+    text: Vec<u8>,
+    column: usize,
+    frames: Vec<Frame>,
+    /// The last token was a comment, so a new line comes before the next one.
+    after_comment: bool,
+}
+
+impl<'a> Layout<'a> {
+    /// A layout to which no token has been added.
+    pub fn new(
+        alloc: Global,
+        input: &'a [u8],
+        tokens: &'a [Token],
+        measures: &'a [Measure],
+    ) -> Layout<'a> {
+        Layout {
+            input,
+            tokens,
+            measures,
+            text: Vec::new(alloc),
+            column: 0,
+            frames: Vec::new(alloc),
+            after_comment: false,
+        }
+    }
+
+    /// Adds bytes to the line.
+    fn put(&mut self, bytes: &[u8]) -> Result<(), AllocError> {
+        self.text.extend_from_slice(bytes)?;
+        self.column = self.column.saturating_add(bytes.len());
+        Ok(())
+    }
+
+    /// Begins a line with `indent` spaces, after an empty line if `has_blank`. Adds nothing at the start of the text.
+    fn begin_line(&mut self, indent: usize, has_blank: bool) -> Result<(), AllocError> {
+        self.after_comment = false;
+        if self.text.is_empty() {
+            return Ok(());
+        }
+        self.text.push(b'\n')?;
+        if has_blank {
+            self.text.push(b'\n')?;
+        }
+        for _ in 0..indent {
+            self.text.push(b' ')?;
+        }
+        self.column = indent;
+        Ok(())
+    }
+
+    /// The column in which a new line begins in the innermost open node.
+    fn indent(&self) -> usize {
+        match self.frames.last() {
+            Some(frame) => frame.style.indent,
+            None => 0,
+        }
+    }
+
+    /// Whether the tree that begins with token `number` has no comment and fits on a line from `column` on.
+    fn fits(&self, number: usize, column: usize) -> bool {
+        match self.measures.get(number) {
+            Some(measure) => {
+                !measure.has_comment && column.saturating_add(measure.width) <= WIDTH
+            }
+            None => true,
+        }
+    }
+
+    /// Whether token `number` begins a line in the file.
+    fn begins_line(&self, number: usize) -> bool {
+        match self.tokens.get(number) {
+            Some(token) => token.lines > 0,
+            None => false,
+        }
+    }
+
+    /// Whether a part of the node that begins with token `number` begins a line in the file.
+    fn has_lines(&self, number: usize) -> bool {
+        match self.measures.get(number) {
+            Some(measure) => measure.has_lines,
+            None => false,
+        }
+    }
+
+    /// The head word of the node that begins with token `number`.
+    fn head(&self, number: usize) -> Option<&'a [u8]> {
+        match self.tokens.get(number.saturating_add(1)) {
+            Some(token) if token.kind == Kind::Atom => Some(bytes_of(self.input, token)),
+            _ => None,
+        }
+    }
+
+    /// Whether the node that begins with token `number` is the state or the initial state of a model.
+    fn is_start(&self, number: usize) -> bool {
+        matches!(self.head(number), Some(b"state") | Some(b"init"))
+    }
+
+    /// Whether the node that begins with token `number` is a case or a recorded run without a comment in it. If it is
+    /// on one line in the file, it stays on one, however long that is.
+    fn is_item(&self, number: usize) -> bool {
+        let has_comment = match self.measures.get(number) {
+            Some(measure) => measure.has_comment,
+            None => false,
+        };
+        self.frames.is_empty()
+            && !has_comment
+            && matches!(self.head(number), Some(b"case") | Some(b"run"))
+    }
+
+    /// Whether the innermost open node is on one line.
+    fn is_in_flat(&self) -> bool {
+        match self.frames.last() {
+            Some(frame) => frame.is_flat,
+            None => false,
+        }
+    }
+
+    /// Whether the part that begins with token `number` stays on the line. The part is not the head of its node.
+    fn stays(&self, frame: &Frame, number: usize) -> bool {
+        if frame.is_flat {
+            return true;
+        }
+        let begins_line = frame.style.rule.keeps_lines() && self.begins_line(number);
+        let fits = !begins_line
+            && !frame.was_broken
+            && self.fits(number, self.column.saturating_add(1));
+        match frame.style.rule {
+            Rule::First(count) => frame.parts <= count,
+            Rule::Filled | Rule::Operation => fits,
+            Rule::Item => !begins_line,
+            Rule::Model => frame.parts <= 1 || fits && self.is_start(number),
+        }
+    }
+
+    /// What separates the tree that begins with token `number` from what is before it.
+    fn joint(&self, number: usize) -> Joint {
+        let Some(frame) = self.frames.last() else {
+            return Joint::Line(0);
+        };
+        if self.after_comment {
+            Joint::Line(frame.style.indent)
+        } else if frame.parts == 0 {
+            Joint::None
+        } else if self.stays(frame, number) {
+            Joint::Space
+        } else {
+            Joint::Line(frame.style.indent)
+        }
+    }
+
+    /// Separates a token from the one before it. Keeps empty lines between trees and between items of a model.
+    fn part(&mut self, number: usize, token: &Token) -> Result<(), AllocError> {
+        let has_blank = token.lines > 1 && self.frames.len() <= 1;
+        match self.joint(number) {
+            Joint::None => Ok(()),
+            Joint::Space => self.put(b" "),
+            Joint::Line(indent) => self.begin_line(indent, has_blank),
+        }
+    }
+
+    /// Notes that a part of the innermost node begins or, if `was_broken`, that a part ended on several lines.
+    fn note_part(&mut self, was_broken: bool) {
+        if let Some(frame) = self.frames.last_mut() {
+            frame.was_broken = was_broken;
+            if !was_broken {
+                frame.parts = frame.parts.saturating_add(1);
+            }
+        }
+    }
+
+    /// Opens the node that begins with token `number`.
+    fn open(&mut self, number: usize) -> Result<(), AllocError> {
+        let column = self.column;
+        let style = match self.head(number) {
+            Some(head) => style_of(head, column),
+            None => style_without_head(column),
+        };
+        let is_kept = style.rule.keeps_lines() && self.has_lines(number);
+        let fits = self.fits(number, column) || self.is_item(number);
+        let is_flat = self.is_in_flat() || fits && !is_kept;
+        self.put(b"(")?;
+        self.frames.push(Frame {
+            style,
+            is_flat,
+            parts: 0,
+            was_broken: false,
+        })?;
+        Ok(())
+    }
+
+    /// Closes the innermost node.
+    fn close(&mut self) -> Result<(), AllocError> {
+        if self.after_comment {
+            let indent = self.indent();
+            self.begin_line(indent, false)?;
+        }
+        self.put(b")")?;
+        if let Some(frame) = self.frames.pop() {
+            if !frame.is_flat {
+                self.note_part(true);
+            }
+        }
+        Ok(())
+    }
+
+    /// Adds a comment: on the current line, or on a line of its own.
+    fn comment(&mut self, token: &Token) -> Result<(), AllocError> {
+        if token.lines == 0 && !self.after_comment && !self.text.is_empty() {
+            self.put(b" ")?;
+        } else {
+            let has_blank = token.lines > 1 && self.frames.len() <= 1;
+            let indent = self.indent();
+            self.begin_line(indent, has_blank)?;
+        }
+        let input = self.input;
+        let bytes = bytes_of(input, token);
+        self.put(bytes)?;
+        self.after_comment = true;
+        Ok(())
+    }
+
+    /// Adds `token`, which has the number `number`.
+    pub fn add(&mut self, number: usize, token: &Token) -> Result<(), AllocError> {
+        match token.kind {
+            Kind::Comment => self.comment(token),
+            Kind::Close => self.close(),
+            Kind::Open => {
+                self.part(number, token)?;
+                self.note_part(false);
+                self.open(number)
+            }
+            Kind::Atom => {
+                self.part(number, token)?;
+                self.note_part(false);
+                let input = self.input;
+                let bytes = bytes_of(input, token);
+                self.put(bytes)
+            }
+        }
+    }
+
+    /// The text. Its last line has a line end.
+    pub fn into_text(self) -> Result<Vec<u8>, AllocError> {
+        let Layout { mut text, .. } = self;
+        if !text.is_empty() {
+            text.push(b'\n')?;
+        }
+        Ok(text)
+    }
+}

@@ -1,0 +1,135 @@
+//! How wide the parts of a file are on one line.
+
+use crate::tokens::{Kind, Token, bytes_of};
+use std::alloc::{AllocError, Global};
+
+/// The size of the tree that begins with a token.
+#[derive(Clone, Copy, Drop)]
+pub struct Measure {
+    /// How many columns its tree takes on one line, with the brackets that close directly after it.
+    pub width: usize,
+    /// Whether a comment is in its tree.
+    pub has_comment: bool,
+    /// Whether a part of its tree begins a line in the file.
+    pub has_lines: bool,
+}
+
+/// The columns in which a token begins and ends if the whole file is on one line, and the number of comments up to it.
+#[derive(Clone, Copy, Drop)]
+struct Reach {
+    begin: usize,
+    end: usize,
+    comments: usize,
+}
+
+/// The reach of each token.
+fn reaches(alloc: Global, input: &[u8], tokens: &[Token]) -> Result<Vec<Reach>, AllocError> {
+    let mut found = Vec::new(alloc);
+    let mut column = 0usize;
+    let mut comments = 0usize;
+    let mut follows_open = true;
+    for token in tokens {
+        let is_apart = !follows_open && token.kind != Kind::Close;
+        let begin = column.saturating_add(if is_apart { 1 } else { 0 });
+        let end = begin.saturating_add(bytes_of(input, token).len());
+        if token.kind == Kind::Comment {
+            comments = comments.saturating_add(1);
+        }
+        found.push(Reach {
+            begin,
+            end,
+            comments,
+        })?;
+        column = end;
+        follows_open = token.kind == Kind::Open;
+    }
+    Ok(found)
+}
+
+/// For each token the number of the last token of its tree.
+fn ends(alloc: Global, tokens: &[Token]) -> Result<Vec<usize>, AllocError> {
+    let mut found = Vec::new(alloc);
+    let mut open: Vec<usize> = Vec::new(alloc);
+    for (number, token) in tokens.iter().enumerate() {
+        found.push(number)?;
+        match token.kind {
+            Kind::Open => open.push(number)?,
+            Kind::Close => {
+                if let Some(first) = open.pop() {
+                    if let Some(end) = found.get_mut(first) {
+                        *end = number;
+                    }
+                }
+            }
+            _ => {}
+        }
+    }
+    Ok(found)
+}
+
+/// For each token whether one of the parts of its node begins a line.
+fn broken(alloc: Global, tokens: &[Token]) -> Result<Vec<bool>, AllocError> {
+    let mut found = Vec::new(alloc);
+    let mut open: Vec<usize> = Vec::new(alloc);
+    for (number, token) in tokens.iter().enumerate() {
+        found.push(false)?;
+        if token.kind == Kind::Close {
+            let _ = open.pop();
+        } else if token.lines > 0 {
+            note(&mut found, open.as_slice());
+        }
+        if token.kind == Kind::Open {
+            open.push(number)?;
+        }
+    }
+    Ok(found)
+}
+
+/// Notes for the innermost open node that one of its parts begins a line.
+fn note(found: &mut [bool], open: &[usize]) {
+    if let Some(node) = open.last() {
+        if let Some(has_lines) = found.get_mut(*node) {
+            *has_lines = true;
+        }
+    }
+}
+
+/// For each token how many brackets close directly after it.
+fn closers(alloc: Global, tokens: &[Token]) -> Result<Vec<usize>, AllocError> {
+    let mut found = Vec::new(alloc);
+    let mut count = 0usize;
+    for token in tokens.iter().rev() {
+        found.push(count)?;
+        count = if token.kind == Kind::Close {
+            count.saturating_add(1)
+        } else {
+            0
+        };
+    }
+    found.reverse();
+    Ok(found)
+}
+
+/// The measure of a token with the reach `first`. `last` is the reach of the last token of its tree.
+fn measure_of(first: Reach, last: Reach, closers: usize, has_lines: bool) -> Measure {
+    Measure {
+        has_lines,
+        width: last.end.saturating_sub(first.begin).saturating_add(closers),
+        has_comment: last.comments > first.comments,
+    }
+}
+
+/// The measure of each token of a file.
+pub fn measures(alloc: Global, input: &[u8], tokens: &[Token]) -> Result<Vec<Measure>, AllocError> {
+    let reaches = reaches(alloc, input, tokens)?;
+    let ends = ends(alloc, tokens)?;
+    let closers = closers(alloc, tokens)?;
+    let broken = broken(alloc, tokens)?;
+    let mut found = Vec::new(alloc);
+    for ((first, end), has_lines) in reaches.iter().zip(ends.as_slice()).zip(broken.as_slice()) {
+        if let (Some(last), Some(closers)) = (reaches.get(*end), closers.get(*end)) {
+            found.push(measure_of(*first, *last, *closers, *has_lines))?;
+        }
+    }
+    Ok(found)
+}

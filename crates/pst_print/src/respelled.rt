@@ -1,0 +1,71 @@
+//! The layout of a whole file.
+
+use crate::layout::Layout;
+use crate::measure::measures;
+use crate::tokens::{Token, bytes_of, tokens};
+use pst_sexpr::{SexprFault, Tree, read};
+use std::alloc::{AllocError, Global};
+
+/// The tokens of a file on new lines.
+fn relaid(alloc: Global, input: &[u8], tokens: &[Token]) -> Result<Vec<u8>, AllocError> {
+    let measures = measures(alloc, input, tokens)?;
+    let mut layout = Layout::new(alloc, input, tokens, measures.as_slice());
+    for (number, token) in tokens.iter().enumerate() {
+        layout.add(number, token)?;
+    }
+    layout.into_text()
+}
+
+/// Whether two files have the same tokens, comments among them.
+fn have_same_tokens(
+    alloc: Global,
+    first: &[u8],
+    of_first: &[Token],
+    second: &[u8],
+) -> Result<bool, AllocError> {
+    let of_second = tokens(alloc, second)?;
+    if of_first.len() != of_second.len() {
+        return Ok(false);
+    }
+    for (one, other) in of_first.iter().zip(of_second.as_slice()) {
+        if one.kind != other.kind || bytes_of(first, one) != bytes_of(second, other) {
+            return Ok(false);
+        }
+    }
+    Ok(true)
+}
+
+/// Whether two lists hold the same trees.
+fn are_same(first: &[Tree], second: &[Tree]) -> bool {
+    if first.len() != second.len() {
+        return false;
+    }
+    for (one, other) in first.iter().zip(second) {
+        if *one.form() != *other.form() {
+            return false;
+        }
+    }
+    true
+}
+
+/// Lays out a file. A model has lines of at most 80 columns if its tokens allow it; if a node does not fit on one line,
+/// its parts get lines of their own. A case or a recorded run keeps its lines. Comments stay where they are, and at
+/// most one empty line remains between items.
+///
+/// The result has the same tokens and comments, and spells the same trees. The function checks this, and returns the
+/// file unchanged if the check fails.
+///
+/// If the file cannot be read, the function returns the fault of `read`.
+pub fn laid_out(alloc: Global, input: &[u8]) -> Result<Vec<u8>, SexprFault> {
+    let trees = read(alloc, input)?;
+    let old = tokens(alloc, input)?;
+    let text = relaid(alloc, input, old.as_slice())?;
+    if have_same_tokens(alloc, input, old.as_slice(), text.as_slice())? {
+        if let Ok(again) = read(alloc, text.as_slice()) {
+            if are_same(trees.as_slice(), again.as_slice()) {
+                return Ok(text);
+            }
+        }
+    }
+    Ok(Vec::from_slice(alloc, input)?)
+}

@@ -1,0 +1,72 @@
+//! How the parts of a node are split into lines, by its head word.
+
+/// Which parts stay on the line of the part before them, in a node that does not fit on one line. Each other part
+/// begins a line.
+#[derive(Clone, Copy, Debug, PartialEq, Eq, Drop)]
+pub enum Rule {
+    /// This number of parts after the head.
+    First(usize),
+    /// Each part that fits there.
+    Filled,
+    /// Each part of an operation that fits there, and begins no line in the file.
+    Operation,
+    /// Each part of a case or of a recorded run that begins no line in the file.
+    Item,
+    /// The name, and then the state and the initial state if they fit and begin no line in the file.
+    Model,
+}
+
+/// How a node that does not fit on one line is laid out.
+#[derive(Clone, Copy, Debug, PartialEq, Eq, Drop)]
+pub struct Style {
+    pub rule: Rule,
+    /// The column in which lines begin within the node.
+    pub indent: usize,
+}
+
+/// The greatest column in which parts are aligned with the first one.
+const MOST_ALIGNED: usize = 40;
+
+/// Which parts stay on one line, and whether lines begin two columns within the node, not below its first part.
+fn rule_of(head: &[u8]) -> (Rule, bool) {
+    match head {
+        b"model" | b"model2" => (Rule::Model, true),
+        b"op" => (Rule::Operation, true),
+        b"fun" | b"postfun" => (Rule::First(3), true),
+        b"let" => (Rule::First(2), true),
+        b"for" => (Rule::First(1), true),
+        b"case" | b"run" => (Rule::Item, true),
+        b"fold" => (Rule::First(4), true),
+        b"list" | b"tuple" | b"call" | b"replies" => (Rule::Filled, false),
+        b"prefix" | b"left" | b"right" | b"branches" | b"suffix" => (Rule::Filled, false),
+        _ => (Rule::First(1), false),
+    }
+}
+
+/// The style of a node with the head word `head` and its bracket in `column`.
+pub fn style_of(head: &[u8], column: usize) -> Style {
+    let (rule, is_within) = rule_of(head);
+    let within = column.saturating_add(2);
+    let aligned = within.saturating_add(head.len());
+    let indent = if is_within || aligned > MOST_ALIGNED {
+        within
+    } else {
+        aligned
+    };
+    Style { rule, indent }
+}
+
+impl Rule {
+    /// Whether a part that begins a line in the file still begins one.
+    pub fn keeps_lines(self) -> bool {
+        matches!(self, Rule::Operation | Rule::Item | Rule::Model)
+    }
+}
+
+/// The style of a node without a head word, with its bracket in `column`: each part begins a line.
+pub fn style_without_head(column: usize) -> Style {
+    Style {
+        rule: Rule::First(0),
+        indent: column.saturating_add(1),
+    }
+}

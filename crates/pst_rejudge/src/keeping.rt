@@ -1,0 +1,82 @@
+//! Splits a stream into lines, and keeps a beginning of each.
+ghost use Rattle.std.specs.Prelude.{◌≡◌, ◌<◌, ℕ, List, [], ◌∷◌, ◌++◌, map, take, IfOk, OnOk};
+ghost use Rattle.pst_rejudge.specs.Lines.{begun, ended, last_line};
+
+use std::alloc::{AllocError, Global};
+use std::mem::replace;
+
+/// Adds a byte to `kept`, the beginning of a line, unless the limit is reached.
+fn keep_byte(limit: usize, kept: &mut Vec<u8>, byte: u8) -> Result<(), AllocError>
+    ensures { OnOk result ((line : List ℕ) → kept.old.items ≡ take limit line
+        → kept.new.items ≡ take limit (line ++ byte ∷ [])) }
+{
+    if kept.len() < limit {
+        kept.push(byte)?;
+    }
+    Ok(())
+}
+
+/// Ends the current line: moves it to `lines`, and begins another.
+fn end_line(alloc: Global, lines: &mut Vec<Vec<u8>>, kept: &mut Vec<u8>) -> Result<(), AllocError>
+    ensures kept { kept.new.items ≡ [] }
+    ensures lines { OnOk result (map (λ line. line.items) lines.new.items
+        ≡ map (λ line. line.items) lines.old.items ++ kept.old.items ∷ []) }
+{
+    let line = replace(kept, Vec::new(alloc));
+    lines.push(line)?;
+    Ok(())
+}
+
+/// Adds a byte to the current line, or ends it at a line feed.
+fn add_byte(
+    alloc: Global,
+    limit: usize,
+    lines: &mut Vec<Vec<u8>>,
+    kept: &mut Vec<u8>,
+    byte: u8,
+) -> Result<(), AllocError>
+    ensures kept { OnOk result ((line : List ℕ) → kept.old.items ≡ take limit line
+        → kept.new.items ≡ take limit (begun line (byte ∷ []))) }
+    ensures lines { OnOk result ((line : List ℕ) → kept.old.items ≡ take limit line
+        → map (λ l. l.items) lines.new.items
+        ≡ map (λ l. l.items) lines.old.items ++ map (take limit) (ended line (byte ∷ []))) }
+{
+    if byte == b'\n' {
+        end_line(alloc, lines, kept)
+    } else {
+        keep_byte(limit, kept, byte)
+    }
+}
+
+/// Splits bytes into lines: adds those that end to `lines`, and keeps the one that has begun. It keeps at most
+/// `limit` bytes of each line.
+pub(crate) fn keep_bytes(
+    alloc: Global,
+    limit: usize,
+    lines: &mut Vec<Vec<u8>>,
+    kept: &mut Vec<u8>,
+    bytes: &[u8],
+) -> Result<(), AllocError>
+    ensures kept { OnOk result ((line : List ℕ) → kept.old.items ≡ take limit line
+        → kept.new.items ≡ take limit (begun line bytes.now)) }
+    ensures lines { OnOk result ((line : List ℕ) → kept.old.items ≡ take limit line
+        → map (λ l. l.items) lines.new.items
+        ≡ map (λ l. l.items) lines.old.items ++ map (take limit) (ended line bytes.now)) }
+{
+    for byte in bytes {
+        add_byte(alloc, limit, lines, kept, *byte)?;
+    }
+    Ok(())
+}
+
+/// The line that the end of the stream ends, if one has begun.
+pub(crate) fn last_lines(alloc: Global, kept: &mut Vec<u8>) -> Result<Vec<Vec<u8>>, AllocError>
+    ensures { IfOk result (λ lines. (limit : ℕ) (line : List ℕ) → 0 < limit → kept.old.items ≡ take limit line
+        → map (λ l. l.items) lines.items ≡ map (take limit) (last_line line)) }
+{
+    let mut lines = Vec::new(alloc);
+    if !kept.is_empty() {
+        end_line(alloc, &mut lines, kept)?;
+    }
+    Ok(lines)
+}

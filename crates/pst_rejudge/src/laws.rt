@@ -1,0 +1,11 @@
+//! A law of lines that spell one item each.
+ghost use Rattle.pst_rejudge.specs.StreamAnswers.{LinesAreItems};
+
+use pst_sexpr::laws::one_reading;
+
+/// The answers to lines that spell one item each are the answers to these items.
+pub fn lines_are_items()
+    ensures { LinesAreItems }
+{
+    one_reading();
+}

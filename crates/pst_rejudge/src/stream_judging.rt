@@ -1,0 +1,112 @@
+//! Judges the items that lines spell.
+ghost use Rattle.std.specs.Prelude.{◌≡◌, true, IfOk};
+ghost use Rattle.std.specs.List.{AllZip};
+ghost use Rattle.pst_json_runs.specs.Lines.{has_json};
+ghost use Rattle.pst_rejudge.specs.StreamAnswers.{IsLineAnswer, IsTreeAnswer};
+
+use crate::each::{Answer, answer_of};
+use crate::sharing::may_share_models;
+use pst_eval::Callbacks;
+use pst_json_runs::{has_json, json_tree};
+use pst_model::Typed;
+use pst_runs::RunFaultKind;
+use pst_sexpr::{FaultKind, MAX_BYTES, read};
+use rayon::prelude::*;
+use std::alloc::{AllocError, Global};
+use std::thread::Threads;
+
+/// How few lines are worth a thread of their own.
+const FEW_LINES: usize = 16;
+
+/// Reads and judges the tree that a line spells. A line that spells none, or more than one, is refused as `BadForm`.
+fn tree_answer<C: Callbacks>(
+    callbacks: &C,
+    alloc: Global,
+    typed: &Typed,
+    line: &[u8],
+) -> Result<Answer, AllocError>
+    requires { typed.now ≡ C.model callbacks.now }
+    ensures { IfOk result (IsTreeAnswer (C.model callbacks.now) line.now) }
+{
+    let refused = Answer::Refused {
+        kind: RunFaultKind::BadForm,
+        command: 0,
+    };
+    let trees = match read(alloc, line) {
+        Ok(trees) => trees,
+        Err(fault) => {
+            if fault.kind == FaultKind::NoMemory {
+                return Err(AllocError);
+            }
+            return Ok(refused);
+        }
+    };
+    if trees.len() != 1 {
+        return Ok(refused);
+    }
+    answer_of(callbacks, alloc, typed, &trees[0])
+}
+
+/// Reads and judges the JSON item of a line. A line that is longer than a file may be is refused as `BadForm`.
+fn json_answer<C: Callbacks>(
+    callbacks: &C,
+    alloc: Global,
+    typed: &Typed,
+    line: &[u8],
+) -> Result<Answer, AllocError>
+    requires model { typed.now ≡ C.model callbacks.now }
+    requires json { has_json line.now ≡ true }
+    ensures { IfOk result (IsLineAnswer (C.model callbacks.now) line.now) }
+{
+    if line.len() > MAX_BYTES {
+        return Ok(Answer::Refused {
+            kind: RunFaultKind::BadForm,
+            command: 0,
+        });
+    }
+    let tree = json_tree(alloc, typed.source(), line)?;
+    answer_of(callbacks, alloc, typed, &tree)
+}
+
+/// Reads and judges the item that a line spells, as a tree or as JSON. A line that spells none, or more than one, is refused
+/// as `BadForm`.
+fn line_answer<C: Callbacks>(
+    callbacks: &C,
+    alloc: Global,
+    typed: &Typed,
+    line: &[u8],
+) -> Result<Answer, AllocError>
+    requires { typed.now ≡ C.model callbacks.now }
+    ensures { IfOk result (IsLineAnswer (C.model callbacks.now) line.now) }
+{
+    if has_json(line) {
+        json_answer(callbacks, alloc, typed, line)
+    } else {
+        tree_answer(callbacks, alloc, typed, line)
+    }
+}
+
+/// Judges each line, and returns the answers in order. Several threads judge the lines at once.
+pub(crate) fn line_answers<C: Callbacks + Sync, R: Threads + Sync>(
+    rt: &R,
+    callbacks: &C,
+    alloc: Global,
+    typed: &Typed,
+    lines: &[Vec<u8>],
+) -> Result<Vec<Answer>, AllocError>
+    requires { typed.now ≡ C.model callbacks.now }
+    ensures { IfOk result (λ answers.
+        AllZip (λ line. IsLineAnswer (C.model callbacks.now) line.items) lines.now answers.items) }
+{
+    may_share_models();
+    lines
+        .par_iter()
+        .with_min_len(FEW_LINES)
+        .map(
+            |line: &Vec<u8>| -> Result<Answer, AllocError>
+                requires { typed.now ≡ C.model callbacks.now }
+                ensures { IfOk result (IsLineAnswer (C.model callbacks.entry.now) line.now.items) }
+            { line_answer(callbacks, alloc, typed, line.as_slice()) },
+        )
+        .collect::<Result<Vec<Answer>, AllocError>>(rt, alloc)?
+}

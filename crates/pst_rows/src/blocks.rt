@@ -1,0 +1,117 @@
+//! Blocks: requests with their answers, which may be long.
+//!
+//! A file of blocks has notes, then blocks, and `$ end` as its last line. A block is `$ REQUEST` on a line and the wanted answer
+//! on the lines after it, up to the next `$`, which an empty line precedes. A request is a word, options `NAME=VALUE`, and
+//! files. A file with a `/` in its name is one of `data`, another one of the folder of the blocks. A block may also have files of
+//! its own: after the request `-- NAME` on a line and the file's text on the lines after it, for each of them; then `=>` on a
+//! line, and the answer. In the text of such a file braces stand for what they do in tables, and the last line break
+//! belongs to it only if an empty line follows.
+
+use crate::campaigns::Pool;
+use crate::requests::{Request, answer_to_request};
+use crate::tally::{Tally, print_difference};
+use crate::texts::expanded;
+use pst_sources::SourceFile;
+use std::fs::Files;
+use std::sync::Wait;
+use std::thread::Threads;
+use std::{fs, io};
+
+/// The last part of a path, which is the file's name.
+fn name_of(path: &str) -> &str {
+    match path.rsplit_once("/") {
+        Some((_, name)) => name,
+        None => path,
+    }
+}
+
+/// The folder that a file is in.
+fn folder_of(path: &str) -> &str {
+    match path.rsplit_once("/") {
+        Some((folder, _)) => folder,
+        None => "",
+    }
+}
+
+/// Reads the files that a request names, next to the file of blocks.
+fn read_named<'a, R: Files + AllocGlobal>(
+    rt: &R,
+    path: &str,
+    line: &'a str,
+) -> io::Result<Vec<SourceFile<'a>>> {
+    let folder = folder_of(path);
+    let mut files = Vec::new(rt.alloc());
+    for word in line.split(' ').skip(1) {
+        if word.contains('=') {
+            continue;
+        }
+        let bytes = if word.contains('/') {
+            fs::read(rt, word)?
+        } else {
+            fs::read(rt, format!(in rt.alloc(); "{folder}/{word}")?.as_str())?
+        };
+        let name = name_of(word);
+        files.push(SourceFile { name, bytes })?;
+    }
+    Ok(files)
+}
+
+/// Adds the files that a block has itself: in each part the name is on the first line, and the text on the others.
+fn push_own<'a, R: Files + AllocGlobal>(
+    rt: &R,
+    files: &mut Vec<SourceFile<'a>>,
+    text: &'a str,
+) -> io::Result<()> {
+    for part in text.split("\n-- ") {
+        let (name, text) = part.split_once("\n").unwrap_or((part, ""));
+        let bytes = expanded(rt, text)?.into_bytes();
+        files.push(SourceFile { name, bytes })?;
+    }
+    Ok(())
+}
+
+/// Asks a block of the file at that path, and prints how its answer differs.
+fn ask_block<R: Threads + Wait + Sync + Files + Print + AllocGlobal>(
+    rt: &R,
+    pool: &mut Pool,
+    tally: &mut Tally,
+    path: &str,
+    block: &str,
+) -> anyhow::Result<()> {
+    let (line, rest) = block.split_once("\n").unwrap_or((block, ""));
+    let mut files = read_named(rt, path, line)?;
+    let named = files.len();
+    let mut wanted = rest;
+    if let Some(own) = rest.strip_prefix("-- ") {
+        let (texts, answer) = own.split_once("\n=>\n").unwrap_or((own, ""));
+        push_own(rt, &mut files, texts)?;
+        wanted = answer;
+    }
+    let request = Request { line, files };
+    let answer = answer_to_request(rt, pool, &request)?;
+    let is_right = answer.as_str() == wanted;
+    tally.count(is_right);
+    if !is_right {
+        let names = request.names_after(rt.alloc(), named)?;
+        println!(rt; "{path}: $ {line}{names}")?;
+        print_difference(rt, wanted, answer.as_str())?;
+    }
+    Ok(())
+}
+
+/// Asks the blocks of a file, and prints those that have another answer.
+pub fn ask_blocks<R: Threads + Wait + Sync + Files + Print + AllocGlobal>(
+    rt: &R,
+    pool: &mut Pool,
+    tally: &mut Tally,
+    path: &str,
+    text: &str,
+) -> anyhow::Result<()> {
+    let Some(whole) = text.strip_suffix("\n$ end\n") else {
+        return Ok(tally.complain(rt, path, "the last line is not `$ end`")?);
+    };
+    for block in whole.split("\n$ ").skip(1) {
+        ask_block(rt, pool, tally, path, block)?;
+    }
+    Ok(())
+}

@@ -1,0 +1,87 @@
+//! The answers to the requests of blocks.
+
+use crate::campaigns::{Pool, campaign_answer};
+use crate::examples::comments_answer;
+use crate::explained::{explain_answer, graph_answer, longest_answer};
+use crate::judged::{warnings_on_answers_answer, warnings_on_runs_answer};
+use crate::messages::{beginnings_answer, message_answer, warnings_answer};
+use crate::random::random_answer;
+use pst_messages::Asked;
+use pst_sources::SourceFile;
+use std::alloc::{AllocError, Global};
+use std::sync::Wait;
+use std::thread::Threads;
+
+/// A request: its line, and the files that it is about.
+#[derive(Drop)]
+pub struct Request<'a> {
+    pub line: &'a str,
+    pub files: Vec<SourceFile<'a>>,
+}
+
+impl<'a> Request<'a> {
+    /// The value of an option `NAME=VALUE`.
+    pub fn option(&self, name: &str) -> Option<&'a str> {
+        for word in self.line.split(' ') {
+            if let Some((found, value)) = word.split_once("=") {
+                if found == name {
+                    return Some(value);
+                }
+            }
+        }
+        None
+    }
+
+    /// The number that an option has, or another one without it.
+    pub fn number(&self, name: &str, without: u32) -> u32 {
+        match self.option(name) {
+            Some(value) => value.parse().unwrap_or(0),
+            None => without,
+        }
+    }
+
+    /// The bytes of the first file.
+    pub fn bytes(&self) -> &[u8] {
+        match self.files.as_slice().first() {
+            Some(file) => file.bytes.as_slice(),
+            None => &[],
+        }
+    }
+
+    /// The names of the files but the first `count`, each after a blank.
+    pub fn names_after(&self, alloc: Global, count: usize) -> Result<String, AllocError> {
+        let mut names = String::new(alloc);
+        for file in self.files.iter().skip(count) {
+            names.push_str(" ")?;
+            names.push_str(file.name)?;
+        }
+        Ok(names)
+    }
+}
+
+/// The answer to a request.
+pub fn answer_to_request<R: Threads + Wait + Sync + AllocGlobal>(
+    rt: &R,
+    pool: &mut Pool,
+    request: &Request<'_>,
+) -> anyhow::Result<String> {
+    let alloc = rt.alloc();
+    let question = request.line.split(' ').next().unwrap_or("");
+    let answer = match question {
+        "explain" => explain_answer(rt, alloc, request)?,
+        "graph" => graph_answer(rt, alloc, request)?,
+        "longest" => longest_answer(rt, alloc, request)?,
+        "comments" => comments_answer(rt, alloc, request)?,
+        "message" => message_answer(alloc, request, Asked::FirstItem)?,
+        "message_of_model" => message_answer(alloc, request, Asked::Model)?,
+        "messages" => message_answer(alloc, request, Asked::EachItem)?,
+        "beginnings" => beginnings_answer(alloc, request)?,
+        "warnings" => warnings_answer(alloc, request)?,
+        "warnings_on_runs" => warnings_on_runs_answer(rt, alloc, request)?,
+        "warnings_on_answers" => warnings_on_answers_answer(rt, alloc, request)?,
+        "random" => random_answer(alloc, request)?,
+        "campaign" => campaign_answer(rt, pool, request)?,
+        _ => String::from_str(alloc, "there is no such question\n")?,
+    };
+    Ok(answer)
+}

@@ -1,0 +1,32 @@
+use Rattle.std.proofs.Common.{◌≡◌, ◌+◌, ◌*◌, map, reverse, drop}
+use Rattle.pst_eval.specs.Env.{env_of, mean_in, parts_in}
+use Rattle.pst_eval.specs.Meaning.{visit, visit_each, fold_over}
+use Rattle.pst_eval.specs.Weight.{weight, clause_weight, functions_weight, total}
+use Rattle.pst_scene.proofs.descent.+descent.Given as goal
+
+abbrev pub decreases-in_expr : goal.decreases-in_expr
+decreases-in_expr l = 4 * (weight l.expr.now + functions_weight (reverse l.site.now.context.earlier.now))
+
+abbrev pub decreases-in_body : goal.decreases-in_body
+decreases-in_body l = 4 * functions_weight (reverse l.site.now.context.earlier.now) + 1
+
+abbrev pub decreases-in_items : goal.decreases-in_items
+decreases-in_items l = 4 * (weight l.body.now + functions_weight (reverse l.site.now.context.earlier.now)) + 1
+
+abbrev pub decreases-in_clauses : goal.decreases-in_clauses
+decreases-in_clauses l =
+    4 * (total (map clause_weight l.clauses.now) + weight l.body.now + functions_weight (reverse l.site.now.context.earlier.now)) + 1
+
+abbrev pub decreases-in_each : goal.decreases-in_each
+decreases-in_each l =
+    4 * (total (map clause_weight l.rest.now) + weight l.body.now + functions_weight (reverse l.site.now.context.earlier.now)) + 2
+
+abbrev pub invariant-in_items-loop-item : goal.invariant-in_items-loop-item
+invariant-in_items-loop-item l =
+    let f = fold_over (mean_in l.site.context l.body) l.name l.acc (env_of l.env) in
+    f (drop l.item-index l.items) l.built l.left ≡ f l.items l.initial.built l.turns
+
+abbrev pub invariant-in_each-loop-item : goal.invariant-in_each-loop-item
+invariant-in_each-loop-item l =
+    let next = visit (parts_in l.site.context l.rest) (mean_in l.site.context l.body) in
+    visit_each next l.name (env_of l.env) (drop l.item-index l.items) l.built l.left ≡ visit_each next l.name (env_of l.env) l.items l.initial.built l.turns

@@ -1,0 +1,277 @@
+//! The way from an expression without a value down to the part that has none by itself.
+//!
+//! At each form `attempt` evaluates the parts in their order, with the turns that are left. The way goes into
+//! the first part without a value, in the names that it sees, or ends at the form itself if all its parts have
+//! values. The items of a comprehension or a fold are evaluated once, and the way goes into the one that fails.
+
+ghost use Rattle.std.specs.Prelude.{◌≡◌, IfOk};
+ghost use Rattle.pst_eval.specs.Env.{env_of, mean_in, parts_in, functions_in};
+ghost use Rattle.pst_eval.specs.Meaning as spec;
+ghost use Rattle.pst_operators.specs.Operators as operators;
+ghost use Rattle.pst_scene.specs.Outcomes.{outcome_at};
+ghost use Rattle.pst_scene.specs.Parts.{Appends, SameIfSome, Visits};
+
+use crate::attempt::{All, Site, Tried, attempt, attempt_all, function_named, here, split_first};
+use crate::faulty::FaultyPart;
+use crate::parts::deciding_part;
+use pst_eval::{Context, Env};
+use pst_model::{Clause, Expr};
+use pst_operators::{Stop, append, items_of, take_turn};
+use pst_value::{Fault, Items, Value};
+use std::alloc::AllocError;
+
+/// The result of visiting the clauses of a comprehension.
+#[derive(Drop)]
+pub enum Visited<'a> {
+    /// The list that is built, and how many turns are left.
+    Built(Items<Value>, u32),
+    /// A part faults.
+    Part(FaultyPart<'a>, Fault),
+    /// The comprehension has no value, though its parts have some.
+    Itself,
+}
+
+/// The list that is built with one more item.
+fn appended<'a>(built: Items<Value>, value: Value, left: u32) -> Result<Visited<'a>, AllocError>
+    ensures { IfOk result (Appends (operators.append built value) left) }
+{
+    match append(built, value) {
+        Ok(built) => Ok(Visited::Built(built, left)),
+        Err(Stop::NoMemory) => Err(AllocError),
+        Err(_) => Ok(Visited::Itself),
+    }
+}
+
+/// The part of an expression that has no value by itself.
+#[cycle(descent)]
+pub fn in_expr<'a>(
+    expr: &'a Expr,
+    site: &Site<'a>,
+    env: &Env<'_>,
+    turns: u32,
+) -> Result<FaultyPart<'a>, AllocError>
+    ensures { IfOk result
+        (λ p. mean_in site.now.context expr.now (env_of env.now) turns ≡ outcome_at site.now.context.items.now p) }
+{
+    let context = &site.context;
+    match expr {
+        Expr::Let(name, bound, body) => match attempt(bound.get(), context, env, turns)? {
+            Tried::Faults(_) => in_expr(bound.get(), site, env, turns),
+            Tried::Gives(value, left) => {
+                let inner = Env::With(name.as_bytes(), &value, &*env);
+                in_expr(body.get(), site, &inner, left)
+            }
+            Tried::Stuck => here(expr, site, env, turns),
+        },
+        Expr::Apply(name, parts) => match attempt_all(parts.as_slice(), context, env, turns)? {
+            All::Faults(part, left, _) => in_expr(part, site, env, left),
+            All::Give(arguments, left) => {
+                match in_body(name.as_bytes(), arguments.as_slice(), site, left)? {
+                    Some(part) => Ok(part),
+                    None => here(expr, site, env, turns),
+                }
+            }
+            All::Stuck => here(expr, site, env, turns),
+        },
+        Expr::For(clauses, body) => {
+            let built = Items::new(context.alloc);
+            match in_clauses(clauses.as_slice(), body.get(), site, env, turns, built)? {
+                Visited::Part(part, _) => Ok(part),
+                _ => here(expr, site, env, turns),
+            }
+        }
+        Expr::Fold(name, list, acc, first, body) => {
+            match attempt(list.get(), context, env, turns)? {
+                Tried::Faults(_) => in_expr(list.get(), site, env, turns),
+                Tried::Gives(value, left) => match items_of(value) {
+                    Ok(items) => match attempt(first.get(), context, env, left)? {
+                        Tried::Faults(_) => in_expr(first.get(), site, env, left),
+                        Tried::Gives(first, left) => {
+                            match in_items(
+                                body.get(),
+                                name.as_bytes(),
+                                acc.as_bytes(),
+                                items.as_slice(),
+                                first,
+                                site,
+                                env,
+                                left,
+                            )? {
+                                Some(part) => Ok(part),
+                                None => here(expr, site, env, turns),
+                            }
+                        }
+                        Tried::Stuck => here(expr, site, env, turns),
+                    },
+                    Err(_) => here(expr, site, env, turns),
+                },
+                Tried::Stuck => here(expr, site, env, turns),
+            }
+        }
+        _ => match deciding_part(expr, context, env, turns)? {
+            Some((part, left)) => in_expr(part, site, env, left),
+            None => here(expr, site, env, turns),
+        },
+    }
+}
+
+/// The part of the body of a function that has no value by itself, if the function can be applied.
+#[cycle(descent)]
+fn in_body<'a>(
+    name: &[u8],
+    arguments: &[Value],
+    site: &Site<'a>,
+    turns: u32,
+) -> Result<Option<FaultyPart<'a>>, AllocError>
+    ensures { IfOk result
+        (SameIfSome site.now.context.items.now
+        (spec.applied (functions_in site.now.context) name.now arguments.now turns)) }
+{
+    let Some((function, earlier)) = function_named(site.context.earlier, name) else {
+        return Ok(None);
+    };
+    if function.params.len() != arguments.len() {
+        return Ok(None);
+    }
+    let mut left = turns;
+    match take_turn(&mut left) {
+        Ok(()) => {}
+        Err(_) => return Ok(None),
+    }
+    let inner = Site {
+        context: Context {
+            alloc: site.context.alloc,
+            items: site.context.items,
+            earlier,
+        },
+        function: Some(function.name.as_str()),
+    };
+    let frame = Env::Frame(function.params.as_slice(), arguments);
+    Ok(Some(in_expr(&function.body, &inner, &frame, left)?))
+}
+
+/// The part of the body of a fold that has no value by itself, of the first item for which it has none.
+#[cycle(descent)]
+fn in_items<'a>(
+    body: &'a Expr,
+    name: &[u8],
+    acc: &[u8],
+    items: &[Value],
+    mut built: Value,
+    site: &Site<'a>,
+    env: &Env<'_>,
+    turns: u32,
+) -> Result<Option<FaultyPart<'a>>, AllocError>
+    ensures { IfOk result
+        (SameIfSome site.now.context.items.now
+        (spec.fold_over (mean_in site.now.context body.now) name.now acc.now (env_of env.now) items.now built turns)) }
+{
+    let mut left = turns;
+    for item in items {
+        match take_turn(&mut left) {
+            Ok(()) => {}
+            Err(_) => return Ok(None),
+        }
+        let outer = Env::With(&*name, item, &*env);
+        let inner = Env::With(&*acc, &built, &outer);
+        match attempt(body, &site.context, &inner, left)? {
+            Tried::Faults(_) => return Ok(Some(in_expr(body, site, &inner, left)?)),
+            Tried::Gives(next, more) => {
+                built = next;
+                left = more;
+            }
+            Tried::Stuck => return Ok(None),
+        }
+    }
+    Ok(None)
+}
+
+/// The result of visiting clauses, and after them the body.
+#[cycle(descent)]
+fn in_clauses<'a>(
+    clauses: &'a [Clause],
+    body: &'a Expr,
+    site: &Site<'a>,
+    env: &Env<'_>,
+    turns: u32,
+    built: Items<Value>,
+) -> Result<Visited<'a>, AllocError>
+    ensures { IfOk result
+        (Visits site.now.context.items.now
+        (spec.visit (parts_in site.now.context clauses.now) (mean_in site.now.context body.now) (env_of env.now)
+        built turns)) }
+{
+    let context = &site.context;
+    let Some((first, rest)) = split_first(clauses) else {
+        return match attempt(body, context, env, turns)? {
+            Tried::Faults(fault) => { Ok(Visited::Part(in_expr(body, site, env, turns)?, fault)) }
+            Tried::Gives(value, left) => appended(built, value, left),
+            Tried::Stuck => Ok(Visited::Itself),
+        };
+    };
+    match first {
+        Clause::In(name, list) => match attempt(list, context, env, turns)? {
+            Tried::Faults(fault) => { Ok(Visited::Part(in_expr(list, site, env, turns)?, fault)) }
+            Tried::Gives(value, left) => match items_of(value) {
+                Ok(items) => {
+                    in_each(
+                        rest,
+                        body,
+                        name.as_bytes(),
+                        items.as_slice(),
+                        site,
+                        env,
+                        left,
+                        built,
+                    )
+                }
+                Err(_) => Ok(Visited::Itself),
+            },
+            Tried::Stuck => Ok(Visited::Itself),
+        },
+        Clause::When(test) => match attempt(test, context, env, turns)? {
+            Tried::Faults(fault) => { Ok(Visited::Part(in_expr(test, site, env, turns)?, fault)) }
+            Tried::Gives(Value::Bool(true), left) => {
+                in_clauses(rest, body, site, env, left, built)
+            }
+            Tried::Gives(Value::Bool(false), left) => Ok(Visited::Built(built, left)),
+            _ => Ok(Visited::Itself),
+        },
+    }
+}
+
+/// The result of visiting the other clauses for each item.
+#[cycle(descent)]
+fn in_each<'a>(
+    rest: &'a [Clause],
+    body: &'a Expr,
+    name: &[u8],
+    items: &[Value],
+    site: &Site<'a>,
+    env: &Env<'_>,
+    turns: u32,
+    mut built: Items<Value>,
+) -> Result<Visited<'a>, AllocError>
+    ensures { IfOk result
+        (Visits site.now.context.items.now
+        (spec.visit_each (spec.visit (parts_in site.now.context rest.now) (mean_in site.now.context body.now))
+        name.now (env_of env.now) items.now built turns)) }
+{
+    let mut left = turns;
+    for item in items {
+        match take_turn(&mut left) {
+            Ok(()) => {}
+            Err(_) => return Ok(Visited::Itself),
+        }
+        let inner = Env::With(&*name, item, &*env);
+        match in_clauses(rest, body, site, &inner, left, built)? {
+            Visited::Built(more, fewer) => {
+                built = more;
+                left = fewer;
+            }
+            Visited::Part(part, fault) => return Ok(Visited::Part(part, fault)),
+            Visited::Itself => return Ok(Visited::Itself),
+        }
+    }
+    Ok(Visited::Built(built, left))
+}

@@ -1,0 +1,157 @@
+//! The part of an expression that makes it false.
+
+ghost use Rattle.std.specs.Prelude.{◌≡◌, IfOk, MatchOption};
+ghost use Rattle.pst_eval.specs.Callbacks.{at_names};
+ghost use Rattle.pst_eval.specs.Env.{env_of};
+ghost use Rattle.pst_scene.specs.Outcomes.{IsFalse};
+
+use crate::evaluating::{truth_in, value_in};
+use crate::wanted::wanted_by_part;
+use pst_eval::Env;
+use pst_model::{Binary, Expr, Source, Unary};
+use pst_value::Value;
+use std::alloc::{AllocError, Global};
+
+/// What is known of a part that is false.
+#[derive(Drop)]
+pub enum Evidence {
+    /// It is true of this reply alone.
+    Wants(Value),
+    /// It compares these values, or is the negation of what does.
+    Compares(Value, Value),
+    /// Nothing else.
+    Nothing,
+}
+
+/// A part that makes an expression false.
+#[derive(Drop)]
+pub struct FalsePart<'a> {
+    pub part: &'a Expr,
+    pub evidence: Evidence,
+}
+
+fn is_comparison(operator: Binary) -> bool {
+    matches!(
+        operator,
+        Binary::Less | Binary::LessEqual | Binary::Equal | Binary::Same
+    )
+}
+
+/// What is negated if the expression is a negation, and else the expression itself.
+fn without_not(expr: &Expr) -> &Expr {
+    match expr {
+        Expr::Unary(Unary::Not, operand) => operand.get(),
+        _ => expr,
+    }
+}
+
+/// Whether something is known of a part.
+fn is_something(evidence: &Evidence) -> bool {
+    !matches!(evidence, Evidence::Nothing)
+}
+
+/// The values that a comparison or its negation compares, if the expression is one.
+fn compared(
+    alloc: Global,
+    model: &Source,
+    expr: &Expr,
+    env: &Env<'_>,
+) -> Result<Evidence, AllocError> {
+    let Expr::Binary(operator, first, second) = without_not(expr) else {
+        return Ok(Evidence::Nothing);
+    };
+    if !is_comparison(*operator) {
+        return Ok(Evidence::Nothing);
+    }
+    let first = value_in(alloc, model, first.get(), env)?;
+    let second = value_in(alloc, model, second.get(), env)?;
+    match (first, second) {
+        (Some(first), Some(second)) => Ok(Evidence::Compares(first, second)),
+        _ => Ok(Evidence::Nothing),
+    }
+}
+
+/// The expression itself, with what is known of it.
+fn whole<'a>(
+    alloc: Global,
+    model: &Source,
+    expr: &'a Expr,
+    env: &Env<'_>,
+) -> Result<FalsePart<'a>, AllocError>
+    ensures { IfOk result (λ p. p.part.now ≡ expr.now) }
+{
+    let evidence = match wanted_by_part(alloc, model, expr, env)? {
+        Some(value) => Evidence::Wants(value),
+        None => compared(alloc, model, expr, env)?,
+    };
+    Ok(FalsePart {
+        part: expr,
+        evidence,
+    })
+}
+
+/// The part that makes an expression false, if it is false.
+#[cycle(falsity)]
+fn false_part_of<'a>(
+    alloc: Global,
+    model: &Source,
+    expr: &'a Expr,
+    env: &Env<'_>,
+) -> Result<Option<FalsePart<'a>>, AllocError>
+    ensures { IfOk result (λ r. MatchOption r (Unit {0})
+        (λ p. IsFalse (at_names model.now p.part.now (env_of env.now)))) }
+{
+    match truth_in(alloc, model, expr, env)? {
+        Some(false) => {}
+        _ => return Ok(None),
+    }
+    match inner_part(alloc, model, expr, env)? {
+        Some(found) => Ok(Some(found)),
+        None => Ok(Some(whole(alloc, model, expr, env)?)),
+    }
+}
+
+/// The part that makes the first false conjunct false, or the chosen one of an `if` if something is known of that part.
+#[cycle(falsity)]
+fn inner_part<'a>(
+    alloc: Global,
+    model: &Source,
+    expr: &'a Expr,
+    env: &Env<'_>,
+) -> Result<Option<FalsePart<'a>>, AllocError>
+    ensures { IfOk result (λ r. MatchOption r (Unit {0})
+        (λ p. IsFalse (at_names model.now p.part.now (env_of env.now)))) }
+{
+    match expr {
+        Expr::And(first, second) => match false_part_of(alloc, model, first.get(), env)? {
+            Some(found) => Ok(Some(found)),
+            None => false_part_of(alloc, model, second.get(), env),
+        },
+        Expr::If(test, then, other) => {
+            let found = match truth_in(alloc, model, test.get(), env)? {
+                Some(true) => false_part_of(alloc, model, then.get(), env)?,
+                Some(false) => false_part_of(alloc, model, other.get(), env)?,
+                None => None,
+            };
+            match found {
+                Some(part) if is_something(&part.evidence) => Ok(Some(part)),
+                _ => Ok(None),
+            }
+        }
+        _ => Ok(None),
+    }
+}
+
+/// The part that makes a postcondition of the model false, if it is false: the conjunct that is, or that of the chosen part of
+/// an `if`, and what is known of it.
+pub fn false_part<'a>(
+    alloc: Global,
+    model: &Source,
+    post: &'a Expr,
+    env: &Env<'_>,
+) -> Result<Option<FalsePart<'a>>, AllocError>
+    ensures { IfOk result (λ r. MatchOption r (Unit {0})
+        (λ p. IsFalse (at_names model.now p.part.now (env_of env.now)))) }
+{
+    false_part_of(alloc, model, post, env)
+}

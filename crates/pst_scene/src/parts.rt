@@ -1,0 +1,258 @@
+//! The part of an expression that decides its outcome, among the parts that see the names that it sees itself.
+
+ghost use Rattle.std.specs.Prelude.{IfOk, MatchOption};
+ghost use Rattle.pst_eval.specs.Env.{env_of};
+ghost use Rattle.pst_scene.specs.Parts.{Decides};
+
+use crate::attempt::{All, Tried, attempt, attempt_all};
+use pst_eval::{Context, Env};
+use pst_model::Expr;
+use pst_value::Value;
+use std::alloc::AllocError;
+
+/// A part, and how many turns are left when it begins.
+type Part<'a> = Option<(&'a Expr, u32)>;
+
+/// The test of an `if`, or the chosen one of the others.
+fn of_if<'a>(
+    expr: &'a Expr,
+    context: &Context<'_>,
+    env: &Env<'_>,
+    turns: u32,
+) -> Result<Part<'a>, AllocError>
+    ensures { IfOk result (λ r. MatchOption r (Unit {0})
+        (λ p. Decides context.now expr.now (env_of env.now) turns p.0.now p.1)) }
+{
+    let Expr::If(test, then, other) = expr else {
+        return Ok(None);
+    };
+    match attempt(test.get(), context, env, turns)? {
+        Tried::Faults(_) => Ok(Some((test.get(), turns))),
+        Tried::Gives(Value::Bool(true), left) => Ok(Some((then.get(), left))),
+        Tried::Gives(Value::Bool(false), left) => Ok(Some((other.get(), left))),
+        _ => Ok(None),
+    }
+}
+
+/// The operand of an `and` that faults.
+fn of_and<'a>(
+    expr: &'a Expr,
+    context: &Context<'_>,
+    env: &Env<'_>,
+    turns: u32,
+) -> Result<Part<'a>, AllocError>
+    ensures { IfOk result (λ r. MatchOption r (Unit {0})
+        (λ p. Decides context.now expr.now (env_of env.now) turns p.0.now p.1)) }
+{
+    let Expr::And(first, second) = expr else {
+        return Ok(None);
+    };
+    match attempt(first.get(), context, env, turns)? {
+        Tried::Faults(_) => Ok(Some((first.get(), turns))),
+        Tried::Gives(Value::Bool(true), left) => {
+            match attempt(second.get(), context, env, left)? {
+                Tried::Faults(_) => Ok(Some((second.get(), left))),
+                _ => Ok(None),
+            }
+        }
+        _ => Ok(None),
+    }
+}
+
+/// The operand of an `or` that faults.
+fn of_or<'a>(
+    expr: &'a Expr,
+    context: &Context<'_>,
+    env: &Env<'_>,
+    turns: u32,
+) -> Result<Part<'a>, AllocError>
+    ensures { IfOk result (λ r. MatchOption r (Unit {0})
+        (λ p. Decides context.now expr.now (env_of env.now) turns p.0.now p.1)) }
+{
+    let Expr::Or(first, second) = expr else {
+        return Ok(None);
+    };
+    match attempt(first.get(), context, env, turns)? {
+        Tried::Faults(_) => Ok(Some((first.get(), turns))),
+        Tried::Gives(Value::Bool(false), left) => {
+            match attempt(second.get(), context, env, left)? {
+                Tried::Faults(_) => Ok(Some((second.get(), left))),
+                _ => Ok(None),
+            }
+        }
+        _ => Ok(None),
+    }
+}
+
+/// The operand of an operator of one that faults.
+fn of_unary<'a>(
+    expr: &'a Expr,
+    context: &Context<'_>,
+    env: &Env<'_>,
+    turns: u32,
+) -> Result<Part<'a>, AllocError>
+    ensures { IfOk result (λ r. MatchOption r (Unit {0})
+        (λ p. Decides context.now expr.now (env_of env.now) turns p.0.now p.1)) }
+{
+    let Expr::Unary(_, operand) = expr else {
+        return Ok(None);
+    };
+    match attempt(operand.get(), context, env, turns)? {
+        Tried::Faults(_) => Ok(Some((operand.get(), turns))),
+        _ => Ok(None),
+    }
+}
+
+/// The tuple of an `at` that faults.
+fn of_at<'a>(
+    expr: &'a Expr,
+    context: &Context<'_>,
+    env: &Env<'_>,
+    turns: u32,
+) -> Result<Part<'a>, AllocError>
+    ensures { IfOk result (λ r. MatchOption r (Unit {0})
+        (λ p. Decides context.now expr.now (env_of env.now) turns p.0.now p.1)) }
+{
+    let Expr::At(tuple, _) = expr else {
+        return Ok(None);
+    };
+    match attempt(tuple.get(), context, env, turns)? {
+        Tried::Faults(_) => Ok(Some((tuple.get(), turns))),
+        _ => Ok(None),
+    }
+}
+
+/// The operand of an operator of two that faults.
+fn of_binary<'a>(
+    expr: &'a Expr,
+    context: &Context<'_>,
+    env: &Env<'_>,
+    turns: u32,
+) -> Result<Part<'a>, AllocError>
+    ensures { IfOk result (λ r. MatchOption r (Unit {0})
+        (λ p. Decides context.now expr.now (env_of env.now) turns p.0.now p.1)) }
+{
+    let Expr::Binary(_, first, second) = expr else {
+        return Ok(None);
+    };
+    match attempt(first.get(), context, env, turns)? {
+        Tried::Faults(_) => Ok(Some((first.get(), turns))),
+        Tried::Gives(_, left) => match attempt(second.get(), context, env, left)? {
+            Tried::Faults(_) => Ok(Some((second.get(), left))),
+            _ => Ok(None),
+        },
+        Tried::Stuck => Ok(None),
+    }
+}
+
+/// The map, the key or the value of a `put` that faults.
+fn of_put<'a>(
+    expr: &'a Expr,
+    context: &Context<'_>,
+    env: &Env<'_>,
+    turns: u32,
+) -> Result<Part<'a>, AllocError>
+    ensures { IfOk result (λ r. MatchOption r (Unit {0})
+        (λ p. Decides context.now expr.now (env_of env.now) turns p.0.now p.1)) }
+{
+    let Expr::Put(map, key, value) = expr else {
+        return Ok(None);
+    };
+    let left = match attempt(map.get(), context, env, turns)? {
+        Tried::Faults(_) => return Ok(Some((map.get(), turns))),
+        Tried::Gives(_, left) => left,
+        Tried::Stuck => return Ok(None),
+    };
+    let fewer = match attempt(key.get(), context, env, left)? {
+        Tried::Faults(_) => return Ok(Some((key.get(), left))),
+        Tried::Gives(_, fewer) => fewer,
+        Tried::Stuck => return Ok(None),
+    };
+    match attempt(value.get(), context, env, fewer)? {
+        Tried::Faults(_) => Ok(Some((value.get(), fewer))),
+        _ => Ok(None),
+    }
+}
+
+/// The part of a tuple that faults.
+fn of_tuple<'a>(
+    expr: &'a Expr,
+    context: &Context<'_>,
+    env: &Env<'_>,
+    turns: u32,
+) -> Result<Part<'a>, AllocError>
+    ensures { IfOk result (λ r. MatchOption r (Unit {0})
+        (λ p. Decides context.now expr.now (env_of env.now) turns p.0.now p.1)) }
+{
+    let Expr::Tuple(parts) = expr else {
+        return Ok(None);
+    };
+    match attempt_all(parts.as_slice(), context, env, turns)? {
+        All::Faults(part, left, _) => Ok(Some((part, left))),
+        _ => Ok(None),
+    }
+}
+
+/// The item of a list that faults.
+fn of_list<'a>(
+    expr: &'a Expr,
+    context: &Context<'_>,
+    env: &Env<'_>,
+    turns: u32,
+) -> Result<Part<'a>, AllocError>
+    ensures { IfOk result (λ r. MatchOption r (Unit {0})
+        (λ p. Decides context.now expr.now (env_of env.now) turns p.0.now p.1)) }
+{
+    let Expr::List(_, items) = expr else {
+        return Ok(None);
+    };
+    match attempt_all(items.as_slice(), context, env, turns)? {
+        All::Faults(part, left, _) => Ok(Some((part, left))),
+        _ => Ok(None),
+    }
+}
+
+/// The argument of a call that faults.
+fn of_call<'a>(
+    expr: &'a Expr,
+    context: &Context<'_>,
+    env: &Env<'_>,
+    turns: u32,
+) -> Result<Part<'a>, AllocError>
+    ensures { IfOk result (λ r. MatchOption r (Unit {0})
+        (λ p. Decides context.now expr.now (env_of env.now) turns p.0.now p.1)) }
+{
+    let Expr::Call(_, arguments) = expr else {
+        return Ok(None);
+    };
+    match attempt_all(arguments.as_slice(), context, env, turns)? {
+        All::Faults(part, left, _) => Ok(Some((part, left))),
+        _ => Ok(None),
+    }
+}
+
+/// The part of an expression that has the outcome of the whole: the first that faults, or the chosen one of an `if`. `None` if
+/// there is no such part, and of forms that bind names or apply a function.
+pub fn deciding_part<'a>(
+    expr: &'a Expr,
+    context: &Context<'_>,
+    env: &Env<'_>,
+    turns: u32,
+) -> Result<Part<'a>, AllocError>
+    ensures { IfOk result (λ r. MatchOption r (Unit {0})
+        (λ p. Decides context.now expr.now (env_of env.now) turns p.0.now p.1)) }
+{
+    match expr {
+        Expr::If(_, _, _) => of_if(expr, context, env, turns),
+        Expr::And(_, _) => of_and(expr, context, env, turns),
+        Expr::Or(_, _) => of_or(expr, context, env, turns),
+        Expr::Unary(_, _) => of_unary(expr, context, env, turns),
+        Expr::At(_, _) => of_at(expr, context, env, turns),
+        Expr::Binary(_, _, _) => of_binary(expr, context, env, turns),
+        Expr::Put(_, _, _) => of_put(expr, context, env, turns),
+        Expr::Tuple(_) => of_tuple(expr, context, env, turns),
+        Expr::List(_, _) => of_list(expr, context, env, turns),
+        Expr::Call(_, _) => of_call(expr, context, env, turns),
+        _ => Ok(None),
+    }
+}

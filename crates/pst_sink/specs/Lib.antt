@@ -1,3 +1,0 @@
-pub mod Out
-pub mod Writing
-pub mod Names

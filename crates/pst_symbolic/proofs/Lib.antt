@@ -1,5 +1,0 @@
-pub mod Commutes
-pub mod Mapping
-pub mod Operands
-pub mod Table
-pub mod Values
