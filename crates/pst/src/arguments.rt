@@ -59,8 +59,18 @@ fn show<R: Runtime + AllocGlobal>(rt: &R, text: &str) -> Status {
     }
 }
 
-/// Parses the arguments of the program. If that fails, or nothing but a text is to be printed, the error is the status
-/// that the program ends with.
+/// Writes to standard error that the launcher starts clients, and returns the status that the program ends with.
+fn refuse_client<R: Eprint>(rt: &R) -> Status {
+    let text =
+        "error: the launcher takes --client, not the program itself: run ./pst or an installed pst";
+    match eprintln!(rt; "{text}") {
+        Ok(()) => Status::Refused,
+        Err(_) => Status::Lost,
+    }
+}
+
+/// Parses the arguments of the program. If that fails, a client is to be started, or nothing but a text is to be
+/// printed, the error is the status that the program ends with.
 pub fn parsed<'a, R: Runtime + AllocGlobal>(
     rt: &R,
     started: &'a [String],
@@ -72,6 +82,7 @@ pub fn parsed<'a, R: Runtime + AllocGlobal>(
         Ok(matches) if matches.subcommand_name() == Some("verdicts") => {
             Err(show(rt, help::VERDICTS))
         }
+        Ok(matches) if words::starts_clients(&matches) => Err(refuse_client(rt)),
         Ok(matches) => Ok(matches),
         Err(error) => Err(report(rt, &error)),
     }

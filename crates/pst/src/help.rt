@@ -1,4 +1,14 @@
-//! The texts of help after the options, and the words of verdicts.
+//! The usage lines that name a client, the texts of help after the options, and the help of `verdicts`.
+
+/// The usage lines of `run`.
+pub const RUN_USAGE: &str = "\
+pst run [OPTIONS] --client <COMMAND> [--shared] [FILE]...
+       pst run [OPTIONS] <SYSTEM> [FILE]...";
+
+/// The usage lines of `campaign`.
+pub const CAMPAIGN_USAGE: &str = "\
+pst campaign [OPTIONS] --client <COMMAND> [--shared] [FILE]
+       pst campaign [OPTIONS] <SYSTEM> [FILE]";
 
 /// After the help of the program.
 pub const PROGRAM: &str = "\
@@ -6,7 +16,7 @@ Examples:
   pst campaign --client ./client.py cache.model   tests a server through a client
   pst judge cache.model recorded.runs             judges runs that were recorded elsewhere
 
-`pst help verdicts` explains verdicts, reports and exit statuses.
+`pst help verdicts` explains verdicts, reports, refusals and exit statuses.
 The launcher also has `pst new NAME`, which writes a first model and client, and `pst install [PREFIX]`.";
 
 /// After the help of `check`.
@@ -14,6 +24,8 @@ pub const CHECK: &str = "\
 Examples:
   pst check cache.model
   pst check - < cache.model
+
+A refusal is a line on standard output; standard error says where the model is wrong, as FILE:LINE:COLUMN, and why.
 
 Exit status: 0 if the model is accepted, 2 if it is refused, 3 if an allocation failed.";
 
@@ -32,7 +44,7 @@ With --stream standard input has one item on each line, and the line of its verd
 no item, or longer than 1 MiB, is refused as BadForm.
 
 Exit status: 0 if all items are explained or valid, 1 if some item is not, 2 if the input is refused
-(with --keep-going or --format json: if some item is), 3 if an allocation failed or the output cannot be written.";
+(with --keep-going, --stream or --format json: if some item is), 3 if an allocation failed or the output cannot be written.";
 
 /// After the help of `explain`.
 pub const EXPLAIN: &str = "\
@@ -60,7 +72,7 @@ Examples:
   pst run --client ./client.py --repeats 20 cache.model failures/*.runs
   pst run --client ./client.py --format json cache.model cases.runs
 
-`--client COMMAND` takes the place of SYSTEM; with `--shared` one process has all branches.
+Standard error says why the first broken item is broken, and which answers of the system have a wrong type; -q leaves this out.
 
 Exit status: 0 if all runs are explained, 1 if some run is not, 2 if the input is refused, 3 if a case could not be driven,
 an allocation failed or the output cannot be written.";
@@ -73,7 +85,8 @@ Examples:
   pst campaign racy counter.model --seed 1
   pst campaign --client ./client.py cache.model --save failures
 
-`--client COMMAND` takes the place of SYSTEM; with `--shared` one process has all branches.
+The report is on standard output; `pst help verdicts` explains its lines. Standard error then explains the failure that the
+report names as `least`, and the first trial without a case; -q leaves this out.
 
 A campaign that ends early, by --max-failures, --stop-file or Ctrl-C, finishes the trials that run, and its report counts the
 others as undrawn.
@@ -104,35 +117,67 @@ failed or a file cannot be written.";
 
 /// The help of `verdicts`.
 pub const VERDICTS: &str = "\
+K is the number of an item or a trial, and C that of a command in its item, from 1: first the prefix, then each branch,
+then the suffix; 0 is the initial state. W is an interleaving: its letters are the branches L, R, S and T, each for its
+next command; `-` has no letters. CALLBACK is init, command, pre, next or post. FAULT is Overflow (beyond 64 bits),
+DivZero (a division by 0), Index (no such item of a list), Missing (no such key of a map), TooLong (a list, a text or a
+map over its limit) or Turns (the callback takes too many steps).
+
 The verdict on a recorded run:
-  explained W           The replies fit the interleaving W, the first one that they fit. Its letters are the branches
-                        L, R, S and T, each for its next command; `-` has no letters.
-  unexplained far N     They fit no interleaving. N is the most events that one has true before its false one.
-  fault C CALLBACK KIND They fit no interleaving, and the model itself faults: at command C, in init, command, pre, next
-                        or post, with Overflow, DivZero, Index, TooLong, Turns or Missing.
-  broken C              The reply of command C is no value of its type, or the call failed or was not made.
+  explained W           The replies fit the interleaving W, the first one that they fit.
+  unexplained far N     They fit no interleaving. In the one that gets furthest, N commands fit before one does not.
+  fault C CALLBACK FAULT
+                        They fit no interleaving, and in one a callback of the model faults at command C.
+  broken C              The reply of command C is not a value of its type, or the call failed or was not made.
 
 The verdict on a case:
-  valid                 In every interleaving each precondition is true.
+  valid                 In every interleaving each precondition is true and there is a next state.
   prefalse C merge W    In the interleaving W the precondition of command C is not true.
-  casefault C CALLBACK KIND merge W
-                        In the interleaving W a callback of the model faults.
+  casefault C CALLBACK FAULT merge W
+                        In the interleaving W a callback of the model faults at command C.
+
+The other lines of `run` and `generate`:
+  K lost CAUSE          Item K could not be driven: ResetFailed (the system did not reset), NoThread (a thread did not
+                        start) or NoMemory (an allocation failed).
+  K drives N failed M   With --repeats: M of N drives of item K are not explained.
+  genfault K C CALLBACK FAULT
+                        Trial K has no case: a callback of the model faulted while its command C was generated.
 
 The report of a campaign:
+  campaign NAME         the name of the model
+  seed N trials N ..    the options of the campaign; without `branches` there are 2, and without `suffix` there is none
   passed N              trials of which every run is explained
   unexplained N         trials that failed by an unexplained run
   faulted N             trials that failed by a fault
   broken N              trials that failed by a broken run
-  genfault N            trials for which the model faulted while a case was generated
-  lost N                trials that could not be driven: ResetFailed, NoThread or NoMemory
+  genfault N            trials without a case: a callback of the model faulted while it was generated
+  genfault-first K C CALLBACK FAULT
+                        the first of these trials, and where the model faulted
+  lost N K:CAUSE ..     trials that could not be driven, each with its cause, as above
   undrawn N             trials that no worker has begun, since the campaign ended early
-  least N VERDICT       the failed trial with the smallest number
-  from, to              its run before and after shrinking, and between them the number of steps and `minimal`, or
-                        `stopped` if the limit was reached
+  least K VERDICT       the failed trial with the smallest number; `least none` if no trial failed
+  from RUN              the run that this trial failed by
+  steps N minimal       how many smaller cases shrinking took; `stopped` in place of `minimal` if --limit ended it
+  to RUN                the run that the smallest of them failed by, and on the last line the verdict on it
+
+Refusals:
+  refused file          A file cannot be opened or read, or the output would overwrite an input.
+  refused system NAME   There is no such system.
+  refused read KIND at PLACE
+                        The input is not a file of trees, at byte PLACE, counted from 0.
+  refused model KIND item I
+                        Item I of the model is not written as the language wants it; 0 is the model itself.
+  refused type item I   Item I of the model is not well typed.
+  refused run K command C KIND
+                        Case or run K is refused at command C; 0 is the item itself.
+  refused item N of M   `explain --item N`, and there are only M items.
+  refused memory        An allocation failed.
+These lines are for programs. Standard error says what is wrong and, if it is in the input, where: FILE:LINE:COLUMN and
+the line, underlined. -q leaves this out.
 
 Exit status:
   0   all items are explained or valid, or all trials passed
   1   some item or trial failed
-  2   the input or an argument is refused; the line on standard output says how
+  2   the input or an argument is refused
   3   an allocation failed, a trial was lost, or the output cannot be written
 ";

@@ -29,6 +29,14 @@ fn asked(word: &str, words: &ArgMatches<'_>) -> Asked {
     }
 }
 
+/// Writes to standard error that there is no item with the number that the arguments of `explain` give.
+fn report_item<R: Eprint>(rt: &R, words: &ArgMatches<'_>) {
+    let item: Option<u64> = words.get_one("item");
+    if let Some(item) = item {
+        let _ = eprintln!(rt; "pst: there is no item {item}: --item counts cases and runs from 1");
+    }
+}
+
 /// Writes the messages on the refusals of an input to standard error, for the command `word`. If an allocation fails or
 /// a message cannot be written, the lines of the refusals and the status remain without it.
 pub fn report<R: Eprint + AllocGlobal>(
@@ -39,7 +47,11 @@ pub fn report<R: Eprint + AllocGlobal>(
     input: &[u8],
 ) {
     let asked = asked(word, words);
-    if let Ok(Some(message)) = message_of(rt.alloc(), files, input, asked) {
-        let _ = eprint!(rt; "{message}");
+    match message_of(rt.alloc(), files, input, asked) {
+        Ok(Some(message)) => {
+            let _ = eprint!(rt; "{message}");
+        }
+        Ok(None) if word == "explain" => report_item(rt, words),
+        _ => {}
     }
 }

@@ -66,7 +66,7 @@ fn hint<R: Files + AllocGlobal>(rt: &R, name: &str) -> Result<Option<String>, Al
     let alloc = rt.alloc();
     if input::can_be_opened(rt, name) {
         let hint = format!(in alloc;
-            "hint: `{name}` is a file: name a system before it, as in `counter {name}`"
+            "hint: `{name}` is a file: write a client or a system before it, as in `--client ./client.py {name}` or `counter {name}`"
         )?;
         return Ok(Some(hint));
     }

@@ -82,11 +82,10 @@ fn missing(alloc: Global, input: &Input<'_>, place: usize) -> Result<Wrong, Allo
 }
 
 /// The note on the characters of words and texts.
-const ASCII: &str =
-    "words and texts are printable ASCII; other characters may be in comments alone";
+const ASCII: &str = "words and texts are printable ASCII; only comments may have other characters";
 
 /// The note on the escapes of texts.
-const ESCAPES: &str = "in a text `\\` comes before `\"` and `\\` alone";
+const ESCAPES: &str = "a text has two escapes: `\\\"` and `\\\\`";
 
 /// The fault of `letter`, which has `width` bytes and is not printable ASCII.
 fn foreign_char(
@@ -106,7 +105,7 @@ fn foreign_char(
     }
     if letter.is_control() {
         let code = letter as u32;
-        let what = format_args!("the control character {code} may not be here");
+        let what = format_args!("the control character {code} is not allowed here");
         return Wrong::new(alloc, span, what)?.with(alloc, ASCII);
     }
     let what = format_args!("`{letter}` is not ASCII");
@@ -117,13 +116,13 @@ fn foreign_char(
 fn bad_char(alloc: Global, input: &Input<'_>, place: usize, byte: u8) -> Result<Wrong, AllocError> {
     match char_at(input.bytes, place) {
         Some((letter, _)) if b' ' <= byte && byte <= b'~' => {
-            let what = format_args!("`\\{letter}` is no escape");
+            let what = format_args!("`\\{letter}` is not an escape");
             Wrong::new(alloc, one_byte(place), what)?.with(alloc, ESCAPES)
         }
         Some((letter, width)) => foreign_char(alloc, input, place, letter, width),
         None => {
             let what = format_args!(
-                "the byte {byte} is not ASCII, and no part of a UTF-8 character"
+                "the byte {byte} is neither ASCII nor part of a UTF-8 character"
             );
             Wrong::new(alloc, one_byte(place), what)?.with(alloc, ASCII)
         }
@@ -135,7 +134,7 @@ fn bad_byte(alloc: Global, input: &Input<'_>, place: usize) -> Result<Wrong, All
     let span = one_byte(place);
     match input.bytes.get(place) {
         Some(b'\n') | Some(b'\r') | Some(b'\t') => {
-            Wrong::new(alloc, span, "a text goes on to the end of its line")?.with(
+            Wrong::new(alloc, span, "a text does not end on its line")?.with(
                 alloc,
                 "hint: a `\"` is missing, or the text has a tab or a line end in it",
             )
@@ -159,7 +158,7 @@ fn stray_close(alloc: Global, input: &Input<'_>, place: usize) -> Result<Wrong, 
     let note = format_args!("the {called} that begins at {start} is already closed at {end}");
     wrong
         .with(alloc, note)?
-        .with(alloc, "hint: there is one too many, here or before")
+        .with(alloc, "hint: there is one too many, here or earlier")
 }
 
 /// What is wrong with bytes that are no file of trees.
@@ -175,13 +174,13 @@ pub fn unread(alloc: Global, input: &Input<'_>, refused: SexprFault) -> Result<W
         FaultKind::TooDeep => Wrong::new(
             alloc,
             span,
-            format_args!("more than {MAX_LEVELS} brackets in one another"),
+            format_args!("brackets are nested more than {MAX_LEVELS} deep"),
         ),
         FaultKind::TooLarge => Wrong::new(
             alloc,
             span,
             format_args!("the input has more than {MAX_BYTES} bytes"),
         ),
-        FaultKind::NoMemory => Wrong::new(alloc, span, "memory was refused"),
+        FaultKind::NoMemory => Wrong::new(alloc, span, "an allocation failed"),
     }
 }

@@ -38,7 +38,7 @@ fn ill_key<'a>(key: &'a Form, wanted: Option<KeyTy>, before: Option<&'a Form>) -
         return Some(Ill::Tree {
             before: "",
             form: key,
-            after: " is no key of a map",
+            after: " is not a key of a map",
         });
     };
     match (wanted, before) {

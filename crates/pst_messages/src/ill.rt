@@ -38,7 +38,7 @@ fn falls(alloc: Global, path: &[usize], key: &Form, before: &Form) -> Judged {
     wrong_tree(
         alloc,
         path,
-        format_args!("the keys of a map rise, and `{key}` stands behind "),
+        format_args!("the keys of a map must rise: `{key}` comes after "),
         before,
         "",
     )
@@ -49,8 +49,10 @@ fn later(alloc: Global, path: &[usize], number: usize, command: usize) -> Judged
     noted(
         alloc,
         path,
-        format_args!("${number} is no result of an earlier command: this is command {command}"),
-        "commands are numbered from 1: the prefix, each branch, the suffix",
+        format_args!(
+            "${number} is not the result of an earlier command: this is command {command}"
+        ),
+        "commands are numbered from 1: first the prefix, then each branch, then the suffix",
     )
 }
 
@@ -77,12 +79,12 @@ pub fn ill_problem(alloc: Global, path: &[usize], ill: Option<Ill<'_>>) -> Judge
         } => wrong_tree(alloc, path, before, form, after),
         Ill::OtherType(form, wanted) => {
             let wanted = TypeText(wanted);
-            let before = format_args!("wanted {wanted}, found ");
+            let before = format_args!("expected {wanted}, found ");
             wrong_tree(alloc, path, before, form, "")
         }
         Ill::OtherKey(form, wanted) => {
             let wanted = key_word(wanted);
-            let before = format_args!("wanted a key of type {wanted}, found ");
+            let before = format_args!("expected a key of type {wanted}, found ");
             wrong_tree(alloc, path, before, form, "")
         }
         Ill::Falls(key, before) => falls(alloc, path, key, before),
@@ -91,7 +93,7 @@ pub fn ill_problem(alloc: Global, path: &[usize], ill: Option<Ill<'_>>) -> Judge
         Ill::Argument => wrong(
             alloc,
             path,
-            "an argument is of another type, or spells no value",
+            "an argument has another type, or is not a value",
         ),
     }
 }

@@ -109,12 +109,12 @@ fn reply_of<'a>(form: &'a Form, parts: &[Part<'_>], command: usize) -> Option<Re
     }
 }
 
-/// The problem of a tree at `path` that spells no reply.
+/// The problem of a tree at `path` that is not a reply.
 fn reply_problem(alloc: Global, search: &Search<'_>, path: &[usize], form: &Form) -> Judged {
     let other = Some(Ill::Tree {
         before: "",
         form,
-        after: " spells no reply",
+        after: " is not a reply",
     });
     if node_of(form).is_none() {
         return ill_problem(alloc, path, other);
@@ -138,7 +138,7 @@ fn with_written(alloc: Global, found: Option<Problem>, has_maps: bool) -> Judged
     )
 }
 
-/// The problem of a run in which the reply to command `command`, counted from 1, spells no reply.
+/// The problem of a run in which the reply to command `command`, counted from 1, is not a reply.
 pub fn bad_reply(
     alloc: Global,
     search: &Search<'_>,

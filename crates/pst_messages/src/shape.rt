@@ -185,7 +185,7 @@ fn fault_of(parts: &[Form], is_run: bool) -> Option<Fault<'_>> {
 
 /// The problem of a tree that is not written as a call.
 fn call_problem(alloc: Global, path: &[usize], form: &Form) -> Judged {
-    let found = wrong_tree(alloc, path, "", form, " is no call")?;
+    let found = wrong_tree(alloc, path, "", form, " is not a call")?;
     with_note(alloc, found, "a call is `(OPERATION VALUE ..)`")
 }
 
@@ -216,9 +216,9 @@ fn misplaced_problem(alloc: Global, item: usize, place: usize, form: &Form) -> J
         "suffix" => wrong(
             alloc,
             &path,
-            "an item has one suffix: behind the branches, and before the replies",
+            "an item has one suffix, after the branches and before the replies",
         ),
-        _ => wrong(alloc, &path, "the item has no such part, or not here"),
+        _ => wrong(alloc, &path, "an item has no such part here"),
     }
 }
 
@@ -229,7 +229,7 @@ fn fault_problem(alloc: Global, item: usize, form: &Form, fault: Fault<'_>) -> J
         Fault::OtherPart(word, place, form) => wrong_tree(
             alloc,
             &[item, place],
-            format_args!("`({word} ..)` has to stand here, found "),
+            format_args!("expected `({word} ..)` here, found "),
             form,
             "",
         ),
@@ -237,7 +237,7 @@ fn fault_problem(alloc: Global, item: usize, form: &Form, fault: Fault<'_>) -> J
         Fault::BranchCount(count) => wrong(
             alloc,
             &[item, BRANCHES],
-            format_args!("there are {count} branches, and may be 2 to 4"),
+            format_args!("an item has 2 to 4 branches, this one has {count}"),
         ),
         Fault::NoBranch(number) => wrong(
             alloc,
@@ -268,7 +268,7 @@ fn headed_otherwise(alloc: Global, item: usize, form: &Form) -> Judged {
     if head.is_empty() {
         return wrong_tree(alloc, &[item], "", form, " is neither a case nor a run");
     }
-    let what = format_args!("`{head}` heads neither a case nor a run");
+    let what = format_args!("neither a case nor a run begins with `{head}`");
     match head_meant(alloc, head)? {
         Some(hint) => noted_at(alloc, &[item], 0, what, hint),
         None => wrong_at(alloc, &[item], 0, what),

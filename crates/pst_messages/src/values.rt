@@ -12,7 +12,7 @@ use std::alloc::{AllocError, Global};
 /// What a search looks for.
 #[derive(Clone, Copy, Drop)]
 pub enum Sought {
-    /// A tree that spells no value, or a value of another type than the wanted one.
+    /// A tree that is not a value, or a value of another type than the wanted one.
     Value,
     /// A variable that names a command which is not earlier than the command with this number.
     Later(usize),
@@ -90,7 +90,7 @@ fn unfit<'a>(form: &'a Form, wanted: Wanted<'a>) -> Ill<'a> {
         Wanted::Any | Wanted::Call(_) => Ill::Tree {
             before: "",
             form,
-            after: " spells no value",
+            after: " is not a value",
         },
     }
 }
@@ -288,7 +288,7 @@ fn with_result(
     )
 }
 
-/// The problem `found` of a tree that spells no value of the type `wanted`. A note says what its variable refers to, or
+/// The problem `found` of a tree that is not a value of the type `wanted`. A note says what its variable refers to, or
 /// how a value of the type is written.
 fn with_type_note(
     alloc: Global,

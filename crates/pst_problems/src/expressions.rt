@@ -59,7 +59,7 @@ fn name_expression(alloc: Global, has_maps: bool, path: &[usize], word: &Text) -
         return wrong(
             alloc,
             path,
-            format_args!("`{name}` is a form and no value: `{written}`"),
+            format_args!("`{name}` is a form, not a value: `{written}`"),
         );
     }
     if is_name(word) && !is_head(has_maps, name) && word.len() <= MAX_NAME {
@@ -83,7 +83,11 @@ fn word_expression(alloc: Global, has_maps: bool, path: &[usize], word: &Text) -
         if integer_of(word).is_some() {
             return Ok(None);
         }
-        return wrong(alloc, path, format_args!("`{name}` has more than 64 bits"));
+        return wrong(
+            alloc,
+            path,
+            format_args!("`{name}` does not fit in 64 bits"),
+        );
     }
     name_expression(alloc, has_maps, path, word)
 }
@@ -131,7 +135,7 @@ pub fn arity(alloc: Global, path: &[usize], form: Shown, parts: usize) -> Judged
 /// A hint for a word that heads no expression, if it heads a clause or is a word of another language.
 fn other_hint(name: &str) -> Option<&'static str> {
     match name {
-        "in" | "when" => Some("clauses stand in `(for (CLAUSE ..) BODY)`"),
+        "in" | "when" => Some("clauses are in `(for (CLAUSE ..) BODY)`"),
         _ => in_place_of(name),
     }
 }
@@ -139,7 +143,7 @@ fn other_hint(name: &str) -> Option<&'static str> {
 /// The problem of a node whose first tree heads no form and is no name of a function.
 fn no_head(alloc: Global, has_maps: bool, path: &[usize], word: &Text) -> Judged {
     let name = word.as_str();
-    let what = format_args!("`{name}` heads no expression");
+    let what = format_args!("no expression begins with `{name}`");
     if let Some(hint) = other_hint(name) {
         return noted_at(alloc, path, 0, what, format_args!("hint: {hint}"));
     }
@@ -157,7 +161,7 @@ fn value_head(alloc: Global, path: &[usize], word: &Text, parts: usize) -> Judge
     } else {
         ""
     };
-    let what = format_args!("`{name}` is no function{advice}");
+    let what = format_args!("`{name}` is not a function{advice}");
     wrong_at(alloc, path, 0, what)
 }
 
@@ -238,14 +242,14 @@ pub fn small_parts(alloc: Global, path: &[usize], word: &str, parts: &[Form]) ->
 
 /// The problem of `place` as the place of an item of a tuple, if it has one.
 fn place_part(alloc: Global, path: &[usize], place: &Form) -> Judged {
-    let what = "the place of a tuple's item is an integer from 1 on";
+    let what = "the place of a tuple's item is an integer, from 1";
     match word_of(place) {
         Some(word) if is_integer(word) => match integer_of(word) {
             Some(number) if number > 0 => Ok(None),
             _ => wrong_at(alloc, path, 2, what),
         },
         _ => {
-            let hint = "hint: of a list it is `(nth LIST PLACE)`, from 0 on";
+            let hint = "hint: for a list write `(nth LIST PLACE)`, counted from 0";
             noted_at(alloc, path, 2, what, hint)
         }
     }
@@ -277,7 +281,7 @@ fn clauses_part(alloc: Global, path: &[usize], clauses: &Form) -> Judged {
             alloc,
             path,
             1,
-            "the clauses stand here, in brackets of their own",
+            "expected the clauses here, in brackets of their own",
             "it is written `(for ((in x LIST) (when TEST)) BODY)`",
         );
     }
@@ -302,7 +306,7 @@ fn node_expression<'a>(
 ) -> Judged {
     let alloc = tasks.alloc();
     let Some((first, parts)) = parts.split_first() else {
-        return wrong(alloc, path, "`()` is no expression");
+        return wrong(alloc, path, "`()` is not an expression");
     };
     let Some(word) = word_of(first) else {
         return wrong(alloc, path, "an expression in brackets begins with a word");
@@ -337,7 +341,7 @@ pub fn as_expression<'a>(
 ) -> Judged {
     let alloc = tasks.alloc();
     if room == 0 {
-        return wrong(alloc, path, "more than 64 expressions in one another");
+        return wrong(alloc, path, "expressions are nested more than 64 deep");
     }
     match form {
         Form::Word(word) => word_expression(alloc, has_maps, path, word),

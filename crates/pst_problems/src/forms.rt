@@ -203,11 +203,11 @@ const FOREIGN: [(&str, &str); 109] = [
     ("Maybe", "an option is a list of none or one item"),
     (
         "unit",
-        "there is no such type: take `bool`, and answer `true`",
+        "there is no such type: use `bool`, and return `true`",
     ),
     (
         "void",
-        "there is no such type: take `bool`, and answer `true`",
+        "there is no such type: use `bool`, and return `true`",
     ),
     ("True", "write `true`"),
     ("False", "write `false`"),

@@ -20,7 +20,7 @@ const ITEMS: &str =
 
 /// The problem of a tree whose head `head` heads no item.
 fn no_item_head(alloc: Global, path: &[usize], head: &str) -> Judged {
-    let what = format_args!("`{head}` heads no item of a model");
+    let what = format_args!("no item of a model begins with `{head}`");
     if let Some(meant) = item_meant(head) {
         return noted_at(alloc, path, 0, what, DidYouMean(meant));
     }
@@ -41,7 +41,7 @@ fn no_item(alloc: Global, path: &[usize], form: &Form) -> Judged {
     }
     let shown = short_text(alloc, form)?;
     let shown = shown.as_str();
-    let what = format_args!("`{shown}` is no item of a model");
+    let what = format_args!("`{shown}` is not an item of a model");
     match in_place_of(shown) {
         Some(hint) => noted(alloc, path, what, format_args!("hint: {hint}")),
         None => noted(alloc, path, what, ITEMS),
@@ -87,7 +87,7 @@ fn parts_number(alloc: Global, path: &[usize], form: ItemForm, number: usize) ->
     noted(
         alloc,
         path,
-        format_args!("`{head}` is not written so: it has {has}"),
+        format_args!("`{head}` is not written like this: it has {has}"),
         format_args!("it is written `{written}`"),
     )
 }
@@ -170,7 +170,7 @@ fn name_part(
             alloc,
             path,
             1,
-            format_args!("the name of the `{head}` has to stand here"),
+            format_args!("expected the name of the `{head}` here"),
         ),
     }
 }
@@ -197,8 +197,8 @@ fn parameters_part(alloc: Global, path: &[usize], params: &Form) -> Judged {
             alloc,
             path,
             2,
-            "the parameters have to stand here, in brackets",
-            "they are written `((p T) (q U))`, or `()` where there are none",
+            "expected the parameters here, in brackets",
+            "they are written `((p T) (q U))`, or `()` if there are none",
         );
     };
     let number = forms.len();

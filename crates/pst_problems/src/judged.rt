@@ -112,13 +112,13 @@ fn taken(has_maps: bool, name: &str) -> Option<&'static str> {
 pub fn declared(alloc: Global, has_maps: bool, path: &[usize], word: &Text) -> Judged {
     let name = word.as_str();
     if is_capitalized(name) {
-        return noted(alloc, path, format_args!("`{name}` is no name"), CAPITAL);
+        return noted(alloc, path, format_args!("`{name}` is not a name"), CAPITAL);
     }
     if !is_name(word) {
         return noted(
             alloc,
             path,
-            format_args!("`{name}` is no name"),
+            format_args!("`{name}` is not a name"),
             "a name is a lower-case letter, then letters, digits, `_` and `-`",
         );
     }
@@ -154,7 +154,7 @@ pub fn bound(
     other: Option<&Text>,
 ) -> Judged {
     let Some(word) = word_of(form) else {
-        return wrong(alloc, path, "a name has to stand here");
+        return wrong(alloc, path, "expected a name here");
     };
     if let Some(other) = other {
         if other.as_str() == word.as_str() {

@@ -63,10 +63,10 @@ fn headed_otherwise(alloc: Global, head: &str) -> Judged {
             alloc,
             &[0],
             0,
-            format_args!("`{head}` heads no model"),
+            format_args!("no model begins with `{head}`"),
             hint,
         ),
-        None => noted(alloc, &[0], "the file begins with no model", MODEL),
+        None => noted(alloc, &[0], "the file does not begin with a model", MODEL),
     }
 }
 
@@ -81,7 +81,7 @@ fn nameless(alloc: Global, parts: &[Form]) -> Judged {
 
 /// The problem of a tree that is no model.
 fn no_model(alloc: Global, form: &Form) -> Judged {
-    let what = "the file begins with no model";
+    let what = "the file does not begin with a model";
     match word_of(form) {
         Some(word) if word.as_str().starts_with("//") || word.as_str().starts_with("#") => {
             return noted(alloc, &[0], what, "hint: a comment begins with `;`");
@@ -153,7 +153,7 @@ pub fn form_problems(
 ) -> Result<Vec<Problem>, AllocError> {
     let Some(tree) = trees.first() else {
         let mut problems = Vec::new(alloc);
-        let problem = noted(alloc, &[], "the file holds no model", MODEL)?;
+        let problem = noted(alloc, &[], "the file has no model", MODEL)?;
         tell(&mut problems, problem)?;
         return Ok(problems);
     };

@@ -23,7 +23,7 @@ fn no_maps(alloc: Global, path: &[usize]) -> Judged {
     noted(
         alloc,
         path,
-        "this language has no maps",
+        "a `model` has no maps",
         "hint: a model with maps begins with `(model2 NAME ..)`",
     )
 }
@@ -59,7 +59,7 @@ fn add_types<'a>(
 ) -> Judged {
     let alloc = tasks.alloc();
     if room == 0 {
-        return wrong(alloc, path, "more than 16 types in one another");
+        return wrong(alloc, path, "types are nested more than 16 deep");
     }
     if head != "map" {
         tasks.add_all(path, 1, rest, Role::Type(room - 1))?;
@@ -119,7 +119,7 @@ fn word_type(alloc: Global, path: &[usize], form: &Form) -> Judged {
         let written = shown.written;
         return wrong(alloc, path, format_args!("the type is written `{written}`"));
     }
-    let what = format_args!("`{word}` is no type");
+    let what = format_args!("`{word}` is not a type");
     match near_type(alloc, word)? {
         Some(hint) if in_place_of(word).is_none() => noted(alloc, path, what, hint),
         _ => foreign(alloc, path, word, what),
@@ -137,7 +137,7 @@ fn near_type(alloc: Global, word: &str) -> Result<Option<DidYouMean<'static>>, A
 
 /// The problem of a node that has to be a type, and whose head heads no type.
 fn no_headed_type(alloc: Global, path: &[usize], form: &Form, head: &str) -> Judged {
-    let what = format_args!("`{head}` is no type");
+    let what = format_args!("`{head}` is not a type");
     match in_place_of(head) {
         Some(hint) => noted_at(alloc, path, 0, what, format_args!("hint: {hint}")),
         None => no_type(alloc, path, form),
@@ -150,7 +150,7 @@ fn no_type(alloc: Global, path: &[usize], form: &Form) -> Judged {
     noted(
         alloc,
         path,
-        format_args!("`{shown}` is no type"),
+        format_args!("`{shown}` is not a type"),
         "types are int, bool, text, (tuple T ..), (list T), (ref T), call, and (map K V) in model2",
     )
 }
@@ -197,7 +197,7 @@ fn as_clause<'a>(tasks: &mut Tasks<'a>, path: &[usize], form: &'a Form, room: us
 fn as_operation(alloc: Global, path: &[usize], form: &Form) -> Judged {
     match word_of(form) {
         Some(word) if is_name(word) && word.len() <= MAX_NAME => Ok(None),
-        _ => wrong(alloc, path, "the name of an operation has to stand here"),
+        _ => wrong(alloc, path, "expected the name of an operation here"),
     }
 }
 

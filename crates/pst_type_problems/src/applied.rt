@@ -209,7 +209,7 @@ fn no_function(alloc: Global, leaf: &Leaf<'_>, name: &str) -> Judged {
             alloc,
             leaf,
             name,
-            format_args!("hint: it is an operation; a call to be picked is `(call {name} ..)`"),
+            format_args!("hint: `{name}` is an operation: a call of it is `(call {name} ..)`"),
         );
     }
     no_function_near(alloc, leaf, name)
@@ -224,7 +224,7 @@ fn not_here(alloc: Global, leaf: &Leaf<'_>, fun: &Fun) -> Judged {
             leaf.path,
             0,
             format_args!("the function `{name}` is not declared before this item"),
-            "a function applies functions of earlier items: none applies itself or a later one",
+            "a function can only apply functions of earlier items, so not itself",
         );
     }
     if fun.is_post && !leaf.context.is_post {
@@ -232,8 +232,8 @@ fn not_here(alloc: Global, leaf: &Leaf<'_>, fun: &Fun) -> Judged {
             alloc,
             leaf.path,
             0,
-            format_args!("the postfun `{name}` is applied in post and in postfuns alone"),
-            "hint: where no reference is looked into, declare it as a `fun`",
+            format_args!("the postfun `{name}` can only be applied in post and in postfuns"),
+            "hint: if it has no `deref`, declare it as a `fun`",
         );
     }
     Ok(None)

@@ -116,7 +116,14 @@ fn order(alloc: Global, leaf: &Leaf<'_>, head: &str, first: &Kind, second: &Kind
 
 /// The problem of a comparison by `=`, if it has one.
 fn equality(alloc: Global, leaf: &Leaf<'_>, first: &Kind, second: &Kind) -> Judged {
-    if let Some(found) = wanted_type(alloc, leaf, "`=` compares one type", 2, first, second)? {
+    if let Some(found) = wanted_type(
+        alloc,
+        leaf,
+        "`=` compares values of one type",
+        2,
+        first,
+        second,
+    )? {
         return Ok(Some(found));
     }
     if !first.holds_ref(alloc)? {
@@ -126,7 +133,7 @@ fn equality(alloc: Global, leaf: &Leaf<'_>, first: &Kind, second: &Kind) -> Judg
     noted(
         alloc,
         leaf.path,
-        format_args!("`=` compares no references outside post, found {found}"),
+        format_args!("`=` cannot compare references outside post, found {found}"),
         "hint: `(same a b)` says whether two references are of one command",
     )
 }
@@ -134,7 +141,14 @@ fn equality(alloc: Global, leaf: &Leaf<'_>, first: &Kind, second: &Kind) -> Judg
 /// The problem of a `same`, if it has one.
 fn sameness(alloc: Global, leaf: &Leaf<'_>, first: &Kind, second: &Kind) -> Judged {
     match first.form(alloc)? {
-        Form::Ref(_) => wanted_type(alloc, leaf, "`same` compares one type", 2, first, second),
+        Form::Ref(_) => wanted_type(
+            alloc,
+            leaf,
+            "`same` compares references of one type",
+            2,
+            first,
+            second,
+        ),
         _ => ill_first(alloc, leaf, "`same` compares references", first),
     }
 }
@@ -162,7 +176,7 @@ fn dereference(alloc: Global, leaf: &Leaf<'_>) -> Judged {
         return noted(
             alloc,
             leaf.path,
-            "`deref` stands in post and in postfuns alone",
+            "`deref` is only allowed in post and in postfuns",
             "hint: elsewhere the value of a result is not known yet; keep the reference",
         );
     }
@@ -179,7 +193,14 @@ fn sequence(alloc: Global, leaf: &Leaf<'_>, head: &str) -> Judged {
     };
     match (first.form(alloc)?, leaf.kinds.get(1)) {
         (Form::Text | Form::List(_), Some(second)) => {
-            wanted_type(alloc, leaf, "`++` takes one type", 2, first, second)
+            wanted_type(
+                alloc,
+                leaf,
+                "`++` joins values of one type",
+                2,
+                first,
+                second,
+            )
         }
         _ => wanted_sequence(alloc, leaf, head, first),
     }
@@ -245,7 +266,7 @@ fn of_map(alloc: Global, leaf: &Leaf<'_>, head: &str) -> Judged {
 fn ill_item(alloc: Global, leaf: &Leaf<'_>, part: usize, wanted: &Ty, found: &Kind) -> Judged {
     let wanted = TypeText(wanted);
     let found = spelled(alloc, found)?;
-    let what = format_args!("an item of the list: wanted {wanted}, found {found}");
+    let what = format_args!("an item of the list: expected {wanted}, found {found}");
     wrong_at(alloc, leaf.path, part, what)
 }
 
@@ -279,7 +300,7 @@ fn ill_clause(alloc: Global, leaf: &Leaf<'_>, clause: &Tree, place: usize, found
         return wanted_list(alloc, path.as_slice(), "`in`", 2, found);
     }
     let found = spelled(alloc, found)?;
-    let what = format_args!("`when`: wanted bool, found {found}");
+    let what = format_args!("`when`: expected bool, found {found}");
     wrong_at(alloc, path.as_slice(), 1, what)
 }
 

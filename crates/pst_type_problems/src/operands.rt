@@ -23,7 +23,7 @@ fn with_reference_hint(
     with_note(
         alloc,
         refused,
-        "hint: the value of a result is known in post alone: keep the reference in the state, and deref it there",
+        "hint: only post knows the value of a result: keep the reference in the state, and `deref` it there",
     )
 }
 
@@ -52,7 +52,7 @@ pub fn other_type<D: Display + Drop>(
     let refused = wrong(
         alloc,
         path,
-        format_args!("{what}: wanted {wants}, found {has}"),
+        format_args!("{what}: expected {wants}, found {has}"),
     )?;
     with_reference_hint(alloc, refused, wanted, found)
 }
@@ -91,7 +91,7 @@ pub fn wanted_tuple(alloc: Global, leaf: &Leaf<'_>, found: &Kind) -> Judged {
         Form::List(_) => with_note(
             alloc,
             refused,
-            "hint: of a list it is `(nth LIST PLACE)`, from 0 on",
+            "hint: for a list write `(nth LIST PLACE)`, counted from 0",
         ),
         _ => Ok(refused),
     }
@@ -115,7 +115,7 @@ pub fn wanted_list(alloc: Global, path: &[usize], what: &str, part: usize, found
         alloc,
         path,
         part,
-        format_args!("{what}: wanted a list, found {has}"),
+        format_args!("{what}: expected a list, found {has}"),
     )?;
     with_keys_hint(alloc, refused, found)
 }
@@ -127,7 +127,7 @@ pub fn wanted_map(alloc: Global, leaf: &Leaf<'_>, head: &str, found: &Kind) -> J
         None => false,
     };
     if !is_second {
-        return ill_first(alloc, leaf, format_args!("`{head}`: wanted a map"), found);
+        return ill_first(alloc, leaf, format_args!("`{head}`: expected a map"), found);
     }
     let found = spelled(alloc, found)?;
     noted(

@@ -205,7 +205,7 @@ fn tell_post(
 fn of_declared(alloc: Global, op: &Op, number: usize) -> Judged {
     for (place, param) in op.params.as_slice().iter().enumerate() {
         if holds_call(&param.ty) {
-            let what = "the parameter of an operation holds no `call`";
+            let what = "the parameter of an operation cannot hold a `call`";
             return wrong(alloc, &[0, number, 2, place, 1], what);
         }
     }
@@ -215,7 +215,7 @@ fn of_declared(alloc: Global, op: &Op, number: usize) -> Judged {
     noted(
         alloc,
         &[0, number, 3],
-        "the result of an operation holds neither `ref` nor `call`",
+        "the result of an operation cannot hold a `ref` or a `call`",
         "hint: declare the type of the value; `next` sees a reference to it",
     )
 }
@@ -302,7 +302,11 @@ fn tell_command(
 /// What is wrong with the type of the state.
 fn of_state(alloc: Global, state: &Ty, here: Here<'_>) -> Judged {
     if holds_call(state) {
-        wrong(alloc, &[0, here.number, 1], "the state holds no `call`")
+        wrong(
+            alloc,
+            &[0, here.number, 1],
+            "the state cannot hold a `call`",
+        )
     } else {
         Ok(None)
     }

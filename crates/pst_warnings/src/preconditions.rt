@@ -72,7 +72,7 @@ fn at_spot(
             "item {item}: the precondition of {place} {call} is not true in the interleaving that explains it"
         ),
         format_args!(
-            "the state before it is {state}; a verdict on a recorded run asks no precondition"
+            "the state before it is {state}; a verdict on a recorded run checks no precondition"
         ),
     )?;
     notice_text(alloc, &subject.input, &warning)

@@ -47,7 +47,7 @@ fn none_offered(alloc: Global, input: &Input<'_>, items: &[Item]) -> Result<Noti
         input,
         &[0, tree_of(place)],
         "no call may be made at first",
-        "`command` lists none in the opening state, or the precondition of each is false there",
+        "`command` lists none in the initial state, or the precondition of each is false there",
     )
 }
 
@@ -138,7 +138,7 @@ fn add_on_trees(
                 input,
                 &path,
                 "a second model, which is not read",
-                "the first tree of an input is its model; cases and runs stand behind it",
+                "the first tree of an input is its model; cases and runs come after it",
             )?;
             warnings.push(warning)?;
         }

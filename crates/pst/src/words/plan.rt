@@ -1,0 +1,185 @@
+//! The numbers of a campaign's plan: their options, and the settings that they give.
+
+ghost use Rattle.std.specs.Prelude.{IfSome};
+ghost use Rattle.pst_trial.specs.Settings.{AreInRange};
+
+use clap::builder::ValueParser;
+use clap::{Arg, ArgMatches, Command};
+use pst_trial::{
+    MAX_BRANCHES, MAX_COMMANDS, MAX_LIMIT, MAX_REPEATS, MAX_SUFFIX, MAX_TRIALS, Settings,
+};
+use std::alloc::{AllocError, Global};
+
+/// A number of a campaign's plan. An option with the same name sets it.
+struct PlanNumber {
+    name: &'static str,
+    least: u64,
+    most: u64,
+    default: &'static str,
+    help: &'static str,
+}
+
+/// The numbers of a campaign's plan, in the order of its help.
+const PLAN_NUMBERS: [PlanNumber; 8] = [
+    PlanNumber {
+        name: "seed",
+        least: 0,
+        most: u64::MAX,
+        default: "0",
+        help: "Chooses the cases: the same seed generates the same ones",
+    },
+    PlanNumber {
+        name: "trials",
+        least: 0,
+        most: MAX_TRIALS as u64,
+        default: "100",
+        help: "How many cases are tried",
+    },
+    PlanNumber {
+        name: "commands",
+        least: 1,
+        most: MAX_COMMANDS as u64,
+        default: "16",
+        help: "At most N commands in a case",
+    },
+    PlanNumber {
+        name: "branches",
+        least: 1,
+        most: MAX_BRANCHES as u64,
+        default: "2",
+        help: "How many branches run at the same time",
+    },
+    PlanNumber {
+        name: "suffix",
+        least: 0,
+        most: MAX_SUFFIX as u64,
+        default: "0",
+        help: "How many commands come after the branches",
+    },
+    PlanNumber {
+        name: "repeats",
+        least: 1,
+        most: MAX_REPEATS as u64,
+        default: "5",
+        help: "Drives a case up to N times, until a run is not explained",
+    },
+    PlanNumber {
+        name: "workers",
+        least: 1,
+        most: 16,
+        default: "4",
+        help: "How many systems run at the same time",
+    },
+    PlanNumber {
+        name: "limit",
+        least: 0,
+        most: MAX_LIMIT as u64,
+        default: "1000",
+        help: "Drives at most N cases to shrink one",
+    },
+];
+
+/// The numbers of `generate` that a campaign does not have: which trials there are.
+const TRIAL_NUMBERS: [PlanNumber; 2] = [
+    PlanNumber {
+        name: "first",
+        least: 0,
+        most: u64::MAX,
+        default: "0",
+        help: "The number of the first trial whose case is printed",
+    },
+    PlanNumber {
+        name: "trials",
+        least: 0,
+        most: u64::MAX,
+        default: "100",
+        help: "How many cases are printed",
+    },
+];
+
+/// The option that gives a number of a campaign's plan.
+fn plan_option<'a>(alloc: Global, number: &PlanNumber) -> Arg<'a> {
+    Arg::new(alloc, number.name)
+        .long(number.name)
+        .value_name("N")
+        .value_parser(ValueParser::Unsigned(number.least, number.most))
+        .allow_negative_numbers(true)
+        .default_value(number.default)
+        .help(number.help)
+}
+
+/// Whether a number of a campaign's plan chooses the cases of its trials.
+fn chooses_cases(number: &PlanNumber) -> bool {
+    matches!(number.name, "seed" | "commands" | "branches" | "suffix")
+}
+
+/// Adds an option for each number of a campaign's plan.
+pub fn with_numbers<'a>(alloc: Global, command: Command<'a>) -> Result<Command<'a>, AllocError> {
+    let mut command = command;
+    for number in &PLAN_NUMBERS {
+        command = command.arg(plan_option(alloc, number))?;
+    }
+    Ok(command)
+}
+
+/// Adds an option for each number of `generate`: which trials there are, and what chooses their cases.
+pub fn with_case_numbers<'a>(
+    alloc: Global,
+    command: Command<'a>,
+) -> Result<Command<'a>, AllocError> {
+    let mut command = command;
+    for number in &TRIAL_NUMBERS {
+        command = command.arg(plan_option(alloc, number))?;
+    }
+    for number in &PLAN_NUMBERS {
+        if chooses_cases(number) {
+            command = command.arg(plan_option(alloc, number))?;
+        }
+    }
+    Ok(command)
+}
+
+/// The number of an option.
+fn small_number(words: &ArgMatches<'_>, name: &str) -> Option<u32> {
+    words.get_one(name)
+}
+
+/// The settings that the arguments of `generate` give: no trial is driven with them. Each was found to be in its range.
+pub fn case_settings(words: &ArgMatches<'_>) -> Option<Settings>
+    ensures { IfSome result AreInRange }
+{
+    let settings = Settings {
+        seed: words.get_one("seed")?,
+        trials: 0,
+        commands: small_number(words, "commands")?,
+        branches: small_number(words, "branches")?,
+        suffix: small_number(words, "suffix")?,
+        repeats: 1,
+        limit: 0,
+    };
+    if settings.are_in_range() {
+        Some(settings)
+    } else {
+        None
+    }
+}
+
+/// The settings that the arguments of `campaign` give. Each has a default and was found to be in its range.
+pub fn settings(words: &ArgMatches<'_>) -> Option<Settings>
+    ensures { IfSome result AreInRange }
+{
+    let settings = Settings {
+        seed: words.get_one("seed")?,
+        trials: small_number(words, "trials")?,
+        commands: small_number(words, "commands")?,
+        branches: small_number(words, "branches")?,
+        suffix: small_number(words, "suffix")?,
+        repeats: small_number(words, "repeats")?,
+        limit: small_number(words, "limit")?,
+    };
+    if settings.are_in_range() {
+        Some(settings)
+    } else {
+        None
+    }
+}
