@@ -344,7 +344,10 @@ fn generate_command<'a>(alloc: Global) -> Result<Command<'a>, AllocError> {
             command = command.arg(plan_option(alloc, number))?;
         }
     }
-    command.arg(output(alloc))?.arg(quiet(alloc))
+    command
+        .arg(format_option(alloc))?
+        .arg(output(alloc))?
+        .arg(quiet(alloc))
 }
 
 /// Adds the commands whose input is a model.
