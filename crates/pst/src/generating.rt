@@ -3,9 +3,18 @@ ghost use Rattle.std.specs.Prelude.{◌≡◌, false};
 
 use crate::words;
 use clap::ArgMatches;
-use pst_cli::{Status, generate_text};
+use pst_cli::{ItemForm, Status, generate_text};
 use pst_sexpr::Sink;
 use std::thread::Threads;
+
+/// Returns the form of cases that the arguments choose.
+fn form(words: &ArgMatches<'_>) -> ItemForm {
+    if words::is_json(words) {
+        ItemForm::Json
+    } else {
+        ItemForm::Trees
+    }
+}
 
 /// Writes the cases of the trials that the arguments choose. It leaves out trials whose numbers do not fit 64 bits.
 pub fn generate<W: Sink, R: Threads + Sync + AllocGlobal>(
@@ -24,5 +33,6 @@ pub fn generate<W: Sink, R: Threads + Sync + AllocGlobal>(
         return Status::Refused;
     };
     let count = trials.min(u64::MAX - first);
-    generate_text(rt, rt.alloc(), input, settings, first, count, out)
+    let form = form(words);
+    generate_text(rt, rt.alloc(), input, form, settings, first, count, out)
 }

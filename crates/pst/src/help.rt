@@ -99,9 +99,11 @@ pub const GENERATE: &str = "\
 Examples:
   pst generate cache.model --trials 1000 --seed 7 > cases.runs
   pst generate cache.model --trials 1000 --first 1000
+  pst generate cache.model --format json
 
 Line K, from `--first` on, is the case of trial K of a campaign with the same seed, commands, branches and suffix; or
-`genfault K COMMAND CALLBACK KIND` if the model faults there.
+`genfault K COMMAND CALLBACK KIND` if the model faults there. With --format json both are objects, and a case is written as
+`pst convert` writes it.
 
 Exit status: 0 if each trial has a case, 1 if some has none, 2 if the input is refused, 3 if an allocation failed or the output
 cannot be written.";

@@ -97,6 +97,7 @@ fn generate_command<'a>(alloc: Global) -> Result<Command<'a>, AllocError> {
         .after_help(help::GENERATE)
         .arg(options::file(alloc))?;
     plan::with_case_numbers(alloc, command)?
+        .arg(options::format_option(alloc))?
         .arg(output(alloc))?
         .arg(quiet(alloc))
 }

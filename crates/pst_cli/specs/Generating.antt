@@ -2,6 +2,7 @@
 use Rattle.std.specs.Prelude.{◌≡◌, ℕ, ◌≤◌, Bool, List, Option, Result, MatchResult}
 use Rattle.pst_cli.specs.GenerateOutput.{IsCaseLine, AreCaseLines}
 use Rattle.pst_cli.specs.Streaming.{IsUnwritten, IsWrittenTo}
+use Rattle.pst_cli.specs.declared.convert.ItemForm.{ItemForm}
 use Rattle.pst_cli.specs.declared.output.Output.{Output}
 use Rattle.pst_cli.specs.declared.status.Status.{Status}
 use Rattle.pst_cli.specs.declared.status.Status.TheVariants.{Accepted}
@@ -10,14 +11,14 @@ use Rattle.pst_sexpr.specs.Writing.{WritesAll}
 use Rattle.pst_trial.specs.PlanView.{PlanView}
 
 -- the output is the line of a number
-abbrev pub IsLineOf : PlanView → ℕ → Output → Type 0
-IsLineOf p number output = IsCaseLine p number output.text.items output.status
+abbrev pub IsLineOf : ItemForm → PlanView → ℕ → Output → Type 0
+IsLineOf f p number output = IsCaseLine f p number output.text.items output.status
 
-module _ (p : PlanView) (first count : ℕ) (so_far : Status) (before after : Option (List ℕ)) (broken : Bool) where
+module _ (f : ItemForm) (p : PlanView) (first count : ℕ) (so_far : Status) (before after : Option (List ℕ)) (broken : Bool) where
   -- all lines were written
   pub record AreWritten (status : Status) : Type 0 where
     pub text : List ℕ
-    pub lines : AreCaseLines p first count so_far text status
+    pub lines : AreCaseLines f p first count so_far text status
     pub written : WritesAll before after broken text
 
   -- the lines of the first numbers were written, or a beginning of them
@@ -26,7 +27,7 @@ module _ (p : PlanView) (first count : ℕ) (so_far : Status) (before after : Op
     pub within : some ≤ count
     pub text : List ℕ
     pub worst : Status
-    pub lines : AreCaseLines p first some so_far text worst
+    pub lines : AreCaseLines f p first some so_far text worst
     pub written : IsWrittenTo before after broken text cut
 
   -- one of these
@@ -34,5 +35,5 @@ module _ (p : PlanView) (first count : ℕ) (so_far : Status) (before after : Op
   EndsLines result = MatchResult result AreWritten AreCutShort
 
 -- the same from no line on
-abbrev pub EndsCases : PlanView → (first count : ℕ) → (before after : Option (List ℕ)) → Bool → Result Status Cut → Type 0
-EndsCases p first count before after broken result = EndsLines p first count Accepted before after broken result
+abbrev pub EndsCases : ItemForm → PlanView → (first count : ℕ) → (before after : Option (List ℕ)) → Bool → Result Status Cut → Type 0
+EndsCases f p first count before after broken result = EndsLines f p first count Accepted before after broken result

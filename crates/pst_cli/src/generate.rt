@@ -2,20 +2,30 @@
 ghost use Rattle.std.specs.Prelude.{◌≡◌, ◌≤◌, ◌<◌, ◌+◌, ◌^◌, ◌-◌, false, IfOk, string_bytes};
 ghost use Rattle.std.specs.List.{AllZip, range_with_len};
 ghost use Rattle.pst_cli.specs.Generating.{EndsCases, EndsLines, IsLineOf};
-ghost use Rattle.pst_cli.specs.GenerateOutput.{IsGenerateOutput, genfault_line};
-ghost use Rattle.pst_cli.specs.Sending.{Prints};
+ghost use Rattle.pst_cli.specs.GenerateOutput.{
+  IsGenerateOutput,
+  fault_line,
+  genfault_fields,
+  genfault_line,
+  memory_in,
+  refusal_in,
+};
+ghost use Rattle.pst_cli.specs.Sending.{PrintsElse, Sends};
+ghost use Rattle.pst_cli.specs.declared.status.Status.TheVariants.{Lost, Refused};
 ghost use Rattle.pst_trial.specs.Settings.{AreInRange};
 
+use crate::convert::{ItemForm, line_in};
+use crate::objects::{MEMORY_OBJECT, refusal_object};
 use crate::output::{Output, joined, send};
 use crate::refusal::refusal_output;
-use crate::run::tree_line;
 use crate::status::Status;
 use crate::stream::Cut;
 use pst_case::Run;
 use pst_eval::Place;
+use pst_json_verdicts::{Field, Name, add_number, add_words, object_line};
 use pst_sexpr::{Sink, WriteFailed, put_all};
 use pst_trial::{Plan, Settings, may_share_records, trial_case};
-use pst_typing::{ModelFile, load};
+use pst_typing::{ModelFile, Refusal, load};
 use rayon::prelude::*;
 use std::alloc::{AllocError, Global};
 use std::thread::Threads;
@@ -36,10 +46,45 @@ fn genfault_line(alloc: Global, number: u64, place: &Place) -> Result<String, Al
     Ok(line)
 }
 
+/// The members of the object of a fault: the number of the trial, the command, the callback and the kind.
+fn genfault_fields(alloc: Global, number: u64, place: &Place) -> Result<Vec<Field>, AllocError>
+    ensures { IfOk result (λ fields. fields.items ≡ genfault_fields number place.now) }
+{
+    let mut fields = Vec::new(alloc);
+    add_number(&mut fields, Name::GenFault, number)?;
+    add_number(&mut fields, Name::Command, place.command as u64)?;
+    add_words(alloc, &mut fields, Name::Callback, place.callback.name())?;
+    add_words(alloc, &mut fields, Name::Fault, place.fault.name())?;
+    Ok(fields)
+}
+
+/// The line of a fault.
+fn fault_line(
+    alloc: Global,
+    form: ItemForm,
+    number: u64,
+    place: &Place,
+) -> Result<Vec<u8>, AllocError>
+    ensures { IfOk result (λ line. line.items ≡ fault_line form number place.now) }
+{
+    match form {
+        ItemForm::Trees => Ok(genfault_line(alloc, number, place)?.into_bytes()),
+        ItemForm::Json => {
+            let fields = genfault_fields(alloc, number, place)?;
+            object_line(alloc, fields.as_slice())
+        }
+    }
+}
+
 /// The line of the case of trial `number`, or of the fault that leaves it without a case. The status is `Failed` at a
 /// fault.
-fn case_output(alloc: Global, plan: &Plan, number: u64) -> Result<Output, AllocError>
-    ensures { IfOk result (IsLineOf plan.now number) }
+fn case_output(
+    alloc: Global,
+    plan: &Plan,
+    form: ItemForm,
+    number: u64,
+) -> Result<Output, AllocError>
+    ensures { IfOk result (IsLineOf form plan.now number) }
 {
     match trial_case(alloc, plan, number)? {
         Ok(valid) => {
@@ -47,13 +92,16 @@ fn case_output(alloc: Global, plan: &Plan, number: u64) -> Result<Output, AllocE
                 shaped: valid.into_shaped(),
                 history: None,
             };
-            let text = tree_line(alloc, plan.typed(), &run)?;
+            let text = line_in(alloc, form, plan.typed(), &run)?;
             Ok(Output {
                 text,
                 status: Status::Accepted,
             })
         }
-        Err(place) => Ok(Output::new(genfault_line(alloc, number, &place)?, Status::Failed)),
+        Err(place) => Ok(Output {
+            text: fault_line(alloc, form, number, &place)?,
+            status: Status::Failed,
+        }),
     }
 }
 
@@ -62,12 +110,13 @@ fn case_outputs<R: Threads + Sync>(
     rt: &R,
     alloc: Global,
     plan: &Plan,
+    form: ItemForm,
     first: u64,
     behind: u64,
 ) -> Result<Vec<Output>, AllocError>
     requires { first ≤ behind }
     ensures { IfOk result
-        (λ outputs. AllZip (IsLineOf plan.now) (range_with_len first (behind - first)) outputs.items) }
+        (λ outputs. AllZip (IsLineOf form plan.now) (range_with_len first (behind - first)) outputs.items) }
 {
     may_share_records();
     (first..behind)
@@ -75,8 +124,8 @@ fn case_outputs<R: Threads + Sync>(
         .with_min_len(1)
         .map(
             |number: u64| -> Result<Output, AllocError>
-                ensures { IfOk result (IsLineOf plan.entry.now number) }
-            { case_output(alloc, plan, number) },
+                ensures { IfOk result (IsLineOf form plan.entry.now number) }
+            { case_output(alloc, plan, form, number) },
         )
         .collect::<Result<Vec<Output>, AllocError>>(rt, alloc)?
 }
@@ -86,6 +135,7 @@ fn write_lines<W: Sink, R: Threads + Sync>(
     rt: &R,
     alloc: Global,
     plan: &Plan,
+    form: ItemForm,
     first: u64,
     behind: u64,
     so_far: Status,
@@ -93,10 +143,10 @@ fn write_lines<W: Sink, R: Threads + Sync>(
 ) -> Result<Status, Cut>
     requires order { first ≤ behind }
     requires stands { W.broken sink.old ≡ false }
-    ensures { EndsLines plan.now first (behind - first) so_far
+    ensures { EndsLines form plan.now first (behind - first) so_far
         (W.taken sink.old) (W.taken sink.new) (W.broken sink.new) result }
 {
-    let Ok(outputs) = case_outputs(rt, alloc, plan, first, behind) else {
+    let Ok(outputs) = case_outputs(rt, alloc, plan, form, first, behind) else {
         return Err(Cut::NoMemory);
     };
     let Ok(output) = joined(alloc, so_far, outputs.as_slice()) else {
@@ -113,20 +163,21 @@ fn write_cases<W: Sink, R: Threads + Sync>(
     rt: &R,
     alloc: Global,
     plan: &Plan,
+    form: ItemForm,
     first: u64,
     behind: u64,
     sink: &mut W,
 ) -> Result<Status, Cut>
     requires order { first ≤ behind }
     requires stands { W.broken sink.old ≡ false }
-    ensures { EndsCases plan.now first (behind - first)
+    ensures { EndsCases form plan.now first (behind - first)
         (W.taken sink.old) (W.taken sink.new) (W.broken sink.new) result }
 {
     let mut status = Status::Accepted;
     let mut next = first;
     while next < behind {
         let end = next.saturating_add(BLOCK).min(behind);
-        status = match write_lines(rt, alloc, plan, next, end, status, sink) {
+        status = match write_lines(rt, alloc, plan, form, next, end, status, sink) {
             Ok(status) => status,
             Err(cut) => return Err(cut),
         };
@@ -135,18 +186,41 @@ fn write_cases<W: Sink, R: Threads + Sync>(
     Ok(status)
 }
 
-/// Writes the cases of `count` trials of a model, from trial `first` on, a line each: the case as a tree, or
-/// `genfault NUMBER COMMAND CALLBACK KIND` if a callback fault leaves the trial without a case. A campaign with these
-/// settings tries the same case in the trial of the same number. Generates several cases at once, and writes lines as
-/// it goes.
+/// The refusal of a model, and the status.
+fn refusal_in(alloc: Global, form: ItemForm, refusal: &Refusal) -> Result<Output, AllocError>
+    ensures text { IfOk result (λ output. output.text.items ≡ refusal_in form refusal.now) }
+    ensures status { IfOk result (λ output. output.status ≡ Refused) }
+{
+    match form {
+        ItemForm::Trees => refusal_output(alloc, refusal),
+        ItemForm::Json => refusal_object(alloc, refusal),
+    }
+}
+
+/// Writes that an allocation failed, and returns the status.
+fn send_memory<W: Sink>(form: ItemForm, sink: &mut W) -> Status
+    requires { W.broken sink.old ≡ false }
+    ensures { Sends (W.taken sink.old) (W.taken sink.new) (W.broken sink.new) result (memory_in form) Lost }
+{
+    match form {
+        ItemForm::Trees => send(b"refused memory\n", Status::Lost, sink),
+        ItemForm::Json => send(MEMORY_OBJECT, Status::Lost, sink),
+    }
+}
+
+/// Writes the cases of `count` trials of a model, from trial `first` on, a line each: the case in the form, as
+/// `convert_text` writes it; or if a callback fault leaves the trial without a case, `genfault NUMBER COMMAND CALLBACK
+/// KIND`, in JSON an object with these members. A campaign with these settings tries the same case in the trial of the
+/// same number. Generates several cases at once, and writes lines as it goes.
 ///
 /// The status is `Failed` if a callback faults, else `Accepted`. If the model is refused, writes its refusal alone,
 /// with the status `Refused`. If an allocation fails, writes `refused memory` after the lines so far, with the status
-/// `Lost`. The status is also `Lost` if the writer fails.
+/// `Lost`. In JSON both are objects. The status is also `Lost` if the writer fails.
 pub fn generate_text<W: Sink, R: Threads + Sync>(
     rt: &R,
     alloc: Global,
     input: &[u8],
+    form: ItemForm,
     settings: Settings,
     first: u64,
     count: u64,
@@ -155,7 +229,7 @@ pub fn generate_text<W: Sink, R: Threads + Sync>(
     requires ranges { AreInRange settings }
     requires numbers { first + count < 2 ^ 64 }
     requires stands { W.broken sink.old ≡ false }
-    ensures { Prints (IsGenerateOutput settings first count input.now)
+    ensures { PrintsElse (memory_in form) (IsGenerateOutput form settings first count input.now)
         (W.taken sink.old) (W.taken sink.new) (W.broken sink.new) result }
 {
     let typed = match load(alloc, input) {
@@ -164,20 +238,20 @@ pub fn generate_text<W: Sink, R: Threads + Sync>(
             typed
         }
         Ok(Err(refusal)) => {
-            return match refusal_output(alloc, &refusal) {
+            return match refusal_in(alloc, form, &refusal) {
                 Ok(output) => send(output.text.as_slice(), output.status, sink),
-                Err(AllocError) => send(b"refused memory\n", Status::Lost, sink),
+                Err(AllocError) => send_memory(form, sink),
             };
         }
-        Err(AllocError) => return send(b"refused memory\n", Status::Lost, sink),
+        Err(AllocError) => return send_memory(form, sink),
     };
     let Ok(plan) = Plan::new(alloc, typed, settings) else {
-        return send(b"refused memory\n", Status::Lost, sink);
+        return send_memory(form, sink);
     };
-    match write_cases(rt, alloc, &plan, first, first + count, sink) {
+    match write_cases(rt, alloc, &plan, form, first, first + count, sink) {
         Ok(status) => status,
-        Err(Cut::Unread) => send(b"refused memory\n", Status::Lost, sink),
-        Err(Cut::NoMemory) => send(b"refused memory\n", Status::Lost, sink),
+        Err(Cut::Unread) => send_memory(form, sink),
+        Err(Cut::NoMemory) => send_memory(form, sink),
         Err(Cut::Unwritten) => Status::Lost,
     }
 }

@@ -14,7 +14,7 @@ returns g c =
     let written = c.in_ok-collect.ensures in
     let chain = written.1 in
     let places = chain.1 ∙ (λ i. nat_range (start i) (end i)) in
-    let Line = IsLineOf c.map.result.f.1.now in
+    let Line = IsLineOf c.map.result.f.2.now c.map.result.f.1.now in
     let each = collected Line (λ v. v.items) numbers written.0 c.in_ok-collect.field-0 _
     (subst (λ xs. AllZip (λ number r. IfOk r (Line number)) xs written.0) places chain.2) written.2 in
-    subst (λ f. IfOk c.in_ok-collect.field-0 (λ outputs. AllZip (IsLineOf f.1.now) numbers outputs.items)) c.map.ensures.f each
+    subst (λ f. IfOk c.in_ok-collect.field-0 (λ outputs. AllZip (IsLineOf f.2.now f.1.now) numbers outputs.items)) c.map.ensures.f each

@@ -14,8 +14,8 @@ loop-next-init g c =
       above = le_refl _;
       below = c.requires.order;
       stands = c.requires.stands;
-      done = subst (λ n. AreWritten c.args.plan.now c.args.first n Accepted taken taken broken Accepted) none
-          (nothing_written c.args.plan.now c.args.first Accepted taken broken c.requires.stands);
+      done = subst (λ n. AreWritten c.args.form c.args.plan.now c.args.first n Accepted taken taken broken Accepted) none
+          (nothing_written c.args.form c.args.plan.now c.args.first Accepted taken broken c.requires.stands);
     }
 
 pub returns-in-Err : goal.returns-in-Err
@@ -23,7 +23,7 @@ returns-in-Err g c =
     let so_far = c.loop-next.invariant in
     let below : c.min-end.result ≤ c.args.behind = omega (arith, c.min-end.ensures) in
     let beyond : c.loop-next.next ≤ c.min-end.result = omega (arith, c.min-end.ensures, c.saturating_add.ensures, so_far.below) in
-    stops c.args.plan.now c.args.first c.loop-next.next c.args.behind so_far.above so_far.below _ _ _ _ so_far.done c.min-end.result _ _ c.in-Err.cut below beyond c.in-Err.ensures
+    stops c.args.form c.args.plan.now c.args.first c.loop-next.next c.args.behind so_far.above so_far.below _ _ _ _ so_far.done c.min-end.result _ _ c.in-Err.cut below beyond c.in-Err.ensures
 
 pub loop-next-preserved : goal.loop-next-preserved
 loop-next-preserved g c =
@@ -35,5 +35,5 @@ loop-next-preserved g c =
       above = above;
       below = below;
       stands = c.in-Ok.ensures.written.stands;
-      done = goes_on c.args.plan.now c.args.first c.loop-next.next c.args.behind so_far.above so_far.below _ _ _ _ so_far.done c.min-end.result _ _ _ beyond c.in-Ok.ensures;
+      done = goes_on c.args.form c.args.plan.now c.args.first c.loop-next.next c.args.behind so_far.above so_far.below _ _ _ _ so_far.done c.min-end.result _ _ _ beyond c.in-Ok.ensures;
     }

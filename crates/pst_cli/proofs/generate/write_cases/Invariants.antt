@@ -8,7 +8,7 @@ invariant-loop-next g l = record {
   above : l.first ≤ l.next;
   below : l.next ≤ l.behind;
   stands : g.W.Sink.broken l.sink ≡ false;
-  done : AreWritten l.plan l.first (l.next - l.first) Accepted (g.W.Sink.taken l.initial.sink) (g.W.Sink.taken l.sink) (g.W.Sink.broken l.sink) l.status;
+  done : AreWritten l.form l.plan l.first (l.next - l.first) Accepted (g.W.Sink.taken l.initial.sink) (g.W.Sink.taken l.sink) (g.W.Sink.broken l.sink) l.status;
 }
 
 abbrev pub decreases-loop-next : goal.decreases-loop-next

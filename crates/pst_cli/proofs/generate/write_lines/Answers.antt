@@ -4,17 +4,17 @@ use Rattle.pst_cli.proofs.Generated.{none_written, of_outputs}
 use Rattle.pst_cli.proofs.generate.write_lines.Goals as goal
 
 pub returns-in_default : goal.returns-in_default
-returns-in_default g c = none_written c.args.plan.now _ _ _ _ _ c.requires.stands
+returns-in_default g c = none_written c.args.form c.args.plan.now _ _ _ _ _ c.requires.stands
 
 pub returns-in_default-joined : goal.returns-in_default-joined
-returns-in_default-joined g c = none_written c.args.plan.now _ _ _ _ _ c.requires.stands
+returns-in_default-joined g c = none_written c.args.form c.args.plan.now _ _ _ _ _ c.requires.stands
 
 pub returns-in-Ok-put_all : goal.returns-in-Ok-put_all
 returns-in-Ok-put_all g c =
     record {
       text = c.in-Ok-joined.output.text.items;
       lines = rw (c.in-Ok-joined.ensures.text, c.in-Ok-joined.ensures.status, c.as_slice.ensures.value)
-          (of_outputs c.args.plan.now c.args.first (c.args.behind - c.args.first) c.args.so_far c.in-Ok.outputs.items c.in-Ok.ensures);
+          (of_outputs c.args.form c.args.plan.now c.args.first (c.args.behind - c.args.first) c.args.so_far c.in-Ok.outputs.items c.in-Ok.ensures);
       written = rw c.as_slice-2.ensures.value at c.in-Ok-put_all.ensures.outcome;
     }
 
@@ -26,6 +26,6 @@ returns g c =
       text = c.in-Ok-joined.output.text.items;
       worst = c.in-Ok-joined.output.status;
       lines = rw (c.in-Ok-joined.ensures.text, c.in-Ok-joined.ensures.status, c.as_slice.ensures.value)
-          (of_outputs c.args.plan.now c.args.first (c.args.behind - c.args.first) c.args.so_far c.in-Ok.outputs.items c.in-Ok.ensures);
+          (of_outputs c.args.form c.args.plan.now c.args.first (c.args.behind - c.args.first) c.args.so_far c.in-Ok.outputs.items c.in-Ok.ensures);
       written = rw c.as_slice-2.ensures.value at c.in-Err.ensures.outcome;
     }
