@@ -1,11 +1,14 @@
 //! `pst run`.
 ghost use Rattle.std.specs.Prelude.{◌≡◌, false};
 
+use crate::telling::Telling;
 use crate::words::is_json;
 use crate::{explained, overheard};
 use clap::ArgMatches;
 use pst_case::Run;
-use pst_cli::{Absence, Counts, Status, refuse_text, run_counting, run_json, run_repeatedly};
+use pst_cli::{
+    Absence, Counts, Status, Steps, refuse_text, run_counting, run_json, run_repeatedly,
+};
 use pst_driver::Misfits;
 use pst_sexpr::{Out, Sink, put_all};
 use pst_system::BoxedSystem;
@@ -46,6 +49,8 @@ struct How {
     /// How often each is driven; `None`: once, without a count of drives.
     repeats: Option<u32>,
     is_json: bool,
+    /// Whether a line on standard error says how far it is.
+    is_told: bool,
 }
 
 /// Drives each item of the input, and writes the runs and their verdicts.
@@ -56,24 +61,25 @@ fn run_items<W: Sink, R: Threads + Wait>(
     how: How,
     input: &[u8],
     counts: &mut Counts,
+    steps: &Steps,
     out: &mut W,
 ) -> Status
     requires { W.broken out.old ≡ false }
 {
     if how.is_json {
-        return run_json(rt, alloc, input, system, how.repeats, counts, out);
+        return run_json(rt, alloc, input, system, how.repeats, counts, steps, out);
     }
     match how.repeats {
         Some(repeats) if repeats >= 1 => {
-            run_repeatedly(rt, alloc, input, system, repeats, counts, out)
+            run_repeatedly(rt, alloc, input, system, repeats, counts, steps, out)
         }
-        _ => run_counting(rt, alloc, input, system, counts, out),
+        _ => run_counting(rt, alloc, input, system, counts, steps, out),
     }
 }
 
 /// Drives the items of the input, and writes the report once it is complete. Then it writes to standard error what the
 /// system answered for each reply `misfit`, and why a run is broken.
-fn drive_and_explain<W: Sink, R: Threads + Wait + Sync + Eprint>(
+fn drive_and_explain<W: Sink, R: Threads + Wait + Sync + Eprint + Copy + Drop + Send + 'static>(
     rt: &R,
     alloc: Global,
     system: &mut BoxedSystem,
@@ -86,8 +92,21 @@ fn drive_and_explain<W: Sink, R: Threads + Wait + Sync + Eprint>(
     requires { W.broken out.old ≡ false }
 {
     overheard::begin(alloc, misfits, input);
+    let Ok(telling) = Telling::begin(rt, alloc, how.is_told, "run") else {
+        return refuse_text(Absence::NoMemory, out);
+    };
     let mut report = Out::new(Vec::new(alloc));
-    let status = run_items(rt, alloc, system, how, input, counts, &mut report);
+    let status = run_items(
+        rt,
+        alloc,
+        system,
+        how,
+        input,
+        counts,
+        telling.steps(),
+        &mut report,
+    );
+    telling.end(rt);
     let report = report.into_inner();
     // Each status but `Accepted` has a line: the report is empty only if an allocation of the buffer failed.
     if report.is_empty() && status != Status::Accepted {
@@ -102,14 +121,15 @@ fn drive_and_explain<W: Sink, R: Threads + Wait + Sync + Eprint>(
 }
 
 /// Drives the items of the input on a system, if there is one. If there is a list of misfits, it then writes to
-/// standard error what is wrong with the runs.
-pub fn drive<W: Sink, R: Threads + Wait + Sync + Eprint>(
+/// standard error what is wrong with the runs; if `is_told`, a line of it says meanwhile how many items are run.
+pub fn drive<W: Sink, R: Threads + Wait + Sync + Eprint + Copy + Drop + Send + 'static>(
     rt: &R,
     alloc: Global,
     words: &ArgMatches<'_>,
     name: &str,
     mut systems: Vec<BoxedSystem>,
     misfits: Option<&Misfits>,
+    is_told: bool,
     input: &[u8],
     counts: &mut Counts,
     out: &mut W,
@@ -122,11 +142,21 @@ pub fn drive<W: Sink, R: Threads + Wait + Sync + Eprint>(
     let how = How {
         repeats: words.get_one("repeats"),
         is_json: is_json(words),
+        is_told,
     };
     match misfits {
         Some(misfits) => {
             drive_and_explain(rt, alloc, &mut system, how, misfits, input, counts, out)
         }
-        None => run_items(rt, alloc, &mut system, how, input, counts, out),
+        None => run_items(
+            rt,
+            alloc,
+            &mut system,
+            how,
+            input,
+            counts,
+            &Steps::new(),
+            out,
+        ),
     }
 }

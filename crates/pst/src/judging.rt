@@ -2,17 +2,20 @@
 ghost use Rattle.std.specs.Prelude.{◌≡◌, false, All, IfSome};
 ghost use Rattle.pst_runs.specs.Lawful.{AreLawful};
 
+use crate::telling::Telling;
 use crate::words::is_json;
 use clap::ArgMatches;
 use pst_cli::{
-    AnsweredFile, Counts, JudgedFile, Shown, Status, judge_file, judge_file_keeping_on, judge_json,
-    judge_text, judge_text_keeping_on,
+    AnsweredFile, Counts, JudgedFile, MEMORY_OBJECT, Shown, Status, Steps, item_count, judge_file,
+    judge_file_counting, judge_file_keeping_on, judge_file_keeping_on_counting, judge_json,
+    judge_json_counting, judge_text, judge_text_keeping_on,
 };
-use pst_sexpr::Sink;
+use pst_sexpr::{Out, Sink, put_all};
 use pst_sources::{Input, SourceFile};
 use pst_warnings::{broken_answer, broken_run, warnings_on_answers, warnings_on_runs};
 use std::alloc::{AllocError, Global};
 use std::mem::forget;
+use std::sync::Wait;
 use std::thread::Threads;
 
 /// Writes `messages` to standard error. It does nothing if an allocation for them failed, and ignores failures to
@@ -112,44 +115,125 @@ fn count_and_warn<R: Eprint>(
     warn_on_answers(rt, alloc, files, input, answered);
 }
 
-/// Judges the items of the input, up to the first refused one, or all of them with `--keep-going` or JSON output.
-/// Unless the arguments forbid messages, it then counts the items, and may write messages to standard error.
-pub fn judge<W: Sink, R: Threads + Sync + Eprint>(
+/// Judges the items of the input without messages.
+fn judge_quietly<W: Sink, R: Threads + Sync>(
     rt: &R,
     alloc: Global,
     words: &ArgMatches<'_>,
-    files: &[SourceFile<'_>],
     input: &[u8],
-    counts: &mut Counts,
     out: &mut W,
 ) -> Status
     requires { W.broken out.old ≡ false }
 {
     let shown = shown(words);
     if is_json(words) {
-        let (status, answered) = judge_json(rt, alloc, input, shown, out);
-        if !words.get_flag("quiet") {
-            count_and_warn(rt, alloc, files, input, counts, answered);
-        }
+        return judge_json(rt, alloc, input, shown, out).0;
+    }
+    match (words.get_flag("keep-going"), shown) {
+        (false, Shown::All) => judge_text(rt, alloc, input, out),
+        (true, Shown::All) => judge_text_keeping_on(rt, alloc, input, out),
+        (false, _) => judge_file(rt, alloc, input, shown, out).0,
+        (true, _) => judge_file_keeping_on(rt, alloc, input, shown, out).0,
+    }
+}
+
+/// Judges all items of the input, even if some are refused.
+fn judge_all<W: Sink, R: Threads + Sync>(
+    rt: &R,
+    alloc: Global,
+    words: &ArgMatches<'_>,
+    input: &[u8],
+    steps: &Steps,
+    out: &mut W,
+) -> (Status, Option<AnsweredFile>)
+    requires { W.broken out.old ≡ false }
+{
+    let shown = shown(words);
+    if is_json(words) {
+        judge_json_counting(rt, alloc, input, shown, steps, out)
+    } else {
+        judge_file_keeping_on_counting(rt, alloc, input, shown, steps, out)
+    }
+}
+
+/// Writes the lines of the items. There are none, with another status than `Accepted`, only if an allocation failed.
+fn write_lines<W: Sink>(
+    words: &ArgMatches<'_>,
+    lines: Out<Vec<u8>>,
+    status: Status,
+    out: &mut W,
+) -> Status
+    requires { W.broken out.old ≡ false }
+{
+    let lines = lines.into_inner();
+    let is_lost = lines.is_empty() && status != Status::Accepted;
+    let text = match (is_lost, is_json(words)) {
+        (false, _) => lines.as_slice(),
+        (true, false) => b"refused memory\n",
+        (true, true) => MEMORY_OBJECT,
+    };
+    match put_all(text, out) {
+        Ok(()) if !is_lost => status,
+        _ => Status::Lost,
+    }
+}
+
+/// Begins to tell how many items of the input are judged.
+fn begin<R: Threads + Wait + Eprint + Copy + Drop + Send + 'static>(
+    rt: &R,
+    alloc: Global,
+    is_told: bool,
+    input: &[u8],
+) -> Result<Telling, AllocError> {
+    let telling = Telling::begin(rt, alloc, is_told, "judged")?;
+    if is_told {
+        telling.steps().expect(item_count(alloc, input)?);
+    }
+    Ok(telling)
+}
+
+/// Judges the items of the input, up to the first refused one, or all of them with `--keep-going` or JSON output.
+/// Unless the arguments forbid messages, it then counts the items, and may write messages to standard error; if
+/// `is_told`, a line of it says meanwhile how many are judged.
+pub fn judge<W: Sink, R: Threads + Wait + Sync + Eprint + Copy + Drop + Send + 'static>(
+    rt: &R,
+    alloc: Global,
+    words: &ArgMatches<'_>,
+    is_told: bool,
+    input: Input<'_>,
+    counts: &mut Counts,
+    out: &mut W,
+) -> Status
+    requires { W.broken out.old ≡ false }
+{
+    let Input { files, bytes } = input;
+    if words.get_flag("quiet") {
+        return judge_quietly(rt, alloc, words, bytes, out);
+    }
+    let mut lines = Out::new(Vec::new(alloc));
+    let Ok(telling) = begin(rt, alloc, is_told, bytes) else {
+        return write_lines(words, lines, Status::Lost, out);
+    };
+    if is_json(words) || words.get_flag("keep-going") {
+        let (status, answered) = judge_all(rt, alloc, words, bytes, telling.steps(), &mut lines);
+        telling.end(rt);
+        let status = write_lines(words, lines, status, out);
+        count_and_warn(rt, alloc, files, bytes, counts, answered);
         return status;
     }
-    match (words.get_flag("keep-going"), words.get_flag("quiet")) {
-        (false, true) if shown == Shown::All => judge_text(rt, alloc, input, out),
-        (true, true) if shown == Shown::All => judge_text_keeping_on(rt, alloc, input, out),
-        (false, true) => judge_file(rt, alloc, input, shown, out).0,
-        (true, true) => judge_file_keeping_on(rt, alloc, input, shown, out).0,
-        (false, false) => {
-            let (status, judged) = judge_file(rt, alloc, input, shown, out);
-            if let Some(judged) = &judged {
-                counts.add_all(judged.judged.as_slice());
-            }
-            warn_on_runs(rt, alloc, files, input, judged);
-            status
-        }
-        (true, false) => {
-            let (status, answered) = judge_file_keeping_on(rt, alloc, input, shown, out);
-            count_and_warn(rt, alloc, files, input, counts, answered);
-            status
-        }
+    let (status, judged) = judge_file_counting(
+        rt,
+        alloc,
+        bytes,
+        shown(words),
+        telling.steps(),
+        &mut lines,
+    );
+    telling.end(rt);
+    let status = write_lines(words, lines, status, out);
+    if let Some(judged) = &judged {
+        counts.add_all(judged.judged.as_slice());
     }
+    warn_on_runs(rt, alloc, files, bytes, judged);
+    status
 }

@@ -86,7 +86,10 @@ fn and_one(systems: Systems, system: Result<BoxedSystem, Unmade>) -> Systems {
 }
 
 /// Runs the subcommand on the systems, or refuses if they were not made.
-fn with_systems<W: Sink, R: Threads + Wait + Sync + Eprint + Files + Clock + AllocGlobal>(
+fn with_systems<
+    W: Sink,
+    R: Threads + Wait + Sync + Eprint + Files + Clock + AllocGlobal + Copy + Drop + Send + 'static,
+>(
     rt: &R,
     matches: &ArgMatches<'_>,
     systems: Systems,
@@ -113,6 +116,7 @@ fn with_systems<W: Sink, R: Threads + Wait + Sync + Eprint + Files + Clock + All
                 name,
                 systems,
                 shared.misfits,
+                terminals.errors,
                 bytes,
                 counts,
                 out,
@@ -150,7 +154,7 @@ fn answer<W: Sink, R: Runtime + Threads + Wait + Sync + AllocGlobal + Copy + Dro
         return Status::Refused;
     };
     let alloc = rt.alloc();
-    let Input { files, bytes } = input;
+    let Input { files: _, bytes } = input;
     match word {
         "check" if noticed::are_written(word, words) => {
             let notices = noticed::lines(alloc, words, &input);
@@ -163,7 +167,7 @@ fn answer<W: Sink, R: Runtime + Threads + Wait + Sync + AllocGlobal + Copy + Dro
         "judge" if words.get_flag("stream") => {
             streaming::judge(rt, words, terminals, bytes, counts, out)
         }
-        "judge" => judge(rt, alloc, words, files, bytes, counts, out),
+        "judge" => judge(rt, alloc, words, terminals.errors, input, counts, out),
         "explain" => explaining::explain(rt, words, terminals, input, out),
         _ => with_systems(rt, matches, systems, shared, terminals, input, counts, out),
     }

@@ -13,11 +13,11 @@ use crate::judged::{JudgedFile, joined, judged_file};
 use crate::kept::Keep;
 use crate::output::{Output, send};
 use crate::status::Status;
-use crate::steps::Steps;
 use pst_case::Run;
 use pst_compile::Compiled;
 use pst_explain::{TreePlace, explain_item, first_places, graph_item};
 use pst_judge::Judged;
+use pst_rejudge::Steps;
 use pst_sexpr::Sink;
 use pst_sources::SourceFile;
 use std::alloc::{AllocError, Global};
@@ -150,7 +150,7 @@ fn explain_output<R: Threads + Sync>(
         compiled,
         runs,
         judged,
-    } = match judged_file(rt, alloc, input, Keep::All)? {
+    } = match judged_file(rt, alloc, input, Keep::All, &Steps::new())? {
         Ok(file) => file,
         Err(output) => return Ok(output),
     };

@@ -8,6 +8,7 @@ use crate::output::Output;
 use crate::refusal::refusal_output;
 use pst_case::Run;
 use pst_compile::Compiled;
+use pst_explain::first_places;
 use pst_typing::items_of;
 use std::alloc::{AllocError, Global};
 
@@ -18,6 +19,12 @@ pub struct ModelAndRuns {
     pub compiled: Compiled,
     /// The runs, in their order.
     pub runs: Vec<Run>,
+}
+
+/// Returns how many items an input has after its model. The input must be read without a fault.
+pub fn item_count(alloc: Global, input: &[u8]) -> Result<usize, AllocError> {
+    let trees = first_places(alloc, &[], input)?;
+    Ok(trees.len().saturating_sub(1))
 }
 
 /// Reads the input from its first byte to its last, and returns the model and the runs, or the output for the first

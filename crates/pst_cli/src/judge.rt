@@ -18,6 +18,7 @@ use crate::status::Status;
 use pst_case::{CaseFaultKind, Run};
 use pst_judge::{Judged, Verdict};
 use pst_model::Typed;
+use pst_rejudge::Steps;
 use pst_runs::{RunFault, RunFaultKind, read_runs};
 use pst_sexpr::{Sink, Tree};
 use std::alloc::{AllocError, Global};
@@ -94,6 +95,7 @@ fn judge_output<R: Threads + Sync>(
     input: &[u8],
     shown: Shown,
     keep: Keep,
+    steps: &Steps,
 ) -> Result<(Output, Option<JudgedFile>), AllocError>
     ensures output { IfOk result (λ r. IsShownOutput shown input.now r.0.text.items r.0.status) }
     ensures held { IfOk result (λ r. IfSome r.1 (λ file. HoldsJudged (keeps_all keep) input.now file.compiled
@@ -101,7 +103,7 @@ fn judge_output<R: Threads + Sync>(
     ensures lawful { IfOk result
         (λ r. IfSome r.1 (λ judged. All (λ runs. AreLawful judged.compiled runs.items) judged.runs.items)) }
 {
-    let file = match judged_file(rt, alloc, input, keep)? {
+    let file = match judged_file(rt, alloc, input, keep, steps)? {
         Ok(file) => file,
         Err(output) => return Ok((output, None)),
     };
@@ -110,13 +112,14 @@ fn judge_output<R: Threads + Sync>(
     Ok((output, Some(file)))
 }
 
-/// Does what [`judge_file`] does, and keeps the items as `keep` says.
+/// Does what [`judge_file_counting`] does, and keeps the items as `keep` says.
 fn judge_keeping<W: Sink, R: Threads + Sync>(
     rt: &R,
     alloc: Global,
     input: &[u8],
     shown: Shown,
     keep: Keep,
+    steps: &Steps,
     sink: &mut W,
 ) -> (Status, Option<JudgedFile>)
     requires { W.broken sink.old ≡ false }
@@ -127,7 +130,7 @@ fn judge_keeping<W: Sink, R: Threads + Sync>(
     ensures lawful { IfSome result.1
         (λ judged. All (λ runs. AreLawful judged.compiled runs.items) judged.runs.items) }
 {
-    match judge_output(rt, alloc, input, shown, keep) {
+    match judge_output(rt, alloc, input, shown, keep, steps) {
         Ok((output, judged)) => (send(output.text.as_slice(), output.status, sink), judged),
         Err(AllocError) => (send(b"refused memory\n", Status::Lost, sink), None),
     }
@@ -152,7 +155,27 @@ pub fn judge_file<W: Sink, R: Threads + Sync>(
     ensures lawful { IfSome result.1
         (λ judged. All (λ runs. AreLawful judged.compiled runs.items) judged.runs.items) }
 {
-    judge_keeping(rt, alloc, input, shown, Keep::ForWarnings, sink)
+    judge_file_counting(rt, alloc, input, shown, &Steps::new(), sink)
+}
+
+/// Does what [`judge_file`] does, and counts the items that are judged in `steps`.
+pub fn judge_file_counting<W: Sink, R: Threads + Sync>(
+    rt: &R,
+    alloc: Global,
+    input: &[u8],
+    shown: Shown,
+    steps: &Steps,
+    sink: &mut W,
+) -> (Status, Option<JudgedFile>)
+    requires { W.broken sink.old ≡ false }
+    ensures prints { Prints (IsShownOutput shown input.now)
+        (W.taken sink.old) (W.taken sink.new) (W.broken sink.new) result.0 }
+    ensures held { IfSome result.1 (λ file. HoldsJudged false input.now file.compiled
+        (joined file.runs.items) file.judged.items) }
+    ensures lawful { IfSome result.1
+        (λ judged. All (λ runs. AreLawful judged.compiled runs.items) judged.runs.items) }
+{
+    judge_keeping(rt, alloc, input, shown, Keep::ForWarnings, steps, sink)
 }
 
 /// Judges the items after the model at the start of the input, several at once, and returns the status. Writes a line
@@ -168,6 +191,7 @@ pub fn judge_text<W: Sink, R: Threads + Sync>(
     ensures { Prints (IsJudgeOutput input.now)
         (W.taken sink.old) (W.taken sink.new) (W.broken sink.new) result }
 {
-    let (status, _) = judge_keeping(rt, alloc, input, Shown::All, Keep::Nothing, sink);
+    let steps = Steps::new();
+    let (status, _) = judge_keeping(rt, alloc, input, Shown::All, Keep::Nothing, &steps, sink);
     status
 }

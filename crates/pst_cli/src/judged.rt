@@ -12,7 +12,7 @@ use crate::sharing::may_share_compiled;
 use pst_case::Run;
 use pst_compile::Compiled;
 use pst_judge::Judged;
-use pst_rejudge::{JudgedParts, head_and_rest, judge_in_parts, rejudge};
+use pst_rejudge::{JudgedParts, Steps, head_and_rest, judge_in_parts, rejudge};
 use pst_sexpr::MAX_BYTES;
 use std::alloc::{AllocError, Global};
 use std::thread::Threads;
@@ -37,6 +37,7 @@ fn judged_at_once<R: Threads + Sync>(
     alloc: Global,
     input: &[u8],
     keep: Keep,
+    steps: &Steps,
 ) -> Result<Option<JudgedFile>, AllocError>
     ensures { IfOk result (λ read. IfSome read (λ file.
         HoldsJudged (keeps_all keep) input.now file.compiled (joined file.runs.items) file.judged.items)) }
@@ -55,7 +56,7 @@ fn judged_at_once<R: Threads + Sync>(
     }
     may_share_compiled();
     let keeps = keep.keeps(compiled.typed());
-    match judge_in_parts(rt, &compiled, alloc, compiled.typed(), rest, keeps)? {
+    match judge_in_parts(rt, &compiled, alloc, compiled.typed(), rest, keeps, steps)? {
         Some(JudgedParts { runs, judged }) => Ok(Some(JudgedFile {
             compiled,
             runs,
@@ -91,6 +92,7 @@ fn judged_in_order<R: Threads + Sync>(
     rt: &R,
     alloc: Global,
     input: &[u8],
+    steps: &Steps,
 ) -> Result<Result<JudgedFile, Output>, AllocError>
     ensures { IfOk result (λ read. MatchResult read
         (λ file. HoldsJudged true input.now file.compiled (joined file.runs.items) file.judged.items)
@@ -101,7 +103,8 @@ fn judged_in_order<R: Threads + Sync>(
         Err(output) => return Ok(Err(output)),
     };
     may_share_compiled();
-    let judged = rejudge(rt, &compiled, alloc, runs.as_slice())?;
+    steps.expect(runs.len());
+    let judged = rejudge(rt, &compiled, alloc, runs.as_slice(), steps)?;
     let runs = in_one_part(alloc, runs)?;
     Ok(Ok(JudgedFile {
         compiled,
@@ -111,19 +114,20 @@ fn judged_in_order<R: Threads + Sync>(
 }
 
 /// The judgements on the items of an input, several judged at once, or the output for the first refusal. `keep` says
-/// which items to keep; more may be kept.
+/// which items to keep; more may be kept. `steps` counts the items that are judged.
 pub fn judged_file<R: Threads + Sync>(
     rt: &R,
     alloc: Global,
     input: &[u8],
     keep: Keep,
+    steps: &Steps,
 ) -> Result<Result<JudgedFile, Output>, AllocError>
     ensures { IfOk result (λ read. MatchResult read
         (λ file. HoldsJudged (keeps_all keep) input.now file.compiled (joined file.runs.items) file.judged.items)
         (λ output. IsFirstRefusal input.now output.text.items output.status)) }
 {
-    match judged_at_once(rt, alloc, input, keep)? {
+    match judged_at_once(rt, alloc, input, keep, steps)? {
         Some(file) => Ok(Ok(file)),
-        None => judged_in_order(rt, alloc, input),
+        None => judged_in_order(rt, alloc, input, steps),
     }
 }

@@ -25,7 +25,7 @@ use crate::run::status_of_one;
 use crate::sharing::may_share_compiled;
 use crate::shown::Shown;
 use crate::status::Status;
-use pst_rejudge::{Answer, judge_each};
+use pst_rejudge::{Answer, Steps, judge_each};
 use pst_runs::RunFault;
 use pst_sexpr::Sink;
 use pst_typing::items_of;
@@ -149,6 +149,7 @@ fn keeping_on_output<R: Threads + Sync>(
     alloc: Global,
     input: &[u8],
     shown: Shown,
+    steps: &Steps,
 ) -> Result<(Output, Option<AnsweredFile>), AllocError>
     ensures output { IfOk result (λ r. IsShownKeepingOn shown input.now r.0.text.items r.0.status) }
     ensures held { IfOk result (λ r. IfSome r.1 (λ answered. HoldsAnswers input.now answered.file.compiled
@@ -160,7 +161,15 @@ fn keeping_on_output<R: Threads + Sync>(
     };
     let items = items_of(file.trees.as_slice());
     may_share_compiled();
-    let answers = judge_each(rt, &file.compiled, alloc, file.compiled.typed(), items)?;
+    steps.expect(items.len());
+    let answers = judge_each(
+        rt,
+        &file.compiled,
+        alloc,
+        file.compiled.typed(),
+        items,
+        steps,
+    )?;
     let text = shown_lines(alloc, shown, answers.as_slice())?;
     let output = Output::new(text, worst_status(answers.as_slice()));
     Ok((output, Some(AnsweredFile { file, answers })))
@@ -181,7 +190,25 @@ pub fn judge_file_keeping_on<W: Sink, R: Threads + Sync>(
     ensures held { IfSome result.1 (λ answered. HoldsAnswers input.now answered.file.compiled
         answered.file.trees.items answered.answers.items) }
 {
-    match keeping_on_output(rt, alloc, input, shown) {
+    judge_file_keeping_on_counting(rt, alloc, input, shown, &Steps::new(), sink)
+}
+
+/// Does what [`judge_file_keeping_on`] does, and counts the items that are judged in `steps`.
+pub fn judge_file_keeping_on_counting<W: Sink, R: Threads + Sync>(
+    rt: &R,
+    alloc: Global,
+    input: &[u8],
+    shown: Shown,
+    steps: &Steps,
+    sink: &mut W,
+) -> (Status, Option<AnsweredFile>)
+    requires { W.broken sink.old ≡ false }
+    ensures prints { Prints (IsShownKeepingOn shown input.now)
+        (W.taken sink.old) (W.taken sink.new) (W.broken sink.new) result.0 }
+    ensures held { IfSome result.1 (λ answered. HoldsAnswers input.now answered.file.compiled
+        answered.file.trees.items answered.answers.items) }
+{
+    match keeping_on_output(rt, alloc, input, shown, steps) {
         Ok((output, answered)) => (send(output.text.as_slice(), output.status, sink), answered),
         Err(AllocError) => (send(b"refused memory\n", Status::Lost, sink), None),
     }

@@ -34,7 +34,6 @@ mod run_objects;
 mod sharing;
 mod shown;
 mod status;
-mod steps;
 mod stream;
 
 pub use absent::{Absence, refuse_text};
@@ -50,18 +49,21 @@ pub use failure_page::{CampaignFailures, campaign_page};
 pub use form::ExplanationForm;
 pub use generate::generate_text;
 pub use graph::graph_text;
-pub use judge::{judge_file, judge_text};
+pub use items::item_count;
+pub use judge::{judge_file, judge_file_counting, judge_text};
 pub use judged::JudgedFile;
-pub use keep::{AnsweredFile, judge_file_keeping_on, judge_text_keeping_on};
+pub use keep::{
+    AnsweredFile, judge_file_keeping_on, judge_file_keeping_on_counting, judge_text_keeping_on,
+};
 pub use known::{KnownSystem, known_system};
 pub use laws::{keeps_judgements, one_output, streams_are_files};
 pub use list::list_text;
 pub use notes::CampaignNotes;
-pub use objects::{MEMORY_OBJECT, check_json, judge_json};
+pub use objects::{MEMORY_OBJECT, check_json, judge_json, judge_json_counting};
+pub use pst_rejudge::Steps;
 pub use repeat::run_repeatedly;
 pub use run::{run_counting, run_text};
 pub use run_objects::run_json;
 pub use shown::Shown;
 pub use status::Status;
-pub use steps::Steps;
 pub use stream::judge_stream;

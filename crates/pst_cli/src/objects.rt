@@ -26,7 +26,7 @@ use pst_json_verdicts::{
     accepted_fields, judged_fields, object_line, refusal_fields, refused_fields,
 };
 use pst_model::Typed;
-use pst_rejudge::{Answer, judge_each};
+use pst_rejudge::{Answer, Steps, judge_each};
 use pst_sexpr::Sink;
 use pst_typing::{Refusal, items_of, load, model_name};
 use std::alloc::{AllocError, Global};
@@ -89,6 +89,7 @@ fn judge_output<R: Threads + Sync>(
     alloc: Global,
     input: &[u8],
     shown: Shown,
+    steps: &Steps,
 ) -> Result<(Output, Option<AnsweredFile>), AllocError>
     ensures output { IfOk result (λ r. IsJudgeJson shown input.now r.0.text.items r.0.status) }
     ensures held { IfOk result (λ r. IfSome r.1 (λ answered. HoldsAnswers input.now answered.file.compiled
@@ -100,7 +101,15 @@ fn judge_output<R: Threads + Sync>(
     };
     let items = items_of(file.trees.as_slice());
     may_share_compiled();
-    let answers = judge_each(rt, &file.compiled, alloc, file.compiled.typed(), items)?;
+    steps.expect(items.len());
+    let answers = judge_each(
+        rt,
+        &file.compiled,
+        alloc,
+        file.compiled.typed(),
+        items,
+        steps,
+    )?;
     let text = shown_objects(alloc, shown, answers.as_slice())?;
     let status = worst_status(answers.as_slice());
     let output = Output { text, status };
@@ -128,7 +137,25 @@ pub fn judge_json<W: Sink, R: Threads + Sync>(
     ensures held { IfSome result.1 (λ answered. HoldsAnswers input.now answered.file.compiled
         answered.file.trees.items answered.answers.items) }
 {
-    match judge_output(rt, alloc, input, shown) {
+    judge_json_counting(rt, alloc, input, shown, &Steps::new(), sink)
+}
+
+/// Does what [`judge_json`] does, and counts the items that are judged in `steps`.
+pub fn judge_json_counting<W: Sink, R: Threads + Sync>(
+    rt: &R,
+    alloc: Global,
+    input: &[u8],
+    shown: Shown,
+    steps: &Steps,
+    sink: &mut W,
+) -> (Status, Option<AnsweredFile>)
+    requires { W.broken sink.old ≡ false }
+    ensures prints { PrintsElse memory_object (IsJudgeJson shown input.now)
+        (W.taken sink.old) (W.taken sink.new) (W.broken sink.new) result.0 }
+    ensures held { IfSome result.1 (λ answered. HoldsAnswers input.now answered.file.compiled
+        answered.file.trees.items answered.answers.items) }
+{
+    match judge_output(rt, alloc, input, shown, steps) {
         Ok((output, answered)) => (send(output.text.as_slice(), output.status, sink), answered),
         Err(AllocError) => (send(MEMORY_OBJECT, Status::Lost, sink), None),
     }

@@ -15,6 +15,7 @@ use crate::status::Status;
 use pst_case::{Run, Shaped};
 use pst_compile::Compiled;
 use pst_judge::{Valid, valid};
+use pst_rejudge::Steps;
 use pst_sexpr::Sink;
 use pst_system::{BoxedSystem, System};
 use pst_typing::items_of;
@@ -157,7 +158,7 @@ fn item_report<R: Threads + Wait>(
     }
 }
 
-/// The reports of all items, numbered from 1.
+/// The reports of all items, numbered from 1. `steps` counts the items.
 fn item_reports<R: Threads + Wait>(
     rt: &R,
     alloc: Global,
@@ -166,6 +167,7 @@ fn item_reports<R: Threads + Wait>(
     runs: &[Run],
     repeats: u32,
     counts: &mut Counts,
+    steps: &Steps,
 ) -> Result<Vec<Output>, AllocError>
     requires lawful { AreLawful compiled.now runs.now }
     requires some { 1 ≤ repeats }
@@ -176,6 +178,7 @@ fn item_reports<R: Threads + Wait>(
         (reset_fails system.new) (reset_fails system.old) }
 {
     let mut reports = Vec::new(alloc);
+    steps.expect(runs.len());
     for (index, run) in runs.iter().enumerate() {
         let report = item_report(
             rt,
@@ -188,6 +191,7 @@ fn item_reports<R: Threads + Wait>(
             counts,
         )?;
         reports.push(report)?;
+        steps.add(1);
     }
     Ok(reports)
 }
@@ -201,6 +205,7 @@ fn all_reports<R: Threads + Wait>(
     runs: &[Run],
     repeats: u32,
     counts: &mut Counts,
+    steps: &Steps,
 ) -> Result<Output, AllocError>
     requires lawful { AreLawful compiled.now runs.now }
     requires some { 1 ≤ repeats }
@@ -210,7 +215,7 @@ fn all_reports<R: Threads + Wait>(
     ensures kept { AreKept (answers system.new) (answers system.old) (fails system.new) (fails system.old)
         (reset_fails system.new) (reset_fails system.old) }
 {
-    let reports = item_reports(rt, alloc, compiled, system, runs, repeats, counts)?;
+    let reports = item_reports(rt, alloc, compiled, system, runs, repeats, counts, steps)?;
     joined(alloc, Status::Accepted, reports.as_slice())
 }
 
@@ -222,6 +227,7 @@ fn repeat_output<R: Threads + Wait>(
     system: &mut BoxedSystem,
     repeats: u32,
     counts: &mut Counts,
+    steps: &Steps,
 ) -> Result<Output, AllocError>
     requires { 1 ≤ repeats }
     ensures output { IfOk result (λ output.
@@ -245,6 +251,7 @@ fn repeat_output<R: Threads + Wait>(
                 runs.as_slice(),
                 repeats,
                 counts,
+                steps,
             )
         }
         Err(fault) => refused_run(alloc, &fault),
@@ -257,7 +264,7 @@ fn repeat_output<R: Threads + Wait>(
 /// explained. For a case that is not valid, writes a line with the reason alone. If a drive is lost, writes a line
 /// `NUMBER lost KIND` alone and drives the case no more. Refusals and the status are those of `run_text`.
 ///
-/// Counts each item once, by its displayed report.
+/// Counts each item once, by its displayed report; `steps` counts the items that are driven.
 pub fn run_repeatedly<W: Sink, R: Threads + Wait>(
     rt: &R,
     alloc: Global,
@@ -265,6 +272,7 @@ pub fn run_repeatedly<W: Sink, R: Threads + Wait>(
     system: &mut BoxedSystem,
     repeats: u32,
     counts: &mut Counts,
+    steps: &Steps,
     sink: &mut W,
 ) -> Status
     requires some { 1 ≤ repeats }
@@ -275,7 +283,7 @@ pub fn run_repeatedly<W: Sink, R: Threads + Wait>(
     ensures kept { AreKept (answers system.new) (answers system.old) (fails system.new) (fails system.old)
         (reset_fails system.new) (reset_fails system.old) }
 {
-    match repeat_output(rt, alloc, input, system, repeats, counts) {
+    match repeat_output(rt, alloc, input, system, repeats, counts, steps) {
         Ok(output) => send(output.text.as_slice(), output.status, sink),
         Err(AllocError) => {
             *counts = Counts::new();

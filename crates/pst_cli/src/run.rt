@@ -24,6 +24,7 @@ use pst_case::{Run, Shaped};
 use pst_compile::Compiled;
 use pst_judge::{Judged, Valid, Why, valid};
 use pst_model::Typed;
+use pst_rejudge::Steps;
 use pst_runs::run_tree;
 use pst_sexpr::{Out, Sink, Tree, WriteFailed, put_all, write};
 use pst_system::{BoxedSystem, System};
@@ -125,7 +126,7 @@ fn item_report<R: Threads + Wait>(
     }
 }
 
-/// The reports of all items, numbered from 1, and the worst of their statuses.
+/// The reports of all items, numbered from 1, and the worst of their statuses. `steps` counts the items.
 fn item_reports<R: Threads + Wait>(
     rt: &R,
     alloc: Global,
@@ -133,6 +134,7 @@ fn item_reports<R: Threads + Wait>(
     system: &mut BoxedSystem,
     runs: &[Run],
     counts: &mut Counts,
+    steps: &Steps,
 ) -> Result<Output, AllocError>
     requires { AreLawful compiled.now runs.now }
     ensures reported { IfOk result (λ output.
@@ -143,10 +145,12 @@ fn item_reports<R: Threads + Wait>(
 {
     let mut text = Vec::new(alloc);
     let mut status = Status::Accepted;
+    steps.expect(runs.len());
     for (index, run) in runs.iter().enumerate() {
         let output = item_report(rt, alloc, compiled, system, index + 1, &run.shaped, counts)?;
         text.extend_from_slice(output.text.as_slice())?;
         status = status.or_worse(output.status);
+        steps.add(1);
     }
     Ok(Output { text, status })
 }
@@ -158,6 +162,7 @@ fn run_output<R: Threads + Wait>(
     input: &[u8],
     system: &mut BoxedSystem,
     counts: &mut Counts,
+    steps: &Steps,
 ) -> Result<Output, AllocError>
     ensures output { IfOk result (λ output.
         IsRunOutput (answers system.old) (fails system.old) (reset_fails system.old)
@@ -171,7 +176,15 @@ fn run_output<R: Threads + Wait>(
     };
     let items = items_of(file.trees.as_slice());
     match runs_in(alloc, file.compiled.typed(), items)? {
-        Ok(runs) => item_reports(rt, alloc, &file.compiled, system, runs.as_slice(), counts),
+        Ok(runs) => item_reports(
+            rt,
+            alloc,
+            &file.compiled,
+            system,
+            runs.as_slice(),
+            counts,
+            steps,
+        ),
         Err(fault) => refused_run(alloc, &fault),
     }
 }
@@ -199,17 +212,26 @@ pub fn run_text<W: Sink, R: Threads + Wait>(
     ensures kept { AreKept (answers system.new) (answers system.old) (fails system.new) (fails system.old)
         (reset_fails system.new) (reset_fails system.old) }
 {
-    run_counting(rt, alloc, input, system, &mut Counts::new(), sink)
+    run_counting(
+        rt,
+        alloc,
+        input,
+        system,
+        &mut Counts::new(),
+        &Steps::new(),
+        sink,
+    )
 }
 
-/// Does what [`run_text`] does, and adds the result of each reported item to `counts`. If an allocation outside the
-/// driver fails, sets all counts to zero.
+/// Does what [`run_text`] does, counts the items that are driven in `steps`, and adds the result of each reported item
+/// to `counts`. If an allocation outside the driver fails, sets all counts to zero.
 pub fn run_counting<W: Sink, R: Threads + Wait>(
     rt: &R,
     alloc: Global,
     input: &[u8],
     system: &mut BoxedSystem,
     counts: &mut Counts,
+    steps: &Steps,
     sink: &mut W,
 ) -> Status
     requires { W.broken sink.old ≡ false }
@@ -219,7 +241,7 @@ pub fn run_counting<W: Sink, R: Threads + Wait>(
     ensures kept { AreKept (answers system.new) (answers system.old) (fails system.new) (fails system.old)
         (reset_fails system.new) (reset_fails system.old) }
 {
-    match run_output(rt, alloc, input, system, counts) {
+    match run_output(rt, alloc, input, system, counts, steps) {
         Ok(output) => send(output.text.as_slice(), output.status, sink),
         Err(AllocError) => {
             *counts = Counts::new();

@@ -16,6 +16,7 @@ use pst_json_verdicts::{
     Field, Name, add_number, add_words, judged_fields, object_line, refused_fields,
 };
 use pst_judge::{Judged, Valid, Why, valid};
+use pst_rejudge::Steps;
 use pst_runs::RunFault;
 use pst_sexpr::Sink;
 use pst_system::BoxedSystem;
@@ -196,7 +197,7 @@ fn report_object(alloc: Global, number: usize, reported: Reported) -> Result<Vec
     object_line(alloc, fields.as_slice())
 }
 
-/// The objects of all items, numbered from 1, and the worst of their statuses.
+/// The objects of all items, numbered from 1, and the worst of their statuses. `steps` counts the items.
 fn objects<R: Threads + Wait>(
     rt: &R,
     alloc: Global,
@@ -205,11 +206,13 @@ fn objects<R: Threads + Wait>(
     runs: &[Run],
     repeats: Option<u32>,
     counts: &mut Counts,
+    steps: &Steps,
 ) -> Result<Output, AllocError>
     requires { AreLawful compiled.now runs.now }
 {
     let mut text = Vec::new(alloc);
     let mut status = Status::Accepted;
+    steps.expect(runs.len());
     for (index, run) in runs.iter().enumerate() {
         let number = index + 1;
         let reported = report_of(
@@ -225,6 +228,7 @@ fn objects<R: Threads + Wait>(
         status = status.or_worse(report_status(&reported.report));
         let object = report_object(alloc, number, reported)?;
         text.extend_from_slice(object.as_slice())?;
+        steps.add(1);
     }
     Ok(Output { text, status })
 }
@@ -246,6 +250,7 @@ fn json_output<R: Threads + Wait>(
     system: &mut BoxedSystem,
     repeats: Option<u32>,
     counts: &mut Counts,
+    steps: &Steps,
 ) -> Result<Output, AllocError> {
     let file = match load_compiled(alloc, input)? {
         Ok(file) => file,
@@ -261,6 +266,7 @@ fn json_output<R: Threads + Wait>(
             runs.as_slice(),
             repeats,
             counts,
+            steps,
         ),
         Err(fault) => refused_object(alloc, &fault),
     }
@@ -269,7 +275,7 @@ fn json_output<R: Threads + Wait>(
 /// Drives the case of each item as `run_text` does, or with `repeats` as `run_repeatedly` does, and writes an object for each, on
 /// a line: its verdict, as `judge_json` writes it, and its run as a tree; or why its case is not valid; or that it was lost, and
 /// why. With `repeats` the object also has the number of drives and of those that failed. A refusal is one object. The status
-/// and the counts are those of these functions. If an allocation fails, writes the object of that alone.
+/// and the counts are those of these functions; `steps` counts the items that are driven. If an allocation fails, writes the object of that alone.
 pub fn run_json<W: Sink, R: Threads + Wait>(
     rt: &R,
     alloc: Global,
@@ -277,11 +283,12 @@ pub fn run_json<W: Sink, R: Threads + Wait>(
     system: &mut BoxedSystem,
     repeats: Option<u32>,
     counts: &mut Counts,
+    steps: &Steps,
     sink: &mut W,
 ) -> Status
     requires { W.broken sink.old ≡ false }
 {
-    match json_output(rt, alloc, input, system, repeats, counts) {
+    match json_output(rt, alloc, input, system, repeats, counts, steps) {
         Ok(output) => send(output.text.as_slice(), output.status, sink),
         Err(AllocError) => {
             *counts = Counts::new();

@@ -6,6 +6,7 @@ ghost use Rattle.pst_rejudge.specs.Answers.{IsAnswer};
 
 use crate::reading::read_one;
 use crate::sharing::may_share_models;
+use crate::steps::Steps;
 use pst_eval::Callbacks;
 use pst_judge::{Judged, judge_one};
 use pst_model::Typed;
@@ -45,8 +46,24 @@ pub fn answer_of<C: Callbacks>(
     }
 }
 
+/// Reads and judges the item that a tree spells, and counts it in `steps`.
+fn answer_counted<C: Callbacks>(
+    callbacks: &C,
+    alloc: Global,
+    typed: &Typed,
+    tree: &Tree,
+    steps: &Steps,
+) -> Result<Answer, AllocError>
+    requires { typed.now ≡ C.model callbacks.now }
+    ensures { IfOk result (IsAnswer (C.model callbacks.now) tree.now) }
+{
+    let answer = answer_of(callbacks, alloc, typed, tree)?;
+    steps.add(1);
+    Ok(answer)
+}
+
 /// Reads and judges each of the items that trees spell, in their order: returns the judgement on it, or why it
-/// is refused. Several threads read and judge the items at once.
+/// is refused. Several threads read and judge the items at once, and count them in `steps`.
 ///
 /// `typed` is the model of the callbacks.
 pub fn judge_each<C: Callbacks + Sync, R: Threads + Sync>(
@@ -55,6 +72,7 @@ pub fn judge_each<C: Callbacks + Sync, R: Threads + Sync>(
     alloc: Global,
     typed: &Typed,
     trees: &[Tree],
+    steps: &Steps,
 ) -> Result<Vec<Answer>, AllocError>
     requires { typed.now ≡ C.model callbacks.now }
     ensures { IfOk result (λ all. AllZip (IsAnswer (C.model callbacks.now)) trees.now all.items) }
@@ -67,7 +85,7 @@ pub fn judge_each<C: Callbacks + Sync, R: Threads + Sync>(
             |tree: &Tree| -> Result<Answer, AllocError>
                 requires { typed.now ≡ C.model callbacks.now }
                 ensures { IfOk result (IsAnswer (C.model callbacks.entry.now) tree.now) }
-            { answer_of(callbacks, alloc, typed, tree) },
+            { answer_counted(callbacks, alloc, typed, tree, steps) },
         )
         .collect::<Result<Vec<Answer>, AllocError>>(rt, alloc)?
 }

@@ -7,6 +7,7 @@ use crate::parts::parts_of;
 use crate::places::{in_order, in_places};
 use crate::reading::PartFault;
 use crate::sharing::{may_send_parts, may_share_models};
+use crate::steps::Steps;
 use crate::taking::{Part, take_parts};
 use pst_case::Run;
 use pst_eval::Callbacks;
@@ -41,7 +42,7 @@ const OFFERS: usize = 64;
 /// Returns the runs of the items that an input spells, all of them trees of runs, and the judgements on them.
 /// It reads and judges the input in parts, several at once, and drops the trees of a part once its runs are
 /// read. The runs stay in these parts, and the judgements are one list. If `keeps` is false, each part's runs
-/// are dropped once they are judged, and all lists of runs are empty.
+/// are dropped once they are judged, and all lists of runs are empty. `steps` counts the items that are judged.
 ///
 /// `None`: some part is not read by itself, which implies nothing for the whole input. `AllocError`: an
 /// allocation failed, even while reading or judging parts.
@@ -54,6 +55,7 @@ pub fn judge_in_parts<C: Callbacks + Sync, R: Threads + Sync>(
     typed: &Typed,
     input: &[u8],
     keeps: bool,
+    steps: &Steps,
 ) -> Result<Option<JudgedParts>, AllocError>
     requires { typed.now ≡ C.model callbacks.now }
     ensures { IfOk result (λ read. IfSome read
@@ -71,7 +73,17 @@ pub fn judge_in_parts<C: Callbacks + Sync, R: Threads + Sync>(
             |_: &u8| -> Result<Vec<Part>, PartFault>
                 requires { typed.now ≡ C.model callbacks.now }
                 ensures { IfOk result (λ taken. All (StandsIn (C.model callbacks.entry.now) keeps parts.entry.items) taken.items) }
-            { take_parts(callbacks, alloc, typed, parts.as_slice(), keeps, &next) },
+            {
+                take_parts(
+                    callbacks,
+                    alloc,
+                    typed,
+                    parts.as_slice(),
+                    keeps,
+                    &next,
+                    steps,
+                )
+            },
         )
         .collect::<Result<Vec<Vec<Part>>, PartFault>>(rt, alloc)?;
     match taken {

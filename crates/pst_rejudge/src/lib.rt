@@ -16,6 +16,7 @@ mod parts;
 mod places;
 mod reading;
 mod sharing;
+mod steps;
 mod stream_judging;
 mod stream_reading;
 mod taking;
@@ -33,14 +34,31 @@ use pst_judge::{Judged, judge_one};
 use rayon::prelude::*;
 use std::alloc::{AllocError, Global};
 use std::thread::Threads;
+pub use steps::Steps;
+
+/// Judges an item, and counts it in `steps`.
+fn judge_counted<C: Callbacks>(
+    callbacks: &C,
+    alloc: Global,
+    run: &Run,
+    steps: &Steps,
+) -> Result<Judged, AllocError>
+    requires { MayBeJudged (C.model callbacks.now) run.now }
+    ensures { IfOk result (IsJudgement (C.model callbacks.now) run.now) }
+{
+    let judged = judge_one(callbacks, alloc, run)?;
+    steps.add(1);
+    Ok(judged)
+}
 
 /// Returns the judgement of each item, in the order of the items: what `judge_one` gives of it. Several threads
-/// judge the items at once.
+/// judge the items at once, and count them in `steps`.
 pub fn rejudge<C: Callbacks + Sync, R: Threads + Sync>(
     rt: &R,
     callbacks: &C,
     alloc: Global,
     runs: &[Run],
+    steps: &Steps,
 ) -> Result<Vec<Judged>, AllocError>
     requires { All (MayBeJudged (C.model callbacks.now)) runs.now }
     ensures { IfOk result (λ all. AllZip (IsJudgement (C.model callbacks.now)) runs.now all.items) }
@@ -52,7 +70,7 @@ pub fn rejudge<C: Callbacks + Sync, R: Threads + Sync>(
             |run: &Run| -> Result<Judged, AllocError>
                 requires { MayBeJudged (C.model callbacks.now) run.now }
                 ensures { IfOk result (IsJudgement (C.model callbacks.entry.now) run.now) }
-            { judge_one(callbacks, alloc, run) },
+            { judge_counted(callbacks, alloc, run, steps) },
         )
         .collect::<Result<Vec<Judged>, AllocError>>(rt, alloc)?
 }

@@ -8,6 +8,7 @@ ghost use Rattle.pst_rejudge.specs.Judging.{MayBeJudged};
 
 use crate::judging::JudgedRuns;
 use crate::reading::{PartFault, runs_of_part};
+use crate::steps::Steps;
 use pst_case::Run;
 use pst_eval::Callbacks;
 use pst_judge::{Judged, judge_one};
@@ -24,11 +25,12 @@ pub(crate) struct Part {
     pub content: JudgedRuns,
 }
 
-/// The judgement on each run.
+/// The judgement on each run. `steps` counts the runs.
 fn judged_runs<C: Callbacks>(
     callbacks: &C,
     alloc: Global,
     runs: &[Run],
+    steps: &Steps,
 ) -> Result<Vec<Judged>, AllocError>
     requires { All (MayBeJudged (C.model callbacks.now)) runs.now }
     ensures { IfOk result (λ all. AllZip (IsJudgement (C.model callbacks.now)) runs.now all.items) }
@@ -36,6 +38,7 @@ fn judged_runs<C: Callbacks>(
     let mut judged = Vec::with_capacity(alloc, runs.len())?;
     for run in runs {
         judged.push(judge_one(callbacks, alloc, run)?)?;
+        steps.add(1);
     }
     Ok(judged)
 }
@@ -47,12 +50,13 @@ fn judged_part<C: Callbacks>(
     typed: &Typed,
     bytes: &[u8],
     keeps: bool,
+    steps: &Steps,
 ) -> Result<JudgedRuns, PartFault>
     requires { typed.now ≡ C.model callbacks.now }
     ensures { IfOk result (HoldsPart (C.model callbacks.now) keeps bytes.now) }
 {
     let runs = runs_of_part(alloc, typed, bytes)?;
-    let judged = judged_runs(callbacks, alloc, runs.as_slice())?;
+    let judged = judged_runs(callbacks, alloc, runs.as_slice(), steps)?;
     Ok(JudgedRuns {
         runs: if keeps { runs } else { Vec::new(alloc) },
         judged,
@@ -67,6 +71,7 @@ pub(crate) fn take_parts<C: Callbacks>(
     parts: &[&[u8]],
     keeps: bool,
     next: &AtomicUsize,
+    steps: &Steps,
 ) -> Result<Vec<Part>, PartFault>
     requires { typed.now ≡ C.model callbacks.now }
     ensures { IfOk result (λ taken. All (StandsIn (C.model callbacks.now) keeps parts.now) taken.items) }
@@ -77,7 +82,7 @@ pub(crate) fn take_parts<C: Callbacks>(
         let Some(bytes) = parts.get(place) else {
             return Ok(taken);
         };
-        let content = judged_part(callbacks, alloc, typed, bytes, keeps)?;
+        let content = judged_part(callbacks, alloc, typed, bytes, keeps, steps)?;
         if taken.push(Part { place, content }).is_err() {
             return Err(PartFault::NoMemory);
         }

@@ -31,13 +31,14 @@ impl Steps {
         }
     }
 
-    /// Notes that there are `all` items.
-    pub(crate) fn expect(&self, all: usize) {
+    /// There are `all` items, and none of them is done yet.
+    pub fn expect(&self, all: usize) {
+        self.done.store(0, Ordering::SeqCst);
         self.all.store(all as u64, Ordering::SeqCst);
     }
 
     /// So many more items are done.
-    pub(crate) fn add(&self, count: usize) {
+    pub fn add(&self, count: usize) {
         self.done.fetch_add(count as u64, Ordering::SeqCst);
     }
 }

@@ -1,6 +1,6 @@
 use Rattle.pst_cli.proofs.Printing.{prints}
 use Rattle.pst_cli.specs.KeepingOn.{IsShownKeepingOn}
-use Rattle.pst_cli.proofs.keep.judge_file_keeping_on.Goals as goal
+use Rattle.pst_cli.proofs.keep.judge_file_keeping_on_counting.Goals as goal
 
 pub returns-in-Ok-clause-prints : goal.returns-in-Ok-clause-prints
 returns-in-Ok-clause-prints g c =

@@ -1,6 +1,6 @@
 use Rattle.pst_cli.proofs.Printing.{prints_else}
 use Rattle.pst_cli.specs.JsonOutput.{IsJudgeJson, memory_object}
-use Rattle.pst_cli.proofs.objects.judge_json.Goals as goal
+use Rattle.pst_cli.proofs.objects.judge_json_counting.Goals as goal
 
 pub returns-in-Ok-clause-prints : goal.returns-in-Ok-clause-prints
 returns-in-Ok-clause-prints g c =
