@@ -5,19 +5,21 @@ use crate::requests::Request;
 use anyhow::bail;
 use pst_campaign::Unwatched;
 use pst_cli::campaign_text;
-use pst_samples::{Flags, Pair, Side, Stuck};
 use pst_sexpr::Out;
 use pst_system::BoxedSystem;
 use pst_trial::Settings;
 use std::alloc::{AllocError, Global};
-use std::sync::{Arc, Wait};
+use std::sync::Wait;
 use std::thread::Threads;
 
-/// The systems that wait for a lock. They are made in `main`, and each serves one campaign.
+/// The systems of all campaigns. They are made in `main`, and each serves one campaign.
 #[derive(Drop)]
 pub struct Pool {
     pub counters: Vec<BoxedSystem>,
     pub registries: Vec<BoxedSystem>,
+    pub stuck: Vec<BoxedSystem>,
+    /// Two systems, each of which answers true only if it is called while the other one is. So one worker alone would fail.
+    pub pair: Vec<BoxedSystem>,
 }
 
 /// Takes `count` systems, or all that are left.
@@ -35,25 +37,7 @@ fn taken(
     Ok(systems)
 }
 
-/// `count` systems `stuck`.
-fn stuck(alloc: Global, count: u32) -> Result<Vec<BoxedSystem>, AllocError> {
-    let mut systems: Vec<BoxedSystem> = Vec::new(alloc);
-    for _ in 0..count {
-        systems.push(Box::new(alloc, Stuck)?)?;
-    }
-    Ok(systems)
-}
-
-/// Two systems, each of which answers true only if it is called while the other one is. So one worker alone would fail.
-fn pair(alloc: Global) -> Result<Vec<BoxedSystem>, AllocError> {
-    let flags = Arc::new(alloc, Flags::new())?;
-    let mut systems: Vec<BoxedSystem> = Vec::new(alloc);
-    systems.push(Box::new(alloc, Pair::new(Side::First, flags.clone()?))?)?;
-    systems.push(Box::new(alloc, Pair::new(Side::Second, flags))?)?;
-    Ok(systems)
-}
-
-/// The systems of a request, `workers=NUMBER` of them.
+/// The systems of a request, `workers=NUMBER` of them, or the pair.
 fn systems_of(
     alloc: Global,
     pool: &mut Pool,
@@ -63,8 +47,8 @@ fn systems_of(
     match request.option("system") {
         Some("counter") => taken(alloc, &mut pool.counters, workers),
         Some("registry") => taken(alloc, &mut pool.registries, workers),
-        Some("pair") => pair(alloc),
-        _ => stuck(alloc, workers),
+        Some("pair") => taken(alloc, &mut pool.pair, 2),
+        _ => taken(alloc, &mut pool.stuck, workers),
     }
 }
 

@@ -28,14 +28,15 @@ mod words;
 
 use campaigns::Pool;
 use folders::ask_all;
-use pst_samples::{Counter, Registry};
+use pst_samples::{Counter, Flags, Pair, Registry, Side, Stuck};
 use pst_system::BoxedSystem;
 use std::alloc::AllocError;
 use std::process::ExitCode;
+use std::sync::Arc;
 use std::thread::Builder;
 
-/// How many counters there are for all campaigns, and how many registries.
-const SYSTEMS: u32 = 40;
+/// How many counters there are for all campaigns, how many registries, and how many systems `stuck`.
+const SYSTEMS: u32 = 64;
 
 /// A system in a box.
 macro_rules! boxed {
@@ -55,10 +56,12 @@ fn main(rt: HostRuntime) -> ExitCode {
         .stack_size(STACK_BYTES)
         .spawn(&rt, move || -> bool {
             let alloc = rt.alloc();
-            // Boxes of systems that wait for a lock are made here, since no other function can make one.
+            // Boxes of systems are made here, since a contract says nothing of what a function boxes and hands out.
             let mut pool = Pool {
                 counters: Vec::new(alloc),
                 registries: Vec::new(alloc),
+                stuck: Vec::new(alloc),
+                pair: Vec::new(alloc),
             };
             for _ in 0..SYSTEMS {
                 let counter: Result<BoxedSystem, AllocError> = boxed!(alloc, Counter::new(rt));
@@ -66,12 +69,36 @@ fn main(rt: HostRuntime) -> ExitCode {
                     alloc,
                     Registry::new(rt, alloc)
                 );
-                let (Ok(counter), Ok(registry)) = (counter, registry) else {
+                let stuck: Result<BoxedSystem, AllocError> = boxed!(alloc, Stuck);
+                let (Ok(counter), Ok(registry), Ok(stuck)) = (counter, registry, stuck) else {
                     return false;
                 };
-                if pool.counters.push(counter).is_err() || pool.registries.push(registry).is_err() {
+                if pool.counters.push(counter).is_err()
+                    || pool.registries.push(registry).is_err()
+                    || pool.stuck.push(stuck).is_err()
+                {
                     return false;
                 }
+            }
+            let Ok(flags) = Arc::new(alloc, Flags::new()) else {
+                return false;
+            };
+            let Ok(same) = flags.clone() else {
+                return false;
+            };
+            let first: Result<BoxedSystem, AllocError> = boxed!(
+                alloc,
+                Pair::new(Side::First, flags)
+            );
+            let second: Result<BoxedSystem, AllocError> = boxed!(
+                alloc,
+                Pair::new(Side::Second, same)
+            );
+            let (Ok(first), Ok(second)) = (first, second) else {
+                return false;
+            };
+            if pool.pair.push(first).is_err() || pool.pair.push(second).is_err() {
+                return false;
             }
             ask_all(&rt, &mut pool).is_ok()
         });
