@@ -12,7 +12,7 @@ use crate::sharing::may_share_compiled;
 use pst_case::Run;
 use pst_compile::Compiled;
 use pst_judge::Judged;
-use pst_rejudge::{JudgedParts, Steps, head_and_rest, judge_in_parts, rejudge};
+use pst_rejudge::{JudgedParts, Steps, head_and_rest, judge_in_parts, rejudge_counting};
 use pst_sexpr::MAX_BYTES;
 use std::alloc::{AllocError, Global};
 use std::thread::Threads;
@@ -104,7 +104,7 @@ fn judged_in_order<R: Threads + Sync>(
     };
     may_share_compiled();
     steps.expect(runs.len());
-    let judged = rejudge(rt, &compiled, alloc, runs.as_slice(), steps)?;
+    let judged = rejudge_counting(rt, &compiled, alloc, runs.as_slice(), steps)?;
     let runs = in_one_part(alloc, runs)?;
     Ok(Ok(JudgedFile {
         compiled,

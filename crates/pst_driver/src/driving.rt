@@ -177,8 +177,8 @@ fn drive<S: Subject, R: Threads + Wait>(
 /// started are joined first. `NoMemory`: an allocation failed. The call waits for as long as the calls of the
 /// system do.
 ///
-/// The threads of the branches wait for one another for a bounded number of looks before their first calls, so
-/// that these come close together. No contract promises any timing.
+/// The threads of the branches wait for one another for a bounded time before their first calls, so that these
+/// come close together. No contract promises any timing.
 pub fn run<R: Threads + Wait>(
     rt: &R,
     alloc: Global,

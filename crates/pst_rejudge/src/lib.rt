@@ -53,7 +53,7 @@ fn judge_counted<C: Callbacks>(
 
 /// Returns the judgement of each item, in the order of the items: what `judge_one` gives of it. Several threads
 /// judge the items at once, and count them in `steps`.
-pub fn rejudge<C: Callbacks + Sync, R: Threads + Sync>(
+pub fn rejudge_counting<C: Callbacks + Sync, R: Threads + Sync>(
     rt: &R,
     callbacks: &C,
     alloc: Global,
@@ -73,4 +73,18 @@ pub fn rejudge<C: Callbacks + Sync, R: Threads + Sync>(
             { judge_counted(callbacks, alloc, run, steps) },
         )
         .collect::<Result<Vec<Judged>, AllocError>>(rt, alloc)?
+}
+
+/// Returns the judgement of each item, in the order of the items: what `judge_one` gives of it. Several threads
+/// judge the items at once.
+pub fn rejudge<C: Callbacks + Sync, R: Threads + Sync>(
+    rt: &R,
+    callbacks: &C,
+    alloc: Global,
+    runs: &[Run],
+) -> Result<Vec<Judged>, AllocError>
+    requires { All (MayBeJudged (C.model callbacks.now)) runs.now }
+    ensures { IfOk result (λ all. AllZip (IsJudgement (C.model callbacks.now)) runs.now all.items) }
+{
+    rejudge_counting(rt, callbacks, alloc, runs, &Steps::new())
 }

@@ -1,0 +1,19 @@
+//! A handle for waiting that threads need not share.
+
+use std::marker::PhantomData;
+use std::sync::Wait;
+
+/// Lets a thread wait where `R` may. It holds no `R`, so each thread makes its own and shares none.
+#[derive(Drop)]
+pub(crate) struct Waiter<R: Wait> {
+    of: PhantomData<R>,
+}
+
+impl<R: Wait> Waiter<R> {
+    /// Makes one.
+    pub(crate) fn new() -> Waiter<R> {
+        Waiter { of: PhantomData }
+    }
+}
+
+impl<R: Wait> Wait for Waiter<R> {}
