@@ -4,7 +4,7 @@ ghost use Rattle.std.specs.Prelude.{◌≡◌, false};
 ghost use Rattle.pst_trial.specs.Settings.{AreInRange};
 
 use crate::page::Page;
-use crate::progress::Progress;
+use crate::progress::Display;
 use crate::saving::Saving;
 use crate::watching::Both;
 use crate::{least, words};
@@ -22,10 +22,13 @@ use std::alloc::{AllocError, Global};
 use std::rt::Files;
 use std::sync::Wait;
 use std::thread::Threads;
-use std::time::Clock;
 
 /// Runs a campaign. If standard error is a terminal, a line on it displays the progress.
-fn watched<W: Sink, K: Ending + Sync, R: Threads + Wait + Sync + Eprint + Clock>(
+fn watched<
+    W: Sink,
+    K: Ending + Sync,
+    R: Threads + Wait + Sync + Eprint + Copy + Drop + Send + 'static,
+>(
     rt: &R,
     alloc: Global,
     settings: Settings,
@@ -40,12 +43,14 @@ fn watched<W: Sink, K: Ending + Sync, R: Threads + Wait + Sync + Eprint + Clock>
     requires stands { W.broken out.old ≡ false }
 {
     if is_terminal {
-        if let Ok(progress) = Progress::new(rt, settings.trials as u64) {
+        if let Ok(display) = Display::begin(rt, alloc, settings.trials as u64) {
             let both = Both {
-                first: &progress,
+                first: display.progress(),
                 second: watch,
             };
-            return campaign_noting(rt, alloc, input, settings, systems, &both, notes, out);
+            let status = campaign_noting(rt, alloc, input, settings, systems, &both, notes, out);
+            display.end(rt);
+            return status;
         }
     }
     campaign_noting(rt, alloc, input, settings, systems, watch, notes, out)
@@ -53,7 +58,11 @@ fn watched<W: Sink, K: Ending + Sync, R: Threads + Wait + Sync + Eprint + Clock>
 
 /// Runs a campaign and writes its report once it is complete. Then it writes explanations of the least failure and of
 /// the first trial without a case to standard error.
-fn explained<W: Sink, K: Ending + Sync, R: Threads + Wait + Sync + Eprint + Files + Clock>(
+fn explained<
+    W: Sink,
+    K: Ending + Sync,
+    R: Threads + Wait + Sync + Eprint + Files + Copy + Drop + Send + 'static,
+>(
     rt: &R,
     alloc: Global,
     settings: Settings,
@@ -124,7 +133,11 @@ fn write_object<W: Sink>(
 
 /// Runs a campaign and writes its report as a JSON object. Then it writes explanations to standard error, unless
 /// `is_quiet`.
-fn as_object<W: Sink, K: Ending + Sync, R: Threads + Wait + Sync + Eprint + Files + Clock>(
+fn as_object<
+    W: Sink,
+    K: Ending + Sync,
+    R: Threads + Wait + Sync + Eprint + Files + Copy + Drop + Send + 'static,
+>(
     rt: &R,
     alloc: Global,
     settings: Settings,
@@ -180,7 +193,11 @@ fn quietly<W: Sink, K: Ending + Sync, R: Threads + Wait + Sync + Eprint + Files>
 }
 
 /// Runs a campaign with `watch`, and writes messages to standard error unless the arguments forbid it.
-fn told<W: Sink, K: Ending + Sync, R: Threads + Wait + Sync + Eprint + Files + Clock>(
+fn told<
+    W: Sink,
+    K: Ending + Sync,
+    R: Threads + Wait + Sync + Eprint + Files + Copy + Drop + Send + 'static,
+>(
     rt: &R,
     alloc: Global,
     words: &ArgMatches<'_>,
@@ -243,7 +260,10 @@ fn save<R: Eprint + Files + AllocGlobal>(
 }
 
 /// Runs a campaign and saves its failures in a folder. The status is `Lost` too if one cannot be saved.
-fn saved<W: Sink, R: Threads + Wait + Sync + Eprint + Files + Clock + AllocGlobal>(
+fn saved<
+    W: Sink,
+    R: Threads + Wait + Sync + Eprint + Files + AllocGlobal + Copy + Drop + Send + 'static,
+>(
     rt: &R,
     words: &ArgMatches<'_>,
     settings: Settings,
@@ -280,7 +300,10 @@ fn saved<W: Sink, R: Threads + Wait + Sync + Eprint + Files + Clock + AllocGloba
 /// Runs a campaign with a worker for each of the systems, if there are some, and saves its failures if the arguments say
 /// so. Unless the arguments forbid it, a line on standard error displays the progress, if that is a terminal, and
 /// explanations of the least failure and of the first trial without a case follow after the report.
-pub fn campaign<W: Sink, R: Threads + Wait + Sync + Eprint + Files + Clock + AllocGlobal>(
+pub fn campaign<
+    W: Sink,
+    R: Threads + Wait + Sync + Eprint + Files + AllocGlobal + Copy + Drop + Send + 'static,
+>(
     rt: &R,
     words: &ArgMatches<'_>,
     name: &str,

@@ -2,26 +2,25 @@
 
 use pst_campaign::Watch;
 use pst_ledger::Cause;
-use pst_trial::{Record, TrialOutcome};
-use std::io;
-use std::sync::atomic::{AtomicU64, Ordering};
-use std::time::{Clock, Instant};
+use pst_trial::{Record, Shrinking, TrialOutcome};
+use std::alloc::{AllocError, Global};
+use std::sync::atomic::{AtomicBool, AtomicU64, Ordering};
+use std::sync::{Arc, Wait};
+use std::thread::{Builder, JoinHandle, Parker, Threads};
+use std::time::Duration;
 
-/// The minimum time between two updates of the line, in milliseconds.
+/// How many milliseconds pass before the line is written again.
 const PAUSE: u64 = 250;
 
-/// The results of the trials so far, and the line on standard error that displays them.
+/// The results of the trials so far, and which trial is shrunk.
 #[derive(Drop)]
-pub struct Progress<'a, R> {
-    rt: &'a R,
-    began: Instant,
+pub struct Progress {
     /// How many trials there are.
     all: u64,
     done: AtomicU64,
     failed: AtomicU64,
     lost: AtomicU64,
-    /// How many pauses had passed when the line was written last.
-    written: AtomicU64,
+    shrinking: Shrinking,
 }
 
 /// Returns whether the trial did not pass.
@@ -32,51 +31,69 @@ fn has_failed(record: &Record) -> bool {
     }
 }
 
-impl<'a, R: Eprint + Clock> Progress<'a, R> {
-    /// Returns the progress of a campaign of `all` trials that begins now, or an error if the clock cannot be read.
-    pub fn new(rt: &'a R, all: u64) -> io::Result<Progress<'a, R>> {
-        Ok(Progress {
-            rt,
-            began: Instant::now(rt)?,
+/// The word for this number of candidates.
+fn candidates_word(driven: u64) -> &'static str {
+    match driven {
+        1 => "candidate",
+        _ => "candidates",
+    }
+}
+
+impl Progress {
+    /// Returns the progress of a campaign of `all` trials, none of which has ended.
+    fn new(all: u64) -> Progress {
+        Progress {
             all,
             done: AtomicU64::new(0),
             failed: AtomicU64::new(0),
             lost: AtomicU64::new(0),
-            written: AtomicU64::new(0),
-        })
+            shrinking: Shrinking::new(),
+        }
+    }
+
+    /// Writes the line of a campaign in which no trial has ended. Nothing is known of the rate then.
+    fn write_first_line<R: Eprint>(&self, rt: &R) {
+        let all = self.all;
+        let Some((trial, driven)) = self.shrinking.current() else {
+            let _ = eprint!(rt; "\r\x1b[K0 of {all} done");
+            return;
+        };
+        let word = candidates_word(driven);
+        let _ = eprint!(rt;
+            "\r\x1b[K\x1b[?7l0 of {all} done, shrinking trial {trial}: {driven} {word}\x1b[?7h"
+        );
     }
 
     /// Writes the line, `milliseconds` after the beginning. If it cannot be written, the campaign continues.
-    fn write_line(&self, milliseconds: u64) {
+    ///
+    /// While a trial is shrunk, the terminal cuts the line off where it would go on in a next row.
+    fn write_line<R: Eprint>(&self, rt: &R, milliseconds: u64) {
         let done = self.done.load(Ordering::SeqCst);
         let failed = self.failed.load(Ordering::SeqCst);
         let lost = self.lost.load(Ordering::SeqCst);
         let ended = done.saturating_add(lost);
+        if ended == 0 {
+            return self.write_first_line(rt);
+        }
         let thousands = ended.saturating_mul(1000);
         let rate = thousands.checked_div(milliseconds).unwrap_or(0);
         let all = self.all;
         let left = all.saturating_sub(ended).saturating_mul(milliseconds);
         let seconds = left.checked_div(thousands).unwrap_or(0);
-        let _ = eprint!(self.rt;
-            "\r\x1b[K{done} of {all} done, {failed} failed, {lost} lost, {rate} a second, {seconds} s left"
-        );
-    }
-
-    /// Writes the line again, unless it was written in this pause.
-    fn renew(&self) {
-        let Ok(time) = self.began.elapsed(self.rt) else {
+        let Some((trial, driven)) = self.shrinking.current() else {
+            let _ = eprint!(rt;
+                "\r\x1b[K{done} of {all} done, {failed} failed, {lost} lost, {rate} a second, {seconds} s left"
+            );
             return;
         };
-        let seconds = time.as_secs().saturating_mul(1000);
-        let milliseconds = seconds.saturating_add(time.subsec_millis() as u64);
-        let pauses = milliseconds / PAUSE;
-        if self.written.fetch_max(pauses, Ordering::SeqCst) < pauses {
-            self.write_line(milliseconds);
-        }
+        let word = candidates_word(driven);
+        let _ = eprint!(rt;
+            "\r\x1b[K\x1b[?7l{done} of {all} done, {failed} failed, {lost} lost, shrinking trial {trial}: {driven} {word}, {rate} a second, {seconds} s left\x1b[?7h"
+        );
     }
 }
 
-impl<'a, R: Eprint + Clock> Watch for Progress<'a, R> {
+impl Watch for Progress {
     fn trial_ended(&self, ended: &Result<Record, Cause>) {
         match ended {
             Ok(record) => {
@@ -89,12 +106,81 @@ impl<'a, R: Eprint + Clock> Watch for Progress<'a, R> {
                 self.lost.fetch_add(1, Ordering::SeqCst);
             }
         }
-        self.renew();
     }
 
-    fn campaign_ended(&self) {
-        if self.written.load(Ordering::SeqCst) > 0 {
-            let _ = eprint!(self.rt; "\r\x1b[K");
+    fn shrinking(&self) -> Option<&Shrinking> {
+        Some(&self.shrinking)
+    }
+
+    fn campaign_ended(&self) {}
+}
+
+/// What the thread that writes the line shares with the campaign.
+#[derive(Drop)]
+struct Displayed {
+    progress: Progress,
+    is_over: AtomicBool,
+    parker: Parker,
+}
+
+/// Writes the line again and again until the campaign is over, and takes it away then.
+fn write_lines<R: Wait + Eprint>(rt: &R, displayed: &Displayed) {
+    let mut milliseconds = 0u64;
+    for _ in rt.forever() {
+        displayed
+            .parker
+            .park_timeout(rt, Duration::from_millis(PAUSE));
+        if displayed.is_over.load(Ordering::SeqCst) {
+            break;
+        }
+        milliseconds = milliseconds.saturating_add(PAUSE);
+        displayed.progress.write_line(rt, milliseconds);
+    }
+    if milliseconds > 0 {
+        let _ = eprint!(rt; "\r\x1b[K");
+    }
+}
+
+/// The progress of a campaign, and the thread that displays it on standard error, if there is one.
+#[derive(Drop)]
+pub struct Display {
+    displayed: Arc<Displayed, Global>,
+    thread: Option<JoinHandle<()>>,
+}
+
+impl Display {
+    /// Begins the progress of a campaign of `all` trials. From now on a line displays it, if there is a thread for it.
+    pub fn begin<R: Threads + Wait + Eprint + Copy + Drop + Send + 'static>(
+        rt: &R,
+        alloc: Global,
+        all: u64,
+    ) -> Result<Display, AllocError> {
+        let displayed = Displayed {
+            progress: Progress::new(all),
+            is_over: AtomicBool::new(false),
+            parker: Parker::new(),
+        };
+        let displayed = Arc::new(alloc, displayed)?;
+        let own = Arc::try_clone(&displayed)?;
+        let rt = *rt;
+        let thread = Builder::new()
+            .spawn(&rt, move || write_lines(&rt, &own))
+            .ok();
+        Ok(Display { displayed, thread })
+    }
+
+    /// The progress, which watches the campaign.
+    pub fn progress(&self) -> &Progress {
+        &self.displayed.progress
+    }
+
+    /// Ends the thread, and waits for it.
+    pub fn end<R: Threads + Wait>(self, rt: &R) {
+        let Display { displayed, thread } = self;
+        displayed.is_over.store(true, Ordering::SeqCst);
+        displayed.parker.unpark();
+        if let Some(thread) = thread {
+            thread.join(rt)
         }
     }
 }

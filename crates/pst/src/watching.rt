@@ -2,7 +2,7 @@
 
 use pst_campaign::{Ending, Watch};
 use pst_ledger::Cause;
-use pst_trial::Record;
+use pst_trial::{Record, Shrinking};
 
 /// Two watchers of a campaign.
 #[derive(Clone, Copy, Drop)]
@@ -15,6 +15,13 @@ impl<'a, J: Watch, K: Watch> Watch for Both<'a, J, K> {
     fn trial_ended(&self, ended: &Result<Record, Cause>) {
         self.first.trial_ended(ended);
         self.second.trial_ended(ended);
+    }
+
+    fn shrinking(&self) -> Option<&Shrinking> {
+        match self.first.shrinking() {
+            Some(shrinking) => Some(shrinking),
+            None => self.second.shrinking(),
+        }
     }
 
     fn campaign_ended(&self) {

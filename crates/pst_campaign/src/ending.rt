@@ -2,7 +2,7 @@
 
 use crate::watch::Watch;
 use pst_ledger::Cause;
-use pst_trial::{Record, TrialOutcome};
+use pst_trial::{Record, Shrinking, TrialOutcome};
 use std::alloc::Global;
 use std::sync::Arc;
 use std::sync::atomic::{AtomicBool, AtomicU64, Ordering};
@@ -28,6 +28,10 @@ pub struct ToTheEnd<'a, K> {
 impl<'a, K: Watch> Watch for ToTheEnd<'a, K> {
     fn trial_ended(&self, ended: &Result<Record, Cause>) {
         self.watch.trial_ended(ended);
+    }
+
+    fn shrinking(&self) -> Option<&Shrinking> {
+        self.watch.shrinking()
     }
 
     fn campaign_ended(&self) {

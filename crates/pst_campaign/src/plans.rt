@@ -9,7 +9,7 @@ use crate::ending::Ending;
 use crate::runner::TrialRunner;
 use pst_ledger::Cause;
 use pst_system::{BoxedSystem, System};
-use pst_trial::{Plan, Record, TrialFault, trial};
+use pst_trial::{Plan, Record, Shrinking, TrialFault, trial_counting};
 use std::alloc::Global;
 use std::sync::{Arc, Wait};
 use std::thread::Threads;
@@ -25,7 +25,7 @@ fn cause_of(fault: TrialFault) -> Cause
     }
 }
 
-/// Runs trial `number`, with its fault as a cause.
+/// Runs trial `number`, with its fault as a cause. `shrinking` counts the candidates that it drives.
 #[tactic(auto, using(crate::specs::Moving::gives_loss))]
 fn run_trial<H: Threads + Wait>(
     rt: &H,
@@ -33,6 +33,7 @@ fn run_trial<H: Threads + Wait>(
     plan: &Arc<Plan>,
     number: u64,
     system: &mut BoxedSystem,
+    shrinking: &Shrinking,
 ) -> Result<Record, Cause>
     requires below { number < (arc_value plan.now).settings.trials }
     ensures number { IfOk result (λ r. r.number ≡ number) }
@@ -43,7 +44,7 @@ fn run_trial<H: Threads + Wait>(
     ensures kept { AreKept (answers system.new) (answers system.old) (fails system.new) (fails system.old)
         (reset_fails system.new) (reset_fails system.old) }
 {
-    match trial(rt, alloc, plan, number, system) {
+    match trial_counting(rt, alloc, plan, number, system, shrinking) {
         Ok(record) => Ok(record),
         Err(fault) => Err(cause_of(fault)),
     }
@@ -81,7 +82,10 @@ impl<'a, K: Ending> TrialRunner<Record, BoxedSystem> for Watched<'a, K> {
         number: u64,
         system: &mut BoxedSystem,
     ) -> Result<Record, Cause> {
-        let ended = run_trial(rt, alloc, self.plan, number, system);
+        let own = Shrinking::new();
+        let shrinking = self.watch.shrinking().unwrap_or(&own);
+        let ended = run_trial(rt, alloc, self.plan, number, system, shrinking);
+        shrinking.end_trial(number);
         self.watch.trial_ended(&ended);
         ended
     }

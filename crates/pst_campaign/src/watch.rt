@@ -1,11 +1,16 @@
 //! Those who watch a campaign while it runs.
 use pst_ledger::Cause;
-use pst_trial::Record;
+use pst_trial::{Record, Shrinking};
 
 /// One who watches a campaign while it runs. It changes nothing of what the campaign gives.
 pub trait Watch {
     /// A trial has ended, with its record or lost for a cause. The thread that ran the trial calls this.
     fn trial_ended(&self, ended: &Result<Record, Cause>);
+
+    /// Counts the candidates of the trial that is shrunk, if the watcher displays them.
+    fn shrinking(&self) -> Option<&Shrinking> {
+        None
+    }
 
     /// All trials have ended. The thread that began the campaign calls this.
     fn campaign_ended(&self);

@@ -101,6 +101,7 @@ impl<'a, D: Driver> Attempt for Attempts<'a, D> {
         let Some(valid) = accepted else {
             return Ok(Outcome::NotValid);
         };
+        self.driver.candidate_begins(self.driven);
         let outcome = match drive_repeatedly(self.alloc, self.plan, self.driver, &valid) {
             Ok(outcome) => outcome,
             Err(fault) => return Err(fault),

@@ -35,6 +35,9 @@ pub trait Driver {
         ensures fault { IfErr result (λ f. may_fail self.old valid.now f) }
         ensures keeps { keeps self.old self.new };
 
+    /// A shrink candidate of the trial is driven next, after this number of others. A driver may say so to somebody.
+    fn candidate_begins(&self, _driven: u64) {}
+
     /// A value that does not change keeps everything.
     ghost keeps_refl: { (a : Self) → keeps a a };
 

@@ -15,6 +15,7 @@ mod record;
 mod run;
 mod settings;
 mod sharing;
+mod shrinking;
 mod threads;
 mod trials;
 
@@ -29,5 +30,6 @@ pub use settings::{
     MAX_BRANCHES, MAX_COMMANDS, MAX_LIMIT, MAX_REPEATS, MAX_SUFFIX, MAX_TRIALS, Settings,
 };
 pub use sharing::may_share_records;
-pub use threads::{ThreadDriver, trial};
+pub use shrinking::Shrinking;
+pub use threads::{ThreadDriver, trial, trial_counting};
 pub use trials::trial_by;

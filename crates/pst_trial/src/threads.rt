@@ -10,6 +10,7 @@ use crate::TrialFault;
 use crate::driver::Driver;
 use crate::plan::Plan;
 use crate::record::Record;
+use crate::shrinking::Shrinking;
 use crate::trials::trial_by;
 use pst_case::History;
 use pst_driver::{DriveFault, run};
@@ -28,6 +29,10 @@ pub struct ThreadDriver<'a, R: Threads + Wait> {
     pub rt: &'a R,
     /// The system, which each drive resets first.
     pub system: &'a mut BoxedSystem,
+    /// The number of the trial.
+    pub number: u64,
+    /// Counts the candidates that are driven while the trial is shrunk.
+    pub shrinking: &'a Shrinking,
 }
 
 impl<'a, R: Threads + Wait> Driver for ThreadDriver<'a, R> {
@@ -61,6 +66,10 @@ impl<'a, R: Threads + Wait> Driver for ThreadDriver<'a, R> {
         run(self.rt, alloc, typed, self.system, valid)
     }
 
+    fn candidate_begins(&self, driven: u64) {
+        self.shrinking.begin_candidate(self.number, driven);
+    }
+
     ghost keeps_refl = { λ a. (refl, kept_same _ _ _) };
 
     ghost keeps_trans = { λ a b c p q. (q.0 ∙ p.0, kept_on q.1 p.1) };
@@ -92,5 +101,37 @@ pub fn trial<R: Threads + Wait>(
         (fails system.new) (fails system.old)
         (reset_fails system.new) (reset_fails system.old) }
 {
-    trial_by(alloc, plan, number, &mut ThreadDriver { rt, system })
+    trial_counting(rt, alloc, plan, number, system, &Shrinking::new())
+}
+
+/// Does what [`trial`] does, and counts in `shrinking` the candidates that it drives while the case is shrunk.
+pub fn trial_counting<R: Threads + Wait>(
+    rt: &R,
+    alloc: Global,
+    plan: &Arc<Plan>,
+    number: u64,
+    system: &mut BoxedSystem,
+    shrinking: &Shrinking,
+) -> Result<Record, TrialFault>
+    ensures plan { IfOk result (λ r. r.plan ≡ arc_value plan.now) }
+    ensures number { IfOk result (λ r. r.number ≡ number) }
+    ensures driven { IfOk result (λ r. IsSoundBy
+        (λ v h. IsDriven v.model (answers system.old) (fails system.old) v.case h)
+        (arc_value plan.now) number r.outcome) }
+    ensures fault { IfErr result (MayFail (λ v f. IsDriveFault (reset_fails system.old) v.case f)) }
+    ensures kept { AreKept (answers system.new) (answers system.old)
+        (fails system.new) (fails system.old)
+        (reset_fails system.new) (reset_fails system.old) }
+{
+    trial_by(
+        alloc,
+        plan,
+        number,
+        &mut ThreadDriver {
+            rt,
+            system,
+            number,
+            shrinking,
+        },
+    )
 }
