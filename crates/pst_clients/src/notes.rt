@@ -67,7 +67,7 @@ struct Kept {
 pub(crate) struct Wrong<'a> {
     pub(crate) kind: Kind,
     pub(crate) line: &'a [u8],
-    /// The line that answers it, or why there is none.
+    /// The client's answer to the line, or why there is none.
     pub(crate) answer: &'a str,
     /// What to answer instead, or nothing.
     pub(crate) hint: &'static str,
