@@ -187,14 +187,15 @@ class Text:
         for step in self.item["walk"]["steps"]:
             if "pre" in step:
                 how = "is false" if step["pre"] == "false" else f"faults with {step['pre']}"
-                self.add(f"The precondition of {self.call(self.calls[step['call']])} {how} there; the verdict on a recorded run does not ask it.")
+                self.add(f"The precondition of {self.call(self.calls[step['call']])} {how} there; the verdict on a recorded run does not depend on it.")
 
     def of_unexplained(self):
         self.core()
         walk, far = self.item["walk"], int(self.item["line"].split()[-1])
-        as_in = "" if walk["word"] == "-" else f", as in {walk['word']}"
-        self.add("No event is true before a false one:" if far == 0 else
-                 f"At most {far} event{' is' if far == 1 else 's are'} true before a false one{as_in}:")
+        events = "1 event holds" if far == 1 else f"{far} events hold"
+        self.add("In every interleaving the first event does not hold:" if far == 0 else
+                 f"In every interleaving {events} before one does not:" if walk["word"] == "-" else
+                 f"No interleaving gets further than {walk['word']}, where {events}:")
         assert len(walk["steps"]) == far
         self.states()
         self.add(f"There the postcondition of {'the' if len(walk['next']) == 1 else 'each'} next command is false:")
@@ -212,7 +213,7 @@ class Text:
 
     def of_broken(self):
         call = self.calls[self.item["broken"]["call"]]
-        how = {"misfit": "it answered something else than", "failed": "it failed, or answered what is no value, in place of",
+        how = {"misfit": "it answered something other than", "failed": "it failed, or its answer is not a value, instead of",
                "not-run": "it was not called, and did not answer"}[call["reply"]["text"]]
         self.add(f"{self.call(call)} has the reply {call['reply']['text']}: {how} a value of type {self.item['broken']['wanted']}.")
         self.add("The run, with * before this command:")

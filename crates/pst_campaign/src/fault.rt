@@ -15,7 +15,7 @@ pub enum CampaignFault {
     #[error("there are more than 16 systems")]
     TooMany,
     /// An allocation failed.
-    #[error("memory was refused")]
+    #[error("not enough memory")]
     NoMemory,
 }
 

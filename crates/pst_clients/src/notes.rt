@@ -37,7 +37,7 @@ impl Kind {
             Kind::NotAsked => "was not asked:",
             Kind::NotAnswered => "was not answered:",
             Kind::Failed => "was answered with",
-            Kind::NoValue => "was answered with what is no value:",
+            Kind::NoValue => "was answered with something that is not a value:",
             Kind::Misfit => "was answered with another type:",
         }
     }
@@ -67,7 +67,7 @@ struct Kept {
 pub(crate) struct Wrong<'a> {
     pub(crate) kind: Kind,
     pub(crate) line: &'a [u8],
-    /// The line that answers it, or why there is none.
+    /// The line that the client answered, or the reason that none came.
     pub(crate) answer: &'a str,
     /// What to answer instead, or nothing.
     pub(crate) hint: &'static str,

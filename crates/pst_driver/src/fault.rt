@@ -15,7 +15,7 @@ pub enum DriveFault {
     #[error("a thread could not be started")]
     NoThread,
     /// An allocation failed.
-    #[error("memory was refused")]
+    #[error("not enough memory")]
     NoMemory,
 }
 

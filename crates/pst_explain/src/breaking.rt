@@ -39,9 +39,9 @@ pub fn broken_reply<'a>(scene: &Scene<'a>, number: u32) -> BrokenReply<'a> {
 fn meaning(reply: &Reply) -> &'static str {
     match reply {
         Reply::Value(_) => "has a value",
-        Reply::Misfit => "has the reply misfit: it answered something else than",
+        Reply::Misfit => "has the reply misfit: it answered something other than",
         Reply::Failed =>
-            "has the reply failed: it failed, or answered what is no value, in place of",
+            "has the reply failed: it failed, or its answer is not a value, instead of",
         Reply::NotRun => "has the reply not-run: it was not called, and did not answer",
     }
 }
@@ -71,7 +71,7 @@ pub fn broken_sentence(
 /// Returns a sentence on the reply of command `number` that makes a recorded run broken, and the expected type. `None`
 /// if the run has no such reply.
 ///
-/// `P1 (inc) has the reply failed: it failed, or answered what is no value, in place of a value of type int` is an
+/// `P1 (inc) has the reply failed: it failed, or its answer is not a value, instead of a value of type int` is an
 /// example.
 pub fn broken_text(
     alloc: Global,

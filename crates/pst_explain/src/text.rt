@@ -41,23 +41,34 @@ fn add_heading(
     page.add_heading(alloc, style, heading.as_slice())
 }
 
-/// Returns a sentence on how many events are true before a false one: `far`, as in an interleaving that begins with
-/// `word`.
-fn far_sentence(alloc: Global, far: usize, word: &[usize]) -> Result<Vec<u8>, AllocError> {
-    let mut text = match far {
-        0 => return text_of(alloc, "No event is true before a false one:"),
-        1 => text_of(alloc, "At most 1 event is true before a false one")?,
-        _ => {
-            let mut text = text_of(alloc, "At most ")?;
-            add_number(&mut text, alloc, far)?;
-            add(&mut text, " events are true before a false one")?;
-            text
-        }
-    };
-    if !word.is_empty() {
-        add(&mut text, ", as in ")?;
-        add_word(&mut text, word)?;
+/// Adds that `far` events hold.
+fn add_events(text: &mut Vec<u8>, alloc: Global, far: usize) -> Result<(), AllocError> {
+    if far == 1 {
+        return add(text, "1 event holds");
     }
+    add_number(text, alloc, far)?;
+    add(text, " events hold")
+}
+
+/// Returns a sentence on the interleaving that gets furthest: `far` events hold in it before one does not, and it begins
+/// with `word`. If `word` is empty, every interleaving gets as far.
+fn far_sentence(alloc: Global, far: usize, word: &[usize]) -> Result<Vec<u8>, AllocError> {
+    if far == 0 {
+        return text_of(
+            alloc,
+            "In every interleaving the first event does not hold:",
+        );
+    }
+    if word.is_empty() {
+        let mut text = text_of(alloc, "In every interleaving ")?;
+        add_events(&mut text, alloc, far)?;
+        add(&mut text, " before one does not:")?;
+        return Ok(text);
+    }
+    let mut text = text_of(alloc, "No interleaving gets further than ")?;
+    add_word(&mut text, word)?;
+    add(&mut text, ", where ")?;
+    add_events(&mut text, alloc, far)?;
     add(&mut text, ":")?;
     Ok(text)
 }

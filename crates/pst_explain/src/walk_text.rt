@@ -47,7 +47,7 @@ fn precondition_sentence(
             let parts: [&[u8]; 3] = [
                 b"The precondition of ",
                 text,
-                b" is false there; the verdict on a recorded run does not ask it.",
+                b" is false there; the verdict on a recorded run does not depend on it.",
             ];
             Ok(Some(joined(alloc, &parts)?))
         }
@@ -57,7 +57,7 @@ fn precondition_sentence(
                 text,
                 b" faults with ",
                 fault.name().as_bytes(),
-                b" there; the verdict on a recorded run does not ask it.",
+                b" there; the verdict on a recorded run does not depend on it.",
             ];
             Ok(Some(joined(alloc, &parts)?))
         }

@@ -40,7 +40,7 @@ pub fn tree_or(alloc: Global, other: Form, value: Option<Value>) -> Result<Form,
     }
 }
 
-/// The operation of a name.
+/// The operation `name`, if the model has it.
 pub fn operation_named<'a>(model: &'a Source, name: &str) -> Option<&'a Op>
     ensures { option_copied result ≡ spec.operation_named model.now name.now }
 {

@@ -1,7 +1,7 @@
 //! Items as JSON: the tree of each JSON item, and the JSON of each run.
 //!
 //! A JSON item is read by way of its tree (`specs/Trees.antt`), so cases and runs are judged in one way, whatever their
-//! spelling. `specs/Lines.antt` has the text of trees that a text with JSON items stands for, `specs/Written.antt` what is
+//! spelling. `specs/Lines.antt` turns a text with JSON items into a text of trees, `specs/Written.antt` has what is
 //! written of a run.
 #![tactic(auto)]
 

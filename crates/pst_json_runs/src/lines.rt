@@ -61,7 +61,7 @@ fn tree_line(alloc: Global, model: &Source, line: Vec<u8>) -> Result<Vec<u8>, Al
     }
 }
 
-/// The text of trees that a text with JSON items stands for: each line that begins with `{` as the tree of its item.
+/// The text with a tree in place of each JSON item, that is, of each line that begins with `{`.
 pub fn trees_text(alloc: Global, model: &Source, text: &[u8]) -> Result<Vec<u8>, AllocError>
     ensures { IfOk result (λ trees. trees.items ≡ spec.trees_text model.now text.now) }
 {

@@ -16,7 +16,7 @@ use pst_model::{Source, Typed, operation_of};
 use pst_value::Items;
 use std::alloc::{AllocError, Global};
 
-/// The name of the operation of a number.
+/// The name of operation `op`; empty if the model has no such operation.
 fn name_of(model: &Source, op: u32) -> &str
     ensures { result.now ≡ trees.name_of model.now op }
 {

@@ -112,7 +112,7 @@ fn is_reference(ty: Option<&Ty>) -> bool
     }
 }
 
-/// The variable of a number, if it has at most four digits.
+/// Variable `number`, if it has at most four digits.
 fn variable_of(number: i64) -> Option<Value>
     ensures { result ≡ spec.variable_of number }
 {

@@ -23,7 +23,7 @@ fn put_key(writer: &mut Writer<Global>, key: &Key) -> Result<(), AllocError>
     }
 }
 
-/// Writes the variable of a number: `{"result":n}`.
+/// Writes variable `number` as `{"result":n}`.
 fn put_variable(writer: &mut Writer<Global>, number: u32) -> Result<(), AllocError>
     ensures ok { OnOk result (writer.new.tokens
         ≡ writer.old.tokens ++ json_tokens (variable_json number)) }

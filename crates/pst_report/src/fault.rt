@@ -13,7 +13,7 @@ pub enum ReportFault {
     #[error("the writer failed")]
     WriteFailed,
     /// An allocation failed. Nothing went out, and the writer has not failed.
-    #[error("memory was refused")]
+    #[error("not enough memory")]
     NoMemory,
 }
 

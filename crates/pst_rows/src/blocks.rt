@@ -4,7 +4,7 @@
 //! on the lines after it, up to the next `$`, which an empty line precedes. A request is a word, options `NAME=VALUE`, and
 //! files. A file with a `/` in its name is one of `data`, another one of the folder of the blocks. A block may also have files of
 //! its own: after the request `-- NAME` on a line and the file's text on the lines after it, for each of them; then `=>` on a
-//! line, and the answer. In the text of such a file braces stand for what they do in tables, and the last line break
+//! line, and the answer. In the text of such a file braces mean what they mean in tables, and the last line break
 //! belongs to it only if an empty line follows.
 
 use crate::campaigns::Pool;

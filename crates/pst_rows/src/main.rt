@@ -48,7 +48,7 @@ macro_rules! boxed {
     };
 }
 
-/// The stack of the thread that asks the rows, in bytes: that of the program, since explanations evaluate by recursion.
+/// The stack size of the thread that tests the rows, in bytes: that of the program, since explanations evaluate by recursion.
 const STACK_BYTES: usize = 256 << 20;
 
 fn main(rt: HostRuntime) -> ExitCode {
