@@ -19,8 +19,8 @@ use std::alloc::{AllocError, Global};
 use std::io::Read;
 use std::thread::Threads;
 
-/// How many bytes are read at once.
-const BUFFER: usize = 262_144;
+/// How many bytes are read at once. Each line of a read takes memory until its verdict is written, however short it is.
+const BUFFER: usize = 65_536;
 
 /// Why the lines end before the stream does.
 #[derive(Clone, Copy, Debug, PartialEq, Eq, Drop)]

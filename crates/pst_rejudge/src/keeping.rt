@@ -3,7 +3,6 @@ ghost use Rattle.std.specs.Prelude.{◌≡◌, ◌<◌, ℕ, List, [], ◌∷◌
 ghost use Rattle.pst_rejudge.specs.Lines.{begun, ended, last_line};
 
 use std::alloc::{AllocError, Global};
-use std::mem::replace;
 
 /// Adds a byte to `kept`, the beginning of a line, unless the limit is reached.
 fn keep_byte(limit: usize, kept: &mut Vec<u8>, byte: u8) -> Result<(), AllocError>
@@ -16,13 +15,16 @@ fn keep_byte(limit: usize, kept: &mut Vec<u8>, byte: u8) -> Result<(), AllocErro
     Ok(())
 }
 
-/// Ends the current line: moves it to `lines`, and begins another.
+/// Ends the current line: copies it to `lines`, and begins another, in the room of this one.
 fn end_line(alloc: Global, lines: &mut Vec<Vec<u8>>, kept: &mut Vec<u8>) -> Result<(), AllocError>
     ensures kept { kept.new.items ≡ [] }
     ensures lines { OnOk result (map (λ line. line.items) lines.new.items
         ≡ map (λ line. line.items) lines.old.items ++ kept.old.items ∷ []) }
 {
-    let line = replace(kept, Vec::new(alloc));
+    let mut line = Vec::new(alloc);
+    let copied = line.extend_from_slice(kept.as_slice());
+    kept.clear();
+    copied?;
     lines.push(line)?;
     Ok(())
 }
