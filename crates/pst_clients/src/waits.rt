@@ -2,7 +2,7 @@
 
 use crate::notes::{Client, shown};
 use std::alloc::{AllocError, Global};
-use std::sync::atomic::{AtomicU8, AtomicU64, Ordering};
+use std::sync::atomic::{AtomicU64, Ordering};
 
 /// The maximum number of branches of a worker that are watched.
 const MOST_BRANCHES: usize = 4;
@@ -20,7 +20,7 @@ struct Lines {
     /// has not answered.
     sum: AtomicU64,
     /// The first bytes of the last line, up to its end, and then bytes of earlier lines.
-    kept: Vec<AtomicU8>,
+    kept: Vec<AtomicU64>,
 }
 
 impl Lines {
@@ -28,7 +28,7 @@ impl Lines {
     fn new(alloc: Global) -> Result<Lines, AllocError> {
         let mut kept = Vec::with_capacity(alloc, MOST_KEPT)?;
         for _ in 0..MOST_KEPT {
-            kept.push(AtomicU8::new(b'\n'))?;
+            kept.push(AtomicU64::new(b'\n' as u64))?;
         }
         Ok(Lines {
             sum: AtomicU64::new(0),
@@ -39,7 +39,7 @@ impl Lines {
     /// Keeps the beginning of a line. A line end ends it.
     fn keep(&self, line: &[u8]) {
         for (place, byte) in self.kept.iter().zip(line) {
-            place.store(*byte, Ordering::SeqCst);
+            place.store(*byte as u64, Ordering::SeqCst);
         }
     }
 
@@ -47,7 +47,7 @@ impl Lines {
     fn last(&self, alloc: Global) -> Result<Vec<u8>, AllocError> {
         let mut line = Vec::new(alloc);
         for place in &self.kept {
-            let byte = place.load(Ordering::SeqCst);
+            let byte = place.load(Ordering::SeqCst) as u8;
             if byte == b'\n' {
                 break;
             }
