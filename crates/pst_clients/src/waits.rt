@@ -51,7 +51,7 @@ impl Lines {
             if byte == b'\n' {
                 break;
             }
-            line.push(if byte.is_ascii() { byte } else { b'?' })?;
+            line.push(if byte < 128 { byte } else { b'?' })?;
         }
         Ok(line)
     }
