@@ -66,6 +66,9 @@ impl Seen {
 fn say<R: Eprint>(rt: &R, alloc: Global, waits: &Waits, place: usize, seconds: u64) {
     let (worker, branch) = Waits::client(place);
     let Ok(line) = waits.last_line(alloc, place) else {
+        let _ = eprintln!(rt;
+            "pst: client {worker}-{branch} has not answered for {seconds} seconds"
+        );
         return;
     };
     let _ = eprintln!(rt;

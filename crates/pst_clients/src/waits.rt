@@ -47,7 +47,7 @@ impl Lines {
     fn last(&self, alloc: Global) -> Result<Vec<u8>, AllocError> {
         let mut line = Vec::new(alloc);
         for place in &self.kept {
-            let byte = place.load(Ordering::SeqCst) as u8;
+            let byte = (place.load(Ordering::SeqCst) & 0xff) as u8;
             if byte == b'\n' {
                 break;
             }
