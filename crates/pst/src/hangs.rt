@@ -1,5 +1,6 @@
-//! Lines on standard error that say which client does not answer.
+//! Lines on standard error that say which client does not answer, and that resets fail.
 
+use crate::interrupting::stop_file;
 use crate::systems::{Wanted, asked_for};
 use clap::ArgMatches;
 use pst_clients::{Notes, Waits};
@@ -12,10 +13,15 @@ use std::time::Duration;
 /// The number of seconds without an answer after which a line is written. The next line follows after twice this time.
 const FIRST: u64 = 5;
 
+/// The number of resets in a row that fail before a line is written of them, once.
+const MANY: u64 = 5;
+
 /// What the thread that watches clients shares with the one that ends it.
 #[derive(Drop)]
 struct Watched {
     notes: Arc<Notes, Global>,
+    /// Whether a file ends the campaign.
+    has_stop_file: bool,
     is_over: AtomicBool,
     parker: Parker,
 }
@@ -56,10 +62,28 @@ impl Seen {
     }
 }
 
-/// Writes to standard error that a client does not answer.
-fn say<R: Eprint>(rt: &R, place: usize, seconds: u64) {
+/// Writes to standard error that a client does not answer its line.
+fn say<R: Eprint>(rt: &R, alloc: Global, waits: &Waits, place: usize, seconds: u64) {
     let (worker, branch) = Waits::client(place);
-    let _ = eprintln!(rt; "pst: client {worker}-{branch} has not answered for {seconds} seconds");
+    let Ok(line) = waits.last_line(alloc, place) else {
+        let _ = eprintln!(rt;
+            "pst: client {worker}-{branch} has not answered for {seconds} seconds"
+        );
+        return;
+    };
+    let _ = eprintln!(rt;
+        "pst: client {worker}-{branch} has not answered {line} for {seconds} seconds"
+    );
+}
+
+/// Writes to standard error that resets fail, and how to end the campaign, if a file ends it.
+fn say_resets_fail<R: Eprint>(rt: &R, has_stop_file: bool) {
+    let advice = if has_stop_file {
+        " Ctrl-C ends the campaign with its report"
+    } else {
+        ""
+    };
+    let _ = eprintln!(rt; "pst: the reset failed {MANY} times in a row: is the server up?{advice}");
 }
 
 /// Looks each second which clients have not answered, until it is over.
@@ -73,6 +97,7 @@ fn look_each_second<R: Wait + Eprint>(
     for _ in 0..waits.len() {
         clients.push(Seen::at(None))?;
     }
+    let mut is_said = false;
     for _ in rt.forever() {
         watched.parker.park_timeout(rt, Duration::from_secs(1));
         if watched.is_over.load(Ordering::SeqCst) {
@@ -80,8 +105,12 @@ fn look_each_second<R: Wait + Eprint>(
         }
         for place in 0..clients.len() {
             if clients[place].is_late(waits.unanswered(place)) {
-                say(rt, place, clients[place].seconds);
+                say(rt, alloc, waits, place, clients[place].seconds);
             }
+        }
+        if !is_said && watched.notes.failed_resets() >= MANY {
+            is_said = true;
+            say_resets_fail(rt, watched.has_stop_file);
         }
     }
     Ok(())
@@ -95,14 +124,17 @@ pub struct Watch {
 }
 
 impl Watch {
-    /// Watches the clients of some notes, if there is a thread for it.
+    /// Watches the clients of some notes, if there is a thread for it. `has_stop_file` says whether a file ends the
+    /// campaign.
     pub fn start<R: Threads + Wait + Eprint + Copy + Drop + Send + 'static>(
         rt: R,
         alloc: Global,
         notes: &Arc<Notes, Global>,
+        has_stop_file: bool,
     ) -> Option<Watch> {
         let watched = Watched {
             notes: Arc::try_clone(notes).ok()?,
+            has_stop_file,
             is_over: AtomicBool::new(false),
             parker: Parker::new(),
         };
@@ -134,7 +166,9 @@ pub fn watch_clients<R: Threads + Wait + Eprint + Copy + Drop + Send + 'static>(
 ) -> Option<Watch> {
     let (_, words) = matches.subcommand()?;
     match asked_for(matches)? {
-        (Wanted::Clients(_), _) if !words.get_flag("quiet") => Watch::start(rt, alloc, notes),
+        (Wanted::Clients(_), _) if !words.get_flag("quiet") => {
+            Watch::start(rt, alloc, notes, stop_file(matches).is_some())
+        }
         _ => None,
     }
 }

@@ -46,7 +46,7 @@ pub struct StopFile {
 }
 
 /// The name of the file that ends a campaign, if the arguments give one.
-fn name<'a>(matches: &ArgMatches<'a>) -> Option<&'a str> {
+pub fn stop_file<'a>(matches: &ArgMatches<'a>) -> Option<&'a str> {
     match matches.subcommand() {
         Some(("campaign", words)) => words.get_str("stop-file"),
         _ => None,
@@ -59,7 +59,7 @@ pub fn first_look<R: Files>(
     alloc: Global,
     matches: &ArgMatches<'_>,
 ) -> Result<Option<Arc<AtomicBool>>, AllocError> {
-    let Some(name) = name(matches) else {
+    let Some(name) = stop_file(matches) else {
         return Ok(None);
     };
     let is_there = input::can_be_opened(rt, name);
@@ -73,7 +73,7 @@ pub fn shared_watch(
     has_appeared: &Arc<AtomicBool>,
 ) -> Option<Arc<Watched, Global>> {
     let watched = Watched {
-        name: String::from_str(alloc, name(matches)?).ok()?,
+        name: String::from_str(alloc, stop_file(matches)?).ok()?,
         has_appeared: Arc::try_clone(has_appeared).ok()?,
         is_over: AtomicBool::new(false),
         parker: Parker::new(),

@@ -154,9 +154,9 @@ impl<R: Wait, I: Read + Drop, O: Write + Drop> Clients<R, I, O> {
             return Err(LostAnswer::NoClient);
         };
         let client = self.client(branch);
-        self.notes.waits().count(client);
+        self.notes.waits().begin(client, line);
         let answer = connection.lock(&self.rt).ask(line);
-        self.notes.waits().count(client);
+        self.notes.waits().end(client);
         answer
     }
 
@@ -242,9 +242,13 @@ impl<R: Wait + Drop + Send + Sync, I: Read + Drop + Send, O: Write + Drop + Send
         revive(&mut self.connections, self.is_shared);
         let mut branch = 0u32;
         for _ in 0..self.connections.len() {
-            self.reset_client(branch)?;
+            if let Err(fault) = self.reset_client(branch) {
+                self.notes.count_failed_reset();
+                return Err(fault);
+            }
             branch = branch.saturating_add(1);
         }
+        self.notes.forget_failed_resets();
         Ok(())
     }
 

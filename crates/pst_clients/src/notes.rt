@@ -84,6 +84,8 @@ pub struct Notes {
     no_value: Kept,
     misfit: Kept,
     waits: Waits,
+    /// How many resets failed since the last one that did not.
+    failed_resets: AtomicU64,
 }
 
 /// A client by the numbers of its worker and of its branch, both from 0.
@@ -94,7 +96,7 @@ pub(crate) struct Client {
 }
 
 /// The beginning of a line, with control characters as `\x1b`.
-fn shown(alloc: Global, line: &str) -> Result<String, AllocError> {
+pub(crate) fn shown(alloc: Global, line: &str) -> Result<String, AllocError> {
     let mut shown = String::new(alloc);
     for (place, character) in line.trim().chars().enumerate() {
         if place == MOST_SHOWN {
@@ -181,12 +183,28 @@ impl Notes {
             no_value: Kept::new(alloc)?,
             misfit: Kept::new(alloc)?,
             waits: Waits::new(alloc)?,
+            failed_resets: AtomicU64::new(0),
         })
     }
 
     /// Which clients have a line that they have not answered yet.
     pub fn waits(&self) -> &Waits {
         &self.waits
+    }
+
+    /// How many resets failed since the last one that did not.
+    pub fn failed_resets(&self) -> u64 {
+        self.failed_resets.load(Ordering::SeqCst)
+    }
+
+    /// Counts a reset that failed.
+    pub(crate) fn count_failed_reset(&self) {
+        self.failed_resets.fetch_add(1, Ordering::SeqCst);
+    }
+
+    /// Notes that a reset did not fail.
+    pub(crate) fn forget_failed_resets(&self) {
+        self.failed_resets.store(0, Ordering::SeqCst);
     }
 
     fn of_kind(&self, kind: Kind) -> &Kept {

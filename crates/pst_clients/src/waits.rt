@@ -1,6 +1,6 @@
 //! Which clients have a line that they have not answered yet.
 
-use crate::notes::Client;
+use crate::notes::{Client, shown};
 use std::alloc::{AllocError, Global};
 use std::sync::atomic::{AtomicU64, Ordering};
 
@@ -10,47 +10,116 @@ const MOST_BRANCHES: usize = 4;
 /// The maximum number of clients that are watched.
 const MOST_CLIENTS: usize = 16 * MOST_BRANCHES;
 
-/// For each client how many lines it got and how many of them it is done with, added up. The sum is odd while
-/// it has a line that it has not answered.
+/// How many bytes of a line are kept at most.
+const MOST_KEPT: usize = 128;
+
+/// The lines of a client.
+#[derive(Drop)]
+struct Lines {
+    /// How many it got and how many of them it is done with, added up. The sum is odd while it has a line that it
+    /// has not answered.
+    sum: AtomicU64,
+    /// The first bytes of the last line, up to its end, and then bytes of earlier lines.
+    kept: Vec<AtomicU64>,
+}
+
+impl Lines {
+    /// No lines.
+    fn new(alloc: Global) -> Result<Lines, AllocError> {
+        let mut kept = Vec::with_capacity(alloc, MOST_KEPT)?;
+        for _ in 0..MOST_KEPT {
+            kept.push(AtomicU64::new(b'\n' as u64))?;
+        }
+        Ok(Lines {
+            sum: AtomicU64::new(0),
+            kept,
+        })
+    }
+
+    /// Keeps the beginning of a line. A line end ends it.
+    fn keep(&self, line: &[u8]) {
+        for (place, byte) in self.kept.iter().zip(line) {
+            place.store(*byte as u64, Ordering::SeqCst);
+        }
+    }
+
+    /// The beginning of the last line, up to its end, with `?` in the place of bytes that are not ASCII.
+    fn last(&self, alloc: Global) -> Result<Vec<u8>, AllocError> {
+        let mut line = Vec::new(alloc);
+        for place in &self.kept {
+            let byte = (place.load(Ordering::SeqCst) & 0xff) as u8;
+            if byte == b'\n' {
+                break;
+            }
+            line.push(if byte < 128 { byte } else { b'?' })?;
+        }
+        Ok(line)
+    }
+}
+
+/// The lines of each client.
 #[derive(Drop)]
 pub struct Waits {
-    sums: Vec<AtomicU64>,
+    clients: Vec<Lines>,
 }
 
 impl Waits {
     /// No client has got a line.
     pub(crate) fn new(alloc: Global) -> Result<Waits, AllocError> {
-        let mut sums = Vec::with_capacity(alloc, MOST_CLIENTS)?;
+        let mut clients = Vec::with_capacity(alloc, MOST_CLIENTS)?;
         for _ in 0..MOST_CLIENTS {
-            sums.push(AtomicU64::new(0))?;
+            clients.push(Lines::new(alloc)?)?;
         }
-        Ok(Waits { sums })
+        Ok(Waits { clients })
     }
 
-    /// Counts that a client gets a line, or is done with it.
-    pub(crate) fn count(&self, client: Client) {
-        let Ok(worker) = usize::try_from(client.worker) else {
-            return;
-        };
+    /// The lines of a client, if it is watched.
+    fn lines_of(&self, client: Client) -> Option<&Lines> {
+        let worker = usize::try_from(client.worker).ok()?;
         let branch = client.branch as usize;
-        if branch < MOST_BRANCHES {
-            let place = worker.saturating_mul(MOST_BRANCHES).saturating_add(branch);
-            if let Some(sum) = self.sums.get(place) {
-                sum.fetch_add(1, Ordering::SeqCst);
-            }
+        if branch >= MOST_BRANCHES {
+            return None;
+        }
+        let place = worker.saturating_mul(MOST_BRANCHES).saturating_add(branch);
+        self.clients.get(place)
+    }
+
+    /// Counts that a client gets a line.
+    pub(crate) fn begin(&self, client: Client, line: &[u8]) {
+        if let Some(lines) = self.lines_of(client) {
+            lines.keep(line);
+            lines.sum.fetch_add(1, Ordering::SeqCst);
+        }
+    }
+
+    /// Counts that a client is done with its line.
+    pub(crate) fn end(&self, client: Client) {
+        if let Some(lines) = self.lines_of(client) {
+            lines.sum.fetch_add(1, Ordering::SeqCst);
         }
     }
 
     /// How many clients are watched. They have the places from 0 on.
     pub fn len(&self) -> usize {
-        self.sums.len()
+        self.clients.len()
     }
 
     /// A number that tells the current line of the client at `place` from its other lines, if the client has
     /// not answered that line.
     pub fn unanswered(&self, place: usize) -> Option<u64> {
-        let sum = self.sums.get(place)?.load(Ordering::SeqCst);
+        let sum = self.clients.get(place)?.sum.load(Ordering::SeqCst);
         if sum % 2 == 1 { Some(sum) } else { None }
+    }
+
+    /// The beginning of the last line that the client at `place` got, as it is shown.
+    pub fn last_line(&self, alloc: Global, place: usize) -> Result<String, AllocError> {
+        match self.clients.get(place) {
+            Some(lines) => {
+                let line = lines.last(alloc)?;
+                shown(alloc, std::str::from_utf8(line.as_slice()).unwrap_or(""))
+            }
+            None => Ok(String::new(alloc)),
+        }
     }
 
     /// The numbers of the worker and of the branch whose client has the place, both from 1.

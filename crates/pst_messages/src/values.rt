@@ -4,7 +4,7 @@ use crate::command::{Part, behind_head, command_at, is_headed, place_of, result_
 use crate::entries::{ill_entry, is_truth};
 use crate::ill::{Ill, ill_problem};
 use pst_model::{Param, Source};
-use pst_problems::{Judged, Problem, TypeText, short_text, with_note};
+use pst_problems::{Judged, Problem, TypeText, in_single_quotes, short_text, with_note};
 use pst_sexpr::{Form, is_integer};
 use pst_value::{KeyTy, Ty};
 use std::alloc::{AllocError, Global};
@@ -303,10 +303,11 @@ fn with_type_note(
     match (form, wanted) {
         (Form::Word(word), Ty::Text) => {
             let word = word.as_str();
+            let text = in_single_quotes(word).unwrap_or(word);
             with_note(
                 alloc,
                 found,
-                format_args!("hint: a text is in quotes: `\"{word}\"`"),
+                format_args!("hint: a text is in double quotes: `\"{text}\"`"),
             )
         }
         (_, Ty::Ref(_)) => with_note(

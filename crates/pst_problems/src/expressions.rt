@@ -1,7 +1,7 @@
 //! Trees as expressions.
 
 use crate::forms::{Shown, expression, in_place_of, is_head, nearest_head, type_form};
-use crate::judged::{Judged, foreign, is_name, noted, noted_at, wrong, wrong_at};
+use crate::judged::{Judged, foreign, is_name, noted, noted_at, with_quotes_hint, wrong, wrong_at};
 use crate::problem::below;
 use crate::roles::{Role, Tasks};
 use crate::tree::head_of;
@@ -65,12 +65,9 @@ fn name_expression(alloc: Global, has_maps: bool, path: &[usize], word: &Text) -
     if is_name(word) && !is_head(has_maps, name) && word.len() <= MAX_NAME {
         return Ok(None);
     }
-    foreign(
-        alloc,
-        path,
-        name,
-        format_args!("`{name}` is neither an integer nor a name"),
-    )
+    let what = format_args!("`{name}` is neither an integer nor a name");
+    let found = foreign(alloc, path, name, what)?;
+    with_quotes_hint(alloc, found, name)
 }
 
 /// The problem of a word as an expression, if it has one.

@@ -295,6 +295,15 @@ fn add_item<'a>(
     }
 }
 
+/// The hint that says what the callback `word` may be at the least.
+fn plainest(word: &str) -> &'static str {
+    match word {
+        "pre" => "hint: write `(pre true)` if it may always be called",
+        "next" => "hint: write `(next s)` if it leaves the state as it is",
+        _ => "hint: write `(post true)` if any result is right",
+    }
+}
+
 /// The problem of an operation that lacks callbacks, if it lacks one.
 fn lacking(alloc: Global, path: &[usize], parts: &[Form]) -> Judged {
     let mut names = Items::new(alloc);
@@ -306,12 +315,15 @@ fn lacking(alloc: Global, path: &[usize], parts: &[Form]) -> Judged {
     if names.is_empty() {
         return Ok(None);
     }
-    let names = Listed(&names);
-    wrong(
-        alloc,
-        path,
-        format_args!("the operation has no callback {names}"),
-    )
+    let path = Vec::from_slice(alloc, path)?;
+    let listed = Listed(&names);
+    let what = format_args!("the operation has no callback {listed}");
+    let mut problem = Problem::new(alloc, path, what)?;
+    for name in names.as_slice() {
+        let hint = String::from_str(alloc, plainest(name.as_str()))?;
+        problem.notes.push(hint)?;
+    }
+    Ok(Some(problem))
 }
 
 /// The form of an item, and its parts after its head.

@@ -68,6 +68,23 @@ pub fn foreign<D: Display + Drop>(alloc: Global, path: &[usize], word: &str, wha
     }
 }
 
+/// What is in the single quotes around a word, if they are around it.
+pub fn in_single_quotes(word: &str) -> Option<&str> {
+    word.strip_prefix("'")?.strip_suffix("'")
+}
+
+/// The problem `found` of `word`, with a hint if the word begins a text in single quotes.
+pub fn with_quotes_hint(alloc: Global, found: Option<Problem>, word: &str) -> Judged {
+    if let Some(text) = in_single_quotes(word) {
+        let hint = format_args!("hint: a text is in double quotes: `\"{text}\"`");
+        return with_note(alloc, found, hint);
+    }
+    if word.starts_with("'") {
+        return with_note(alloc, found, "hint: a text is in double quotes");
+    }
+    Ok(found)
+}
+
 /// Whether a name may have `byte` after its first byte.
 fn is_in_names(byte: u8) -> bool {
     byte.is_ascii_alphanumeric() || byte == b'_' || byte == b'-'

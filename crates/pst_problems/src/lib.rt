@@ -21,8 +21,8 @@ mod writing;
 
 pub use forms::{Shown, expression, in_place_of, is_head, is_of_maps, nearest_head, type_form};
 pub use judged::{
-    CAPITAL, Judged, bound, declared, foreign, is_capitalized, is_name, noted, noted_at, tell,
-    too_long, with_note, wrong, wrong_at,
+    CAPITAL, Judged, bound, declared, foreign, in_single_quotes, is_capitalized, is_name, noted,
+    noted_at, tell, too_long, with_note, wrong, wrong_at,
 };
 pub use names::{DidYouMean, NearestName, add, nearest};
 pub use operations::{operation, unknown_among};

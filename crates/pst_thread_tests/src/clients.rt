@@ -108,6 +108,24 @@ fn a_client_is_started_again_by_a_reset(rt: HostRuntime) -> Result<(), Fail> {
     Ok(())
 }
 
+#[test]
+fn the_last_line_and_failed_resets_are_known(rt: HostRuntime) -> Result<(), Fail> {
+    let alloc = rt.alloc();
+    let notes = Arc::new(alloc, Notes::new(alloc)?)?;
+    let mut clients = one_client(rt, alloc, &notes, "7\nfailed\nfailed\ntrue\n")?;
+    let _ = clients.call(&put(alloc, Value::Int(1))?);
+    let line = notes.waits().last_line(alloc, 0)?;
+    assert_eq!(rt; line.as_str(), "[\"put\",1]");
+    assert!(rt; notes.waits().unanswered(0).is_none());
+    for failures in [1u64, 2, 0] {
+        let _ = clients.reset();
+        assert!(rt; notes.failed_resets() == failures);
+    }
+    let line = notes.waits().last_line(alloc, 0)?;
+    assert_eq!(rt; line.as_str(), "[\"reset\"]");
+    Ok(())
+}
+
 /// The map from -2 to one value and from 3 to another.
 fn map_of(alloc: Global, first: Value, second: Value) -> Result<Value, AllocError> {
     let mut keys = Items::new(alloc);

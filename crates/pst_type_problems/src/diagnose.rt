@@ -3,6 +3,7 @@
 use crate::applied::{applied, called};
 use crate::operands::{
     ill_first, wanted_list, wanted_map, wanted_sequence, wanted_tuple, wanted_type,
+    with_reference_hint, with_references_hint,
 };
 use crate::spelling::spelled;
 use crate::trees::{clauses_of, goes_over_list, head_word};
@@ -264,10 +265,11 @@ fn of_map(alloc: Global, leaf: &Leaf<'_>, head: &str) -> Judged {
 
 /// The problem of an item of a list that has the type `found` instead of `wanted`. `part` is its number in the tree.
 fn ill_item(alloc: Global, leaf: &Leaf<'_>, part: usize, wanted: &Ty, found: &Kind) -> Judged {
-    let wanted = TypeText(wanted);
-    let found = spelled(alloc, found)?;
-    let what = format_args!("an item of the list: expected {wanted}, found {found}");
-    wrong_at(alloc, leaf.path, part, what)
+    let wants = TypeText(wanted);
+    let has = spelled(alloc, found)?;
+    let what = format_args!("an item of the list: expected {wants}, found {has}");
+    let refused = wrong_at(alloc, leaf.path, part, what)?;
+    with_references_hint(alloc, refused, &Kind::of(alloc, wanted)?, found)
 }
 
 /// The problem of the first item of a list that has another type, if there is one.
@@ -299,9 +301,10 @@ fn ill_clause(alloc: Global, leaf: &Leaf<'_>, clause: &Tree, place: usize, found
     if goes_over_list(clause) {
         return wanted_list(alloc, path.as_slice(), "`in`", 2, found);
     }
-    let found = spelled(alloc, found)?;
-    let what = format_args!("`when`: expected bool, found {found}");
-    wrong_at(alloc, path.as_slice(), 1, what)
+    let has = spelled(alloc, found)?;
+    let what = format_args!("`when`: expected bool, found {has}");
+    let refused = wrong_at(alloc, path.as_slice(), 1, what)?;
+    with_reference_hint(alloc, refused, found)
 }
 
 /// The problem of the first clause of a comprehension that has another type, if there is one.

@@ -1,30 +1,47 @@
 //! Parts of another type than their form takes.
 
 use crate::diagnose::Leaf;
-use crate::spelling::spelled;
+use crate::spelling::{spelled, spelled_as_value};
 use pst_problems::{Judged, Problem, below, noted, with_note, wrong, wrong_at};
 use pst_typing::{Form, Kind};
-use std::alloc::Global;
+use std::alloc::{AllocError, Global};
 use std::fmt::Display;
 
-/// The problem `refused`, with a hint if a reference is in the place of its value.
-fn with_reference_hint(
+/// The hint that a reference is in the place of its value.
+const REFERENCE: &str =
+    "hint: a `ref`, as `r` in next, has a value only in post: keep it in the state, and `deref` it there (docs/language.md, Patterns)";
+
+/// Whether `found` has references where `wanted` has their values, and is the same type otherwise.
+fn has_references(alloc: Global, wanted: &Kind, found: &Kind) -> Result<bool, AllocError> {
+    let wants = spelled_as_value(alloc, wanted)?;
+    let has = spelled_as_value(alloc, found)?;
+    if wants.as_str() != has.as_str() {
+        return Ok(false);
+    }
+    let wants = spelled(alloc, wanted)?;
+    let has = spelled(alloc, found)?;
+    Ok(has.len() > wants.len())
+}
+
+/// The problem `refused`, with a hint if references are in the place of their values.
+pub fn with_references_hint(
     alloc: Global,
     refused: Option<Problem>,
     wanted: &Kind,
     found: &Kind,
 ) -> Judged {
-    let Form::Ref(named) = found.form(alloc)? else {
-        return Ok(refused);
-    };
-    if !named.same(alloc, wanted)? {
-        return Ok(refused);
+    if has_references(alloc, wanted, found)? {
+        return with_note(alloc, refused, REFERENCE);
     }
-    with_note(
-        alloc,
-        refused,
-        "hint: only post knows the value of a result: keep the reference in the state, and `deref` it there",
-    )
+    Ok(refused)
+}
+
+/// The problem `refused` of a part that is no reference and has the type `found`, with a hint if that is one.
+pub fn with_reference_hint(alloc: Global, refused: Option<Problem>, found: &Kind) -> Judged {
+    match found.form(alloc)? {
+        Form::Ref(_) => with_note(alloc, refused, REFERENCE),
+        _ => Ok(refused),
+    }
 }
 
 /// The problem `refused`, with a hint if a map is in the place of a list.
@@ -54,7 +71,7 @@ pub fn other_type<D: Display + Drop>(
         path,
         format_args!("{what}: expected {wants}, found {has}"),
     )?;
-    with_reference_hint(alloc, refused, wanted, found)
+    with_references_hint(alloc, refused, wanted, found)
 }
 
 /// The problem of part `part` of a tree, if its type `found` is another than `wanted`.
@@ -80,8 +97,9 @@ pub fn ill_first<D: Display + Drop>(
     what: D,
     found: &Kind,
 ) -> Judged {
-    let found = spelled(alloc, found)?;
-    wrong_at(alloc, leaf.path, 1, format_args!("{what}, found {found}"))
+    let has = spelled(alloc, found)?;
+    let refused = wrong_at(alloc, leaf.path, 1, format_args!("{what}, found {has}"))?;
+    with_reference_hint(alloc, refused, found)
 }
 
 /// The problem of the first part of `at`, which is no tuple.
@@ -117,6 +135,7 @@ pub fn wanted_list(alloc: Global, path: &[usize], what: &str, part: usize, found
         part,
         format_args!("{what}: expected a list, found {has}"),
     )?;
+    let refused = with_reference_hint(alloc, refused, found)?;
     with_keys_hint(alloc, refused, found)
 }
 

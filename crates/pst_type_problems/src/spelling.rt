@@ -10,17 +10,40 @@ use std::alloc::{AllocError, Global};
 /// memory holds, because its equal parts are shared.
 const MOST_FORMS: usize = 64;
 
+/// How a reference is written.
+#[derive(Clone, Copy, Drop)]
+enum References {
+    /// As the type that it is.
+    Whole,
+    /// As the type of its value.
+    Values,
+}
+
 /// A type, as it is written.
 pub fn spelled(alloc: Global, kind: &Kind) -> Result<String, AllocError> {
     let mut text = String::new(alloc);
     let mut left = MOST_FORMS;
-    spell(&mut text, alloc, kind, &mut left)?;
+    spell(&mut text, alloc, kind, References::Whole, &mut left)?;
+    Ok(text)
+}
+
+/// A type, as it is written with the type of its value in the place of each reference.
+pub fn spelled_as_value(alloc: Global, kind: &Kind) -> Result<String, AllocError> {
+    let mut text = String::new(alloc);
+    let mut left = MOST_FORMS;
+    spell(&mut text, alloc, kind, References::Values, &mut left)?;
     Ok(text)
 }
 
 /// Adds a type, and subtracts the number of its forms from `left`.
 #[cycle(spell)]
-fn spell(text: &mut String, alloc: Global, kind: &Kind, left: &mut usize) -> Result<(), AllocError>
+fn spell(
+    text: &mut String,
+    alloc: Global,
+    kind: &Kind,
+    references: References,
+    left: &mut usize,
+) -> Result<(), AllocError>
     ensures { left.new ≤ left.old }
 {
     if *left == 0 {
@@ -32,13 +55,16 @@ fn spell(text: &mut String, alloc: Global, kind: &Kind, left: &mut usize) -> Res
         Form::Bool => text.push_str("bool"),
         Form::Text => text.push_str("text"),
         Form::Call => text.push_str("call"),
-        Form::Tuple(kinds) => spell_all(text, alloc, kinds.as_slice(), left),
-        Form::List(item) => spell_last(text, alloc, "(list ", &item, left),
-        Form::Ref(named) => spell_last(text, alloc, "(ref ", &named, left),
+        Form::Tuple(kinds) => spell_all(text, alloc, kinds.as_slice(), references, left),
+        Form::List(item) => spell_last(text, alloc, "(list ", &item, references, left),
+        Form::Ref(named) => match references {
+            References::Whole => spell_last(text, alloc, "(ref ", &named, references, left),
+            References::Values => spell(text, alloc, &named, references, left),
+        },
         Form::Map(keys, value) => {
             text.push_str("(map ")?;
             text.push_str(key_word(keys))?;
-            spell_last(text, alloc, " ", &value, left)
+            spell_last(text, alloc, " ", &value, references, left)
         }
     }
 }
@@ -50,12 +76,13 @@ fn spell_last(
     alloc: Global,
     opening: &str,
     kind: &Kind,
+    references: References,
     left: &mut usize,
 ) -> Result<(), AllocError>
     ensures { left.new ≤ left.old }
 {
     text.push_str(opening)?;
-    spell(text, alloc, kind, left)?;
+    spell(text, alloc, kind, references, left)?;
     text.push_str(")")
 }
 
@@ -65,6 +92,7 @@ fn spell_all(
     text: &mut String,
     alloc: Global,
     kinds: &[Kind],
+    references: References,
     left: &mut usize,
 ) -> Result<(), AllocError>
     ensures { left.new ≤ left.old }
@@ -75,7 +103,7 @@ fn spell_all(
             return text.push_str(" ..)");
         }
         text.push_str(" ")?;
-        spell(text, alloc, kind, left)?;
+        spell(text, alloc, kind, references, left)?;
     }
     text.push_str(")")
 }
