@@ -30,4 +30,4 @@ complete -c pst -n "__fish_seen_subcommand_from convert" -l to -x -a "json trees
 complete -c pst -n "__fish_seen_subcommand_from fmt" -l check -d "name the files that would change"
 complete -c pst -n "__fish_seen_subcommand_from judge explain" -l failures -d "leave out what is explained or valid"
 complete -c pst -n "__fish_seen_subcommand_from new" -l client -x -a "python bash go c node"
-complete -c pst -n "__fish_seen_subcommand_from new" -l server -f -d "a client of a server, in Python"
+complete -c pst -n "__fish_seen_subcommand_from new" -l server -f -d "a client of a server, in python or node"

@@ -1,5 +1,6 @@
 #!/usr/bin/env node
-// A client of @NAME@.model. Call your own system in place of this class. A function has the name of its operation.
+// A client of @NAME@.model. Call your own system in place of this class. A function has the name of its operation. For a server use
+// `pst new NAME --server --client node`.
 const { serve } = require("./pst_client.js");
 const pause = () => new Promise((resolve) => setTimeout(resolve, 1));
 
