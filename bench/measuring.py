@@ -16,21 +16,30 @@ class Failed(Exception):
     """A command that did not end as it has to."""
 
 
+@contextlib.contextmanager
+def on(processors):
+    """Has this process, and those that it starts, run on these processors."""
+    os.sched_setaffinity(0, processors)
+    try:
+        yield
+    finally:
+        os.sched_setaffinity(0, EVERYWHERE)
+
+
 def seconds(*words, runs=1, statuses=(0,), source=os.devnull, into=os.devnull, processors=EVERYWHERE):
     """Returns the mean seconds of `runs` runs of a command, which reads `source` and writes to `into`."""
     with open(source, "rb") as read, open(into, "wb") as write, tempfile.TemporaryFile() as errors:
         actions = [(os.POSIX_SPAWN_DUP2, file.fileno(), number) for number, file in enumerate((read, write, errors))]
-        os.sched_setaffinity(0, processors)
         taken = 0
         for _ in range(runs):
             os.lseek(read.fileno(), 0, os.SEEK_SET)
-            begin = time.perf_counter()
-            status = os.waitpid(os.posix_spawnp(words[0], words, os.environ, file_actions=actions), 0)[1]
-            taken += time.perf_counter() - begin
+            with on(processors):
+                begin = time.perf_counter()
+                status = os.waitpid(os.posix_spawnp(words[0], words, os.environ, file_actions=actions), 0)[1]
+                taken += time.perf_counter() - begin
             if os.waitstatus_to_exitcode(status) not in statuses:
                 errors.seek(0)
                 raise Failed(f"{' '.join(words)}: status {os.waitstatus_to_exitcode(status)}: {errors.read(2000).decode(errors='replace')}")
-        os.sched_setaffinity(0, EVERYWHERE)
         return taken / runs
 
 
@@ -141,7 +150,7 @@ def cells(group, row, values, tools):
         return [row.what, own, "", "", aim], False
     if row.beside not in values:
         tool = group.needs[row.beside]
-        return [row.what, own, f"not installed: {row.words}, of `{tools.package(tool)}`", "", aim], False
+        return [row.what, own, f"{row.words}: not installed (`{tools.package(tool)}`)", "", aim], False
     other = f"{row.words}: {figure(statistics.median(values[row.beside]), row.unit)}"
     ratios = [first / second for first, second in zip(values[row.pst], values[row.beside]) if second]
     if not ratios:
