@@ -26,7 +26,7 @@ SEARCHES = 200  # in `searches`
 DRIVEN = 4_000  # in `driven`
 
 
-def opening(expression, head="model"):
+def initial(expression, head="model"):
     """Returns a model whose initial state is this expression, and a case that evaluates nothing else."""
     return f"({head} peer (state int) (init {expression}) (command (list call)))\n{EMPTY}"
 
@@ -99,17 +99,17 @@ class Inputs:
 
     @cached_property
     def turns(self):
-        return self.made("turns", opening("(len (for ((in x (range 0 1000)) (in y (range 0 999)) (when (< x 0))) y))"))
+        return self.made("turns", initial("(len (for ((in x (range 0 1000)) (in y (range 0 999)) (when (< x 0))) y))"))
 
     @cached_property
     def folds(self):
         inner = "(fold x (range 0 60000) sum 0 (rem (+ (* sum 3) x) 1000003))"
-        return self.made("folds", opening(f"(fold i (range 0 16) total 0 (+ total {inner}))"))
+        return self.made("folds", initial(f"(fold i (range 0 16) total 0 (+ total {inner}))"))
 
     @cached_property
     def keys(self):
         filled = "(fold x (range 0 4096) m (map int int) (put m x x))"
-        return self.made("keys", opening(f"(let m {filled} (fold x (range 0 4096) sum 0 (+ sum (get m x))))", "model2"))
+        return self.made("keys", initial(f"(let m {filled} (fold x (range 0 4096) sum 0 (+ sum (get m x))))", "model2"))
 
     @cached_property
     def searches(self):

@@ -80,8 +80,8 @@ class Bench:
 
     def proper(self, trials, repeats):
         """Returns the tests a second of PropEr, with four testers at the same time."""
-        words = ["4", str(trials), str(repeats), "33"]
-        return float(printed("erl", "-noshell", "-pa", self.room, "-run", "counter", "main", *words))
+        erlang = ["erl", "-noshell", "-env", "ERL_CRASH_DUMP", os.devnull, "-pa", self.room]
+        return float(printed(*erlang, "-run", "counter", "main", "4", str(trials), str(repeats), "33"))
 
     def races(self, name, workers, *words):
         """Returns how many trials have a run that no interleaving explains."""
