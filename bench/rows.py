@@ -154,7 +154,7 @@ def races(b):
     for what, name, words in [
         ("at most two `inc`", "inc", ["--commands", "2"]),
         ("at most two calls, `inc` answers anything", "silent", ["--commands", "2"]),
-        ("the same calls, and one after both branches", "silent", ["--commands", "3", "--suffix", "1"]),
+        ("at most two calls and one after both branches", "silent", ["--commands", "3", "--suffix", "1"]),
     ]:
         measures = {"one": of(b.races, name, 1, *words), "four": of(b.races, name, 4, *words)}
         yield Group(measures, [Row(f"unexplained of {RACES} trials of `racy`, 1 worker: {what}", "", "one", "four", "4 workers")])
@@ -186,7 +186,7 @@ def streams(b):
         measures = {"all": of(b.stream, form, EVERYWHERE), "one": of(b.stream, form, ONE), "peer": peer}
         name = form.upper() if form == "json" else form
         speed_up = Row(f"{RUNS:,} runs by `--stream`, {name}, all processors", "MB/s", "all", "one", "1 processor", Aim("at least", 2.5))
-        yield Group(measures, [speed_up, Row(f"the same {name}, 1 processor", "MB/s", "one", "peer", words)], needs)
+        yield Group(measures, [speed_up, Row(f"{RUNS:,} runs by `--stream`, {name}, 1 processor", "MB/s", "one", "peer", words)], needs)
     numbers = [10_000, 100_000, RUNS]
     rows = [Row(f"memory of `--stream`, {runs:,} runs", "MB", str(runs), "10000", "10,000 runs", Aim("at most", 1.1)) for runs in numbers[1:]]
     yield Group({str(runs): of(b.memory, runs) for runs in numbers}, rows)
