@@ -2,6 +2,7 @@
 import contextlib
 import os
 import shutil
+import signal
 import statistics
 import subprocess
 import tempfile
@@ -26,6 +27,15 @@ def on(processors):
         os.sched_setaffinity(0, EVERYWHERE)
 
 
+def ended(process):
+    """Waits for a process and returns its status; if this one is ended meanwhile, it ends it."""
+    try:
+        return os.waitpid(process, 0)[1]
+    except BaseException:
+        os.kill(process, signal.SIGTERM)
+        raise
+
+
 def seconds(*words, runs=1, statuses=(0,), source=os.devnull, into=os.devnull, processors=EVERYWHERE):
     """Returns the mean seconds of `runs` runs of a command, which reads `source` and writes to `into`."""
     with open(source, "rb") as read, open(into, "wb") as write, tempfile.TemporaryFile() as errors:
@@ -35,7 +45,7 @@ def seconds(*words, runs=1, statuses=(0,), source=os.devnull, into=os.devnull, p
             os.lseek(read.fileno(), 0, os.SEEK_SET)
             with on(processors):
                 begin = time.perf_counter()
-                status = os.waitpid(os.posix_spawnp(words[0], words, os.environ, file_actions=actions), 0)[1]
+                status = ended(os.posix_spawnp(words[0], words, os.environ, file_actions=actions))
                 taken += time.perf_counter() - begin
             if os.waitstatus_to_exitcode(status) not in statuses:
                 errors.seek(0)

@@ -10,7 +10,7 @@ from measuring import EVERYWHERE, ONE, Aim, Failed, Group, Row, busy_loops, prin
 STEPS = 1_700  # of one search in `searches`
 TRIALS = 2_000  # of a campaign on a quiet machine
 BUSY_TRIALS = 800  # beside busy loops
-QUEUE_TRIALS = 400
+QUEUE_TRIALS = 100
 RACES = 300
 JUDGED = (0, 1)
 
