@@ -1,4 +1,4 @@
-# For the scripts beside this one, which source it: `top` is the repository, `room` a folder that goes with the script, `program` the program `pst`, and
+# For the scripts that source it, here and in stress/: `top` is the repository, `room` a folder that goes with the script, `program` the program `pst`, and
 # `built CRATE WORD..` the path of the program of a crate, which is proved and built first, by a run with these words. BUILT=FOLDER before a script's
 # name takes the programs of that folder as they are.
 set -euo pipefail
