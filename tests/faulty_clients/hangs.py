@@ -4,4 +4,3 @@ for line in sys.stdin:
     signal.alarm(1)
     if "inc" in line: time.sleep(100)
     print(0, flush=True)
-    signal.alarm(0)
