@@ -20,6 +20,11 @@ def line_of(pst):
     return got
 
 
+def memory(pst):
+    """Returns the greatest memory so far in KiB. What is not read yet fits the pipe."""
+    return int(next(line for line in open(f"/proc/{pst.pid}/status") if line.startswith("VmHWM:")).split()[1])
+
+
 def waits():
     pst = start()
     for number in range(1, 2001):
@@ -74,7 +79,7 @@ def numbered(line, number):
 
 
 def many():
-    lines = list(items(100000))
+    lines = list(items(40000))
     wanted, worst, head = [], 0, open(model, "rb").read() + b"\n"
     for at in range(0, len(lines), 8000):
         part = subprocess.run([program, "judge", "-q", "--keep-going"], input=head + b"".join(lines[at : at + 8000]), capture_output=True)
@@ -87,15 +92,25 @@ def many():
     reader.start()
     for at in range(0, len(lines), 100):
         pst.stdin.write(b"".join(lines[at : at + 100]))
-    # Most lines are judged now: what is left fits the pipe.
-    memory = [line for line in open(f"/proc/{pst.pid}/status") if line.startswith("VmHWM:")]
+    kilobytes = memory(pst)
     pst.stdin.close()
     reader.join()
     assert got[0] == b"".join(wanted) and pst.wait(10) == worst == 2
-    print("100000 lines have the lines and the status of --keep-going")
-    print("little memory" if int(memory[0].split()[1]) < 32 * 1024 else f"much memory: {memory}")
+    print("40000 lines have the lines and the status of --keep-going")
+    print("little memory" if kilobytes < 32 * 1024 else f"much memory: {kilobytes} KiB")
+
+
+def shortest():
+    pst = start(stdout=subprocess.DEVNULL)
+    for _ in range(256):
+        pst.stdin.write(b"\n" * 1024)
+    kilobytes = memory(pst)
+    pst.stdin.close()
+    assert pst.wait(60) == 2
+    print("little memory for the shortest lines" if kilobytes < 32 * 1024 else f"much memory: {kilobytes} KiB")
 
 
 waits()
 goes_away()
 many()
+shortest()
