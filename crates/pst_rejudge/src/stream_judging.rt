@@ -11,21 +11,12 @@ use pst_json_runs::{has_json, json_tree};
 use pst_model::Typed;
 use pst_runs::RunFaultKind;
 use pst_sexpr::{FaultKind, MAX_BYTES, read};
-use rayon::current_num_threads;
 use rayon::prelude::*;
 use std::alloc::{AllocError, Global};
 use std::thread::Threads;
 
 /// How few lines are worth a thread of their own.
 const FEW_LINES: usize = 16;
-
-/// How many lines a thread judges at least, so that there are about as many threads as processors: where two threads share
-/// a processor, the others wait for them.
-fn lines_of_thread<R: Threads>(rt: &R, lines: usize) -> usize {
-    let halves = current_num_threads(rt).saturating_mul(2);
-    let half = lines.checked_div(halves).unwrap_or(lines);
-    half.saturating_add(1).max(FEW_LINES)
-}
 
 /// Reads and judges the tree that a line spells. A line that spells none, or more than one, is refused as `BadForm`.
 fn tree_answer<C: Callbacks>(
@@ -110,7 +101,7 @@ pub(crate) fn line_answers<C: Callbacks + Sync, R: Threads + Sync>(
     may_share_models();
     lines
         .par_iter()
-        .with_min_len(lines_of_thread(rt, lines.len()))
+        .with_min_len(FEW_LINES)
         .map(
             |line: &Vec<u8>| -> Result<Answer, AllocError>
                 requires { typed.now ≡ C.model callbacks.now }
