@@ -3,15 +3,19 @@ ghost use Rattle.std.specs.Prelude.{◌≡◌, [], ◌∷◌, map, reverse, Matc
 ghost use Rattle.pst_eval.specs.Meaning as spec;
 ghost use Rattle.pst_eval.specs.Env.{env_of, mean_in, parts_in, functions_in};
 ghost use Rattle.pst_model.specs.Parts.{number_of};
+ghost use Rattle.pst_model.specs.declared.expr.Expr as form;
 ghost use Rattle.pst_operators.specs.Answers.{Answers, Meets};
+ghost use Rattle.pst_operators.specs.Maps.{map_of};
+ghost use Rattle.pst_operators.specs.Outcome.{Gives};
 
 use crate::context::Context;
 use crate::env::{Env, look_up};
-use pst_model::{Clause, Expr, Item, number_of};
+use pst_model::{Binary, Clause, Expr, Item, number_of};
 use pst_operators::{
     Stop, append, binary_of_owned, item, items_of, put, take_turn, truth_of, unary,
 };
-use pst_value::{Boxed, Items, Value};
+use pst_value::{Boxed, Items, Text, Value};
+use std::alloc::Global;
 
 /// The value of an expression in its environment. Each turn is taken from `turns`, which is unspecified after
 /// an `Err`.
@@ -29,49 +33,17 @@ pub fn eval(
         Expr::Bool(truth) => Ok(Value::Bool(*truth)),
         Expr::Text(text) => Ok(Value::Text(text.copy(context.alloc)?)),
         Expr::Name(name) => look_up(env, context.alloc, name.as_bytes()),
-        Expr::Let(name, bound, body) => {
-            let value = eval(bound.get(), context, env, turns)?;
-            let inner = Env::With(name.as_bytes(), &value, &*env);
-            eval(body.get(), context, &inner, turns)
-        }
-        Expr::If(test, then, other) => {
-            if eval_truth(test.get(), context, env, turns)? {
-                eval(then.get(), context, env, turns)
-            } else {
-                eval(other.get(), context, env, turns)
-            }
-        }
-        Expr::And(first, second) => {
-            if !eval_truth(first.get(), context, env, turns)? {
-                return Ok(Value::Bool(false));
-            }
-            Ok(Value::Bool(eval_truth(second.get(), context, env, turns)?))
-        }
-        Expr::Or(first, second) => {
-            if eval_truth(first.get(), context, env, turns)? {
-                return Ok(Value::Bool(true));
-            }
-            Ok(Value::Bool(eval_truth(second.get(), context, env, turns)?))
-        }
+        Expr::Let(name, bound, body) => let_in(name, bound, body, context, env, turns),
+        Expr::If(test, then, other) => choice(test, then, other, context, env, turns),
+        Expr::And(first, second) => both(first, second, context, env, turns),
+        Expr::Or(first, second) => either(first, second, context, env, turns),
         Expr::Unary(operator, operand) => {
             let value = eval(operand.get(), context, env, turns)?;
             unary(context.alloc, *operator, &value)
         }
-        Expr::Map(_, _) => Ok(Value::Map(
-            Boxed::new(context.alloc, Items::new(context.alloc))?,
-            Boxed::new(context.alloc, Items::new(context.alloc))?,
-        )),
-        Expr::Put(map, key, value) => {
-            let map = eval(map.get(), context, env, turns)?;
-            let key = eval(key.get(), context, env, turns)?;
-            let value = eval(value.get(), context, env, turns)?;
-            put(context.alloc, map, &key, value)
-        }
-        Expr::Binary(operator, first, second) => {
-            let left = eval(first.get(), context, env, turns)?;
-            let right = eval(second.get(), context, env, turns)?;
-            binary_of_owned(context.alloc, *operator, left, right)
-        }
+        Expr::Map(_, _) => empty_map(context.alloc),
+        Expr::Put(map, key, value) => put_in(map, key, value, context, env, turns),
+        Expr::Binary(operator, left, right) => binary(*operator, left, right, context, env, turns),
         Expr::Tuple(exprs) => Ok(Value::Tuple(eval_all(exprs.as_slice(), context, env, turns)?)),
         Expr::At(tuple, place) => {
             let value = eval(tuple.get(), context, env, turns)?;
@@ -82,19 +54,7 @@ pub fn eval(
             comprehension(clauses.as_slice(), body.get(), context, env, turns)
         }
         Expr::Fold(name, list, acc, first, body) => {
-            let value = eval(list.get(), context, env, turns)?;
-            let items = items_of(value)?;
-            let first = eval(first.get(), context, env, turns)?;
-            fold_over(
-                body.get(),
-                context,
-                name.as_bytes(),
-                acc.as_bytes(),
-                env,
-                turns,
-                items.as_slice(),
-                first,
-            )
+            fold(name, list, acc, first, body, context, env, turns)
         }
         Expr::Call(name, exprs) => {
             let arguments = eval_all(exprs.as_slice(), context, env, turns)?;
@@ -105,6 +65,121 @@ pub fn eval(
             apply(context, name.as_bytes(), arguments.as_slice(), turns)
         }
     }
+}
+
+/// The value of a body that sees a value under a name.
+#[cycle(eval)]
+fn let_in(
+    name: &Text,
+    bound: &Boxed<Expr>,
+    body: &Boxed<Expr>,
+    context: &Context<'_>,
+    env: &Env<'_>,
+    turns: &mut u32,
+) -> Result<Value, Stop>
+    ensures { Meets
+        (mean_in context.now (form.Let name.now bound.now body.now) (env_of env.now)
+        turns.old) result turns.new }
+{
+    let value = eval(bound.get(), context, env, turns)?;
+    let inner = Env::With(name.as_bytes(), &value, &*env);
+    eval(body.get(), context, &inner, turns)
+}
+
+/// The value of one of two expressions, by a test.
+#[cycle(eval)]
+fn choice(
+    test: &Boxed<Expr>,
+    then: &Boxed<Expr>,
+    other: &Boxed<Expr>,
+    context: &Context<'_>,
+    env: &Env<'_>,
+    turns: &mut u32,
+) -> Result<Value, Stop>
+    ensures { Meets
+        (mean_in context.now (form.If test.now then.now other.now) (env_of env.now)
+        turns.old) result turns.new }
+{
+    if eval_truth(test.get(), context, env, turns)? {
+        eval(then.get(), context, env, turns)
+    } else {
+        eval(other.get(), context, env, turns)
+    }
+}
+
+/// Whether two expressions hold. The second is evaluated only if the first holds.
+#[cycle(eval)]
+fn both(
+    first: &Boxed<Expr>,
+    second: &Boxed<Expr>,
+    context: &Context<'_>,
+    env: &Env<'_>,
+    turns: &mut u32,
+) -> Result<Value, Stop>
+    ensures { Meets (mean_in context.now (form.And first.now second.now) (env_of env.now) turns.old) result
+        turns.new }
+{
+    if !eval_truth(first.get(), context, env, turns)? {
+        return Ok(Value::Bool(false));
+    }
+    Ok(Value::Bool(eval_truth(second.get(), context, env, turns)?))
+}
+
+/// Whether one of two expressions holds. The second is evaluated only if the first does not hold.
+#[cycle(eval)]
+fn either(
+    first: &Boxed<Expr>,
+    second: &Boxed<Expr>,
+    context: &Context<'_>,
+    env: &Env<'_>,
+    turns: &mut u32,
+) -> Result<Value, Stop>
+    ensures { Meets (mean_in context.now (form.Or first.now second.now) (env_of env.now) turns.old) result
+        turns.new }
+{
+    if eval_truth(first.get(), context, env, turns)? {
+        return Ok(Value::Bool(true));
+    }
+    Ok(Value::Bool(eval_truth(second.get(), context, env, turns)?))
+}
+
+/// A map with one more key, or with another value at a key.
+#[cycle(eval)]
+fn put_in(
+    map: &Boxed<Expr>,
+    key: &Boxed<Expr>,
+    value: &Boxed<Expr>,
+    context: &Context<'_>,
+    env: &Env<'_>,
+    turns: &mut u32,
+) -> Result<Value, Stop>
+    ensures { Meets
+        (mean_in context.now (form.Put map.now key.now value.now) (env_of env.now)
+        turns.old) result turns.new }
+{
+    let map = eval(map.get(), context, env, turns)?;
+    let key = eval(key.get(), context, env, turns)?;
+    let value = eval(value.get(), context, env, turns)?;
+    put(context.alloc, map, &key, value)
+}
+
+/// What an operator makes of two values.
+#[cycle(eval)]
+fn binary(
+    operator: Binary,
+    left: &Boxed<Expr>,
+    right: &Boxed<Expr>,
+    context: &Context<'_>,
+    env: &Env<'_>,
+    turns: &mut u32,
+) -> Result<Value, Stop>
+    ensures { Meets
+        (mean_in context.now (form.Binary operator left.now right.now) (env_of env.now)
+        turns.old) result turns.new }
+{
+    let left = eval(left.get(), context, env, turns)?;
+    let right = eval(right.get(), context, env, turns)?;
+    binary_of_owned(context.alloc, operator, left, right)
 }
 
 /// The value of an expression, as a bool.
@@ -232,6 +307,37 @@ fn visit_each(
     Ok(built)
 }
 
+/// What a fold builds of the items of a list.
+#[cycle(eval)]
+fn fold(
+    name: &Text,
+    list: &Boxed<Expr>,
+    acc: &Text,
+    first: &Boxed<Expr>,
+    body: &Boxed<Expr>,
+    context: &Context<'_>,
+    env: &Env<'_>,
+    turns: &mut u32,
+) -> Result<Value, Stop>
+    ensures { Meets
+        (mean_in context.now (form.Fold name.now list.now acc.now first.now body.now) (env_of env.now)
+        turns.old) result turns.new }
+{
+    let value = eval(list.get(), context, env, turns)?;
+    let items = items_of(value)?;
+    let first = eval(first.get(), context, env, turns)?;
+    fold_over(
+        body.get(),
+        context,
+        name.as_bytes(),
+        acc.as_bytes(),
+        env,
+        turns,
+        items.as_slice(),
+        first,
+    )
+}
+
 /// What is built of each item in turn.
 #[cycle(eval)]
 fn fold_over(
@@ -291,6 +397,16 @@ fn apply(
         }
         _ => apply(&inner, name, arguments, turns),
     }
+}
+
+/// The map with no keys.
+fn empty_map(alloc: Global) -> Result<Value, Stop>
+    ensures { Answers (Gives (map_of [] [])) result }
+{
+    Ok(Value::Map(
+        Boxed::new(alloc, Items::new(alloc))?,
+        Boxed::new(alloc, Items::new(alloc))?,
+    ))
 }
 
 /// A call of the operation of the name, as a value.

@@ -1,4 +1,4 @@
-use Rattle.std.proofs.Common.{◌≡◌, ◌<◌, ◌≤◌, map, reverse, sym, arith}
+use Rattle.std.proofs.Common.{◌≡◌, ◌<◌, ◌≤◌, map, reverse, refl, sym, arith}
 use Rattle.std.proofs.lemmas.Result.{err_from_is_err_and}
 use Rattle.pst_eval.specs.Env.{env_of, mean_in, parts_in, functions_in}
 use Rattle.pst_eval.specs.Meaning.{visit}
@@ -45,10 +45,10 @@ comprehension-returns-in_err-built t c =
     let p = err_from_is_err_and c.from_residual.result c.from_residual.ensures.1 in
     rw (p.1, p.2) (stops_on _ _ _ (rw c.new.ensures at c.in_err-built.ensures))
 
-pub eval-returns-in_ok-first-in-Fold : goal.eval-returns-in_ok-first-in-Fold
-eval-returns-in_ok-first-in-Fold t c =
-    let e = fold_in c.args.context.now.items.now (functions_in c.args.context.now) c.in-Fold.name c.in-Fold.list c.in-Fold.acc c.in-Fold.first c.in-Fold.body c.args.expr.now (env_of c.args.env.now) c.in_ok-items-in-Fold.items c.in_ok-value-in-Fold.value c.in_ok-first-in-Fold.first c.args.turns.now c.eval-in-Fold.new.turns c.eval-in-Fold-2.new.turns c.in-Fold.is (rw c.get-in-Fold.ensures at c.in_ok-value-in-Fold.ensures) c.in_ok-items-in-Fold.ensures (rw c.get-in-Fold-2.ensures at c.in_ok-first-in-Fold.ensures) in
-    rw e (rw (c.get-in-Fold-3.ensures, c.as_bytes-in-Fold.ensures, c.as_bytes-in-Fold-2.ensures, c.as_slice-in-Fold.ensures) at c.fold_over.ensures)
+pub fold-returns-in_ok-first : goal.fold-returns-in_ok-first
+fold-returns-in_ok-first t c =
+    let e = fold_in c.args.context.now.items.now (functions_in c.args.context.now) c.args.name.now c.args.list.now c.args.acc.now c.args.first.now c.args.body.now _ (env_of c.args.env.now) c.in_ok-items.items c.in_ok-value.value c.in_ok-first.first c.args.turns.now c.eval.new.turns c.eval-2.new.turns refl (rw c.get.ensures at c.in_ok-value.ensures) c.in_ok-items.ensures (rw c.get-2.ensures at c.in_ok-first.ensures) in
+    rw e (rw (c.get-3.ensures, c.as_bytes.ensures, c.as_bytes-2.ensures, c.as_slice.ensures) at c.fold_over.ensures)
 
 pub visit-returns-then-branch : goal.visit-returns-then-branch
 visit-returns-then-branch t c =
