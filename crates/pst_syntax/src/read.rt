@@ -7,7 +7,7 @@ ghost use Rattle.pst_syntax.specs.declared.fault.FaultKind.TheVariants.{OverLimi
 ghost use Rattle.pst_syntax.specs.Limits.{ty_room};
 ghost use Rattle.pst_syntax.specs.Reading as spec;
 ghost use Rattle.pst_syntax.specs.Reading.{Gives};
-ghost use Rattle.pst_syntax.specs.Shape.{Fold, For, If, Let, ListOf, Put};
+ghost use Rattle.pst_syntax.specs.Shape.{Fold, For, If, Let, ListOf, Put, Tuple};
 ghost use Rattle.pst_syntax.specs.Shown.{shown, shown_ty, shown_clause};
 
 use crate::fault::FaultKind;
@@ -181,12 +181,7 @@ fn expr_parts(
             let a = boxed(alloc, has_maps, a, room)?;
             Ok(Expr::Binary(*operator, a, boxed(alloc, has_maps, b, room)?))
         }
-        Shape::Tuple(items) => {
-            if items.len() > MAX_PARTS {
-                return Err(FaultKind::OverLimit);
-            }
-            Ok(Expr::Tuple(exprs(alloc, has_maps, items, room)?))
-        }
+        Shape::Tuple(items) => tuple(alloc, has_maps, items, room),
         Shape::At(tuple, place) => {
             item_at(boxed(alloc, has_maps, tuple, room)?, place).ok_or(FaultKind::OverLimit)
         }
@@ -210,6 +205,19 @@ fn boxed(alloc: Global, has_maps: bool, form: &Form, room: usize) -> Result<Boxe
     ensures { Gives result (spec.expr_of has_maps room form.now) }
 {
     Ok(Boxed::new(alloc, expr(alloc, has_maps, form, room)?)?)
+}
+
+/// A tuple of few items.
+#[cycle(expr)]
+fn tuple(alloc: Global, has_maps: bool, items: &[Form], room: usize) -> Result<Expr, FaultKind>
+    ensures { Gives result
+        (spec.expr_parts has_maps (spec.ty_of has_maps ty_room) (spec.expr_of has_maps room)
+        (Tuple items.now)) }
+{
+    if items.len() > MAX_PARTS {
+        return Err(FaultKind::OverLimit);
+    }
+    Ok(Expr::Tuple(exprs(alloc, has_maps, items, room)?))
 }
 
 /// A list of items of a type.

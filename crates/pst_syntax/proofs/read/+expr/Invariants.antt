@@ -38,6 +38,9 @@ decreases-comprehension l = 5 * l.room + 3
 abbrev pub decreases-fold : goal.decreases-fold
 decreases-fold l = 5 * l.room + 3
 
+abbrev pub decreases-tuple : goal.decreases-tuple
+decreases-tuple l = 5 * l.room + 3
+
 abbrev pub decreases-list : goal.decreases-list
 decreases-list l = 5 * l.room + 3
 
