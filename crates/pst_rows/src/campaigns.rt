@@ -22,6 +22,18 @@ pub struct Pool {
     pub pair: Vec<BoxedSystem>,
 }
 
+impl Pool {
+    /// A pool without systems.
+    pub fn new(alloc: Global) -> Pool {
+        Pool {
+            counters: Vec::new(alloc),
+            registries: Vec::new(alloc),
+            stuck: Vec::new(alloc),
+            pair: Vec::new(alloc),
+        }
+    }
+}
+
 /// Takes `count` systems, or all that are left.
 fn taken(
     alloc: Global,

@@ -38,12 +38,18 @@ use std::thread::Builder;
 /// How many counters there are for all campaigns, how many registries, and how many systems `stuck`.
 const SYSTEMS: u32 = 64;
 
-/// A system in a box.
-macro_rules! boxed {
-    ($alloc:expr, $system:expr) => {
-        match Box::new($alloc, $system) {
+/// Puts a system into a box, and the box behind `$systems`; without memory the worker ends.
+macro_rules! add_boxed {
+    ($systems:expr, $alloc:expr, $system:expr) => {
+        let boxed: Result<BoxedSystem, AllocError> = match Box::new($alloc, $system) {
             Ok(system) => Ok(system),
             Err(_) => Err(AllocError),
+        };
+        match boxed {
+            Ok(system) => if $systems.push(system).is_err() {
+                return false;
+            },
+            Err(_) => return false,
         }
     };
 }
@@ -57,28 +63,11 @@ fn main(rt: HostRuntime) -> ExitCode {
         .spawn(&rt, move || -> bool {
             let alloc = rt.alloc();
             // Boxes of systems are made here, since a contract says nothing of what a function boxes and hands out.
-            let mut pool = Pool {
-                counters: Vec::new(alloc),
-                registries: Vec::new(alloc),
-                stuck: Vec::new(alloc),
-                pair: Vec::new(alloc),
-            };
+            let mut pool = Pool::new(alloc);
             for _ in 0..SYSTEMS {
-                let counter: Result<BoxedSystem, AllocError> = boxed!(alloc, Counter::new(rt));
-                let registry: Result<BoxedSystem, AllocError> = boxed!(
-                    alloc,
-                    Registry::new(rt, alloc)
-                );
-                let stuck: Result<BoxedSystem, AllocError> = boxed!(alloc, Stuck);
-                let (Ok(counter), Ok(registry), Ok(stuck)) = (counter, registry, stuck) else {
-                    return false;
-                };
-                if pool.counters.push(counter).is_err()
-                    || pool.registries.push(registry).is_err()
-                    || pool.stuck.push(stuck).is_err()
-                {
-                    return false;
-                }
+                add_boxed!(pool.counters, alloc, Counter::new(rt));
+                add_boxed!(pool.registries, alloc, Registry::new(rt, alloc));
+                add_boxed!(pool.stuck, alloc, Stuck);
             }
             let Ok(flags) = Arc::new(alloc, Flags::new()) else {
                 return false;
@@ -86,20 +75,8 @@ fn main(rt: HostRuntime) -> ExitCode {
             let Ok(same) = flags.clone() else {
                 return false;
             };
-            let first: Result<BoxedSystem, AllocError> = boxed!(
-                alloc,
-                Pair::new(Side::First, flags)
-            );
-            let second: Result<BoxedSystem, AllocError> = boxed!(
-                alloc,
-                Pair::new(Side::Second, same)
-            );
-            let (Ok(first), Ok(second)) = (first, second) else {
-                return false;
-            };
-            if pool.pair.push(first).is_err() || pool.pair.push(second).is_err() {
-                return false;
-            }
+            add_boxed!(pool.pair, alloc, Pair::new(Side::First, flags));
+            add_boxed!(pool.pair, alloc, Pair::new(Side::Second, same));
             ask_all(&rt, &mut pool).is_ok()
         });
     match worker {
