@@ -58,7 +58,7 @@ fn watched<
 
 /// Runs a campaign and writes its report once it is complete. Then it writes explanations of the least failure and of
 /// the first trial without a case to standard error.
-fn explained<
+fn run_and_explain<
     W: Sink,
     K: Ending + Sync,
     R: Threads + Wait + Sync + Eprint + Files + Copy + Drop + Send + 'static,
@@ -232,7 +232,7 @@ fn told<
     if is_quiet {
         return quietly(rt, alloc, settings, systems, watch, page, input, notes, out);
     }
-    explained(
+    run_and_explain(
         rt,
         alloc,
         settings,

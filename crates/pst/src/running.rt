@@ -119,12 +119,7 @@ fn answer<W: Sink, R: Runtime + Threads + Wait + Sync + AllocGlobal + Copy + Dro
 
 /// Writes messages on refusals, and warnings on a model that `check` accepts, to standard error, unless the arguments
 /// forbid it.
-fn say<R: Eprint + AllocGlobal>(
-    rt: &R,
-    work: Work<'_, '_>,
-    input: Input<'_>,
-    status: Status,
-) {
+fn say<R: Eprint + AllocGlobal>(rt: &R, work: Work<'_, '_>, input: Input<'_>, status: Status) {
     let Some((word, words)) = work.matches.subcommand() else {
         return;
     };

@@ -15,7 +15,7 @@ use Rattle.pst_cli.specs.declared.output.Output.{Output}
 use Rattle.pst_cli.specs.declared.status.Status.{Status}
 use Rattle.pst_cli.specs.declared.status.Status.TheVariants.{Accepted, Failed, Refused, Lost}
 use Rattle.pst_eval.specs.Places.{callback_name}
-use Rattle.pst_eval.specs.declared.place.Place.{Place}
+use Rattle.pst_eval.specs.declared.place.FaultPlace.{FaultPlace}
 use Rattle.pst_json_verdicts.specs.Objects.{object_line}
 use Rattle.pst_json_verdicts.specs.Verdicts.{place_fields}
 use Rattle.pst_json_verdicts.specs.declared.field.Field.{Field}
@@ -35,17 +35,17 @@ abbrev pub case_alone : Source → Case → Run
 case_alone m c = record { shaped = record { model = m; case = c }; history = None }
 
 -- `genfault NUMBER COMMAND CALLBACK KIND`
-abbrev pub genfault_line : ℕ → Place → List ℕ
+abbrev pub genfault_line : ℕ → FaultPlace → List ℕ
 genfault_line number place =
     codes "genfault " ++ (decimal number ++ (codes " " ++ (decimal place.command ++ (codes " "
     ++ (callback_name place.callback ++ (codes " " ++ (fault_name place.fault ++ line_end)))))))
 
 -- the members of its object
-abbrev pub genfault_fields : ℕ → Place → List Field
+abbrev pub genfault_fields : ℕ → FaultPlace → List Field
 genfault_fields number place = Number name.GenFault number ∷ place_fields place
 
 -- the fault of the trial of a number, on its line
-abbrev pub fault_line : ItemForm → ℕ → Place → List ℕ
+abbrev pub fault_line : ItemForm → ℕ → FaultPlace → List ℕ
 fault_line form.Trees number place = genfault_line number place
 fault_line form.Json number place = object_line (genfault_fields number place)
 
@@ -63,7 +63,7 @@ memory_in form.Json = memory_object
 pub data IsCaseLine (f : ItemForm) (p : PlanView) (number : ℕ) (text : List ℕ) (status : Status) : Type 0 where
   generated : (c : Case) → IsTrialCase p number (Ok c) → text ≡ line_in f p.model (case_alone p.model c)
       → status ≡ Accepted → IsCaseLine f p number text status
-  faulted : (place : Place) → IsTrialCase p number (Err place) → text ≡ fault_line f number place
+  faulted : (place : FaultPlace) → IsTrialCase p number (Err place) → text ≡ fault_line f number place
       → status ≡ Failed → IsCaseLine f p number text status
 
 -- the lines of numbers that follow one another, the first of which is `number`, and the worst of a status and theirs

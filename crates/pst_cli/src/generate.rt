@@ -21,7 +21,7 @@ use crate::refusal::refusal_output;
 use crate::status::Status;
 use crate::stream::Cut;
 use pst_case::Run;
-use pst_eval::Place;
+use pst_eval::FaultPlace;
 use pst_json_verdicts::{Field, Name, add_number, add_words, object_line};
 use pst_sexpr::{Sink, WriteFailed, put_all};
 use pst_trial::{Plan, Settings, may_share_records, trial_case};
@@ -34,7 +34,7 @@ use std::thread::Threads;
 const BLOCK: u64 = 128;
 
 /// `genfault NUMBER COMMAND CALLBACK KIND`.
-fn genfault_line(alloc: Global, number: u64, place: &Place) -> Result<String, AllocError>
+fn genfault_line(alloc: Global, number: u64, place: &FaultPlace) -> Result<String, AllocError>
     ensures { IfOk result (λ line. string_bytes line ≡ genfault_line number place.now) }
 {
     let mut line = format!(in alloc; "genfault {number} ")?;
@@ -47,7 +47,7 @@ fn genfault_line(alloc: Global, number: u64, place: &Place) -> Result<String, Al
 }
 
 /// The members of the object of a fault: the number of the trial, the command, the callback and the kind.
-fn genfault_fields(alloc: Global, number: u64, place: &Place) -> Result<Vec<Field>, AllocError>
+fn genfault_fields(alloc: Global, number: u64, place: &FaultPlace) -> Result<Vec<Field>, AllocError>
     ensures { IfOk result (λ fields. fields.items ≡ genfault_fields number place.now) }
 {
     let mut fields = Vec::new(alloc);
@@ -63,7 +63,7 @@ fn fault_line(
     alloc: Global,
     form: ItemForm,
     number: u64,
-    place: &Place,
+    place: &FaultPlace,
 ) -> Result<Vec<u8>, AllocError>
     ensures { IfOk result (λ line. line.items ≡ fault_line form number place.now) }
 {

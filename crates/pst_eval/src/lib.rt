@@ -14,7 +14,7 @@ pub use callbacks::Callbacks;
 pub use context::Context;
 pub use env::Env;
 pub use evaluation::eval;
-pub use place::{Callback, Place};
+pub use place::{Callback, FaultPlace};
 pub use plain::Plain;
 pub use symbolic::{
     command_is_real, init_is_real, next_is_real, pre_is_real, symbolic_equals_real,

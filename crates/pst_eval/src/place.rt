@@ -36,7 +36,7 @@ impl Callback {
 
 /// The place of a callback's fault.
 #[derive(Clone, Copy, Debug, PartialEq, Eq, Drop)]
-pub struct Place {
+pub struct FaultPlace {
     /// The number of the command, from 1, or 0 for the initial state.
     pub command: u32,
     /// The callback that faults.

@@ -9,7 +9,7 @@ use crate::allowing::{WrongIn, allowed_of, wrong_without};
 use pst_case::History;
 use pst_eval::Callbacks;
 use pst_reasons::{AllowedValues, core};
-use pst_scene::{Call, Part, Scene, call_numbered, operation, wants_one_reply};
+use pst_scene::{Call, CasePart, Scene, call_numbered, operation, wants_one_reply};
 use std::alloc::{AllocError, Global};
 
 /// An answer of a core.
@@ -58,7 +58,7 @@ impl<'a> Core<'a> {
     /// Whether there are answers and all are in the prefix, so that no race is needed.
     pub fn is_in_prefix(&self) -> bool {
         for answer in &self.answers {
-            if answer.call.part != Part::Prefix {
+            if answer.call.part != CasePart::Prefix {
                 return false;
             }
         }

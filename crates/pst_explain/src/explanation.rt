@@ -11,10 +11,10 @@ use crate::failures::{Failure, failure_at, failure_in};
 use crate::places::TreePlace;
 use crate::walks::{Walk, explaining_walk, furthest_walk};
 use pst_case::{History, Run};
-use pst_eval::{Callback, Callbacks, Place};
+use pst_eval::{Callback, Callbacks, FaultPlace};
 use pst_judge::{Judged, Verdict, Why, verdict_with_interleaving};
 use pst_model::Typed;
-use pst_scene::{Part, Scene, call_numbered, scene_of};
+use pst_scene::{CasePart, Scene, call_numbered, scene_of};
 use std::alloc::{AllocError, Global};
 
 /// The reason of the judgement of an item.
@@ -90,7 +90,7 @@ fn faulted<'a, C: Callbacks>(
     alloc: Global,
     scene: &Scene<'a>,
     history: &History,
-    place: Place,
+    place: FaultPlace,
 ) -> Result<Reason<'a>, AllocError>
     requires model { scene.now.model.now ≡ C.model callbacks.now }
     requires shaped { scene.now.run.now.shaped.model ≡ C.model callbacks.now }
@@ -100,7 +100,7 @@ fn faulted<'a, C: Callbacks>(
 {
     let (_, mut word) = verdict_with_interleaving(callbacks, alloc, &scene.run.shaped, history)?;
     if let Some(call) = call_numbered(scene.all.as_slice(), place.command) {
-        if let Part::Branch(branch) = call.part {
+        if let CasePart::Branch(branch) = call.part {
             word.push(branch)?;
         }
     }

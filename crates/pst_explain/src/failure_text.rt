@@ -5,7 +5,7 @@ use crate::walk_text::add_states;
 use pst_eval::Callback;
 use pst_model::Source;
 use pst_scene::{
-    Call, Page, Part, Scene, Table, add, add_word, expression_text, joined, text_of, two,
+    Call, CasePart, Page, Scene, Table, add, add_word, expression_text, joined, text_of, two,
     value_text,
 };
 use pst_value::Fault;
@@ -102,7 +102,7 @@ fn call_sentence(
     add_call(&mut text, alloc, scene.model, call)?;
     add(&mut text, " faults with ")?;
     add(&mut text, fault.name())?;
-    if call.part != Part::Prefix {
+    if call.part != CasePart::Prefix {
         add(
             &mut text,
             if is_whole(scene, word) {

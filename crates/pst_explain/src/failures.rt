@@ -2,7 +2,7 @@
 
 use crate::walks::{Walk, empty_walk, stopped_after, walk_along};
 use pst_case::Reply;
-use pst_eval::{Callback, Env, Place};
+use pst_eval::{Callback, Env, FaultPlace};
 use pst_model::{Expr, calls_of, opening_of};
 use pst_scene::{
     Binding, Call, FaultyPart, Scene, arguments, bindings_of, call_numbered, calls_before,
@@ -197,7 +197,7 @@ pub fn failure_in<'a>(
     alloc: Global,
     scene: &Scene<'a>,
     word: &[usize],
-    place: Place,
+    place: FaultPlace,
 ) -> Result<Failure<'a>, AllocError> {
     let fault = Some(place.fault);
     if let Some(call) = call_numbered(scene.all.as_slice(), place.command) {

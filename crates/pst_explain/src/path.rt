@@ -6,7 +6,7 @@ ghost use Rattle.pst_judge.specs.Judgement.{HistoryMatches};
 use pst_case::History;
 use pst_eval::Callbacks;
 use pst_judge::{Judged, Verdict, Why, verdict_with_interleaving};
-use pst_scene::{Call, Part, Scene, call_numbered, calls_before, first_calls, in_order};
+use pst_scene::{Call, CasePart, Scene, call_numbered, calls_before, first_calls, in_order};
 use std::alloc::{AllocError, Global};
 
 /// The commands before command `number` in an interleaving that begins with `word`.
@@ -31,7 +31,7 @@ fn before_fault<'a>(
 ) -> Result<Vec<Call<'a>>, AllocError> {
     let mut whole = Vec::from_slice(alloc, word)?;
     if let Some(call) = call_numbered(scene.all.as_slice(), number) {
-        if let Part::Branch(branch) = call.part {
+        if let CasePart::Branch(branch) = call.part {
             whole.push(branch)?;
         }
     }

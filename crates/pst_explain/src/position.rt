@@ -1,6 +1,6 @@
 //! Positions of a search, and the commands that may come next there.
 
-use pst_scene::{Call, Part, Scene};
+use pst_scene::{Call, CasePart, Scene};
 use pst_value::Value;
 use std::alloc::{AllocError, Global};
 
@@ -14,11 +14,11 @@ pub struct Position {
 }
 
 /// The index of a part in the counts of a position.
-fn part_number(scene: &Scene<'_>, part: Part) -> usize {
+fn part_number(scene: &Scene<'_>, part: CasePart) -> usize {
     match part {
-        Part::Prefix => 0,
-        Part::Branch(branch) => branch.saturating_add(1),
-        Part::Suffix => scene.calls.branches.len().saturating_add(1),
+        CasePart::Prefix => 0,
+        CasePart::Branch(branch) => branch.saturating_add(1),
+        CasePart::Suffix => scene.calls.branches.len().saturating_add(1),
     }
 }
 
@@ -66,7 +66,7 @@ impl Position {
         &self,
         alloc: Global,
         scene: &Scene<'_>,
-        part: Part,
+        part: CasePart,
         state: Value,
     ) -> Result<Position, AllocError> {
         let wanted = part_number(scene, part);
@@ -79,7 +79,12 @@ impl Position {
     }
 
     /// The next command of a part.
-    fn next_of<'a>(&self, scene: &Scene<'_>, part: Part, calls: &[Call<'a>]) -> Option<Call<'a>> {
+    fn next_of<'a>(
+        &self,
+        scene: &Scene<'_>,
+        part: CasePart,
+        calls: &[Call<'a>],
+    ) -> Option<Call<'a>> {
         let count = self.counts.get(part_number(scene, part))?;
         calls.get(*count).copied()
     }
@@ -92,7 +97,7 @@ impl Position {
     ) -> Result<Vec<Call<'a>>, AllocError> {
         let mut next = Vec::new(alloc);
         for (number, branch) in scene.calls.branches.iter().enumerate() {
-            if let Some(call) = self.next_of(scene, Part::Branch(number), branch.as_slice()) {
+            if let Some(call) = self.next_of(scene, CasePart::Branch(number), branch.as_slice()) {
                 next.push(call)?;
             }
         }
@@ -106,7 +111,7 @@ impl Position {
         scene: &Scene<'a>,
     ) -> Result<Vec<Call<'a>>, AllocError> {
         let mut one = Vec::new(alloc);
-        if let Some(call) = self.next_of(scene, Part::Prefix, scene.calls.prefix.as_slice()) {
+        if let Some(call) = self.next_of(scene, CasePart::Prefix, scene.calls.prefix.as_slice()) {
             one.push(call)?;
             return Ok(one);
         }
@@ -114,7 +119,7 @@ impl Position {
         if !next.is_empty() {
             return Ok(next);
         }
-        if let Some(call) = self.next_of(scene, Part::Suffix, scene.calls.suffix.as_slice()) {
+        if let Some(call) = self.next_of(scene, CasePart::Suffix, scene.calls.suffix.as_slice()) {
             one.push(call)?;
         }
         Ok(one)

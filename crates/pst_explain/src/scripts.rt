@@ -3,7 +3,7 @@
 use crate::failure_text::add_failure;
 use crate::failures::{failure_in, script_failure};
 use pst_case::{Case, CaseFaultKind, Command, Run, shape};
-use pst_eval::{Callback, Place};
+use pst_eval::{Callback, FaultPlace};
 use pst_model::Typed;
 use pst_scene::{Page, scene_of};
 use pst_value::Items;
@@ -43,7 +43,7 @@ pub fn explain_script(
     alloc: Global,
     typed: &Typed,
     commands: Items<Command>,
-    place: Place,
+    place: FaultPlace,
     width: usize,
 ) -> Result<Option<Vec<u8>>, AllocError> {
     let Some(run) = run_of(alloc, typed, commands)? else {

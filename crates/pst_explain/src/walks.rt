@@ -9,8 +9,8 @@ use pst_eval::Callbacks;
 use pst_judge::{Postconditions, verdict_with_interleaving};
 use pst_reasons::states;
 use pst_scene::{
-    Call, DeadEnd, Outcome, Part, PreAnswer, Scene, falsity_of, in_order, next_calls, outcome_of,
-    precondition,
+    Call, CasePart, DeadEnd, Outcome, PreAnswer, Scene, falsity_of, in_order, next_calls,
+    outcome_of, precondition,
 };
 use pst_value::Value;
 use std::alloc::{AllocError, Global};
@@ -97,7 +97,7 @@ pub fn walk_along<'a>(
 fn word_of(alloc: Global, calls: &[Call<'_>]) -> Result<Vec<usize>, AllocError> {
     let mut word = Vec::new(alloc);
     for call in calls {
-        if let Part::Branch(branch) = call.part {
+        if let CasePart::Branch(branch) = call.part {
             word.push(branch)?;
         }
     }

@@ -6,7 +6,7 @@ use Rattle.pst_case.specs.declared.case.Command.{Command}
 use Rattle.pst_gen.specs.Accepted.{IsAccepted}
 use Rattle.pst_gen.specs.Script.{IsScript}
 use Rattle.pst_gen.specs.Split.{split_case, most, before_suffix_of, suffix_of}
-use Rattle.pst_eval.specs.declared.place.Place.{Place}
+use Rattle.pst_eval.specs.declared.place.FaultPlace.{FaultPlace}
 use Rattle.pst_model.specs.declared.model.Source.{Source}
 
 -- more commands in parallel, but not too many, give no accepted case
@@ -35,11 +35,11 @@ pub record IsCase (m : Source) (commands branches suffix : ℕ) (words : List �
 
 -- What is generated over just these words: the case, or the fault of its script, after which no word is used.
 abbrev pub IsGenerated : Source → (commands branches suffix : ℕ) → (words : List ℕ)
-    → Result Case Place → Type 0
+    → Result Case FaultPlace → Type 0
 IsGenerated m commands branches suffix words (Ok c) = IsCase m commands branches suffix words c
 IsGenerated m commands branches suffix words (Err f) = IsScript m commands words (Err f)
 
 -- the generated case, without its model
-abbrev pub case_in : Result OfModel Place → Result Case Place
+abbrev pub case_in : Result OfModel FaultPlace → Result Case FaultPlace
 case_in (Ok v) = Ok v.case
 case_in (Err f) = Err f

@@ -10,7 +10,7 @@ use crate::accepted::if_accepted;
 use crate::script::script;
 use crate::split::split_case;
 use pst_case::Command;
-use pst_eval::{Callbacks, Place};
+use pst_eval::{Callbacks, FaultPlace};
 use pst_judge::Valid;
 use pst_model::Typed;
 use rand_core::Rng;
@@ -85,7 +85,7 @@ pub fn generate<C: Callbacks, R: Rng>(
     commands: u32,
     branches: u32,
     suffix: u32,
-) -> Result<Result<Valid, Place>, AllocError>
+) -> Result<Result<Valid, FaultPlace>, AllocError>
     requires model { C.model callbacks.now ≡ typed.now }
     requires some_commands { 1 ≤ commands }
     requires commands { commands ≤ 64 }

@@ -3,8 +3,8 @@ use Rattle.std.proofs.Common.{◌≡◌, ℕ, zero, suc, inl, inr, List, [], len
 use Rattle.std.proofs.lemmas.List.{length-replicate}
 use Rattle.std.specs.declared.vec.Vec.{Vec}
 use Rattle.std.specs.declared.alloc.Global.{Global}
-use Rattle.pst_grid.specs.declared.answer.Why.TheVariants.{False, Fault}
-use Rattle.pst_grid.specs.declared.answer.Turn.{Turn}
+use Rattle.pst_grid.specs.declared.answer.StopReason.TheVariants.{False, Fault}
+use Rattle.pst_grid.specs.declared.answer.StepOutcome.{StepOutcome}
 use Rattle.pst_grid.specs.declared.answer.SomeAnswer.{SomeAnswer}
 use Rattle.pst_grid.specs.declared.answer.SomeAnswer.TheVariants.{Found, Faulted, Nothing}
 use Rattle.pst_grid.specs.Answers.{IsEveryAnswer, FailsToBeTrue, IsAnswer, ending, Ends, Faults}
@@ -20,7 +20,7 @@ use Rattle.pst_grid.specs.declared.position.Position.{Position}
 use Rattle.pst_grid.specs.declared.search.Best.{Best}
 use Rattle.pst_grid.specs.declared.search.FalseMerge.{FalseMerge}
 use Rattle.pst_grid.specs.declared.search.FaultedMerge.{FaultedMerge}
-use Rattle.pst_grid.specs.declared.search.Search.{Search}
+use Rattle.pst_grid.specs.declared.search.SearchProgress.{SearchProgress}
 use Rattle.pst_grid.specs.declared.answer.EveryAnswer.{EveryAnswer}
 use Rattle.pst_grid.specs.declared.answer.EveryAnswer.TheVariants.{All, Not}
 use Rattle.pst_grid.proofs.Filling.{Completes-fill}
@@ -39,7 +39,7 @@ merge lengths word h = λ b. omega (arith, zeros (length lengths) b, h b)
 pub completes : (lengths word : List ℕ) → Completes lengths (none_done lengths) word → IsMerge lengths word
 completes lengths word h = λ b. omega (arith, zeros (length lengths) b, h b)
 
-module _ {S F : Type 0} (turn : S → ℕ → ℕ → Turn S F) (rest : S → Ending F) (lengths : List ℕ) (state : S) where
+module _ {S F : Type 0} (turn : S → ℕ → ℕ → StepOutcome S F) (rest : S → Ending F) (lengths : List ℕ) (state : S) where
   pub found : (word : List ℕ) → IsLeastTrue turn rest state (none_done lengths) [] (Completes lengths (none_done lengths)) word
       → Ends turn rest lengths state AllTrue word × ((v : List ℕ) → Ends turn rest lengths state AllTrue v → IsUpTo word v)
   found word l = subst (λ w. Ends turn rest lengths state AllTrue w × ((v : List ℕ) → Ends turn rest lengths state AllTrue v → IsUpTo w v)) (sym l.word_is)
@@ -97,7 +97,7 @@ module _ {S F : Type 0} (turn : S → ℕ → ℕ → Turn S F) (rest : S → En
               (((completes lengths l.letters l.member, (f.at, f.fault, r)), λ v k. l.least v (merge lengths v k.0) k.1), r),
         )
 
-module _ {S F : Type 0} (turn : S → ℕ → ℕ → Turn S F) (rest : S → Ending F) (lengths : List ℕ) (state : S) where
+module _ {S F : Type 0} (turn : S → ℕ → ℕ → StepOutcome S F) (rest : S → Ending F) (lengths : List ℕ) (state : S) where
   -- a whole search from its start, of what it has covered
   module _ (done word : List ℕ) (old best : Best F) (d : done ≡ none_done lengths) (w : word ≡ []) (none : old.fault ≡ None) (nowhere : old.furthest ≡ None) where
     at_start : Covered turn rest done state word (Completes lengths done) old best → Covered turn rest (none_done lengths) state [] (Completes lengths (none_done lengths)) old best
@@ -142,8 +142,8 @@ module _ {S F : Type 0} (turn : S → ℕ → ℕ → Turn S F) (rest : S → En
         by l None q e = nothing_of l q best.furthest refl e
         by l (Some f) q e = subst (λ a. IsAnswer turn rest lengths state a) (sym e) (faulted turn rest lengths state old best none nowhere l f q)
 
-module _ {S F : Type 0} (turn : S → ℕ → ℕ → Turn S F) (rest : S → Ending F) (lengths : List ℕ) (state : S) where
-  pub ended-every : (old new : Search F) (keys : List (Position S)) (found_it : Option (FailedMerge F)) (answer : EveryAnswer F) → old.done.items ≡ none_done lengths → old.word.items ≡ []
+module _ {S F : Type 0} (turn : S → ℕ → ℕ → StepOutcome S F) (rest : S → Ending F) (lengths : List ℕ) (state : S) where
+  pub ended-every : (old new : SearchProgress F) (keys : List (Position S)) (found_it : Option (FailedMerge F)) (answer : EveryAnswer F) → old.done.items ≡ none_done lengths → old.word.items ≡ []
       → IsChecked turn rest lengths (sum old.done.items) state (Completes lengths old.done.items) old new keys found_it → MatchOption found_it (answer ≡ All) (λ x. answer ≡ Not x.word x.at x.why) → IsEveryAnswer turn rest lengths state answer
   ended-every old new keys None answer d w h e =
       let k = subst (λ x. AreTrue turn rest x state (Completes lengths x)) d h.are_true in

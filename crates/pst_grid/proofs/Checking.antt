@@ -2,8 +2,8 @@
 use Rattle.std.proofs.Common.{◌≡◌, ℕ, suc, ◌+◌, ◌<◌, ◌≤◌, ◌⊎◌, inl, inr, List, [], ◌∷◌, ◌++◌, length, get_or, sum, refl, sym, ap, subst, ◌∙◌, arith, append_assoc, length-append}
 use Rattle.std.proofs.lemmas.Bool.{cases_lt}
 use Rattle.pst_grid.specs.declared.answer.Ending.{Ending}
-use Rattle.pst_grid.specs.declared.answer.Turn.{Turn}
-use Rattle.pst_grid.specs.declared.answer.Turn.TheVariants.{Next, Stop}
+use Rattle.pst_grid.specs.declared.answer.StepOutcome.{StepOutcome}
+use Rattle.pst_grid.specs.declared.answer.StepOutcome.TheVariants.{Next, Stop}
 use Rattle.pst_grid.specs.Checked.{AreTrue, IsLeastFailed, AreAllTrue}
 use Rattle.pst_grid.specs.Completions.{Completes, fill_from, IsAt, Begins}
 use Rattle.pst_grid.specs.Merges.{run, IsUpTo, later, one_more}
@@ -17,7 +17,7 @@ use Rattle.pst_grid.proofs.Searching.{IsAt-branch, IsAt-more}
 use Rattle.pst_grid.specs.Remembered.{IsRemembered}
 use Rattle.pst_grid.proofs.Remembering.{Each-remembered}
 
-module _ {S F : Type 0} (turn : S → ℕ → ℕ → Turn S F) (rest : S → Ending F) (lengths : List ℕ) (state : S) where
+module _ {S F : Type 0} (turn : S → ℕ → ℕ → StepOutcome S F) (rest : S → Ending F) (lengths : List ℕ) (state : S) where
   pub true-full : (done : List ℕ) (b : ℕ) → get_or lengths b 0 ≤ get_or done b 0 → AreTrue turn rest done state (Begins lengths done b)
   true-full done b full [] k = absurd k.0
   true-full done b full (a ∷ w) k = let p = Completes-head lengths done a w k.1 in let e : a ≡ b = k.0 in

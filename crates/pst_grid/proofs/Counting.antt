@@ -7,8 +7,8 @@ use Rattle.pst_grid.specs.Bounds.{Each, HasNoRepeats, Leads, IsReached, IsBounde
 use Rattle.pst_grid.specs.Completions.{IsAt}
 use Rattle.pst_grid.specs.Laws.{product, NeverChanges, MakesFewSteps}
 use Rattle.pst_grid.specs.Merges.{one_more, none_done}
-use Rattle.pst_grid.specs.declared.answer.Turn.{Turn}
-use Rattle.pst_grid.specs.declared.answer.Turn.TheVariants.{Next}
+use Rattle.pst_grid.specs.declared.answer.StepOutcome.{StepOutcome}
+use Rattle.pst_grid.specs.declared.answer.StepOutcome.TheVariants.{Next}
 use Rattle.pst_grid.proofs.Answering.{IsAt-none}
 use Rattle.pst_grid.proofs.Remembering.{Each-map}
 use Rattle.pst_grid.proofs.Searching.{IsAt-more}
@@ -115,7 +115,7 @@ Member-all_places (l ∷ lengths) [] e h = absurd (omega arith)
 Member-all_places (l ∷ lengths) (d ∷ done) e h =
     Member-rows l d done (all_places lengths) (h 0) (Member-all_places lengths done (omega arith) (λ b. h (suc b)))
 
-module _ {S F : Type 0} (turn : S → ℕ → ℕ → Turn S F) (lengths : List ℕ) (start : S) (stays : NeverChanges turn start) where
+module _ {S F : Type 0} (turn : S → ℕ → ℕ → StepOutcome S F) (lengths : List ℕ) (start : S) (stays : NeverChanges turn start) where
   -- what is reached lies within the lengths, in the state of the start
   reached-within : (done : List ℕ) (s : S) (u there : List ℕ) (t : S) → IsAt lengths done → s ≡ start
       → Leads turn lengths done s u there t → IsAt lengths there × (t ≡ start)
@@ -166,5 +166,5 @@ module _ {S F : Type 0} (turn : S → ℕ → ℕ → Turn S F) (lengths : List 
       let w = h.within in
       omega arith
 
-pub few-steps : {S F : Type 0} (turn : S → ℕ → ℕ → Turn S F) → MakesFewSteps turn
+pub few-steps : {S F : Type 0} (turn : S → ℕ → ℕ → StepOutcome S F) → MakesFewSteps turn
 few-steps turn lengths most start steps stays h = few turn lengths start stays most steps h

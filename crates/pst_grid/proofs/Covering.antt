@@ -2,10 +2,10 @@
 use Rattle.std.proofs.Common.{◌≡◌, ℕ, suc, ◌+◌, ◌<◌, ◌≤◌, ◌⊎◌, inl, inr, List, [], ◌∷◌, ◌++◌, length, get_or, nat_lt, Bool, true, false, MatchBool, Option, Some, None, MatchOption, refl, sym, ap, subst, ◌∙◌, arith, append_assoc, length-append}
 use Rattle.std.proofs.lemmas.Bool.{cases_lt}
 use Rattle.std.proofs.lemmas.Bool.Decides.{nat_tests}
-use Rattle.pst_grid.specs.declared.answer.Why.{Why}
-use Rattle.pst_grid.specs.declared.answer.Why.TheVariants.{False, Fault}
-use Rattle.pst_grid.specs.declared.answer.Turn.{Turn}
-use Rattle.pst_grid.specs.declared.answer.Turn.TheVariants.{Next, Stop}
+use Rattle.pst_grid.specs.declared.answer.StopReason.{StopReason}
+use Rattle.pst_grid.specs.declared.answer.StopReason.TheVariants.{False, Fault}
+use Rattle.pst_grid.specs.declared.answer.StepOutcome.{StepOutcome}
+use Rattle.pst_grid.specs.declared.answer.StepOutcome.TheVariants.{Next, Stop}
 use Rattle.pst_grid.specs.Completions.{Completes, Begins}
 use Rattle.pst_grid.specs.Covered.{FaultsOn, IsLeastFault, IsFurther, Covered}
 use Rattle.pst_grid.specs.Furthest.{reach, KeepsFurthest}
@@ -60,16 +60,16 @@ kept_furthest at word (Some x) new h = by (nat_lt x.at at) refl h
 
 -- ---- endings
 
-pub record Earlier {F : Type 0} (e : Ending F) (n : ℕ) (why : Why F) : Type 0 where
+pub record Earlier {F : Type 0} (e : Ending F) (n : ℕ) (why : StopReason F) : Type 0 where
   pub steps : ℕ
   pub more : n ≡ suc steps
   pub ends : e ≡ StopsAt steps why
 
-pub later-StopsAt : {F : Type 0} (e : Ending F) (n : ℕ) (why : Why F) → later e ≡ StopsAt n why → Earlier e n why
+pub later-StopsAt : {F : Type 0} (e : Ending F) (n : ℕ) (why : StopReason F) → later e ≡ StopsAt n why → Earlier e n why
 later-StopsAt AllTrue n why h = cc
 later-StopsAt (StopsAt k w) n why h = record { steps = k; more = cc; ends = cc }
 
-module _ {S F : Type 0} (turn : S → ℕ → ℕ → Turn S F) (rest : S → Ending F) (done : List ℕ) (state : S) where
+module _ {S F : Type 0} (turn : S → ℕ → ℕ → StepOutcome S F) (rest : S → Ending F) (done : List ℕ) (state : S) where
   -- the words of A, and then those of B, which all come later
   pub Covered-join : (before : List ℕ) (A B W : List ℕ → Type 0) (x y z : Best F)
       → ((w : List ℕ) → W w → A w ⊎ B w) → ((w : List ℕ) → A w → W w) → ((w : List ℕ) → B w → W w)
@@ -204,11 +204,11 @@ module _ {S F : Type 0} (turn : S → ℕ → ℕ → Turn S F) (rest : S → En
     reached = inl refl;
   }
 
-module _ {S F : Type 0} (turn : S → ℕ → ℕ → Turn S F) (rest : S → Ending F) (lengths done : List ℕ) (state : S) (b : ℕ) (fits : b < length done) where
+module _ {S F : Type 0} (turn : S → ℕ → ℕ → StepOutcome S F) (rest : S → Ending F) (lengths done : List ℕ) (state : S) (b : ℕ) (fits : b < length done) where
   pub run-Next : (next : S) → turn state b (get_or done b 0) ≡ Next next → (w : List ℕ) → run turn rest done state (b ∷ w) ≡ later (run turn rest (one_more done b) next w)
   run-Next next e w = ap (λ t. after t (λ s. run turn rest (one_more done b) s w)) e
 
-  pub run-Stop : (why : Why F) → turn state b (get_or done b 0) ≡ Stop why → (w : List ℕ) → run turn rest done state (b ∷ w) ≡ StopsAt 0 why
+  pub run-Stop : (why : StopReason F) → turn state b (get_or done b 0) ≡ Stop why → (w : List ℕ) → run turn rest done state (b ∷ w) ≡ StopsAt 0 why
   run-Stop why e w = ap (λ t. after t (λ s. run turn rest (one_more done b) s w)) e
 
   -- the words behind a true event
@@ -288,7 +288,7 @@ module _ {S F : Type 0} (turn : S → ℕ → ℕ → Turn S F) (rest : S → En
       }
 
   -- the words behind a stop, and the run of each
-  run-begins : (why : Why F) → turn state b (get_or done b 0) ≡ Stop why → (w : List ℕ) → Begins lengths done b w → run turn rest done state w ≡ StopsAt 0 why
+  run-begins : (why : StopReason F) → turn state b (get_or done b 0) ≡ Stop why → (w : List ℕ) → Begins lengths done b w → run turn rest done state w ≡ StopsAt 0 why
   run-begins why e [] k = absurd k.0
   run-begins why e (c ∷ w) k = ap (λ a. run turn rest done state (a ∷ w)) k.0 ∙ run-Stop why e w
 
@@ -367,7 +367,7 @@ module _ {S F : Type 0} (turn : S → ℕ → ℕ → Turn S F) (rest : S → En
       least_here [] k f = absurd k.0
       least_here (c ∷ v) k f = inr (sym k.0, least v (Completes-tail lengths done b fits v (subst (λ a. Completes lengths done (a ∷ v)) k.0 k.1)))
 
-module _ {S F : Type 0} (turn : S → ℕ → ℕ → Turn S F) (rest : S → Ending F) (lengths done : List ℕ) (state : S) where
+module _ {S F : Type 0} (turn : S → ℕ → ℕ → StepOutcome S F) (rest : S → Ending F) (lengths done : List ℕ) (state : S) where
   -- a branch that has no command left
   pub Covered-full : (b : ℕ) (before : List ℕ) (x : Best F) → get_or lengths b 0 ≤ get_or done b 0 → Covered turn rest done state before (Begins lengths done b) x x
   Covered-full b before x h = Covered-none turn rest done state before (Begins lengths done b) x none

@@ -2,10 +2,10 @@
 use Rattle.std.proofs.Common.{◌≡◌, ℕ, suc, ◌+◌, ◌≤◌, inl, inr, List, [], ◌∷◌, ◌++◌, length, get_or, sum, Bool, true, false, Option, Some, None, MatchOption, refl, sym, ap, subst, ◌∙◌, arith}
 use Rattle.std.specs.Prelude.{Result, Ok, Err, IfOk, OnOk}
 use Rattle.std.specs.declared.alloc.AllocError.{AllocError}
-use Rattle.pst_grid.specs.declared.answer.Why.TheVariants.{False, Fault}
+use Rattle.pst_grid.specs.declared.answer.StopReason.TheVariants.{False, Fault}
 use Rattle.pst_grid.specs.declared.answer.Ending.{Ending}
 use Rattle.pst_grid.specs.declared.answer.Ending.TheVariants.{AllTrue, StopsAt}
-use Rattle.pst_grid.specs.declared.answer.Turn.{Turn}
+use Rattle.pst_grid.specs.declared.answer.StepOutcome.{StepOutcome}
 use Rattle.pst_grid.specs.Checked.{AreTrue, AreAllTrue, IsChecked, IsLeastFailed}
 use Rattle.pst_grid.specs.Completions.{Completes, IsAt}
 use Rattle.pst_grid.specs.Covered.{IsEmpty, IsExplored, Covered, IsLeastTrue, IsLeastFault, IsFurther}
@@ -16,7 +16,7 @@ use Rattle.pst_grid.specs.Remembered.{IsAccounted, AreAccounted, IsSearched}
 use Rattle.pst_grid.specs.declared.position.Position.{Position}
 use Rattle.pst_grid.specs.declared.search.Best.{Best}
 use Rattle.pst_grid.specs.declared.search.FaultedMerge.{FaultedMerge}
-use Rattle.pst_grid.specs.declared.search.Search.{Search}
+use Rattle.pst_grid.specs.declared.search.SearchProgress.{SearchProgress}
 use Rattle.pst_grid.proofs.Completing.{Completes-head}
 use Rattle.pst_grid.proofs.Covering.{Covered-same, IsKept, IsNew, kept_furthest, same_reach}
 use Rattle.pst_grid.specs.Bounds.{Each}
@@ -64,7 +64,7 @@ all-done (l ∷ lengths) (d ∷ done) e within full =
     let t = all-done lengths done (omega arith) (λ b. within (suc b)) (λ b. full (suc b)) in
     ap (λ x. x ∷ done) h ∙ ap (λ xs. l ∷ xs) t
 
-module _ {S F : Type 0} (turn : S → ℕ → ℕ → Turn S F) (rest : S → Ending F) (state : S) where
+module _ {S F : Type 0} (turn : S → ℕ → ℕ → StepOutcome S F) (rest : S → Ending F) (state : S) where
   module _ (done : List ℕ) where
     run-empty : (w : List ℕ) → IsEmpty w → run turn rest done state w ≡ rest state
     run-empty w k = ap (run turn rest done state) k
@@ -214,7 +214,7 @@ module _ {S F : Type 0} (turn : S → ℕ → ℕ → Turn S F) (rest : S → En
     completes-are_true e w k = run-empty done w (Completes-empty lengths done full w k) ∙ e
 
   -- whether it was found or covered
-  pub completes-explored : (lengths : List ℕ) (old new : Search F) (found : Bool) → IsAt lengths old.done.items
+  pub completes-explored : (lengths : List ℕ) (old new : SearchProgress F) (found : Bool) → IsAt lengths old.done.items
       → ((b : ℕ) → get_or lengths b 0 ≤ get_or old.done.items b 0)
       → IsExplored turn rest state IsEmpty old new found → IsExplored turn rest state (Completes lengths old.done.items) old new found
   completes-explored lengths old new true at full h = completes-true lengths old.done.items old.word.items at full new.word.items h
@@ -224,7 +224,7 @@ module _ {S F : Type 0} (turn : S → ℕ → ℕ → Turn S F) (rest : S → En
     covered = completes-covered lengths old.done.items old.word.items at full old.best new.best h.covered;
   }
 
-  pub ended-explored : (lengths : List ℕ) (old new : Search F) (found : Result Bool AllocError) → IsAt lengths old.done.items
+  pub ended-explored : (lengths : List ℕ) (old new : SearchProgress F) (found : Result Bool AllocError) → IsAt lengths old.done.items
       → ((b : ℕ) → get_or lengths b 0 ≤ get_or old.done.items b 0)
       → IfOk found (IsExplored turn rest state IsEmpty old new)
       → IfOk found (IsExplored turn rest state (Completes lengths old.done.items) old new)
@@ -232,13 +232,13 @@ module _ {S F : Type 0} (turn : S → ℕ → ℕ → Turn S F) (rest : S → En
   ended-explored lengths old new (Err e) at full h = tt
 
   -- where nothing follows, each completion is true
-  pub ended-true : (lengths : List ℕ) (old : Search F) (keys : List (Position S)) → IsAt lengths old.done.items → ((b : ℕ) → get_or lengths b 0 ≤ get_or old.done.items b 0)
+  pub ended-true : (lengths : List ℕ) (old : SearchProgress F) (keys : List (Position S)) → IsAt lengths old.done.items → ((b : ℕ) → get_or lengths b 0 ≤ get_or old.done.items b 0)
       → rest state ≡ AllTrue → IsSearched turn rest lengths (sum old.done.items) state (Completes lengths old.done.items) old old keys true
   ended-true lengths old keys at full e =
       completes-true lengths old.done.items old.word.items at full old.word.items (finished-true old.done.items old.word.items e)
 
   -- and the position is remembered
-  module _ (lengths : List ℕ) (old new : Search F) (keys now : List (Position S)) (at : IsAt lengths old.done.items)
+  module _ (lengths : List ℕ) (old new : SearchProgress F) (keys now : List (Position S)) (at : IsAt lengths old.done.items)
       (full : (b : ℕ) → get_or lengths b 0 ≤ get_or old.done.items b 0)
       (is : now ≡ keys ++ record { done = old.done.items; state = state } ∷ []) where
     abbrev here : Position S
@@ -274,7 +274,7 @@ module _ {S F : Type 0} (turn : S → ℕ → ℕ → Turn S F) (rest : S → En
     ended-checked (Some x) done word h all = completes-failed lengths old.done.items old.word.items at full x h
 
   -- what was searched behind a position that was remembered before
-  module _ (lengths : List ℕ) (old new : Search F) (keys now : List (Position S)) (added : List (Position S))
+  module _ (lengths : List ℕ) (old new : SearchProgress F) (keys now : List (Position S)) (added : List (Position S))
       (is : now ≡ (keys ++ record { done = old.done.items; state = state } ∷ []) ++ added) (deep : Each (λ k. sum old.done.items + 1 ≤ sum k.done) added) where
     abbrev at_this : Position S
     at_this = record { done = old.done.items; state = state }

@@ -8,8 +8,8 @@ use Rattle.pst_grid.specs.Bounds.{HasNoRepeats, IsBounded, IsReached, Each}
 use Rattle.pst_grid.specs.Merges.{one_more, none_done}
 use Rattle.pst_grid.specs.Remembered.{IsReachedFrom, IsGrown, ends_of}
 use Rattle.pst_grid.specs.declared.position.Position.{Position}
-use Rattle.pst_grid.specs.declared.answer.Turn.{Turn}
-use Rattle.pst_grid.specs.declared.answer.Turn.TheVariants.{Next}
+use Rattle.pst_grid.specs.declared.answer.StepOutcome.{StepOutcome}
+use Rattle.pst_grid.specs.declared.answer.StepOutcome.TheVariants.{Next}
 use Rattle.pst_grid.proofs.Remembering.{Each-map, Each-append}
 
 append-nil : {K : Type 0} (xs : List K) → xs ++ [] ≡ xs
@@ -37,7 +37,7 @@ module _ {S : Type 0} (lengths : List ℕ) where
   end-once : (k : Position S) → k.done ≡ lengths → length (ends_of lengths (k ∷ [])) ≡ 1
   end-once k e = ap (λ b. length (if b then k.state ∷ [] else [])) ((bytes_eq-Decides k.done lengths).1 e)
 
-module _ {S F : Type 0} (turn : S → ℕ → ℕ → Turn S F) (lengths : List ℕ) (most : ℕ) where
+module _ {S F : Type 0} (turn : S → ℕ → ℕ → StepOutcome S F) (lengths : List ℕ) (most : ℕ) where
   module _ (n : ℕ) (done : List ℕ) (state : S) where
     pub grown-none : (keys : List (Position S)) (i s t : ℕ) → t ≤ s + i → IsGrown turn lengths most i n done state keys keys s t
     grown-none keys i s t h = record { added = []; keys = sym (append-nil keys); reached = tt; deep = tt; steps = omega arith }
@@ -160,7 +160,7 @@ module _ {S : Type 0} (P : List ℕ × S → Type 0) where
       by true f p r = (subst (λ d. P (d, k.state)) ((bytes_eq-Decides k.done lengths).0 f) p, r)
       by false f p r = r
 
-module _ {S F : Type 0} (turn : S → ℕ → ℕ → Turn S F) (lengths : List ℕ) (most : ℕ) where
+module _ {S F : Type 0} (turn : S → ℕ → ℕ → StepOutcome S F) (lengths : List ℕ) (most : ℕ) where
   pub bounded : (done : List ℕ) (start state : S) (old new : List (Position S)) (s t : ℕ) (eq : Position S → Position S → Bool)
       → ((a b : Position S) → a.done ≡ b.done → a.state ≡ b.state → eq a b ≡ true) → IsDistinct eq new
       → done ≡ none_done lengths → state ≡ start → old ≡ [] → s ≡ 0

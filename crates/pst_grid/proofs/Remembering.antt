@@ -4,7 +4,7 @@ use Rattle.std.proofs.lemmas.Slice.Eq.{bytes_eq-Decides}
 use Rattle.std.specs.Str.{bytes_eq}
 use Rattle.std.specs.List.{list_any}
 use Rattle.pst_grid.specs.declared.answer.Ending.{Ending}
-use Rattle.pst_grid.specs.declared.answer.Turn.{Turn}
+use Rattle.pst_grid.specs.declared.answer.StepOutcome.{StepOutcome}
 use Rattle.pst_grid.specs.Bounds.{Each}
 use Rattle.pst_grid.specs.Completions.{Completes}
 use Rattle.pst_grid.specs.Covered.{Covered}
@@ -96,7 +96,7 @@ module _ {S : Type 0} (eq : S → S → Bool) where
   pub position-equal : ((a : S) → eq a a ≡ true) → (k l : Position S) → k.done ≡ l.done → k.state ≡ l.state → bytes_eq k.done l.done && eq k.state l.state ≡ true
   position-equal law k l d e = ap (λ b. b && eq k.state l.state) ((bytes_eq-Decides k.done l.done).1 d) ∙ subst (λ s. eq k.state s ≡ true) e (law k.state)
 
-module _ {S F : Type 0} (turn : S → ℕ → ℕ → Turn S F) (rest : S → Ending F) (lengths : List ℕ) where
+module _ {S F : Type 0} (turn : S → ℕ → ℕ → StepOutcome S F) (rest : S → Ending F) (lengths : List ℕ) where
   -- what was covered is accounted for
   pub accounted : (done before : List ℕ) (state : S) (old new : Best F) → sum done ≡ length before → Covered turn rest done state before (Completes lengths done) old new → IsAccounted turn rest lengths new done state
   accounted done before state old new e c = record { none_true = c.none_true; none_faults = c.none_faults; bounds = λ w n k r. omega (arith, c.bounds w n k r, e) }

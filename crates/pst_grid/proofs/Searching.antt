@@ -3,10 +3,10 @@ use Rattle.std.proofs.Common.{◌≡◌, ℕ, suc, ◌+◌, ◌-◌, ◌<◌, �
 use Rattle.std.proofs.lemmas.Bool.{cases_eq, cases_lt}
 use Rattle.std.proofs.lemmas.List.{get_or-set_same, get_or-set_other, set-set, set-get_or, length-set, take_at, get_or_past}
 use Rattle.std.proofs.lemmas.List.Sums.{sum_by-set, sum_by-cons}
-use Rattle.pst_grid.specs.declared.answer.Why.TheVariants.{False, Fault}
+use Rattle.pst_grid.specs.declared.answer.StopReason.TheVariants.{False, Fault}
 use Rattle.pst_grid.specs.declared.answer.Ending.{Ending}
-use Rattle.pst_grid.specs.declared.answer.Turn.{Turn}
-use Rattle.pst_grid.specs.declared.answer.Turn.TheVariants.{Next, Stop}
+use Rattle.pst_grid.specs.declared.answer.StepOutcome.{StepOutcome}
+use Rattle.pst_grid.specs.declared.answer.StepOutcome.TheVariants.{Next, Stop}
 use Rattle.pst_grid.specs.Completions.{Completes, fill_from, IsAt, Begins}
 use Rattle.pst_grid.specs.Covered.{Covered, IsLeastTrue, HasCovered}
 use Rattle.pst_grid.specs.Furthest.{KeepsFurthest}
@@ -14,7 +14,7 @@ use Rattle.pst_grid.specs.Merges.{run, IsUpTo, later, one_more}
 use Rattle.pst_grid.specs.declared.answer.Ending.TheVariants.{AllTrue}
 use Rattle.pst_grid.specs.declared.search.Best.{Best}
 use Rattle.pst_grid.specs.declared.search.FaultedMerge.{FaultedMerge}
-use Rattle.pst_grid.specs.declared.search.Search.{Search}
+use Rattle.pst_grid.specs.declared.search.SearchProgress.{SearchProgress}
 use Rattle.pst_grid.proofs.Completing.{BeginsBelow, Completes-head, Completes-tail, Completes-cons}
 use Rattle.pst_grid.proofs.Filling.{Completes-fill, fill_least}
 use Rattle.pst_grid.proofs.Covering.{later-AllTrue, run-Next, Covered-Next, Covered-False, Covered-Fault-later, Covered-Fault-first, kept_furthest, Covered-start, Covered-more, Covered-all}
@@ -64,9 +64,9 @@ back_again done now b h e =
 pub take_again : (before now : List ℕ) (b : ℕ) → now ≡ before ++ b ∷ [] → take (length now - 1) now ≡ before
 take_again before now b e = ap (λ x. take (length x - 1) x) e ∙ take_at before (b ∷ []) (length (before ++ b ∷ []) - 1) (omega (arith, length-append before (b ∷ [])))
 
-module _ {S F : Type 0} (turn : S → ℕ → ℕ → Turn S F) (rest : S → Ending F) (lengths : List ℕ) (state : S) where
+module _ {S F : Type 0} (turn : S → ℕ → ℕ → StepOutcome S F) (rest : S → Ending F) (lengths : List ℕ) (state : S) where
   -- found behind branch b
-  pub explored-true : (old now : Search F) (b : ℕ) (word : List ℕ) → HasCovered turn rest state (BeginsBelow lengths old.done.items b) old now
+  pub explored-true : (old now : SearchProgress F) (b : ℕ) (word : List ℕ) → HasCovered turn rest state (BeginsBelow lengths old.done.items b) old now
       → IsLeastTrue turn rest state now.done.items now.word.items (Begins lengths now.done.items b) word
       → IsLeastTrue turn rest state old.done.items old.word.items (Completes lengths old.done.items) word
   explored-true old now b word h k =
@@ -86,18 +86,18 @@ module _ {S F : Type 0} (turn : S → ℕ → ℕ → Turn S F) (rest : S → En
           by (inr x) (inr y) = let e : d ≡ b = omega arith in l (d ∷ v) (e, c) r
 
   -- one branch more
-  pub explored-more : (old now new : Search F) (b : ℕ) → HasCovered turn rest state (BeginsBelow lengths old.done.items b) old now
+  pub explored-more : (old now new : SearchProgress F) (b : ℕ) → HasCovered turn rest state (BeginsBelow lengths old.done.items b) old now
       → HasCovered turn rest state (Begins lengths now.done.items b) now new → HasCovered turn rest state (BeginsBelow lengths old.done.items (b + 1)) old new
   explored-more old now new b h k =
       let j = subst (λ d. Covered turn rest d state now.word.items (Begins lengths d b) now.best new.best) h.done k.covered in
       let l = subst (λ u. Covered turn rest old.done.items state u (Begins lengths old.done.items b) now.best new.best) h.word j in
       record { word = k.word ∙ h.word; done = k.done ∙ h.done; covered = Covered-more turn rest lengths old.done.items state b old.word.items old.best now.best new.best h.covered l }
 
-  pub explored-start : (old : Search F) → HasCovered turn rest state (BeginsBelow lengths old.done.items 0) old old
+  pub explored-start : (old : SearchProgress F) → HasCovered turn rest state (BeginsBelow lengths old.done.items 0) old old
   explored-start old = record { word = refl; done = refl; covered = Covered-start turn rest lengths old.done.items state old.word.items old.best }
 
   -- all branches
-  pub explored-all : (old new : Search F) (b : ℕ) → ((c : ℕ) × (get_or old.done.items c 0 < get_or lengths c 0)) → length lengths ≤ b
+  pub explored-all : (old new : SearchProgress F) (b : ℕ) → ((c : ℕ) × (get_or old.done.items c 0 < get_or lengths c 0)) → length lengths ≤ b
       → HasCovered turn rest state (BeginsBelow lengths old.done.items b) old new → HasCovered turn rest state (Completes lengths old.done.items) old new
   explored-all old new b left past h = record {
     word = h.word;
@@ -133,7 +133,7 @@ module _ {S F : Type 0} (turn : S → ℕ → ℕ → Turn S F) (rest : S → En
         )
 
     -- all behind a true event
-    pub visited-Next : (next : S) (best : Best F) (entered explored : Search F) (best2 : Best F)
+    pub visited-Next : (next : S) (best : Best F) (entered explored : SearchProgress F) (best2 : Best F)
         → turn state b (get_or done b 0) ≡ Next next
         → entered.done.items ≡ one_more done b → entered.word.items ≡ before ++ b ∷ [] → entered.best ≡ best
         → HasCovered turn rest next (Completes lengths entered.done.items) entered explored

@@ -3,14 +3,14 @@ use Rattle.std.specs.Prelude.{◌≡◌, ◌≢◌, ℕ, ◌≤◌, List}
 use Rattle.pst_grid.specs.Merges.{IsMerge, IsLeast, run, none_done}
 use Rattle.pst_grid.specs.declared.answer.Ending.{Ending}
 use Rattle.pst_grid.specs.declared.answer.Ending.TheVariants.{AllTrue, StopsAt}
-use Rattle.pst_grid.specs.declared.answer.Why.TheVariants.{False, Fault}
-use Rattle.pst_grid.specs.declared.answer.Turn.{Turn}
+use Rattle.pst_grid.specs.declared.answer.StopReason.TheVariants.{False, Fault}
+use Rattle.pst_grid.specs.declared.answer.StepOutcome.{StepOutcome}
 use Rattle.pst_grid.specs.declared.answer.SomeAnswer.{SomeAnswer}
 use Rattle.pst_grid.specs.declared.answer.SomeAnswer.TheVariants.{Found, Faulted, Nothing}
 use Rattle.pst_grid.specs.declared.answer.EveryAnswer.{EveryAnswer}
 use Rattle.pst_grid.specs.declared.answer.EveryAnswer.TheVariants.{All, Not}
 
-module _ {S F : Type 0} (turn : S → ℕ → ℕ → Turn S F) (rest : S → Ending F)
+module _ {S F : Type 0} (turn : S → ℕ → ℕ → StepOutcome S F) (rest : S → Ending F)
     (lengths : List ℕ) (start : S) where
   -- the ending of a word's run from the start, and of what follows it
   abbrev pub ending : List ℕ → Ending F

@@ -1,8 +1,8 @@
 -- How many steps a search makes at most.
 use Rattle.std.specs.Prelude.{◌≡◌, ◌≢◌, ℕ, ◌<◌, ◌≤◌, ◌+◌, ◌*◌, List, [], ◌∷◌, length, slice_index}
 use Rattle.pst_grid.specs.Merges.{one_more, none_done}
-use Rattle.pst_grid.specs.declared.answer.Turn.{Turn}
-use Rattle.pst_grid.specs.declared.answer.Turn.TheVariants.{Next}
+use Rattle.pst_grid.specs.declared.answer.StepOutcome.{StepOutcome}
+use Rattle.pst_grid.specs.declared.answer.StepOutcome.TheVariants.{Next}
 
 -- a fact of each of a list
 abbrev pub Each : {K : Type 0} → (K → Type 0) → List K → Type 0
@@ -14,7 +14,7 @@ abbrev pub HasNoRepeats : {K : Type 0} → List K → Type 0
 HasNoRepeats [] = Unit {0}
 HasNoRepeats (k ∷ ks) = Each (λ l. k ≢ l) ks × HasNoRepeats ks
 
-module _ {S F : Type 0} (turn : S → ℕ → ℕ → Turn S F) (lengths : List ℕ) where
+module _ {S F : Type 0} (turn : S → ℕ → ℕ → StepOutcome S F) (lengths : List ℕ) where
   -- a word leads from one place and state to another: each letter has a command left, and its event is true
   abbrev pub Leads : List ℕ → S → List ℕ → List ℕ → S → Type 0
   Leads done s [] there t = (done ≡ there) × (s ≡ t)

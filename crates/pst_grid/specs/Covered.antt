@@ -1,11 +1,11 @@
 -- What a search knows of the words that it has covered.
 use Rattle.std.specs.Prelude.{◌≡◌, ℕ, ◌+◌, ◌<◌, ◌≤◌, ◌⊎◌, List, [], ◌++◌, length, Option, Some, None, Bool, MatchBool}
-use Rattle.pst_grid.specs.declared.answer.Why.TheVariants.{False, Fault}
-use Rattle.pst_grid.specs.declared.answer.Turn.{Turn}
+use Rattle.pst_grid.specs.declared.answer.StopReason.TheVariants.{False, Fault}
+use Rattle.pst_grid.specs.declared.answer.StepOutcome.{StepOutcome}
 use Rattle.pst_grid.specs.declared.search.Best.{Best}
 use Rattle.pst_grid.specs.declared.search.FalseMerge.{FalseMerge}
 use Rattle.pst_grid.specs.declared.search.FaultedMerge.{FaultedMerge}
-use Rattle.pst_grid.specs.declared.search.Search.{Search}
+use Rattle.pst_grid.specs.declared.search.SearchProgress.{SearchProgress}
 use Rattle.pst_grid.specs.Furthest.{reach}
 use Rattle.pst_grid.specs.Merges.{run, IsUpTo}
 use Rattle.pst_grid.specs.declared.answer.Ending.{Ending}
@@ -15,7 +15,7 @@ use Rattle.pst_grid.specs.declared.answer.Ending.TheVariants.{AllTrue, StopsAt}
 abbrev pub IsEmpty : List ℕ → Type 0
 IsEmpty w = w ≡ []
 
-module _ {S F : Type 0} (turn : S → ℕ → ℕ → Turn S F) (rest : S → Ending F) (done : List ℕ) (s : S) where
+module _ {S F : Type 0} (turn : S → ℕ → ℕ → StepOutcome S F) (rest : S → Ending F) (done : List ℕ) (s : S) where
   -- the run of this word faults
   abbrev pub FaultsOn : List ℕ → Type 0
   FaultsOn w = (n : ℕ) × (f : F) × (run turn rest done s w ≡ StopsAt n (Fault f))
@@ -60,7 +60,7 @@ module _ {S F : Type 0} (turn : S → ℕ → ℕ → Turn S F) (rest : S → En
         W w → run turn rest done s w ≡ StopsAt n False → length before + n < reach new.furthest
     pub reached : (new.furthest ≡ old.furthest) ⊎ IsFurther before W old.furthest new.furthest
 
-module _ {S F : Type 0} (turn : S → ℕ → ℕ → Turn S F) (rest : S → Ending F) (s : S) where
+module _ {S F : Type 0} (turn : S → ℕ → ℕ → StepOutcome S F) (rest : S → Ending F) (s : S) where
   -- the least word of W that is all true, kept behind the letters before it
   pub record IsLeastTrue (done before : List ℕ) (W : List ℕ → Type 0) (word : List ℕ) : Type 0 where
     pub letters : List ℕ
@@ -70,12 +70,12 @@ module _ {S F : Type 0} (turn : S → ℕ → ℕ → Turn S F) (rest : S → En
     pub least : (v : List ℕ) → W v → run turn rest done s v ≡ AllTrue → IsUpTo letters v
 
   -- the search is where it was, and has covered the words of W
-  pub record HasCovered (W : List ℕ → Type 0) (old new : Search F) : Type 0 where
+  pub record HasCovered (W : List ℕ → Type 0) (old new : SearchProgress F) : Type 0 where
     pub word : new.word.items ≡ old.word.items
     pub done : new.done.items ≡ old.done.items
     pub covered : Covered turn rest old.done.items s old.word.items W old.best new.best
 
   -- where one was found, the search's word is the least of W that is all true; else it has covered W
-  abbrev pub IsExplored : (W : List ℕ → Type 0) → Search F → Search F → Bool → Type 0
+  abbrev pub IsExplored : (W : List ℕ → Type 0) → SearchProgress F → SearchProgress F → Bool → Type 0
   IsExplored W old new found =
       MatchBool found (IsLeastTrue old.done.items old.word.items W new.word.items) (HasCovered W old new)

@@ -4,15 +4,15 @@ use Rattle.pst_grid.specs.Bounds.{IsBounded}
 use Rattle.pst_grid.specs.Merges.{run, after, one_more, nothing_follows}
 use Rattle.pst_grid.specs.declared.answer.Ending.{Ending}
 use Rattle.pst_grid.specs.declared.answer.Ending.TheVariants.{AllTrue}
-use Rattle.pst_grid.specs.declared.answer.Turn.{Turn}
-use Rattle.pst_grid.specs.declared.answer.Turn.TheVariants.{Next}
+use Rattle.pst_grid.specs.declared.answer.StepOutcome.{StepOutcome}
+use Rattle.pst_grid.specs.declared.answer.StepOutcome.TheVariants.{Next}
 
 -- the product of a list of numbers
 abbrev pub product : List ℕ → ℕ
 product [] = 1
 product (n ∷ ns) = n * product ns
 
-module _ {S F : Type 0} (turn : S → ℕ → ℕ → Turn S F) where
+module _ {S F : Type 0} (turn : S → ℕ → ℕ → StepOutcome S F) where
   -- the run of a word from a state, and nothing else: each letter takes the next command of its branch
   abbrev pub run_alone : List ℕ → S → List ℕ → Ending F
   run_alone done s [] = AllTrue

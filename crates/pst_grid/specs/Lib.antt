@@ -1,6 +1,6 @@
 -- what the public contracts cite
 pub mod Merges
-pub mod Turns
+pub mod StepOutcomes
 pub mod Answers
 pub mod Bounds
 pub mod Laws
@@ -11,5 +11,5 @@ pub mod Covered
 pub mod Remembered
 pub mod Checked
 pub mod Hashing
-pub mod Places
+pub mod DoneCounts
 pub mod Packings

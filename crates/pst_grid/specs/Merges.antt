@@ -2,8 +2,8 @@
 use Rattle.std.specs.Prelude.{◌≡◌, ℕ, ◌+◌, ◌<◌, ◌==◌, ◌⊎◌, List, [], ◌∷◌, length, replicate, slice_index, slice_set, suc, if◌then◌else◌}
 use Rattle.pst_grid.specs.declared.answer.Ending.{Ending}
 use Rattle.pst_grid.specs.declared.answer.Ending.TheVariants.{AllTrue, StopsAt}
-use Rattle.pst_grid.specs.declared.answer.Turn.{Turn}
-use Rattle.pst_grid.specs.declared.answer.Turn.TheVariants.{Next, Stop}
+use Rattle.pst_grid.specs.declared.answer.StepOutcome.{StepOutcome}
+use Rattle.pst_grid.specs.declared.answer.StepOutcome.TheVariants.{Next, Stop}
 
 -- A word is a list of letters, and the letter b stands for the next command of branch b.
 -- how many times a word has the letter b
@@ -30,8 +30,8 @@ abbrev pub later : {F : Type 0} → Ending F → Ending F
 later AllTrue = AllTrue
 later (StopsAt n why) = StopsAt (suc n) why
 
--- what follows a turn
-abbrev pub after : {S F : Type 0} → Turn S F → (S → Ending F) → Ending F
+-- what follows a step
+abbrev pub after : {S F : Type 0} → StepOutcome S F → (S → Ending F) → Ending F
 after (Next s) rest = later (rest s)
 after (Stop why) rest = StopsAt 0 why
 
@@ -45,7 +45,7 @@ one_more done b = slice_set done b (slice_index done b + 1)
 
 -- The run of a word from a state: each letter takes the next command of its branch, by the index of those
 -- that are done. Where the word ends, the rest follows.
-abbrev pub run : {S F : Type 0} → (S → ℕ → ℕ → Turn S F) → (rest : S → Ending F)
+abbrev pub run : {S F : Type 0} → (S → ℕ → ℕ → StepOutcome S F) → (rest : S → Ending F)
     → (done : List ℕ) → S → List ℕ → Ending F
 run turn rest done s [] = rest s
 run turn rest done s (b ∷ w) =

@@ -1,10 +1,10 @@
--- How a place is kept.
+-- How the counts are kept.
 use Rattle.std.specs.Prelude.{◌≡◌, ℕ, true, false, List}
-use Rattle.pst_grid.specs.declared.place.Packing.{Packing}
-use Rattle.pst_grid.specs.declared.place.Packing.TheVariants.{Word, Counts}
-use Rattle.pst_grid.specs.Places.{fits, word_of, counts_in}
+use Rattle.pst_grid.specs.declared.done_counts.Packing.{Packing}
+use Rattle.pst_grid.specs.declared.done_counts.Packing.TheVariants.{Word, Counts}
+use Rattle.pst_grid.specs.DoneCounts.{fits, word_of, counts_in}
 
--- the counts of a place
+-- the counts that a packing keeps
 abbrev pub counts_of : Packing → List ℕ
 counts_of (Word word) = counts_in 4 word
 counts_of (Counts counts) = counts.value.items

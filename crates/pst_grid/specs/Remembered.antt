@@ -1,11 +1,11 @@
 -- What a search that remembers knows of the positions that it has searched from.
 use Rattle.std.specs.Prelude.{◌≡◌, ℕ, ◌+◌, ◌*◌, ◌<◌, ◌≤◌, List, [], ◌∷◌, ◌++◌, ◌⊎◌, length, sum, None, Bool, MatchBool, bytes_eq, if◌then◌else◌}
-use Rattle.pst_grid.specs.declared.answer.Why.TheVariants.{False}
+use Rattle.pst_grid.specs.declared.answer.StopReason.TheVariants.{False}
 use Rattle.pst_grid.specs.declared.answer.Ending.{Ending}
 use Rattle.pst_grid.specs.declared.answer.Ending.TheVariants.{AllTrue, StopsAt}
-use Rattle.pst_grid.specs.declared.answer.Turn.{Turn}
+use Rattle.pst_grid.specs.declared.answer.StepOutcome.{StepOutcome}
 use Rattle.pst_grid.specs.declared.search.Best.{Best}
-use Rattle.pst_grid.specs.declared.search.Search.{Search}
+use Rattle.pst_grid.specs.declared.search.SearchProgress.{SearchProgress}
 use Rattle.pst_grid.specs.declared.position.Position.{Position}
 use Rattle.pst_grid.specs.Bounds.{Each, Leads}
 use Rattle.pst_grid.specs.Completions.{Completes}
@@ -22,7 +22,7 @@ abbrev pub IsRemembered : {S : Type 0} → List ℕ → S → List (Position S) 
 IsRemembered done s [] = ⊥
 IsRemembered done s (k ∷ ks) = ((k.done ≡ done) × (k.state ≡ s)) ⊎ IsRemembered done s ks
 
-module _ {S F : Type 0} (turn : S → ℕ → ℕ → Turn S F) (rest : S → Ending F) (lengths : List ℕ) where
+module _ {S F : Type 0} (turn : S → ℕ → ℕ → StepOutcome S F) (rest : S → Ending F) (lengths : List ℕ) where
   -- all that the words behind this place and state could give is in what the search has seen
   pub record IsAccounted (best : Best F) (done : List ℕ) (s : S) : Type 0 where
     pub none_true : (w : List ℕ) → Completes lengths done w → run turn rest done s w ≡ AllTrue → ⊥
@@ -38,14 +38,14 @@ module _ {S F : Type 0} (turn : S → ℕ → ℕ → Turn S F) (rest : S → En
 
   -- The search has covered the words of W, and the remembered positions where so many commands are done are
   -- accounted for. A position is remembered before the words behind it are searched.
-  pub record HasCoveredAll (depth : ℕ) (s : S) (W : List ℕ → Type 0) (old new : Search F)
+  pub record HasCoveredAll (depth : ℕ) (s : S) (W : List ℕ → Type 0) (old new : SearchProgress F)
       (keys : List (Position S)) : Type 0 where
     pub covered : HasCovered turn rest s W old new
     pub accounted : AreAccounted depth new.best keys
 
   -- where one was found, the search's word is the least of W that is all true; else it has covered W
   abbrev pub IsSearched :
-      ℕ → (s : S) (W : List ℕ → Type 0) → Search F → Search F → List (Position S) → Bool → Type 0
+      ℕ → (s : S) (W : List ℕ → Type 0) → SearchProgress F → SearchProgress F → List (Position S) → Bool → Type 0
   IsSearched depth s W old new keys found =
       MatchBool found
       (IsLeastTrue turn rest s old.done.items old.word.items W new.word.items)
@@ -57,7 +57,7 @@ ends_of lengths [] = []
 ends_of lengths (k ∷ ks) =
     if bytes_eq k.done lengths then k.state ∷ ends_of lengths ks else ends_of lengths ks
 
-module _ {S F : Type 0} (turn : S → ℕ → ℕ → Turn S F) (lengths : List ℕ) (most_rest : ℕ) where
+module _ {S F : Type 0} (turn : S → ℕ → ℕ → StepOutcome S F) (lengths : List ℕ) (most_rest : ℕ) where
   -- the position is reached from a place and a state
   abbrev pub IsReachedFrom : List ℕ → S → Position S → Type 0
   IsReachedFrom done s k = (u : List ℕ) × Leads turn lengths done s u k.done k.state

@@ -2,20 +2,20 @@
 
 /// Why a run stops before its end.
 #[derive(Debug, PartialEq, Eq, Drop)]
-pub enum Why<F> {
+pub enum StopReason<F> {
     /// The event is false.
     False,
     /// The event faults.
     Fault(F),
 }
 
-/// The result of a step.
+/// The outcome of a step.
 #[derive(Debug, PartialEq, Eq, Drop)]
-pub enum Turn<S, F> {
+pub enum StepOutcome<S, F> {
     /// The event is true, and this is the state after it.
     Next(S),
     /// The run stops here.
-    Stop(Why<F>),
+    Stop(StopReason<F>),
 }
 
 /// How the run of an interleaving, or of the rest after it, ends.
@@ -24,7 +24,7 @@ pub enum Ending<F> {
     /// All events are true.
     AllTrue,
     /// The run stops after this many true events.
-    StopsAt(usize, Why<F>),
+    StopsAt(usize, StopReason<F>),
 }
 
 /// The result of a search for an interleaving that is true to its end. A `word` is an interleaving: it has one letter
@@ -58,6 +58,6 @@ pub enum EveryAnswer<F> {
     Not {
         word: Vec<usize>,
         at: usize,
-        why: Why<F>,
+        why: StopReason<F>,
     },
 }

@@ -8,12 +8,12 @@ ghost use Rattle.pst_grid.specs.Covered.{IsEmpty};
 ghost use Rattle.pst_grid.specs.declared.answer.Ending.TheVariants.{AllTrue};
 ghost use Rattle.pst_grid.specs.Merges.{one_more};
 ghost use Rattle.pst_grid.specs.Remembered.{IsGrown};
-ghost use Rattle.pst_grid.specs.Turns.{AreCommands};
+ghost use Rattle.pst_grid.specs.StepOutcomes.{AreCommands};
 
 use crate::hasher::BuildWordHasher;
-use crate::position::{Kept, Position, remember};
-use crate::search::{Search, is_done};
-use crate::{Ending, EveryAnswer, Steps, Turn, Why};
+use crate::position::{KeptState, Position, remember};
+use crate::search::{SearchProgress, is_done};
+use crate::{Ending, EveryAnswer, StepOutcome, Steps, StopReason};
 use indexmap::IndexSet;
 use std::alloc::{AllocError, Global};
 
@@ -22,16 +22,16 @@ use std::alloc::{AllocError, Global};
 pub(crate) struct FailedMerge<F> {
     pub word: Vec<usize>,
     pub at: usize,
-    pub why: Why<F>,
+    pub why: StopReason<F>,
 }
 
 /// The first interleaving that begins with the word and then the next command of `branch`, which stops it.
 fn failed_merge<F: Drop>(
     alloc: Global,
     lengths: &[usize],
-    search: &Search<F>,
+    search: &SearchProgress<F>,
     branch: usize,
-    why: Why<F>,
+    why: StopReason<F>,
 ) -> Result<FailedMerge<F>, AllocError>
     requires branches { length search.now.done.items ≡ length lengths.now }
     requires branch { branch < length search.now.done.items }
@@ -52,7 +52,7 @@ fn failed_merge<F: Drop>(
 fn check_rest<S: Steps>(
     alloc: Global,
     steps: &S,
-    search: &mut Search<S::Fault>,
+    search: &mut SearchProgress<S::Fault>,
     state: &S::State,
 ) -> Result<Option<FailedMerge<S::Fault>>, AllocError>
     requires state { S.is_state steps.now state.now }
@@ -61,7 +61,7 @@ fn check_rest<S: Steps>(
     ensures word { OnOk result (search.new.word.items ≡ search.old.word.items) }
     ensures steps { OnOk result (search.new.steps ≤ search.old.steps + S.most_rest steps.now) }
     ensures checked { IfOk result (λ failed. MatchOption failed (S.rest steps.now state.now ≡ AllTrue)
-        (IsLeastFailed (S.turn steps.now) (S.rest steps.now)
+        (IsLeastFailed (S.outcome steps.now) (S.rest steps.now)
         search.old.done.items state.now search.old.word.items IsEmpty)) }
 {
     let (ending, made) = steps.run_rest(alloc, state)?;
@@ -81,20 +81,20 @@ fn check_end<S: Steps>(
     alloc: Global,
     steps: &S,
     lengths: &[usize],
-    search: &mut Search<S::Fault>,
-    seen: &mut IndexSet<Position<Kept<S>>, BuildWordHasher>,
+    search: &mut SearchProgress<S::Fault>,
+    seen: &mut IndexSet<Position<KeptState<S>>, BuildWordHasher>,
     state: &S::State,
 ) -> Result<Option<FailedMerge<S::Fault>>, AllocError>
     requires place { IsAt lengths.now search.old.done.items }
     requires state { S.is_state steps.now state.now }
     requires room { length search.old.word.items + S.most_rest steps.now < 2 ^ 64 }
     requires ended { (b : ℕ) → slice_index lengths.now b ≤ slice_index search.old.done.items b }
-    requires all_true { AreAllTrue (S.turn steps.now) (S.rest steps.now) lengths.now
+    requires all_true { AreAllTrue (S.outcome steps.now) (S.rest steps.now) lengths.now
         (sum search.old.done.items) seen.old.keys }
-    ensures grown { OnOk result (IsGrown (S.turn steps.now) lengths.now (S.most_rest steps.now)
+    ensures grown { OnOk result (IsGrown (S.outcome steps.now) lengths.now (S.most_rest steps.now)
         0 (sum search.old.done.items) search.old.done.items state.now
         seen.old.keys seen.new.keys search.old.steps search.new.steps) }
-    ensures checked { IfOk result (IsChecked (S.turn steps.now) (S.rest steps.now) lengths.now
+    ensures checked { IfOk result (IsChecked (S.outcome steps.now) (S.rest steps.now) lengths.now
         (sum search.old.done.items) state.now
         (Completes lengths.now search.old.done.items) search.old search.new seen.new.keys) }
 {
@@ -113,20 +113,20 @@ fn check<S: Steps>(
     alloc: Global,
     steps: &S,
     lengths: &[usize],
-    search: &mut Search<S::Fault>,
-    seen: &mut IndexSet<Position<Kept<S>>, BuildWordHasher>,
+    search: &mut SearchProgress<S::Fault>,
+    seen: &mut IndexSet<Position<KeptState<S>>, BuildWordHasher>,
     state: &S::State,
 ) -> Result<Option<FailedMerge<S::Fault>>, AllocError>
     requires place { IsAt lengths.now search.old.done.items }
     requires state { S.is_state steps.now state.now }
     requires commands { AreCommands (S.is_command steps.now) lengths.now }
     requires room { S.most_rest steps.now < 2 ^ 32 }
-    requires all_true { AreAllTrue (S.turn steps.now) (S.rest steps.now) lengths.now
+    requires all_true { AreAllTrue (S.outcome steps.now) (S.rest steps.now) lengths.now
         (sum search.old.done.items) seen.old.keys }
-    ensures grown { OnOk result (IsGrown (S.turn steps.now) lengths.now (S.most_rest steps.now)
+    ensures grown { OnOk result (IsGrown (S.outcome steps.now) lengths.now (S.most_rest steps.now)
         0 (sum search.old.done.items) search.old.done.items state.now
         seen.old.keys seen.new.keys search.old.steps search.new.steps) }
-    ensures checked { IfOk result (IsChecked (S.turn steps.now) (S.rest steps.now) lengths.now
+    ensures checked { IfOk result (IsChecked (S.outcome steps.now) (S.rest steps.now) lengths.now
         (sum search.old.done.items) state.now
         (Completes lengths.now search.old.done.items) search.old search.new seen.new.keys) }
 {
@@ -145,8 +145,8 @@ fn check_branches<S: Steps>(
     alloc: Global,
     steps: &S,
     lengths: &[usize],
-    search: &mut Search<S::Fault>,
-    seen: &mut IndexSet<Position<Kept<S>>, BuildWordHasher>,
+    search: &mut SearchProgress<S::Fault>,
+    seen: &mut IndexSet<Position<KeptState<S>>, BuildWordHasher>,
     state: &S::State,
 ) -> Result<Option<FailedMerge<S::Fault>>, AllocError>
     requires place { IsAt lengths.now search.old.done.items }
@@ -154,12 +154,12 @@ fn check_branches<S: Steps>(
     requires commands { AreCommands (S.is_command steps.now) lengths.now }
     requires room { S.most_rest steps.now < 2 ^ 32 }
     requires left { (b : ℕ) × (slice_index search.old.done.items b < slice_index lengths.now b) }
-    requires all_true { AreAllTrue (S.turn steps.now) (S.rest steps.now) lengths.now
+    requires all_true { AreAllTrue (S.outcome steps.now) (S.rest steps.now) lengths.now
         (sum search.old.done.items + 1) seen.old.keys }
-    ensures grown { OnOk result (IsGrown (S.turn steps.now) lengths.now (S.most_rest steps.now)
+    ensures grown { OnOk result (IsGrown (S.outcome steps.now) lengths.now (S.most_rest steps.now)
         (length lengths.now) (sum search.old.done.items + 1) search.old.done.items state.now
         seen.old.keys seen.new.keys search.old.steps search.new.steps) }
-    ensures checked { IfOk result (IsChecked (S.turn steps.now) (S.rest steps.now) lengths.now
+    ensures checked { IfOk result (IsChecked (S.outcome steps.now) (S.rest steps.now) lengths.now
         (sum search.old.done.items + 1) state.now
         (Completes lengths.now search.old.done.items) search.old search.new seen.new.keys) }
 {
@@ -178,8 +178,8 @@ fn check_branch<S: Steps>(
     alloc: Global,
     steps: &S,
     lengths: &[usize],
-    search: &mut Search<S::Fault>,
-    seen: &mut IndexSet<Position<Kept<S>>, BuildWordHasher>,
+    search: &mut SearchProgress<S::Fault>,
+    seen: &mut IndexSet<Position<KeptState<S>>, BuildWordHasher>,
     state: &S::State,
     branch: usize,
 ) -> Result<Option<FailedMerge<S::Fault>>, AllocError>
@@ -188,12 +188,12 @@ fn check_branch<S: Steps>(
     requires commands { AreCommands (S.is_command steps.now) lengths.now }
     requires branch { branch < length lengths.now }
     requires room { S.most_rest steps.now < 2 ^ 32 }
-    requires all_true { AreAllTrue (S.turn steps.now) (S.rest steps.now) lengths.now
+    requires all_true { AreAllTrue (S.outcome steps.now) (S.rest steps.now) lengths.now
         (sum search.old.done.items + 1) seen.old.keys }
-    ensures grown { OnOk result (IsGrown (S.turn steps.now) lengths.now (S.most_rest steps.now)
+    ensures grown { OnOk result (IsGrown (S.outcome steps.now) lengths.now (S.most_rest steps.now)
         1 (sum search.old.done.items + 1) search.old.done.items state.now
         seen.old.keys seen.new.keys search.old.steps search.new.steps) }
-    ensures checked { IfOk result (IsChecked (S.turn steps.now) (S.rest steps.now) lengths.now
+    ensures checked { IfOk result (IsChecked (S.outcome steps.now) (S.rest steps.now) lengths.now
         (sum search.old.done.items + 1) state.now
         (Begins lengths.now search.old.done.items branch) search.old search.new seen.new.keys) }
 {
@@ -203,7 +203,7 @@ fn check_branch<S: Steps>(
     }
     search.steps = search.steps.saturating_add(1);
     match steps.step(alloc, state, branch, index)? {
-        Turn::Next(next) => {
+        StepOutcome::Next(next) => {
             search.enter(lengths, branch)?;
             match check(alloc, steps, lengths, search, seen, &next)? {
                 Some(failed) => Ok(Some(failed)),
@@ -213,7 +213,7 @@ fn check_branch<S: Steps>(
                 }
             }
         }
-        Turn::Stop(why) => Ok(Some(failed_merge(alloc, lengths, search, branch, why)?)),
+        StepOutcome::Stop(why) => Ok(Some(failed_merge(alloc, lengths, search, branch, why)?)),
     }
 }
 
@@ -244,11 +244,11 @@ pub fn every<S: Steps>(
     requires commands { AreCommands (S.is_command steps.now) lengths.now }
     requires room { sum lengths.now + S.most_rest steps.now < 2 ^ 32 }
     ensures answer { IfOk result
-        (λ r. IsEveryAnswer (S.turn steps.now) (S.rest steps.now) lengths.now start.now r.0) }
+        (λ r. IsEveryAnswer (S.outcome steps.now) (S.rest steps.now) lengths.now start.now r.0) }
     ensures bound { IfOk result
-        (λ r. IsBounded (S.turn steps.now) lengths.now (S.most_rest steps.now) start.now r.1) }
+        (λ r. IsBounded (S.outcome steps.now) lengths.now (S.most_rest steps.now) start.now r.1) }
 {
-    let mut search = Search::new(alloc, lengths)?;
+    let mut search = SearchProgress::new(alloc, lengths)?;
     let mut seen = IndexSet::with_hasher(alloc, BuildWordHasher::new());
     let failed = check(alloc, steps, lengths, &mut search, &mut seen, start)?;
     // The length is not used: `len` says that the set has no repeats.

@@ -2,20 +2,20 @@
 ghost use Rattle.std.specs.Prelude.{ℕ};
 ghost use Rattle.pst_grid.specs.Laws.{IsTrueByEvents, MakesFewSteps, RunsAlone};
 ghost use Rattle.pst_grid.specs.declared.answer.Ending.{Ending};
-ghost use Rattle.pst_grid.specs.declared.answer.Turn.{Turn};
+ghost use Rattle.pst_grid.specs.declared.answer.StepOutcome.{StepOutcome};
 
 /// If nothing follows the branches, the run of a word is its run alone.
 pub fn run_is_alone<S, F>()
-    ensures { (turn : S → ℕ → ℕ → Turn S F) (rest : S → Ending F) → RunsAlone turn rest }
+    ensures { (turn : S → ℕ → ℕ → StepOutcome S F) (rest : S → Ending F) → RunsAlone turn rest }
 {}
 
 /// If nothing follows the branches, the run of a word is all true exactly if the event of each letter is.
 pub fn true_by_events<S, F>()
-    ensures { (turn : S → ℕ → ℕ → Turn S F) (rest : S → Ending F) → IsTrueByEvents turn rest }
+    ensures { (turn : S → ℕ → ℕ → StepOutcome S F) (rest : S → Ending F) → IsTrueByEvents turn rest }
 {}
 
 /// If no step changes the state, a search makes at most one step per branch for each place, plus those of the rest
 /// once. The number of places is the product of each length plus one.
 pub fn few_steps_in_one_state<S, F>()
-    ensures { (turn : S → ℕ → ℕ → Turn S F) → MakesFewSteps turn }
+    ensures { (turn : S → ℕ → ℕ → StepOutcome S F) → MakesFewSteps turn }
 {}

@@ -19,18 +19,18 @@
 #![tactic(auto)]
 
 mod answer;
+mod done_counts;
 mod every_search;
 mod finish;
 mod hasher;
 mod laws;
-mod place;
 mod plain_search;
 mod position;
 mod search;
 mod some_search;
 mod steps;
 
-pub use answer::{Ending, EveryAnswer, SomeAnswer, Turn, Why};
+pub use answer::{Ending, EveryAnswer, SomeAnswer, StepOutcome, StopReason};
 pub use every_search::every;
 pub use laws::{few_steps_in_one_state, run_is_alone, true_by_events};
 pub use plain_search::some_plainly;

@@ -3,11 +3,11 @@ ghost use Rattle.std.specs.Prelude.{◌≡◌, ℕ, ◌+◌, ◌-◌, ◌*◌, �
 ghost use Rattle.pst_grid.specs.Answers.{IsAnswer};
 ghost use Rattle.pst_grid.specs.Completions.{IsAt, Completes, Begins};
 ghost use Rattle.pst_grid.specs.Covered.{IsExplored};
-ghost use Rattle.pst_grid.specs.Turns.{AreCommands};
+ghost use Rattle.pst_grid.specs.StepOutcomes.{AreCommands};
 
 use crate::finish::finish;
-use crate::search::{Search, is_done};
-use crate::{SomeAnswer, Steps, Turn, Why};
+use crate::search::{SearchProgress, is_done};
+use crate::{SomeAnswer, StepOutcome, Steps, StopReason};
 use std::alloc::{AllocError, Global};
 
 /// Searches the completions of the word, and returns whether one is true to its end. The word is then that one.
@@ -16,14 +16,14 @@ fn explore<S: Steps>(
     alloc: Global,
     steps: &S,
     lengths: &[usize],
-    search: &mut Search<S::Fault>,
+    search: &mut SearchProgress<S::Fault>,
     state: &S::State,
 ) -> Result<bool, AllocError>
     requires place { IsAt lengths.now search.old.done.items }
     requires state { S.is_state steps.now state.now }
     requires commands { AreCommands (S.is_command steps.now) lengths.now }
     requires room { S.most_rest steps.now < 2 ^ 32 }
-    ensures { IfOk result (IsExplored (S.turn steps.now) (S.rest steps.now) state.now
+    ensures { IfOk result (IsExplored (S.outcome steps.now) (S.rest steps.now) state.now
         (Completes lengths.now search.old.done.items) search.old search.new) }
 {
     if is_done(lengths, &search.done) {
@@ -43,7 +43,7 @@ fn visit<S: Steps>(
     alloc: Global,
     steps: &S,
     lengths: &[usize],
-    search: &mut Search<S::Fault>,
+    search: &mut SearchProgress<S::Fault>,
     state: &S::State,
     branch: usize,
 ) -> Result<bool, AllocError>
@@ -52,7 +52,7 @@ fn visit<S: Steps>(
     requires commands { AreCommands (S.is_command steps.now) lengths.now }
     requires room { S.most_rest steps.now < 2 ^ 32 }
     requires branch { branch < length lengths.now }
-    ensures { IfOk result (IsExplored (S.turn steps.now) (S.rest steps.now) state.now
+    ensures { IfOk result (IsExplored (S.outcome steps.now) (S.rest steps.now) state.now
         (Begins lengths.now search.old.done.items branch) search.old search.new) }
 {
     let index = search.done[branch];
@@ -61,7 +61,7 @@ fn visit<S: Steps>(
     }
     search.steps = search.steps.saturating_add(1);
     match steps.step(alloc, state, branch, index)? {
-        Turn::Next(next) => {
+        StepOutcome::Next(next) => {
             search.enter(lengths, branch)?;
             if explore(alloc, steps, lengths, search, &next)? {
                 return Ok(true);
@@ -69,11 +69,11 @@ fn visit<S: Steps>(
             search.leave(branch);
             Ok(false)
         }
-        Turn::Stop(Why::False) => {
+        StepOutcome::Stop(StopReason::False) => {
             search.note_false(alloc, lengths, branch)?;
             Ok(false)
         }
-        Turn::Stop(Why::Fault(fault)) => {
+        StepOutcome::Stop(StopReason::Fault(fault)) => {
             search.note_fault(alloc, lengths, branch, fault)?;
             Ok(false)
         }
@@ -95,9 +95,9 @@ pub fn some_plainly<S: Steps>(
     requires commands { AreCommands (S.is_command steps.now) lengths.now }
     requires room { sum lengths.now + S.most_rest steps.now < 2 ^ 32 }
     ensures { IfOk result
-        (λ r. IsAnswer (S.turn steps.now) (S.rest steps.now) lengths.now start.now r.0) }
+        (λ r. IsAnswer (S.outcome steps.now) (S.rest steps.now) lengths.now start.now r.0) }
 {
-    let mut search = Search::new(alloc, lengths)?;
+    let mut search = SearchProgress::new(alloc, lengths)?;
     let found = explore(alloc, steps, lengths, &mut search, start)?;
     let steps_made = search.steps;
     Ok((search.into_answer(found), steps_made))

@@ -3,8 +3,8 @@ ghost use Rattle.std.specs.Prelude.{◌≡◌, ◌∷◌, ◌++◌, [], IfOk, Ma
 ghost use Rattle.pst_grid.specs.Remembered.{IsRemembered};
 
 use crate::Steps;
+use crate::done_counts::DoneCounts;
 use crate::hasher::BuildWordHasher;
-use crate::place::Place;
 use indexmap::IndexSet;
 use std::alloc::{AllocError, Global};
 use std::hash::{Hash, Hasher};
@@ -12,11 +12,11 @@ use std::marker::Model;
 
 /// A state as a search remembers it. Contracts see it as the state.
 #[derive(Drop)]
-pub(crate) struct Kept<S: Steps> {
+pub(crate) struct KeptState<S: Steps> {
     kept: S::Kept,
 }
 
-impl<S: Steps> Model for Kept<S> {
+impl<S: Steps> Model for KeptState<S> {
     ghost Value = { S.State };
 
     ghost coded = { S.State.code };
@@ -24,18 +24,22 @@ impl<S: Steps> Model for Kept<S> {
     ghost view = { λ k. S.state_of k.kept };
 }
 
-impl<S: Steps> Kept<S> {
+impl<S: Steps> KeptState<S> {
     /// The state as a search remembers it.
-    pub(crate) fn new(alloc: Global, steps: &S, state: &S::State) -> Result<Kept<S>, AllocError>
+    pub(crate) fn new(
+        alloc: Global,
+        steps: &S,
+        state: &S::State,
+    ) -> Result<KeptState<S>, AllocError>
         ensures { IfOk result (λ k. k ≡ state.now) }
     {
-        Ok(Kept {
+        Ok(KeptState {
             kept: steps.keep(alloc, state)?,
         })
     }
 }
 
-impl<S: Steps> PartialEq for Kept<S> {
+impl<S: Steps> PartialEq for KeptState<S> {
     ghost eq = { S.State.PartialEq.eq };
 
     ghost laws = { S.State.PartialEq.laws };
@@ -45,11 +49,11 @@ impl<S: Steps> PartialEq for Kept<S> {
     }
 }
 
-impl<S: Steps> Eq for Kept<S> {
+impl<S: Steps> Eq for KeptState<S> {
     ghost laws = { S.State.Eq.laws };
 }
 
-impl<S: Steps> Hash for Kept<S> {
+impl<S: Steps> Hash for KeptState<S> {
     ghost use Rattle.std.proofs.Common.{ap};
 
     ghost hash_input = { S.fed };
@@ -64,7 +68,7 @@ impl<S: Steps> Hash for Kept<S> {
 /// How many commands of each branch are done, and the state there.
 #[derive(PartialEq, Eq, Hash, Drop)]
 pub(crate) struct Position<S> {
-    pub done: Place,
+    pub done: DoneCounts,
     pub state: S,
 }
 
@@ -72,7 +76,7 @@ pub(crate) struct Position<S> {
 pub(crate) fn remember<S: Steps>(
     alloc: Global,
     steps: &S,
-    seen: &mut IndexSet<Position<Kept<S>>, BuildWordHasher>,
+    seen: &mut IndexSet<Position<KeptState<S>>, BuildWordHasher>,
     done: &[usize],
     state: &S::State,
 ) -> Result<bool, AllocError>
@@ -81,8 +85,8 @@ pub(crate) fn remember<S: Steps>(
         (IsRemembered done.now state.now seen.old.keys × (seen.new.keys ≡ seen.old.keys))) }
 {
     let position = Position {
-        done: Place::new(alloc, done)?,
-        state: Kept::new(alloc, steps, state)?,
+        done: DoneCounts::new(alloc, done)?,
+        state: KeptState::new(alloc, steps, state)?,
     };
     Ok(seen.insert(position)?)
 }

@@ -32,7 +32,7 @@ pub(crate) struct Best<F> {
 
 /// The position of a search, and what it has seen.
 #[derive(Drop)]
-pub(crate) struct Search<F> {
+pub(crate) struct SearchProgress<F> {
     // How many commands of each branch are done, and the letters that led there.
     pub done: Vec<usize>,
     pub word: Vec<usize>,
@@ -41,9 +41,9 @@ pub(crate) struct Search<F> {
     pub steps: usize,
 }
 
-impl<F: Drop> Search<F> {
+impl<F: Drop> SearchProgress<F> {
     /// A search at the start of branches of these lengths, which has seen nothing.
-    pub(crate) fn new(alloc: Global, lengths: &[usize]) -> Result<Search<F>, AllocError>
+    pub(crate) fn new(alloc: Global, lengths: &[usize]) -> Result<SearchProgress<F>, AllocError>
         ensures done { IfOk result (λ s. s.done.items ≡ none_done lengths.now) }
         ensures place { IfOk result (λ s. IsAt lengths.now s.done.items) }
         ensures depth { IfOk result (λ s. sum s.done.items ≡ length s.word.items) }
@@ -52,7 +52,7 @@ impl<F: Drop> Search<F> {
         ensures furthest { IfOk result (λ s. s.best.furthest ≡ None) }
         ensures steps { IfOk result (λ s. s.steps ≡ 0) }
     {
-        Ok(Search {
+        Ok(SearchProgress {
             done: vec![in alloc; 0; lengths.len()]?,
             word: Vec::new(alloc),
             best: Best {
@@ -233,7 +233,7 @@ impl<F: Drop> Search<F> {
             (MatchOption self.best.furthest ⊥ (λ x. result ≡ SomeAnswer.Nothing x.at x.word))
             (λ f. result ≡ SomeAnswer.Faulted f.word f.at f.fault)) }
     {
-        let Search { word, best, .. } = self;
+        let SearchProgress { word, best, .. } = self;
         if found {
             return SomeAnswer::Found { word };
         }

@@ -4,13 +4,13 @@ ghost use Rattle.pst_grid.specs.Answers.{IsAnswer};
 ghost use Rattle.pst_grid.specs.Bounds.{IsBounded};
 ghost use Rattle.pst_grid.specs.Completions.{IsAt, Completes, Begins};
 ghost use Rattle.pst_grid.specs.Remembered.{AreAccounted, IsSearched, IsGrown};
-ghost use Rattle.pst_grid.specs.Turns.{AreCommands};
+ghost use Rattle.pst_grid.specs.StepOutcomes.{AreCommands};
 
 use crate::finish::finish;
 use crate::hasher::BuildWordHasher;
-use crate::position::{Kept, Position, remember};
-use crate::search::{Search, is_done};
-use crate::{SomeAnswer, Steps, Turn, Why};
+use crate::position::{KeptState, Position, remember};
+use crate::search::{SearchProgress, is_done};
+use crate::{SomeAnswer, StepOutcome, Steps, StopReason};
 use indexmap::IndexSet;
 use std::alloc::{AllocError, Global};
 
@@ -20,8 +20,8 @@ fn explore_end<S: Steps>(
     alloc: Global,
     steps: &S,
     lengths: &[usize],
-    search: &mut Search<S::Fault>,
-    seen: &mut IndexSet<Position<Kept<S>>, BuildWordHasher>,
+    search: &mut SearchProgress<S::Fault>,
+    seen: &mut IndexSet<Position<KeptState<S>>, BuildWordHasher>,
     state: &S::State,
 ) -> Result<bool, AllocError>
     requires place { IsAt lengths.now search.old.done.items }
@@ -29,12 +29,12 @@ fn explore_end<S: Steps>(
     requires state { S.is_state steps.now state.now }
     requires room { length search.old.word.items + S.most_rest steps.now < 2 ^ 64 }
     requires ended { (b : ℕ) → slice_index lengths.now b ≤ slice_index search.old.done.items b }
-    requires accounted { AreAccounted (S.turn steps.now) (S.rest steps.now) lengths.now
+    requires accounted { AreAccounted (S.outcome steps.now) (S.rest steps.now) lengths.now
         (sum search.old.done.items) search.old.best seen.old.keys }
-    ensures grown { OnOk result (IsGrown (S.turn steps.now) lengths.now (S.most_rest steps.now)
+    ensures grown { OnOk result (IsGrown (S.outcome steps.now) lengths.now (S.most_rest steps.now)
         0 (sum search.old.done.items) search.old.done.items state.now
         seen.old.keys seen.new.keys search.old.steps search.new.steps) }
-    ensures searched { IfOk result (IsSearched (S.turn steps.now) (S.rest steps.now) lengths.now
+    ensures searched { IfOk result (IsSearched (S.outcome steps.now) (S.rest steps.now) lengths.now
         (sum search.old.done.items) state.now
         (Completes lengths.now search.old.done.items) search.old search.new seen.new.keys) }
 {
@@ -53,8 +53,8 @@ fn explore<S: Steps>(
     alloc: Global,
     steps: &S,
     lengths: &[usize],
-    search: &mut Search<S::Fault>,
-    seen: &mut IndexSet<Position<Kept<S>>, BuildWordHasher>,
+    search: &mut SearchProgress<S::Fault>,
+    seen: &mut IndexSet<Position<KeptState<S>>, BuildWordHasher>,
     state: &S::State,
 ) -> Result<bool, AllocError>
     requires place { IsAt lengths.now search.old.done.items }
@@ -62,12 +62,12 @@ fn explore<S: Steps>(
     requires state { S.is_state steps.now state.now }
     requires commands { AreCommands (S.is_command steps.now) lengths.now }
     requires room { S.most_rest steps.now < 2 ^ 32 }
-    requires accounted { AreAccounted (S.turn steps.now) (S.rest steps.now) lengths.now
+    requires accounted { AreAccounted (S.outcome steps.now) (S.rest steps.now) lengths.now
         (sum search.old.done.items) search.old.best seen.old.keys }
-    ensures grown { OnOk result (IsGrown (S.turn steps.now) lengths.now (S.most_rest steps.now)
+    ensures grown { OnOk result (IsGrown (S.outcome steps.now) lengths.now (S.most_rest steps.now)
         0 (sum search.old.done.items) search.old.done.items state.now
         seen.old.keys seen.new.keys search.old.steps search.new.steps) }
-    ensures searched { IfOk result (IsSearched (S.turn steps.now) (S.rest steps.now) lengths.now
+    ensures searched { IfOk result (IsSearched (S.outcome steps.now) (S.rest steps.now) lengths.now
         (sum search.old.done.items) state.now
         (Completes lengths.now search.old.done.items) search.old search.new seen.new.keys) }
 {
@@ -86,8 +86,8 @@ fn explore_branches<S: Steps>(
     alloc: Global,
     steps: &S,
     lengths: &[usize],
-    search: &mut Search<S::Fault>,
-    seen: &mut IndexSet<Position<Kept<S>>, BuildWordHasher>,
+    search: &mut SearchProgress<S::Fault>,
+    seen: &mut IndexSet<Position<KeptState<S>>, BuildWordHasher>,
     state: &S::State,
 ) -> Result<bool, AllocError>
     requires place { IsAt lengths.now search.old.done.items }
@@ -96,12 +96,12 @@ fn explore_branches<S: Steps>(
     requires commands { AreCommands (S.is_command steps.now) lengths.now }
     requires room { S.most_rest steps.now < 2 ^ 32 }
     requires left { (b : ℕ) × (slice_index search.old.done.items b < slice_index lengths.now b) }
-    requires accounted { AreAccounted (S.turn steps.now) (S.rest steps.now) lengths.now
+    requires accounted { AreAccounted (S.outcome steps.now) (S.rest steps.now) lengths.now
         (sum search.old.done.items + 1) search.old.best seen.old.keys }
-    ensures grown { OnOk result (IsGrown (S.turn steps.now) lengths.now (S.most_rest steps.now)
+    ensures grown { OnOk result (IsGrown (S.outcome steps.now) lengths.now (S.most_rest steps.now)
         (length lengths.now) (sum search.old.done.items + 1) search.old.done.items state.now
         seen.old.keys seen.new.keys search.old.steps search.new.steps) }
-    ensures searched { IfOk result (IsSearched (S.turn steps.now) (S.rest steps.now) lengths.now
+    ensures searched { IfOk result (IsSearched (S.outcome steps.now) (S.rest steps.now) lengths.now
         (sum search.old.done.items + 1) state.now
         (Completes lengths.now search.old.done.items) search.old search.new seen.new.keys) }
 {
@@ -119,8 +119,8 @@ fn visit<S: Steps>(
     alloc: Global,
     steps: &S,
     lengths: &[usize],
-    search: &mut Search<S::Fault>,
-    seen: &mut IndexSet<Position<Kept<S>>, BuildWordHasher>,
+    search: &mut SearchProgress<S::Fault>,
+    seen: &mut IndexSet<Position<KeptState<S>>, BuildWordHasher>,
     state: &S::State,
     branch: usize,
 ) -> Result<bool, AllocError>
@@ -130,12 +130,12 @@ fn visit<S: Steps>(
     requires commands { AreCommands (S.is_command steps.now) lengths.now }
     requires branch { branch < length lengths.now }
     requires room { S.most_rest steps.now < 2 ^ 32 }
-    requires accounted { AreAccounted (S.turn steps.now) (S.rest steps.now) lengths.now
+    requires accounted { AreAccounted (S.outcome steps.now) (S.rest steps.now) lengths.now
         (sum search.old.done.items + 1) search.old.best seen.old.keys }
-    ensures grown { OnOk result (IsGrown (S.turn steps.now) lengths.now (S.most_rest steps.now)
+    ensures grown { OnOk result (IsGrown (S.outcome steps.now) lengths.now (S.most_rest steps.now)
         1 (sum search.old.done.items + 1) search.old.done.items state.now
         seen.old.keys seen.new.keys search.old.steps search.new.steps) }
-    ensures searched { IfOk result (IsSearched (S.turn steps.now) (S.rest steps.now) lengths.now
+    ensures searched { IfOk result (IsSearched (S.outcome steps.now) (S.rest steps.now) lengths.now
         (sum search.old.done.items + 1) state.now
         (Begins lengths.now search.old.done.items branch) search.old search.new seen.new.keys) }
 {
@@ -145,7 +145,7 @@ fn visit<S: Steps>(
     }
     search.steps = search.steps.saturating_add(1);
     match steps.step(alloc, state, branch, index)? {
-        Turn::Next(next) => {
+        StepOutcome::Next(next) => {
             search.enter(lengths, branch)?;
             if explore(alloc, steps, lengths, search, seen, &next)? {
                 return Ok(true);
@@ -153,11 +153,11 @@ fn visit<S: Steps>(
             search.leave(branch);
             Ok(false)
         }
-        Turn::Stop(Why::False) => {
+        StepOutcome::Stop(StopReason::False) => {
             search.note_false(alloc, lengths, branch)?;
             Ok(false)
         }
-        Turn::Stop(Why::Fault(fault)) => {
+        StepOutcome::Stop(StopReason::Fault(fault)) => {
             search.note_fault(alloc, lengths, branch, fault)?;
             Ok(false)
         }
@@ -180,11 +180,11 @@ pub fn some<S: Steps>(
     requires commands { AreCommands (S.is_command steps.now) lengths.now }
     requires room { sum lengths.now + S.most_rest steps.now < 2 ^ 32 }
     ensures answer { IfOk result
-        (λ r. IsAnswer (S.turn steps.now) (S.rest steps.now) lengths.now start.now r.0) }
+        (λ r. IsAnswer (S.outcome steps.now) (S.rest steps.now) lengths.now start.now r.0) }
     ensures bound { IfOk result
-        (λ r. IsBounded (S.turn steps.now) lengths.now (S.most_rest steps.now) start.now r.1) }
+        (λ r. IsBounded (S.outcome steps.now) lengths.now (S.most_rest steps.now) start.now r.1) }
 {
-    let mut search = Search::new(alloc, lengths)?;
+    let mut search = SearchProgress::new(alloc, lengths)?;
     let mut seen = IndexSet::with_hasher(alloc, BuildWordHasher::new());
     let found = explore(alloc, steps, lengths, &mut search, &mut seen, start)?;
     // The length is not used: `len` says that the set has no repeats.

@@ -3,10 +3,10 @@ ghost use Rattle.std.specs.Hash.{HashWrites};
 ghost use Rattle.std.specs.Prelude.{◌≡◌, ◌≤◌, ℕ, IfOk, MatchBool, true};
 ghost use Rattle.pst_grid.specs.declared.answer.Ending.{Ending};
 ghost use Rattle.pst_grid.specs.declared.answer.Ending.TheVariants.{AllTrue};
-ghost use Rattle.pst_grid.specs.declared.answer.Turn.{Turn};
-ghost use Rattle.pst_grid.specs.Turns.{OnNext, OnStop};
+ghost use Rattle.pst_grid.specs.declared.answer.StepOutcome.{StepOutcome};
+ghost use Rattle.pst_grid.specs.StepOutcomes.{OnNext, OnStop};
 
-use crate::{Ending, Turn};
+use crate::{Ending, StepOutcome};
 use std::alloc::{AllocError, Global};
 use std::hash::Hash;
 
@@ -31,8 +31,8 @@ pub trait Steps {
     // The commands that `step` accepts, by branch and index.
     ghost is_command: { Self → ℕ → ℕ → Type 0 };
 
-    // The result of the step of a branch's command, by its index, from a state.
-    ghost turn: { Self → Self.State → ℕ → ℕ → Turn Self.State Self.Fault };
+    // The outcome of the step of a branch's command, by its index, from a state.
+    ghost outcome: { Self → Self.State → ℕ → ℕ → StepOutcome Self.State Self.Fault };
 
     // How the run ends from a state in which all branches have ended.
     ghost rest: { Self → Self.State → Ending Self.Fault };
@@ -53,10 +53,10 @@ pub trait Steps {
         state: &Self::State,
         branch: usize,
         index: usize,
-    ) -> Result<Turn<Self::State, Self::Fault>, AllocError>
+    ) -> Result<StepOutcome<Self::State, Self::Fault>, AllocError>
         requires state { is_state self.now state.now }
         requires command { is_command self.now branch index }
-        ensures answer { IfOk result (λ t. t ≡ turn self.now state.now branch index) }
+        ensures answer { IfOk result (λ t. t ≡ outcome self.now state.now branch index) }
         ensures next { IfOk result (λ t. OnNext t (is_state self.now)) };
 
     /// Runs the rest, which follows when all branches have ended, from this state. Returns how it ends, and how many

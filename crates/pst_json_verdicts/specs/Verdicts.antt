@@ -1,7 +1,7 @@
 -- The members of the objects of verdicts and refusals.
 use Rattle.std.specs.Prelude.{ℕ, List, [], ◌∷◌, ◌++◌, codes}
 use Rattle.pst_eval.specs.Places.{callback_name}
-use Rattle.pst_eval.specs.declared.place.Place.{Place}
+use Rattle.pst_eval.specs.declared.place.FaultPlace.{FaultPlace}
 use Rattle.pst_json_verdicts.specs.declared.field.Field.{Field}
 use Rattle.pst_json_verdicts.specs.declared.field.Field.TheVariants.{Number, Words}
 use Rattle.pst_json_verdicts.specs.declared.field.Name.TheVariants as name
@@ -24,7 +24,7 @@ abbrev pub verdict : List ℕ → Field
 verdict words = Words name.Verdict words
 
 -- the place of a fault: its command, its callback, its kind
-abbrev pub place_fields : Place → List Field
+abbrev pub place_fields : FaultPlace → List Field
 place_fields p =
     Number name.Command p.command ∷ Words name.Callback (callback_name p.callback)
     ∷ Words name.Fault (fault_name p.fault) ∷ []

@@ -6,13 +6,13 @@ ghost use Rattle.pst_judge.specs.declared.judgement.Judged.TheVariants as judged
 use crate::add::{add_number, add_words};
 use crate::field::{Field, Name};
 use crate::merge::merge_text;
-use pst_eval::Place;
+use pst_eval::FaultPlace;
 use pst_judge::{Judged, Verdict, Why};
 use pst_runs::RunFaultKind;
 use std::alloc::{AllocError, Global};
 
 /// Adds the place of a fault.
-fn add_place(alloc: Global, fields: &mut Vec<Field>, place: &Place) -> Result<(), AllocError>
+fn add_place(alloc: Global, fields: &mut Vec<Field>, place: &FaultPlace) -> Result<(), AllocError>
     ensures { OnOk result (fields.new.items ≡ fields.old.items ++ place_fields place.now) }
 {
     add_number(fields, Name::Command, place.command as u64)?;

@@ -9,16 +9,16 @@ use Rattle.pst_grid.specs.declared.answer.Ending.{Ending}
 use Rattle.pst_grid.specs.declared.answer.Ending.TheVariants.{AllTrue, StopsAt}
 use Rattle.pst_grid.specs.declared.answer.SomeAnswer.{SomeAnswer}
 use Rattle.pst_grid.specs.declared.answer.SomeAnswer.TheVariants.{Found, Faulted as FaultedWord, Nothing}
-use Rattle.pst_grid.specs.declared.answer.Turn.{Turn}
-use Rattle.pst_grid.specs.declared.answer.Why.{Why}
-use Rattle.pst_grid.specs.declared.answer.Why.TheVariants.{False, Fault}
+use Rattle.pst_grid.specs.declared.answer.StepOutcome.{StepOutcome}
+use Rattle.pst_grid.specs.declared.answer.StopReason.{StopReason}
+use Rattle.pst_grid.specs.declared.answer.StopReason.TheVariants.{False, Fault}
 use Rattle.pst_grid.proofs.Filling.{Completes-fill, fill_least}
 use Rattle.pst_grid.proofs.Answering.{IsAt-none, completes, merge}
 use Rattle.pst_judge.proofs.Shifted.{shifted, shifted-true, shifted-stops, from_true, from_false, from_fault}
 use Rattle.pst_judge.specs.Replay.{Asking, replayed_asking, branch_lengths}
 use Rattle.pst_judge.specs.FromAnswer.{verdict_of}
 use Rattle.pst_judge.specs.Verdict.{IsJudgedAsking}
-use Rattle.pst_eval.specs.declared.place.Place.{Place}
+use Rattle.pst_eval.specs.declared.place.FaultPlace.{FaultPlace}
 use Rattle.pst_judge.specs.declared.verdicts.Verdict.TheVariants.{Faulted, Unexplained}
 use Rattle.pst_model.specs.declared.model.Source.{Source}
 use Rattle.pst_value.specs.declared.value.Value.{Value}
@@ -49,7 +49,7 @@ module _ (m : Source) (asked : Asking) (c : Case) (h : History) where
     λ v j k. let q = sym (all v) ∙ k.1 in let p : n ≡ j = cc in omega (arith, p),
   )
 
-  pub stopped_fault : (n : ℕ) (p : Place) → ((w : List ℕ) → replayed_asking m asked c h w ≡ StopsAt n (Fault p)) → IsJudgedAsking m asked c h (Faulted p)
+  pub stopped_fault : (n : ℕ) (p : FaultPlace) → ((w : List ℕ) → replayed_asking m asked c h w ≡ StopsAt n (Fault p)) → IsJudgedAsking m asked c h (Faulted p)
   stopped_fault n p all = (
     λ v k. let q = sym (all v) ∙ k.1 in cc,
     (first_merge lengths, ((first_is_merge lengths, (n, p, all (first_merge lengths))), λ v k. first_is_least lengths v k.0), (n, all (first_merge lengths))),
@@ -57,17 +57,17 @@ module _ (m : Source) (asked : Asking) (c : Case) (h : History) where
 
   -- ---- the prefix is through, and the search has answered
 
-  module _ (turn : Value → ℕ → ℕ → Turn Value Place) (rest : Value → Ending Place) (s : Value) (n : ℕ) (all : (w : List ℕ) → replayed_asking m asked c h w ≡ shifted n (ending turn rest lengths s w)) where
+  module _ (turn : Value → ℕ → ℕ → StepOutcome Value FaultPlace) (rest : Value → Ending FaultPlace) (s : Value) (n : ℕ) (all : (w : List ℕ) → replayed_asking m asked c h w ≡ shifted n (ending turn rest lengths s w)) where
     true_from : (w : List ℕ) → replayed_asking m asked c h w ≡ AllTrue → ending turn rest lengths s w ≡ AllTrue
     true_from w e = from_true n _ (sym (all w) ∙ e)
 
     true_to : (w : List ℕ) → ending turn rest lengths s w ≡ AllTrue → replayed_asking m asked c h w ≡ AllTrue
     true_to w e = all w ∙ ap (shifted n) e ∙ shifted-true n
 
-    stops_to : (w : List ℕ) (k : ℕ) (why : Why Place) → ending turn rest lengths s w ≡ StopsAt k why → replayed_asking m asked c h w ≡ StopsAt (n + k) why
+    stops_to : (w : List ℕ) (k : ℕ) (why : StopReason FaultPlace) → ending turn rest lengths s w ≡ StopsAt k why → replayed_asking m asked c h w ≡ StopsAt (n + k) why
     stops_to w k why e = all w ∙ ap (shifted n) e ∙ shifted-stops n k why
 
-    pub judged_by : (a : SomeAnswer Place) → IsAnswer turn rest lengths s a → IsJudgedAsking m asked c h (verdict_of n a)
+    pub judged_by : (a : SomeAnswer FaultPlace) → IsAnswer turn rest lengths s a → IsJudgedAsking m asked c h (verdict_of n a)
     judged_by (Found word) k = ((k.0.0, true_to word.items k.0.1), λ v e. k.1 v (e.0, true_from v e.1))
     judged_by (FaultedWord word at place) k = (
       λ w e. k.0 w (e.0, true_from w e.1),

@@ -4,17 +4,17 @@ use Rattle.std.proofs.lemmas.List.{take-append-drop, length-take-le, take_all, a
 use Rattle.std.proofs.lemmas.Bool.Decides.{nat_tests}
 use Rattle.pst_case.specs.declared.case.Case.{Case}
 use Rattle.pst_case.specs.declared.history.History.{History}
-use Rattle.pst_eval.specs.declared.place.Place.{Place}
+use Rattle.pst_eval.specs.declared.place.FaultPlace.{FaultPlace}
 use Rattle.pst_grid.specs.Answers.{IsAnswer, ending}
 use Rattle.pst_grid.specs.Merges.{IsMerge, IsUpTo, after, later, run, one_more, times, none_done}
 use Rattle.pst_grid.specs.declared.answer.Ending.{Ending}
 use Rattle.pst_grid.specs.declared.answer.Ending.TheVariants.{AllTrue, StopsAt}
 use Rattle.pst_grid.specs.declared.answer.SomeAnswer.{SomeAnswer}
 use Rattle.pst_grid.specs.declared.answer.SomeAnswer.TheVariants.{Found, Faulted as FaultedWord, Nothing}
-use Rattle.pst_grid.specs.declared.answer.Turn.{Turn}
-use Rattle.pst_grid.specs.declared.answer.Turn.TheVariants.{Next, Stop}
-use Rattle.pst_grid.specs.declared.answer.Why.{Why}
-use Rattle.pst_grid.specs.declared.answer.Why.TheVariants.{False, Fault}
+use Rattle.pst_grid.specs.declared.answer.StepOutcome.{StepOutcome}
+use Rattle.pst_grid.specs.declared.answer.StepOutcome.TheVariants.{Next, Stop}
+use Rattle.pst_grid.specs.declared.answer.StopReason.{StopReason}
+use Rattle.pst_grid.specs.declared.answer.StopReason.TheVariants.{False, Fault}
 use Rattle.pst_judge.proofs.FromSearch.{first_merge, first_is_merge, first_is_least, judged_by}
 use Rattle.pst_judge.proofs.Shifted.{shifted, shifted-true, shifted-stops, from_false, from_fault}
 use Rattle.pst_judge.specs.FromAnswer.{verdict_of, letters_of}
@@ -49,17 +49,17 @@ short_or_long (suc n) (suc k) = at (short_or_long n k)
     at (inl h) = inl (omega (arith, h))
     at (inr h) = inr (omega (arith, h))
 
-later_stops : {F : Type 0} (e : Ending F) (n : ℕ) (why : Why F) → later e ≡ StopsAt (suc n) why → e ≡ StopsAt n why
+later_stops : {F : Type 0} (e : Ending F) (n : ℕ) (why : StopReason F) → later e ≡ StopsAt (suc n) why → e ≡ StopsAt n why
 later_stops AllTrue n why h = absurd (cc)
 later_stops (StopsAt k other) n why h = let p : suc k ≡ suc n = cc in let q : other ≡ why = cc in let z : k ≡ n = omega (arith, p) in (λ i. StopsAt (z i) (q i))
 
 -- the letters before the stop are those of true events
-module _ {S F : Type 0} (turn : S → ℕ → ℕ → Turn S F) (rest : S → Ending F) where
-  after_stops : (t : Turn S F) (k : S → Ending F) (n : ℕ) (why : Why F) → after t k ≡ StopsAt (suc n) why → (next : S) × (t ≡ Next next) × (k next ≡ StopsAt n why)
+module _ {S F : Type 0} (turn : S → ℕ → ℕ → StepOutcome S F) (rest : S → Ending F) where
+  after_stops : (t : StepOutcome S F) (k : S → Ending F) (n : ℕ) (why : StopReason F) → after t k ≡ StopsAt (suc n) why → (next : S) × (t ≡ Next next) × (k next ≡ StopsAt n why)
   after_stops (Next next) k n why h = (next, refl, later_stops (k next) n why h)
   after_stops (Stop other) k n why h = let p : 0 ≡ suc n = cc in absurd (omega (arith, p))
 
-  begins_true : (done : List ℕ) (s : S) (w : List ℕ) (n : ℕ) (why : Why F) → run turn rest done s w ≡ StopsAt n why
+  begins_true : (done : List ℕ) (s : S) (w : List ℕ) (n : ℕ) (why : StopReason F) → run turn rest done s w ≡ StopsAt n why
       → (more : List ℕ) → (e : Ending F) × (run turn rest done s (take n w ++ more) ≡ shifted (length (take n w)) e)
   begins_true done s [] zero why h more = (_, refl)
   begins_true done s [] (suc n) why h more = (_, refl)
@@ -86,20 +86,20 @@ module _ (m : Source) (asked : Asking) (c : Case) (h : History) where
         ((first, first_is_merge lengths), λ more merge. all more),
       )
 
-  pub faulting_early : (n : ℕ) (p : Place) → ((w : List ℕ) → replayed_asking m asked c h w ≡ StopsAt n (Fault p)) → n ≤ length c.prefix → IsFaultingAsking m asked c h p []
+  pub faulting_early : (n : ℕ) (p : FaultPlace) → ((w : List ℕ) → replayed_asking m asked c h w ≡ StopsAt n (Fault p)) → n ≤ length c.prefix → IsFaultingAsking m asked c h p []
   faulting_early n p all early =
       let first = first_merge lengths in
       (first, n, ((first_is_merge lengths, (n, p, all first)), λ w other. first_is_least lengths w other.0), all first, no_letters_before n first early)
 
   -- the prefix is through, and the search has answered
-  module _ (turn : Value → ℕ → ℕ → Turn Value Place) (rest : Value → Ending Place) (s : Value) (all : (w : List ℕ) → replayed_asking m asked c h w ≡ shifted (length c.prefix) (ending turn rest lengths s w)) where
+  module _ (turn : Value → ℕ → ℕ → StepOutcome Value FaultPlace) (rest : Value → Ending FaultPlace) (s : Value) (all : (w : List ℕ) → replayed_asking m asked c h w ≡ shifted (length c.prefix) (ending turn rest lengths s w)) where
     abbrev prefix : ℕ
     prefix = length c.prefix
 
-    abbrev from : List ℕ → Ending Place
+    abbrev from : List ℕ → Ending FaultPlace
     from w = ending turn rest lengths s w
 
-    stops_to : (w : List ℕ) (k : ℕ) (why : Why Place) → from w ≡ StopsAt k why → replayed_asking m asked c h w ≡ StopsAt (prefix + k) why
+    stops_to : (w : List ℕ) (k : ℕ) (why : StopReason FaultPlace) → from w ≡ StopsAt k why → replayed_asking m asked c h w ≡ StopsAt (prefix + k) why
     stops_to w k why e = all w ∙ ap (shifted prefix) e ∙ shifted-stops prefix k why
 
     false_from : (w : List ℕ) (k : ℕ) → replayed_asking m asked c h w ≡ StopsAt (prefix + k) False → from w ≡ StopsAt k False
@@ -120,7 +120,7 @@ module _ (m : Source) (asked : Asking) (c : Case) (h : History) where
           u : List ℕ
           u = take far w ++ more
 
-          ends : (e : Ending Place) → from u ≡ e → (f : Ending Place) → from u ≡ shifted far f → replayed_asking m asked c h u ≡ StopsAt (prefix + far) False
+          ends : (e : Ending FaultPlace) → from u ≡ e → (f : Ending FaultPlace) → from u ≡ shifted far f → replayed_asking m asked c h u ≡ StopsAt (prefix + far) False
           ends AllTrue is f begins = absurd (judged.0 u (other, all u ∙ ap (shifted prefix) is ∙ shifted-true prefix))
           ends (StopsAt n (Fault place)) is f begins = absurd (judged.1 u (other, (prefix + n, place, stops_to u n (Fault place) is)))
           ends (StopsAt n False) is f begins =
@@ -149,7 +149,7 @@ module _ (m : Source) (asked : Asking) (c : Case) (h : History) where
             ((drop far w, subst Q (sym (take-append-drop far w)) merge), λ more other. stops_there w more merge stops other),
           )
 
-    pub letters_by : (a : SomeAnswer Place) → IsAnswer turn rest lengths s a → HasLettersAsking m asked c h (verdict_of prefix a) (letters_of a)
+    pub letters_by : (a : SomeAnswer FaultPlace) → IsAnswer turn rest lengths s a → HasLettersAsking m asked c h (verdict_of prefix a) (letters_of a)
     letters_by (Found word) k = tt
     letters_by (FaultedWord word at place) k =
         let stops = stops_to word.items at (Fault place) k.1.1 in (

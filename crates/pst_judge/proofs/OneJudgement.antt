@@ -4,7 +4,7 @@ use Rattle.pst_case.specs.declared.case.Case.{Case}
 use Rattle.pst_case.specs.declared.history.History.{History}
 use Rattle.pst_grid.specs.Merges.{IsUpTo, IsLeast}
 use Rattle.pst_grid.specs.declared.answer.Ending.TheVariants.{AllTrue, StopsAt}
-use Rattle.pst_grid.specs.declared.answer.Why.TheVariants as stop
+use Rattle.pst_grid.specs.declared.answer.StopReason.TheVariants as stop
 use Rattle.pst_judge.specs.Judgement.{IsJudgementOf}
 use Rattle.pst_judge.specs.Replay.{replayed}
 use Rattle.pst_case.specs.Recorded.{recorded}
@@ -14,7 +14,7 @@ use Rattle.pst_judge.specs.Validity.{IsValid, Fails, FailsFirst, IsWhy}
 use Rattle.pst_judge.specs.Verdict.{first_broken, Ends, FaultsAt, IsJudged, IsVerdictOf}
 use Rattle.pst_judge.specs.declared.judgement.Judged.{Judged}
 use Rattle.pst_judge.specs.declared.judgement.Judged.TheVariants.{Verdict as WithVerdict, Valid, Invalid}
-use Rattle.pst_eval.specs.declared.place.Place.{Place}
+use Rattle.pst_eval.specs.declared.place.FaultPlace.{FaultPlace}
 use Rattle.pst_judge.specs.declared.symbolic.Failing.{Failing}
 use Rattle.pst_judge.specs.declared.symbolic.Failing.TheVariants as failing
 use Rattle.pst_judge.specs.declared.verdicts.Verdict.{Verdict}
@@ -51,7 +51,7 @@ fault_is n k f g e = cc
 pre_false : (n k : ℕ) → failing.PreFalse n ≡ failing.PreFalse k → n ≡ k
 pre_false n k e = cc
 
-at_place : (p q : Place) → failing.CallbackFault p ≡ failing.CallbackFault q → p ≡ q
+at_place : (p q : FaultPlace) → failing.CallbackFault p ≡ failing.CallbackFault q → p ≡ q
 at_place p q e = cc
 
 -- ---- verdicts

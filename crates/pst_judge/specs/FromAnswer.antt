@@ -1,10 +1,10 @@
 -- The verdict that an answer of the search stands for.
 use Rattle.std.specs.Prelude.{◌≡◌, ℕ, ◌+◌, List, [], take}
-use Rattle.pst_eval.specs.declared.place.Place.{Place}
+use Rattle.pst_eval.specs.declared.place.FaultPlace.{FaultPlace}
 use Rattle.pst_grid.specs.Answers.{IsAnswer}
 use Rattle.pst_grid.specs.declared.answer.SomeAnswer.{SomeAnswer}
 use Rattle.pst_grid.specs.declared.answer.SomeAnswer.TheVariants.{Found, Faulted as FaultedWord, Nothing}
-use Rattle.pst_judge.specs.Replay.{Asking, branch_turn_asking}
+use Rattle.pst_judge.specs.Replay.{Asking, branch_outcome_asking}
 use Rattle.pst_judge.specs.Running.{last_events}
 use Rattle.pst_judge.specs.declared.events.Event.{Event}
 use Rattle.pst_judge.specs.declared.verdicts.Verdict.{Verdict}
@@ -13,13 +13,13 @@ use Rattle.pst_model.specs.declared.model.Source.{Source}
 use Rattle.pst_value.specs.declared.value.Value.{Value}
 
 -- so many events of the prefix are counted with those that the search counts
-abbrev pub verdict_of : (prefix : ℕ) → SomeAnswer Place → Verdict
+abbrev pub verdict_of : (prefix : ℕ) → SomeAnswer FaultPlace → Verdict
 verdict_of prefix (Found word) = Explained word
 verdict_of prefix (FaultedWord word at place) = Faulted place
 verdict_of prefix (Nothing far word) = Unexplained (prefix + far)
 
 -- the letters of the true events of the merge that an answer names, where it is not all true
-abbrev pub letters_of : SomeAnswer Place → List ℕ
+abbrev pub letters_of : SomeAnswer FaultPlace → List ℕ
 letters_of (Found word) = []
 letters_of (FaultedWord word at place) = take at word.items
 letters_of (Nothing far word) = take far word.items
@@ -30,13 +30,13 @@ abbrev pub IsVerdictOfSearch :
     Source → Asking → (branches : List (List Event)) → (suffix : List Event) → (lengths : List ℕ)
     → (prefix : ℕ) → Value → Verdict → (letters : List ℕ) → Type 0
 IsVerdictOfSearch m asked branches suffix lengths prefix s v letters =
-    (answer : SomeAnswer Place)
-    × IsAnswer (branch_turn_asking m asked branches) (last_events m asked suffix) lengths s answer
+    (answer : SomeAnswer FaultPlace)
+    × IsAnswer (branch_outcome_asking m asked branches) (last_events m asked suffix) lengths s answer
     × (v ≡ verdict_of prefix answer)
     × (letters ≡ letters_of answer)
 
 -- a fact of the events that an answer counts, where it finds no merge
-abbrev pub OnNothing : SomeAnswer Place → (ℕ → Type 0) → Type 0
+abbrev pub OnNothing : SomeAnswer FaultPlace → (ℕ → Type 0) → Type 0
 OnNothing (Found word) P = Unit {0}
 OnNothing (FaultedWord word at place) P = Unit {0}
 OnNothing (Nothing far word) P = P far

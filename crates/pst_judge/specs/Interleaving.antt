@@ -2,10 +2,10 @@
 use Rattle.std.specs.Prelude.{◌≡◌, ℕ, ◌-◌, List, [], ◌++◌, length, take}
 use Rattle.pst_case.specs.declared.case.Case.{Case}
 use Rattle.pst_case.specs.declared.history.History.{History}
-use Rattle.pst_eval.specs.declared.place.Place.{Place}
+use Rattle.pst_eval.specs.declared.place.FaultPlace.{FaultPlace}
 use Rattle.pst_grid.specs.Merges.{IsMerge, IsLeast}
 use Rattle.pst_grid.specs.declared.answer.Ending.TheVariants.{StopsAt}
-use Rattle.pst_grid.specs.declared.answer.Why.TheVariants as why
+use Rattle.pst_grid.specs.declared.answer.StopReason.TheVariants as why
 use Rattle.pst_judge.specs.Replay.{Asking, post_asked, replayed_asking, branch_lengths}
 use Rattle.pst_judge.specs.Verdict.{EndsAsking, FaultsAsking}
 use Rattle.pst_judge.specs.declared.verdicts.Verdict.{Verdict}
@@ -43,7 +43,7 @@ module _ (m : Source) (asked : Asking) (c : Case) (h : History) where
       × StopsAllAsking far word
 
   -- the letters of the true events of the least merge that faults, which it does at this place
-  abbrev pub IsFaultingAsking : Place → List ℕ → Type 0
+  abbrev pub IsFaultingAsking : FaultPlace → List ℕ → Type 0
   IsFaultingAsking place word =
       (merge : List ℕ) × (n : ℕ)
       × IsLeast (FaultsAsking m asked c h) merge
@@ -62,7 +62,7 @@ module _ (m : Source) (c : Case) (h : History) where
   abbrev pub IsFurthest : ℕ → List ℕ → Type 0
   IsFurthest = IsFurthestAsking m (post_asked m) c h
 
-  abbrev pub IsFaulting : Place → List ℕ → Type 0
+  abbrev pub IsFaulting : FaultPlace → List ℕ → Type 0
   IsFaulting = IsFaultingAsking m (post_asked m) c h
 
   -- the interleaving of a verdict: the word that explains; the letters of the true events of the least merge

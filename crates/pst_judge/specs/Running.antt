@@ -2,12 +2,12 @@
 use Rattle.std.specs.Prelude.{◌≡◌, ◌<◌, ℕ, suc, true, List, [], ◌∷◌, slice_index, Some}
 use Rattle.pst_case.specs.Shape.{result_types}
 use Rattle.pst_case.specs.declared.case.Case.{Case}
-use Rattle.pst_eval.specs.declared.place.Place.{Place}
+use Rattle.pst_eval.specs.declared.place.FaultPlace.{FaultPlace}
 use Rattle.pst_grid.specs.declared.answer.Ending.{Ending}
 use Rattle.pst_grid.specs.declared.answer.Ending.TheVariants.{AllTrue, StopsAt}
-use Rattle.pst_grid.specs.declared.answer.Turn.{Turn}
-use Rattle.pst_grid.specs.declared.answer.Turn.TheVariants.{Next, Stop}
-use Rattle.pst_judge.specs.Replay.{Asking, EventFits, turn_asking, event_at, branch_lengths, run_asking}
+use Rattle.pst_grid.specs.declared.answer.StepOutcome.{StepOutcome}
+use Rattle.pst_grid.specs.declared.answer.StepOutcome.TheVariants.{Next, Stop}
+use Rattle.pst_judge.specs.Replay.{Asking, EventFits, outcome_asking, event_at, branch_lengths, run_asking}
 use Rattle.pst_judge.specs.declared.events.Event.{Event}
 use Rattle.pst_judge.specs.declared.running.EventsEnd.{EventsEnd}
 use Rattle.pst_judge.specs.declared.running.EventsEnd.TheVariants.{Through, Stopped}
@@ -21,7 +21,7 @@ abbrev pub counted : EventsEnd → EventsEnd
 counted (Through s) = Through s
 counted (Stopped at why) = Stopped (suc at) why
 
-abbrev pub end_after : Turn Value Place → (Value → EventsEnd) → EventsEnd
+abbrev pub end_after : StepOutcome Value FaultPlace → (Value → EventsEnd) → EventsEnd
 end_after (Next s) rest = counted (rest s)
 end_after (Stop why) rest = Stopped 0 why
 
@@ -29,14 +29,14 @@ end_after (Stop why) rest = Stopped 0 why
 abbrev pub events_end : Source → Asking → List Event → Value → EventsEnd
 events_end m asked [] s = Through s
 events_end m asked (e ∷ es) s =
-    end_after (turn_asking m asked s e) (λ next. events_end m asked es next)
+    end_after (outcome_asking m asked s e) (λ next. events_end m asked es next)
 
 -- how the run ends whose last events these are
-abbrev pub last_events : Source → Asking → List Event → Value → Ending Place
+abbrev pub last_events : Source → Asking → List Event → Value → Ending FaultPlace
 last_events m asked es s = run_asking m asked es s (λ last. AllTrue)
 
 -- how the run ends whose last events end so
-abbrev pub ending_of : EventsEnd → Ending Place
+abbrev pub ending_of : EventsEnd → Ending FaultPlace
 ending_of (Through s) = AllTrue
 ending_of (Stopped at why) = StopsAt at why
 

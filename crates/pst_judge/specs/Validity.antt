@@ -3,7 +3,7 @@ use Rattle.std.specs.Prelude.{◌≡◌, ℕ, List, Option, Some, None}
 use Rattle.pst_case.specs.declared.case.Case.{Case}
 use Rattle.pst_grid.specs.Merges.{IsMerge, IsLeast}
 use Rattle.pst_grid.specs.declared.answer.Ending.TheVariants.{AllTrue, StopsAt}
-use Rattle.pst_grid.specs.declared.answer.Why.TheVariants as stop
+use Rattle.pst_grid.specs.declared.answer.StopReason.TheVariants as stop
 use Rattle.pst_judge.specs.Replay.{branch_lengths}
 use Rattle.pst_judge.specs.Symbolic.{symbolic}
 use Rattle.pst_judge.specs.declared.symbolic.Failing.{Failing}

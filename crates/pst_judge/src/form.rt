@@ -15,7 +15,7 @@ const DRAFT: usize = 128;
 
 /// How a value is kept.
 #[derive(Drop)]
-pub(crate) enum Form {
+pub(crate) enum PackedForm {
     /// The value is this integer.
     Int(i64),
     /// A code of at most `SHORT` bytes, and zeros after it. No code is a prefix of another, so its length is
@@ -48,23 +48,23 @@ fn padded(code: &[u8]) -> [u8; SHORT]
 }
 
 /// The form of bytes that are the code of a value.
-fn form_of_code(alloc: Global, code: &[u8]) -> Result<Form, AllocError>
+fn form_of_code(alloc: Global, code: &[u8]) -> Result<PackedForm, AllocError>
     ensures none { IfOk result (λ form. int_in form ≡ None) }
     ensures all { IfOk result (λ form. bytes_in form ≡ padded code.now) }
 {
     if code.len() <= SHORT {
-        return Ok(Form::Short(padded(code)));
+        return Ok(PackedForm::Short(padded(code)));
     }
-    Ok(Form::Long(Vec::from_slice(alloc, code)?))
+    Ok(PackedForm::Long(Vec::from_slice(alloc, code)?))
 }
 
-impl Form {
+impl PackedForm {
     /// The form of a value.
-    pub(crate) fn new(alloc: Global, value: &Value) -> Result<Form, AllocError>
+    pub(crate) fn new(alloc: Global, value: &Value) -> Result<PackedForm, AllocError>
         ensures { IfOk result (λ form. IsForm form value.now) }
     {
         if let Some(n) = int_of(value) {
-            return Ok(Form::Int(n));
+            return Ok(PackedForm::Int(n));
         }
         let mut draft = Vec::with_capacity(alloc, DRAFT)?;
         put(value, &mut draft)?;
@@ -77,8 +77,8 @@ impl Form {
         ensures { result ≡ int_in self.now }
     {
         match self {
-            Form::Int(n) => Some(*n),
-            Form::Short(_) | Form::Long(_) => None,
+            PackedForm::Int(n) => Some(*n),
+            PackedForm::Short(_) | PackedForm::Long(_) => None,
         }
     }
 
@@ -88,9 +88,9 @@ impl Form {
         ensures { result.now ≡ bytes_in self.now }
     {
         match self {
-            Form::Int(_) => &[],
-            Form::Short(bytes) => bytes.as_slice(),
-            Form::Long(bytes) => bytes.as_slice(),
+            PackedForm::Int(_) => &[],
+            PackedForm::Short(bytes) => bytes.as_slice(),
+            PackedForm::Long(bytes) => bytes.as_slice(),
         }
     }
 }

@@ -18,8 +18,8 @@ use crate::running::{EventsEnd, run_events};
 use crate::search::search;
 use crate::verdicts::Verdict;
 use pst_case::{History, Shaped};
-use pst_eval::{Callback, Callbacks, Place};
-use pst_grid::Why;
+use pst_eval::{Callback, Callbacks, FaultPlace};
+use pst_grid::StopReason;
 use pst_value::Value;
 use std::alloc::{AllocError, Global};
 
@@ -81,7 +81,7 @@ fn judged<C: Callbacks, A: Condition>(
     let (state, _) = match callbacks.init(alloc)? {
         Ok(opening) => opening,
         Err(fault) => {
-            let place = Place {
+            let place = FaultPlace {
                 command: 0,
                 callback: Callback::Init,
                 fault,
@@ -94,8 +94,11 @@ fn judged<C: Callbacks, A: Condition>(
         EventsEnd::Through(last) => {
             after_prefix(callbacks, condition, alloc, shaped, history, results, &last)
         }
-        EventsEnd::Stopped(at, Why::False) => Ok((Verdict::Unexplained(at), Vec::new(alloc))),
-        EventsEnd::Stopped(_, Why::Fault(place)) => {
+        EventsEnd::Stopped(at, StopReason::False) => Ok((
+            Verdict::Unexplained(at),
+            Vec::new(alloc),
+        )),
+        EventsEnd::Stopped(_, StopReason::Fault(place)) => {
             Ok((Verdict::Faulted(place), Vec::new(alloc)))
         }
     }

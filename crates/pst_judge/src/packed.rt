@@ -7,7 +7,7 @@
 ghost use Rattle.std.specs.Prelude.{◌≡◌, IfOk};
 
 use crate::feed::feed;
-use crate::form::Form;
+use crate::form::PackedForm;
 use pst_value::Value;
 use std::alloc::{AllocError, Global};
 use std::hash::{Hash, Hasher};
@@ -21,7 +21,7 @@ use std::snapshot::Snapshot;
 /// bytes as the code.
 #[derive(Drop)]
 pub struct Packed {
-    form: Form,
+    form: PackedForm,
     value: Snapshot<Value>,
 }
 
@@ -49,7 +49,7 @@ impl Packed {
         ensures { IfOk result (λ p. p ≡ value.now) }
     {
         Ok(Packed {
-            form: Form::new(alloc, value)?,
+            form: PackedForm::new(alloc, value)?,
             value: Snapshot::of(value),
         })
     }

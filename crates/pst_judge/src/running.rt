@@ -1,15 +1,15 @@
 //! Replays events of a history in turn.
 ghost use Rattle.std.specs.Prelude.{◌≡◌, ◌∷◌, ◌<◌, true, [], List, IfOk, MatchOption, length};
 ghost use Rattle.pst_model.specs.Fitting.{is_state};
-ghost use Rattle.pst_grid.specs.Turns.{OnStop};
+ghost use Rattle.pst_grid.specs.StepOutcomes.{OnStop};
 ghost use Rattle.pst_judge.specs.Running.{events_end, last_events, EventsFit, OnThrough, OnStopped};
 ghost use Rattle.pst_value.specs.declared.ty.Ty.{Ty};
 
 use crate::condition::Condition;
 use crate::events::Event;
-use crate::replay::event_turn;
-use pst_eval::{Callbacks, Place};
-use pst_grid::{Ending, Turn, Why};
+use crate::replay::event_outcome;
+use pst_eval::{Callbacks, FaultPlace};
+use pst_grid::{Ending, StepOutcome, StopReason};
 use pst_value::Value;
 use std::alloc::{AllocError, Global};
 
@@ -19,7 +19,7 @@ pub enum EventsEnd {
     /// All events are true, and this is the state after them.
     Through(Value),
     /// The replay stops after this many true events.
-    Stopped(usize, Why<Place>),
+    Stopped(usize, StopReason<FaultPlace>),
 }
 
 /// Replays events in turn from a state.
@@ -43,9 +43,9 @@ pub fn run_events<C: Callbacks, A: Condition>(
     let Some((event, events)) = split_first(events) else {
         return Ok(EventsEnd::Through(state));
     };
-    match event_turn(callbacks, condition, alloc, &state, event)? {
-        Turn::Stop(why) => Ok(EventsEnd::Stopped(0, why)),
-        Turn::Next(next) => match run_events(callbacks, condition, alloc, next, events)? {
+    match event_outcome(callbacks, condition, alloc, &state, event)? {
+        StepOutcome::Stop(why) => Ok(EventsEnd::Stopped(0, why)),
+        StepOutcome::Next(next) => match run_events(callbacks, condition, alloc, next, events)? {
             EventsEnd::Through(last) => Ok(EventsEnd::Through(last)),
             EventsEnd::Stopped(at, why) => Ok(EventsEnd::Stopped(at + 1, why)),
         },
@@ -60,7 +60,7 @@ pub fn run_last<C: Callbacks, A: Condition>(
     alloc: Global,
     state: Value,
     events: &[Event],
-) -> Result<Ending<Place>, AllocError>
+) -> Result<Ending<FaultPlace>, AllocError>
     requires { (vars : List Ty) × (is_state (C.model callbacks.now) [] vars state ≡ true)
         × EventsFit (C.model callbacks.now) vars events.now }
     ensures ending { IfOk result (λ ending. ending ≡ last_events (C.model callbacks.now)

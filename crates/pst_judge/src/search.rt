@@ -8,12 +8,12 @@ ghost use Rattle.pst_judge.specs.Running.{BranchesFit, EventsFit, IsRealState};
 use crate::condition::Condition;
 use crate::events::Event;
 use crate::packed::Packed;
-use crate::replay::event_turn;
+use crate::replay::event_outcome;
 use crate::running::run_last;
 use crate::verdicts::Verdict;
 use pst_case::{Command, Shaped};
-use pst_eval::{Callbacks, Place};
-use pst_grid::{Ending, SomeAnswer, Steps, Turn, some};
+use pst_eval::{Callbacks, FaultPlace};
+use pst_grid::{Ending, SomeAnswer, StepOutcome, Steps, some};
 use pst_value::{Items, Value};
 use std::alloc::{AllocError, Global};
 
@@ -32,7 +32,7 @@ impl<'a, C: Callbacks, A: Condition> Steps for Branches<'a, C, A> {
     ghost use Rattle.std.proofs.Common.{refl};
     ghost use Rattle.std.specs.Prelude.{◌≡◌, Some, length};
     ghost use Rattle.pst_case.specs.Shape.{result_types};
-    ghost use Rattle.pst_judge.specs.Replay.{EventFits, branch_turn_asking, event_at};
+    ghost use Rattle.pst_judge.specs.Replay.{EventFits, branch_outcome_asking, event_at};
     ghost use Rattle.pst_judge.specs.Running.{EventsFit, IsRealState, last_events};
     ghost use Rattle.pst_judge.specs.declared.events.Event.{Event};
     ghost use Rattle.pst_judge.specs.Feeding.{fed};
@@ -42,7 +42,7 @@ impl<'a, C: Callbacks, A: Condition> Steps for Branches<'a, C, A> {
 
     type Kept = Packed;
 
-    type Fault = Place;
+    type Fault = FaultPlace;
 
     ghost is_state = { λ b s. let m = C.model b.callbacks.now in
         IsRealState m b.shaped.now.case s × EventsFit m (result_types m b.shaped.now.case) b.suffix };
@@ -51,8 +51,8 @@ impl<'a, C: Callbacks, A: Condition> Steps for Branches<'a, C, A> {
         (e : Event) × (event_at b.events branch index ≡ Some e)
         × EventFits m (result_types m b.shaped.now.case) e };
 
-    ghost turn = { λ b s branch index. let m = C.model b.callbacks.now in
-        branch_turn_asking m (A.asked b.condition.now m) b.events s branch index };
+    ghost outcome = { λ b s branch index. let m = C.model b.callbacks.now in
+        branch_outcome_asking m (A.asked b.condition.now m) b.events s branch index };
 
     ghost rest = { λ b s. let m = C.model b.callbacks.now in
         last_events m (A.asked b.condition.now m) b.suffix s };
@@ -65,17 +65,21 @@ impl<'a, C: Callbacks, A: Condition> Steps for Branches<'a, C, A> {
         state: &Value,
         branch: usize,
         index: usize,
-    ) -> Result<Turn<Value, Place>, AllocError> {
+    ) -> Result<StepOutcome<Value, FaultPlace>, AllocError> {
         let Some(events) = self.events.get(branch) else {
             unreachable!()
         };
         let Some(event) = events.get(index) else {
             unreachable!()
         };
-        event_turn(self.callbacks, self.condition, alloc, state, event)
+        event_outcome(self.callbacks, self.condition, alloc, state, event)
     }
 
-    fn run_rest(&self, alloc: Global, state: &Value) -> Result<(Ending<Place>, usize), AllocError> {
+    fn run_rest(
+        &self,
+        alloc: Global,
+        state: &Value,
+    ) -> Result<(Ending<FaultPlace>, usize), AllocError> {
         let start = state.copy(alloc)?;
         match run_last(
             self.callbacks,
@@ -121,7 +125,7 @@ pub fn lengths_of(alloc: Global, branches: &[Items<Command>]) -> Result<Vec<usiz
 
 /// The verdict for the answer of a search, with `prefix` events before the branches. If the interleaving in the answer
 /// is not true to its end, also returns the branch numbers of its true events.
-fn verdict_of(alloc: Global, prefix: usize, answer: SomeAnswer<Place>) -> (Verdict, Vec<usize>)
+fn verdict_of(alloc: Global, prefix: usize, answer: SomeAnswer<FaultPlace>) -> (Verdict, Vec<usize>)
     requires { OnNothing answer (λ far. prefix + far < 2 ^ 64) }
     ensures verdict { result.0 ≡ verdict_of prefix answer }
     ensures letters { result.1.items ≡ letters_of answer }

@@ -12,7 +12,7 @@ use crate::symbolic::{Failing, run_last, symbolic_step};
 use crate::why::Why;
 use pst_case::{Command, Shaped};
 use pst_eval::Callbacks;
-use pst_grid::{Ending, EveryAnswer, Steps, Turn, every};
+use pst_grid::{Ending, EveryAnswer, StepOutcome, Steps, every};
 use pst_value::{Items, Value};
 use std::alloc::{AllocError, Global};
 
@@ -30,7 +30,7 @@ impl<'a, C: Callbacks> Steps for SymbolicBranches<'a, C> {
     ghost use Rattle.std.proofs.Common.{refl};
     ghost use Rattle.std.specs.Prelude.{◌≡◌, Some, length};
     ghost use Rattle.pst_case.specs.Shape.{result_types};
-    ghost use Rattle.pst_judge.specs.Symbolic.{CommandFits, symbolic_turn, command_at};
+    ghost use Rattle.pst_judge.specs.Symbolic.{CommandFits, symbolic_outcome, command_at};
     ghost use Rattle.pst_judge.specs.SymbolicSearch.{CommandsFit, IsSymbolicState, last_commands};
     ghost use Rattle.pst_judge.specs.declared.numbered.NumberedCommand.{NumberedCommand};
     ghost use Rattle.pst_judge.specs.Feeding.{fed};
@@ -49,7 +49,7 @@ impl<'a, C: Callbacks> Steps for SymbolicBranches<'a, C> {
         (e : NumberedCommand) × (command_at b.commands branch index ≡ Some e)
         × CommandFits m (result_types m b.shaped.now.case) e };
 
-    ghost turn = { λ b s branch index. symbolic_turn (C.model b.callbacks.now) b.commands s branch index };
+    ghost outcome = { λ b s branch index. symbolic_outcome (C.model b.callbacks.now) b.commands s branch index };
 
     ghost rest = { λ b s. last_commands (C.model b.callbacks.now) b.suffix s };
 
@@ -61,7 +61,7 @@ impl<'a, C: Callbacks> Steps for SymbolicBranches<'a, C> {
         state: &Value,
         branch: usize,
         index: usize,
-    ) -> Result<Turn<Value, Failing>, AllocError> {
+    ) -> Result<StepOutcome<Value, Failing>, AllocError> {
         let Some(commands) = self.commands.get(branch) else {
             unreachable!()
         };
@@ -69,8 +69,8 @@ impl<'a, C: Callbacks> Steps for SymbolicBranches<'a, C> {
             unreachable!()
         };
         match symbolic_step(self.callbacks, alloc, state, command)? {
-            Ok(next) => Ok(Turn::Next(next)),
-            Err(failing) => Ok(Turn::Stop(pst_grid::Why::Fault(failing))),
+            Ok(next) => Ok(StepOutcome::Next(next)),
+            Err(failing) => Ok(StepOutcome::Stop(pst_grid::StopReason::Fault(failing))),
         }
     }
 
@@ -123,8 +123,8 @@ fn reason_of_answer(answer: EveryAnswer<Failing>) -> Option<Why>
     match answer {
         EveryAnswer::All => None,
         EveryAnswer::Not { word, why, .. } => match why {
-            pst_grid::Why::False => unreachable!(),
-            pst_grid::Why::Fault(failing) => Some(reason_of(failing, word)),
+            pst_grid::StopReason::False => unreachable!(),
+            pst_grid::StopReason::Fault(failing) => Some(reason_of(failing, word)),
         },
     }
 }

@@ -2,14 +2,14 @@
 
 use crate::command::{behind_head, head_word};
 use crate::ill::Ill;
-use crate::values::{Search, Wanted, problem_in};
+use crate::values::{CaseSearch, Wanted, problem_in};
 use pst_model::Op;
-use pst_problems::{Judged, Problem, Signature, counted, operation, with_note, wrong};
+use pst_problems::{FoundProblem, Problem, Signature, counted, operation, with_note, wrong};
 use pst_sexpr::Form;
 use std::alloc::Global;
 
 /// The problem of a command with `found` arguments of `op`, which takes another number.
-fn other_count(alloc: Global, path: &[usize], op: &Op, found: usize) -> Judged {
+fn other_count(alloc: Global, path: &[usize], op: &Op, found: usize) -> FoundProblem {
     let name = op.name.as_str();
     let takes = counted(op.params.len(), "argument");
     wrong(
@@ -22,11 +22,11 @@ fn other_count(alloc: Global, path: &[usize], op: &Op, found: usize) -> Judged {
 /// The problem of the arguments of a command of `op`.
 fn argument_problem(
     alloc: Global,
-    search: &Search<'_>,
+    search: &CaseSearch<'_>,
     path: &[usize],
     form: &Form,
     op: &Op,
-) -> Judged {
+) -> FoundProblem {
     let found = behind_head(form).len();
     let params = op.params.as_slice();
     if found != params.len() {
@@ -37,7 +37,7 @@ fn argument_problem(
 }
 
 /// The problem `found`, if there is one, with the declaration of `op`.
-fn with_declared(alloc: Global, found: Option<Problem>, op: &Op) -> Judged {
+fn with_declared(alloc: Global, found: Option<Problem>, op: &Op) -> FoundProblem {
     let declared = Signature {
         name: op.name.as_str(),
         params: op.params.as_slice(),
@@ -47,7 +47,12 @@ fn with_declared(alloc: Global, found: Option<Problem>, op: &Op) -> Judged {
 }
 
 /// The problem of a command whose arguments spell other values than its operation takes.
-pub fn bad_argument(alloc: Global, search: &Search<'_>, path: &[usize], form: &Form) -> Judged {
+pub fn bad_argument(
+    alloc: Global,
+    search: &CaseSearch<'_>,
+    path: &[usize],
+    form: &Form,
+) -> FoundProblem {
     match operation(search.source.items.as_slice(), head_word(form)) {
         Some(op) => with_declared(alloc, argument_problem(alloc, search, path, form, op)?, op),
         None => Ok(None),

@@ -1,7 +1,7 @@
 //! The faults of commands and replies, and the messages about them.
 
 use crate::shown::wrong_tree;
-use pst_problems::{Judged, TypeText, key_word, noted, short_text, wrong};
+use pst_problems::{FoundProblem, TypeText, key_word, noted, short_text, wrong};
 use pst_sexpr::Form;
 use pst_value::{KeyTy, Ty};
 use std::alloc::Global;
@@ -33,7 +33,7 @@ pub enum Ill<'a> {
 }
 
 /// The problem of `key`, which is not greater than `before`, the key before it.
-fn falls(alloc: Global, path: &[usize], key: &Form, before: &Form) -> Judged {
+fn falls(alloc: Global, path: &[usize], key: &Form, before: &Form) -> FoundProblem {
     let key = short_text(alloc, key)?;
     wrong_tree(
         alloc,
@@ -45,7 +45,7 @@ fn falls(alloc: Global, path: &[usize], key: &Form, before: &Form) -> Judged {
 }
 
 /// The problem of a variable in command `command` that names command `number`, which is not earlier.
-fn later(alloc: Global, path: &[usize], number: usize, command: usize) -> Judged {
+fn later(alloc: Global, path: &[usize], number: usize, command: usize) -> FoundProblem {
     noted(
         alloc,
         path,
@@ -57,7 +57,7 @@ fn later(alloc: Global, path: &[usize], number: usize, command: usize) -> Judged
 }
 
 /// The problem of a variable that names command `number`, which is in another branch.
-fn other_branch(alloc: Global, path: &[usize], number: usize) -> Judged {
+fn other_branch(alloc: Global, path: &[usize], number: usize) -> FoundProblem {
     noted(
         alloc,
         path,
@@ -67,7 +67,7 @@ fn other_branch(alloc: Global, path: &[usize], number: usize) -> Judged {
 }
 
 /// The problem of the fault `ill`, if there is one, at the tree that `path` leads to.
-pub fn ill_problem(alloc: Global, path: &[usize], ill: Option<Ill<'_>>) -> Judged {
+pub fn ill_problem(alloc: Global, path: &[usize], ill: Option<Ill<'_>>) -> FoundProblem {
     let Some(ill) = ill else {
         return Ok(None);
     };

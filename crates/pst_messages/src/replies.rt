@@ -2,8 +2,8 @@
 
 use crate::command::{Part, behind_head, is_headed, place_of, trees_in};
 use crate::ill::{Ill, ill_problem};
-use crate::values::{Search, Wanted, problem_in};
-use pst_problems::{Judged, Problem, counted, noted, with_note, wrong};
+use crate::values::{CaseSearch, Wanted, problem_in};
+use pst_problems::{FoundProblem, Problem, counted, noted, with_note, wrong};
 use pst_sexpr::{Form, node_of};
 use std::alloc::Global;
 
@@ -35,7 +35,7 @@ fn replies_in(lists: &[Form], number: usize) -> &[Form] {
 }
 
 /// The problem of a part with `replies` replies, which has another number of commands.
-fn other_count(alloc: Global, path: &[usize], part: &Part<'_>, replies: usize) -> Judged {
+fn other_count(alloc: Global, path: &[usize], part: &Part<'_>, replies: usize) -> FoundProblem {
     let called = part.called;
     let has = counted(part.commands.len(), "command");
     if replies == 1 {
@@ -49,7 +49,7 @@ fn other_count(alloc: Global, path: &[usize], part: &Part<'_>, replies: usize) -
 }
 
 /// The problem of a run with `lists` lists of replies for `parts` parts, which differ in number.
-fn other_lists(alloc: Global, path: &[usize], lists: usize, parts: usize) -> Judged {
+fn other_lists(alloc: Global, path: &[usize], lists: usize, parts: usize) -> FoundProblem {
     let found = counted(lists, "list");
     let wanted = counted(parts, "part");
     noted(
@@ -68,7 +68,7 @@ fn list_problem(
     place: usize,
     lists: &[Form],
     parts: &[Part<'_>],
-) -> Judged {
+) -> FoundProblem {
     for (number, part) in parts.iter().enumerate() {
         let replies = replies_in(lists, number).len();
         if part.commands.len() != replies {
@@ -80,7 +80,7 @@ fn list_problem(
 }
 
 /// The problem of a run whose replies do not fit its parts and commands.
-pub fn no_fit(alloc: Global, item: usize, form: &Form, parts: &[Part<'_>]) -> Judged {
+pub fn no_fit(alloc: Global, item: usize, form: &Form, parts: &[Part<'_>]) -> FoundProblem {
     match lists_of(form) {
         Some((place, lists)) if lists.len() == parts.len() => {
             list_problem(alloc, item, place, lists, parts)
@@ -110,7 +110,12 @@ fn reply_of<'a>(form: &'a Form, parts: &[Part<'_>], command: usize) -> Option<Re
 }
 
 /// The problem of a tree at `path` that is not a reply.
-fn reply_problem(alloc: Global, search: &Search<'_>, path: &[usize], form: &Form) -> Judged {
+fn reply_problem(
+    alloc: Global,
+    search: &CaseSearch<'_>,
+    path: &[usize],
+    form: &Form,
+) -> FoundProblem {
     let other = Some(Ill::Tree {
         before: "",
         form,
@@ -123,7 +128,7 @@ fn reply_problem(alloc: Global, search: &Search<'_>, path: &[usize], form: &Form
 }
 
 /// The problem `found`, if there is one, with a note on how replies are written.
-fn with_written(alloc: Global, found: Option<Problem>, has_maps: bool) -> Judged {
+fn with_written(alloc: Global, found: Option<Problem>, has_maps: bool) -> FoundProblem {
     let maps = if has_maps {
         ", (map (k v) ..) with rising keys"
     } else {
@@ -141,11 +146,11 @@ fn with_written(alloc: Global, found: Option<Problem>, has_maps: bool) -> Judged
 /// The problem of a run in which the reply to command `command`, counted from 1, is not a reply.
 pub fn bad_reply(
     alloc: Global,
-    search: &Search<'_>,
+    search: &CaseSearch<'_>,
     item: usize,
     form: &Form,
     command: usize,
-) -> Judged {
+) -> FoundProblem {
     match reply_of(form, search.parts, command) {
         Some(reply) => {
             let path = [item, reply.place, reply.list, reply.offset];

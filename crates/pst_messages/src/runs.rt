@@ -4,16 +4,16 @@ use crate::arguments::bad_argument;
 use crate::command::{Command, Part, command_at, commands_of, head_word};
 use crate::replies::{bad_reply, no_fit};
 use crate::shape::bad_form;
-use crate::values::{Search, Sought, Wanted, problem_in};
+use crate::values::{CaseSearch, Sought, Wanted, problem_in};
 use pst_case::CaseFaultKind;
 use pst_model::Source;
-use pst_problems::{Judged, Problem, below, unknown_among, wrong};
+use pst_problems::{FoundProblem, Problem, below, unknown_among, wrong};
 use pst_runs::{RunFault, RunFaultKind};
 use pst_sexpr::Form;
 use std::alloc::{AllocError, Global};
 
 /// The problem of the part at `path`, which has more than `most` commands.
-fn too_many(alloc: Global, path: &[usize], part: &Part<'_>, most: usize) -> Judged {
+fn too_many(alloc: Global, path: &[usize], part: &Part<'_>, most: usize) -> FoundProblem {
     let called = part.called;
     let number = part.commands.len();
     wrong(
@@ -24,7 +24,7 @@ fn too_many(alloc: Global, path: &[usize], part: &Part<'_>, most: usize) -> Judg
 }
 
 /// The problem of a part of item `item`, which has more than `most` commands.
-fn part_problem(alloc: Global, item: usize, part: &Part<'_>, most: usize) -> Judged {
+fn part_problem(alloc: Global, item: usize, part: &Part<'_>, most: usize) -> FoundProblem {
     match part.branch {
         Some(branch) => too_many(alloc, &[item, part.place, branch], part, most),
         None => too_many(alloc, &[item, part.place], part, most),
@@ -32,7 +32,7 @@ fn part_problem(alloc: Global, item: usize, part: &Part<'_>, most: usize) -> Jud
 }
 
 /// The problem of an item in which a part, or all branches together, have too many commands.
-fn over_limit(alloc: Global, item: usize, parts: &[Part<'_>]) -> Judged {
+fn over_limit(alloc: Global, item: usize, parts: &[Part<'_>]) -> FoundProblem {
     let mut together: usize = 0;
     for part in parts {
         let number = part.commands.len();
@@ -54,11 +54,11 @@ fn over_limit(alloc: Global, item: usize, parts: &[Part<'_>]) -> Judged {
 /// The problem of the command at `path`, which has a fault of `kind`.
 fn command_problem(
     alloc: Global,
-    search: &Search<'_>,
+    search: &CaseSearch<'_>,
     path: &[usize],
     form: &Form,
     kind: CaseFaultKind,
-) -> Judged {
+) -> FoundProblem {
     match kind {
         CaseFaultKind::UnknownOp => {
             let path = below(path, alloc, 0)?;
@@ -73,11 +73,11 @@ fn command_problem(
 /// The problem of command `number`, counted from 1, of item `item`.
 fn bad_command(
     alloc: Global,
-    search: &Search<'_>,
+    search: &CaseSearch<'_>,
     item: usize,
     kind: CaseFaultKind,
     number: usize,
-) -> Judged {
+) -> FoundProblem {
     let Some(Command { part, offset, form }) = command_at(search.parts, number) else {
         return Ok(None);
     };
@@ -105,7 +105,12 @@ fn sought_by(kind: RunFaultKind, command: usize) -> Sought {
 }
 
 /// The problem of an item with the fault `fault`, if it is found.
-fn fault_problem(alloc: Global, search: &Search<'_>, form: &Form, fault: RunFault) -> Judged {
+fn fault_problem(
+    alloc: Global,
+    search: &CaseSearch<'_>,
+    form: &Form,
+    fault: RunFault,
+) -> FoundProblem {
     let RunFault { run, command, kind } = fault;
     let command = command as usize;
     match kind {
@@ -118,7 +123,7 @@ fn fault_problem(alloc: Global, search: &Search<'_>, form: &Form, fault: RunFaul
 }
 
 /// The problem of an item about which only the fault is known.
-fn refused(alloc: Global, fault: RunFault) -> Judged {
+fn refused(alloc: Global, fault: RunFault) -> FoundProblem {
     let kind = fault.kind.name();
     wrong(
         alloc,
@@ -135,7 +140,7 @@ pub fn run_problem(
     fault: RunFault,
 ) -> Result<Option<Problem>, AllocError> {
     let parts = commands_of(alloc, form)?;
-    let search = Search {
+    let search = CaseSearch {
         source,
         parts: parts.as_slice(),
         sought: sought_by(fault.kind, fault.command as usize),

@@ -6,7 +6,7 @@ use crate::command::{
 };
 use crate::shown::wrong_tree;
 use pst_problems::{
-    DidYouMean, Judged, NearestName, head_of, noted_at, with_note, wrong, wrong_at,
+    DidYouMean, FoundProblem, NearestName, head_of, noted_at, with_note, wrong, wrong_at,
 };
 use pst_sexpr::{Form, node_of};
 use std::alloc::{AllocError, Global};
@@ -184,13 +184,13 @@ fn fault_of(parts: &[Form], is_run: bool) -> Option<Fault<'_>> {
 }
 
 /// The problem of a tree that is not written as a call.
-fn call_problem(alloc: Global, path: &[usize], form: &Form) -> Judged {
+fn call_problem(alloc: Global, path: &[usize], form: &Form) -> FoundProblem {
     let found = wrong_tree(alloc, path, "", form, " is not a call")?;
     with_note(alloc, found, "a call is `(OPERATION VALUE ..)`")
 }
 
 /// The problem of a command of item `item` that is not written as a call.
-fn command_problem(alloc: Global, item: usize, command: Command<'_>) -> Judged {
+fn command_problem(alloc: Global, item: usize, command: Command<'_>) -> FoundProblem {
     let Command { part, offset, form } = command;
     match part.branch {
         Some(branch) => call_problem(alloc, &[item, part.place, branch, offset], form),
@@ -199,7 +199,7 @@ fn command_problem(alloc: Global, item: usize, command: Command<'_>) -> Judged {
 }
 
 /// The problem of a part that may not be where it is.
-fn misplaced_problem(alloc: Global, item: usize, place: usize, form: &Form) -> Judged {
+fn misplaced_problem(alloc: Global, item: usize, place: usize, form: &Form) -> FoundProblem {
     let path = [item, place];
     let part = match trees_in(form).get(place) {
         Some(part) => head_word(part),
@@ -223,7 +223,7 @@ fn misplaced_problem(alloc: Global, item: usize, place: usize, form: &Form) -> J
 }
 
 /// The problem of the fault `fault` of item `item`.
-fn fault_problem(alloc: Global, item: usize, form: &Form, fault: Fault<'_>) -> Judged {
+fn fault_problem(alloc: Global, item: usize, form: &Form, fault: Fault<'_>) -> FoundProblem {
     match fault {
         Fault::Missing(word) => wrong(alloc, &[item], format_args!("`({word} ..)` is missing")),
         Fault::OtherPart(word, place, form) => wrong_tree(
@@ -249,7 +249,7 @@ fn fault_problem(alloc: Global, item: usize, form: &Form, fault: Fault<'_>) -> J
 }
 
 /// The problem of the parts of a case or a run.
-fn parts_problem(alloc: Global, item: usize, form: &Form, is_run: bool) -> Judged {
+fn parts_problem(alloc: Global, item: usize, form: &Form, is_run: bool) -> FoundProblem {
     match fault_of(trees_in(form), is_run) {
         Some(fault) => fault_problem(alloc, item, form, fault),
         None => wrong(alloc, &[item], "the replies are lists, one for each part"),
@@ -263,7 +263,7 @@ fn head_meant(alloc: Global, head: &str) -> Result<Option<DidYouMean<'static>>, 
 }
 
 /// The problem of a tree that is neither a case nor a run.
-fn headed_otherwise(alloc: Global, item: usize, form: &Form) -> Judged {
+fn headed_otherwise(alloc: Global, item: usize, form: &Form) -> FoundProblem {
     let head = head_word(form);
     if head.is_empty() {
         return wrong_tree(alloc, &[item], "", form, " is neither a case nor a run");
@@ -276,7 +276,7 @@ fn headed_otherwise(alloc: Global, item: usize, form: &Form) -> Judged {
 }
 
 /// The problem of the form of an item.
-fn form_problem(alloc: Global, item: usize, form: &Form) -> Judged {
+fn form_problem(alloc: Global, item: usize, form: &Form) -> FoundProblem {
     match head_word(form) {
         "case" => parts_problem(alloc, item, form, false),
         "run" => parts_problem(alloc, item, form, true),
@@ -291,7 +291,7 @@ fn form_problem(alloc: Global, item: usize, form: &Form) -> Judged {
 
 /// The problem of item `item`, which has another form than a case or a run. A note shows the form that is probably
 /// meant.
-pub fn bad_form(alloc: Global, item: usize, form: &Form) -> Judged {
+pub fn bad_form(alloc: Global, item: usize, form: &Form) -> FoundProblem {
     let found = form_problem(alloc, item, form)?;
     let is_run = match head_meant(alloc, head_word(form))? {
         Some(DidYouMean(head)) => head == "run",

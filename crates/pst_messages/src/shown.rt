@@ -1,6 +1,6 @@
 //! Problems that show a tree.
 
-use pst_problems::{Judged, short_text, wrong};
+use pst_problems::{FoundProblem, short_text, wrong};
 use pst_sexpr::Form;
 use std::alloc::Global;
 use std::fmt::Display;
@@ -12,7 +12,7 @@ pub fn wrong_tree<D: Display + Drop>(
     before: D,
     tree: &Form,
     after: &str,
-) -> Judged {
+) -> FoundProblem {
     let tree = short_text(alloc, tree)?;
     wrong(alloc, path, format_args!("{before}`{tree}`{after}"))
 }

@@ -4,7 +4,7 @@ use crate::command::{Part, behind_head, command_at, is_headed, place_of, result_
 use crate::entries::{ill_entry, is_truth};
 use crate::ill::{Ill, ill_problem};
 use pst_model::{Param, Source};
-use pst_problems::{Judged, Problem, TypeText, in_single_quotes, short_text, with_note};
+use pst_problems::{FoundProblem, Problem, TypeText, in_single_quotes, short_text, with_note};
 use pst_sexpr::{Form, is_integer};
 use pst_value::{KeyTy, Ty};
 use std::alloc::{AllocError, Global};
@@ -22,7 +22,7 @@ pub enum Sought {
 
 /// A search in the trees of a case: its model, its parts, and what it looks for.
 #[derive(Clone, Copy, Drop)]
-pub struct Search<'a> {
+pub struct CaseSearch<'a> {
     pub source: &'a Source,
     pub parts: &'a [Part<'a>],
     pub sought: Sought,
@@ -53,7 +53,7 @@ enum Types<'a> {
 }
 
 /// Whether `word` is a variable that names a command whose result has the type `wanted`.
-fn names_result(search: &Search<'_>, word: &str, wanted: &Ty) -> bool {
+fn names_result(search: &CaseSearch<'_>, word: &str, wanted: &Ty) -> bool {
     let Some(command) = variable(word) else {
         return false;
     };
@@ -64,7 +64,7 @@ fn names_result(search: &Search<'_>, word: &str, wanted: &Ty) -> bool {
 }
 
 /// Whether a tree that is no node spells a value of the type `wanted`.
-fn is_of(search: &Search<'_>, form: &Form, wanted: &Ty) -> bool {
+fn is_of(search: &CaseSearch<'_>, form: &Form, wanted: &Ty) -> bool {
     match (form, wanted) {
         (Form::Word(word), Ty::Int) => is_integer(word),
         (Form::Word(word), Ty::Bool) => is_truth(word.as_str()),
@@ -96,7 +96,7 @@ fn unfit<'a>(form: &'a Form, wanted: Wanted<'a>) -> Ill<'a> {
 }
 
 /// The fault of a tree that is no node and has to spell a value, if it has one.
-fn ill_value<'a>(search: &Search<'_>, form: &'a Form, wanted: Wanted<'a>) -> Option<Ill<'a>> {
+fn ill_value<'a>(search: &CaseSearch<'_>, form: &'a Form, wanted: Wanted<'a>) -> Option<Ill<'a>> {
     match wanted {
         Wanted::Type(ty) if is_of(search, form, ty) => None,
         Wanted::Any if is_plain(form) => None,
@@ -125,7 +125,7 @@ fn named(form: &Form) -> Option<usize> {
 }
 
 /// The fault of a tree that is no node, if it has one that the search looks for.
-fn ill_leaf<'a>(search: &Search<'_>, form: &'a Form, wanted: Wanted<'a>) -> Option<Ill<'a>> {
+fn ill_leaf<'a>(search: &CaseSearch<'_>, form: &'a Form, wanted: Wanted<'a>) -> Option<Ill<'a>> {
     let parts = search.parts;
     match (search.sought, named(form)) {
         (Sought::Value, _) => ill_value(search, form, wanted),
@@ -141,7 +141,7 @@ fn ill_leaf<'a>(search: &Search<'_>, form: &'a Form, wanted: Wanted<'a>) -> Opti
 
 /// What the parts of a node have to spell if the node has to spell a value of any type. `None` if the search looks for
 /// values and the node spells none.
-fn types_of_any<'a>(search: &Search<'_>, form: &Form) -> Option<Types<'a>> {
+fn types_of_any<'a>(search: &CaseSearch<'_>, form: &Form) -> Option<Types<'a>> {
     let any = Some(Types::Same(Wanted::Any));
     match search.sought {
         Sought::Later(_) | Sought::OtherBranch(_) => any,
@@ -168,7 +168,7 @@ fn types_of<'a>(form: &Form, ty: &'a Ty) -> Option<Types<'a>> {
 }
 
 /// What the parts of a node have to spell. `None` if the node does not spell what is wanted.
-fn types_in<'a>(search: &Search<'_>, form: &Form, wanted: Wanted<'a>) -> Option<Types<'a>> {
+fn types_in<'a>(search: &CaseSearch<'_>, form: &Form, wanted: Wanted<'a>) -> Option<Types<'a>> {
     match wanted {
         Wanted::Any => types_of_any(search, form),
         Wanted::Type(ty) => types_of(form, ty),
@@ -196,7 +196,7 @@ fn wanted_at(types: Types<'_>, number: usize) -> Wanted<'_> {
 /// becomes the path to the fault; it stays the same if no fault is found.
 #[cycle(first_ill)]
 fn first_ill<'a>(
-    search: &Search<'_>,
+    search: &CaseSearch<'_>,
     path: &mut Vec<usize>,
     form: &'a Form,
     wanted: Wanted<'a>,
@@ -213,7 +213,7 @@ fn first_ill<'a>(
 /// The first fault in the parts of a tree after its head. The entries and keys of a map come before its values.
 #[cycle(first_ill)]
 fn first_in_node<'a>(
-    search: &Search<'_>,
+    search: &CaseSearch<'_>,
     path: &mut Vec<usize>,
     parts: &'a [Form],
     types: Types<'a>,
@@ -229,7 +229,7 @@ fn first_in_node<'a>(
 /// The first fault in the parts of a tree after its head. In the entries of a map, it checks the values only.
 #[cycle(first_ill)]
 fn first_in<'a>(
-    search: &Search<'_>,
+    search: &CaseSearch<'_>,
     path: &mut Vec<usize>,
     parts: &'a [Form],
     types: Types<'a>,
@@ -250,7 +250,7 @@ fn first_in<'a>(
 /// The first fault in part `number`. An entry of a map counts as a tree with its key as its head.
 #[cycle(first_ill)]
 fn first_in_part<'a>(
-    search: &Search<'_>,
+    search: &CaseSearch<'_>,
     path: &mut Vec<usize>,
     part: &'a Form,
     types: Types<'a>,
@@ -267,10 +267,10 @@ fn first_in_part<'a>(
 /// The problem `found`, if there is one, with a note on command `number`, whose result the variable refers to.
 fn with_result(
     alloc: Global,
-    search: &Search<'_>,
+    search: &CaseSearch<'_>,
     found: Option<Problem>,
     number: usize,
-) -> Judged {
+) -> FoundProblem {
     let (Some(command), Some(ty)) = (
         command_at(search.parts, number),
         result_of(search.source, search.parts, number),
@@ -292,11 +292,11 @@ fn with_result(
 /// how a value of the type is written.
 fn with_type_note(
     alloc: Global,
-    search: &Search<'_>,
+    search: &CaseSearch<'_>,
     found: Option<Problem>,
     form: &Form,
     wanted: &Ty,
-) -> Judged {
+) -> FoundProblem {
     if let Some(number) = named(form) {
         return with_result(alloc, search, found, number);
     }
@@ -322,12 +322,12 @@ fn with_type_note(
 /// The problem of the first fault in the tree that `path` leads to. If no fault is found, `other` is the fault.
 pub fn problem_in(
     alloc: Global,
-    search: &Search<'_>,
+    search: &CaseSearch<'_>,
     path: &[usize],
     form: &Form,
     wanted: Wanted<'_>,
     other: Option<Ill<'_>>,
-) -> Judged {
+) -> FoundProblem {
     let mut path = Vec::from_slice(alloc, path)?;
     let ill = first_ill(search, &mut path, form, wanted)?.or(other);
     let found = ill_problem(alloc, path.as_slice(), ill)?;

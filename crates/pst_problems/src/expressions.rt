@@ -1,7 +1,9 @@
 //! Trees as expressions.
 
-use crate::forms::{Shown, expression, in_place_of, is_head, nearest_head, type_form};
-use crate::judged::{Judged, foreign, is_name, noted, noted_at, with_quotes_hint, wrong, wrong_at};
+use crate::forms::{HeadedForm, expression, in_place_of, is_head, nearest_head, type_form};
+use crate::found_problem::{
+    FoundProblem, foreign, is_name, noted, noted_at, with_quotes_hint, wrong, wrong_at,
+};
 use crate::problem::below;
 use crate::roles::{Role, Tasks};
 use crate::tree::head_of;
@@ -52,7 +54,7 @@ fn heads_expression(has_maps: bool, form: &Form) -> bool {
 }
 
 /// The problem of a word that is no integer as an expression, if it has one.
-fn name_expression(alloc: Global, has_maps: bool, path: &[usize], word: &Text) -> Judged {
+fn name_expression(alloc: Global, has_maps: bool, path: &[usize], word: &Text) -> FoundProblem {
     let name = word.as_str();
     if let Some(form) = expression(has_maps, name) {
         let written = form.written;
@@ -71,7 +73,7 @@ fn name_expression(alloc: Global, has_maps: bool, path: &[usize], word: &Text) -
 }
 
 /// The problem of a word as an expression, if it has one.
-fn word_expression(alloc: Global, has_maps: bool, path: &[usize], word: &Text) -> Judged {
+fn word_expression(alloc: Global, has_maps: bool, path: &[usize], word: &Text) -> FoundProblem {
     let name = word.as_str();
     if is_value(name) {
         return Ok(None);
@@ -92,7 +94,7 @@ fn word_expression(alloc: Global, has_maps: bool, path: &[usize], word: &Text) -
 /// How a form is written, or what to write in the place of one with `parts` parts.
 #[derive(Clone, Copy, Drop)]
 struct Written {
-    form: Shown,
+    form: HeadedForm,
     parts: usize,
 }
 
@@ -113,7 +115,7 @@ impl fmt::Display for Written {
 }
 
 /// The problem of a form with `parts` parts, which takes another number.
-pub fn arity(alloc: Global, path: &[usize], form: Shown, parts: usize) -> Judged {
+pub fn arity(alloc: Global, path: &[usize], form: HeadedForm, parts: usize) -> FoundProblem {
     let word = form.word;
     let takes = counted(form.least, "part");
     let least = if form.least == form.most {
@@ -138,7 +140,7 @@ fn other_hint(name: &str) -> Option<&'static str> {
 }
 
 /// The problem of a node whose first tree heads no form and is no name of a function.
-fn no_head(alloc: Global, has_maps: bool, path: &[usize], word: &Text) -> Judged {
+fn no_head(alloc: Global, has_maps: bool, path: &[usize], word: &Text) -> FoundProblem {
     let name = word.as_str();
     let what = format_args!("no expression begins with `{name}`");
     if let Some(hint) = other_hint(name) {
@@ -151,7 +153,7 @@ fn no_head(alloc: Global, has_maps: bool, path: &[usize], word: &Text) -> Judged
 }
 
 /// The problem of a node whose head `word` is a value. The node has `parts` parts after it.
-fn value_head(alloc: Global, path: &[usize], word: &Text, parts: usize) -> Judged {
+fn value_head(alloc: Global, path: &[usize], word: &Text, parts: usize) -> FoundProblem {
     let name = word.as_str();
     let advice = if parts == 0 {
         ": write it without brackets"
@@ -217,7 +219,7 @@ fn add_parts<'a>(
 
 /// The problem of the parts of a form that are not judged by themselves, if they have one: places, keys, clauses, and
 /// the number of items of a tuple.
-pub fn small_parts(alloc: Global, path: &[usize], word: &str, parts: &[Form]) -> Judged {
+pub fn small_parts(alloc: Global, path: &[usize], word: &str, parts: &[Form]) -> FoundProblem {
     match (word, parts) {
         ("at", [_, place]) => place_part(alloc, path, place),
         ("map", [keys, _]) => keys_part(alloc, path, keys),
@@ -238,7 +240,7 @@ pub fn small_parts(alloc: Global, path: &[usize], word: &str, parts: &[Form]) ->
 }
 
 /// The problem of `place` as the place of an item of a tuple, if it has one.
-fn place_part(alloc: Global, path: &[usize], place: &Form) -> Judged {
+fn place_part(alloc: Global, path: &[usize], place: &Form) -> FoundProblem {
     let what = "the place of a tuple's item is an integer, from 1";
     match word_of(place) {
         Some(word) if is_integer(word) => match integer_of(word) {
@@ -253,7 +255,7 @@ fn place_part(alloc: Global, path: &[usize], place: &Form) -> Judged {
 }
 
 /// The problem of `keys` as the type of the keys of a map, if it has one.
-fn keys_part(alloc: Global, path: &[usize], keys: &Form) -> Judged {
+fn keys_part(alloc: Global, path: &[usize], keys: &Form) -> FoundProblem {
     let word = match word_of(keys) {
         Some(word) => word.as_str(),
         None => "",
@@ -270,7 +272,7 @@ fn keys_part(alloc: Global, path: &[usize], keys: &Form) -> Judged {
 }
 
 /// The problem of the number of clauses of a comprehension, if it has one.
-fn clauses_part(alloc: Global, path: &[usize], clauses: &Form) -> Judged {
+fn clauses_part(alloc: Global, path: &[usize], clauses: &Form) -> FoundProblem {
     let forms = node_of(clauses).unwrap_or(&[]);
     let number = forms.len();
     if number == 0 {
@@ -300,7 +302,7 @@ fn node_expression<'a>(
     path: &[usize],
     parts: &'a [Form],
     room: usize,
-) -> Judged {
+) -> FoundProblem {
     let alloc = tasks.alloc();
     let Some((first, parts)) = parts.split_first() else {
         return wrong(alloc, path, "`()` is not an expression");
@@ -335,7 +337,7 @@ pub fn as_expression<'a>(
     path: &[usize],
     form: &'a Form,
     room: usize,
-) -> Judged {
+) -> FoundProblem {
     let alloc = tasks.alloc();
     if room == 0 {
         return wrong(alloc, path, "expressions are nested more than 64 deep");

@@ -5,7 +5,7 @@ use std::alloc::{AllocError, Global};
 
 /// A form: its head word, the least and the greatest number of parts, and how it is written.
 #[derive(Clone, Copy, Drop)]
-pub struct Shown {
+pub struct HeadedForm {
     pub word: &'static str,
     pub least: usize,
     pub most: usize,
@@ -17,7 +17,7 @@ const ANY: usize = 20_000;
 
 macro_rules! row {
     ($word:expr, $least:expr, $most:expr, $written:expr) => {
-        Shown {
+        HeadedForm {
             word: $word,
             least: $least,
             most: $most,
@@ -27,7 +27,7 @@ macro_rules! row {
 }
 
 /// The forms of expressions of both languages.
-const EXPRESSIONS: [Shown; 25] = [
+const EXPRESSIONS: [HeadedForm; 25] = [
     row!("let", 3, 3, "(let NAME VALUE BODY)"),
     row!("if", 3, 3, "(if TEST THEN ELSE)"),
     row!("+", 2, 2, "(+ A B)"),
@@ -56,7 +56,7 @@ const EXPRESSIONS: [Shown; 25] = [
 ];
 
 /// The forms of maps.
-const MAPS: [Shown; 6] = [
+const MAPS: [HeadedForm; 6] = [
     row!("map", 2, 2, "(map KEYS VALUES)"),
     row!("get", 2, 2, "(get MAP KEY)"),
     row!("has", 2, 2, "(has MAP KEY)"),
@@ -66,7 +66,7 @@ const MAPS: [Shown; 6] = [
 ];
 
 /// The forms of types: their parts, and how they are written.
-const TYPES: [Shown; 4] = [
+const TYPES: [HeadedForm; 4] = [
     row!("tuple", 1, ANY, "(tuple TYPE ..)"),
     row!("list", 1, 1, "(list TYPE)"),
     row!("ref", 1, 1, "(ref TYPE)"),
@@ -213,7 +213,7 @@ const FOREIGN: [(&str, &str); 109] = [
     ("False", "write `false`"),
 ];
 
-fn among(rows: &[Shown], word: &str) -> Option<Shown> {
+fn among(rows: &[HeadedForm], word: &str) -> Option<HeadedForm> {
     for row in rows {
         if row.word == word {
             return Some(*row);
@@ -223,7 +223,7 @@ fn among(rows: &[Shown], word: &str) -> Option<Shown> {
 }
 
 /// The form of expressions with the head `word`. The forms of maps count only if `has_maps`.
-pub fn expression(has_maps: bool, word: &str) -> Option<Shown> {
+pub fn expression(has_maps: bool, word: &str) -> Option<HeadedForm> {
     if let Some(form) = among(&EXPRESSIONS, word) {
         return Some(form);
     }
@@ -231,7 +231,7 @@ pub fn expression(has_maps: bool, word: &str) -> Option<Shown> {
 }
 
 /// The form of types with the head `word`.
-pub fn type_form(word: &str) -> Option<Shown> {
+pub fn type_form(word: &str) -> Option<HeadedForm> {
     among(&TYPES, word)
 }
 
@@ -266,7 +266,7 @@ pub fn in_place_of(word: &str) -> Option<&'static str> {
 /// The nearest to `name` among the head words of `rows`, or `nearer` if none of them is nearer.
 fn nearest_of(
     alloc: Global,
-    rows: &'static [Shown],
+    rows: &'static [HeadedForm],
     name: &str,
     nearer: NearestName<'static>,
 ) -> Result<NearestName<'static>, AllocError> {

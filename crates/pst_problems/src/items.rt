@@ -1,8 +1,10 @@
 //! The items of a model: their forms and their names.
 
 use crate::forms::in_place_of;
+use crate::found_problem::{
+    FoundProblem, declared, is_name, noted, noted_at, too_long, wrong, wrong_at,
+};
 use crate::item_forms::{ITEM_FORMS, ItemForm, item_form, item_meant};
-use crate::judged::{Judged, declared, is_name, noted, noted_at, too_long, wrong, wrong_at};
 use crate::names::{DidYouMean, NearestName, add};
 use crate::problem::{Problem, below};
 use crate::roles::{Role, Tasks};
@@ -19,7 +21,7 @@ const ITEMS: &str =
     "items are (state ..), (init ..), (command ..), (fun ..), (postfun ..) and (op ..)";
 
 /// The problem of a tree whose head `head` heads no item.
-fn no_item_head(alloc: Global, path: &[usize], head: &str) -> Judged {
+fn no_item_head(alloc: Global, path: &[usize], head: &str) -> FoundProblem {
     let what = format_args!("no item of a model begins with `{head}`");
     if let Some(meant) = item_meant(head) {
         return noted_at(alloc, path, 0, what, DidYouMean(meant));
@@ -35,7 +37,7 @@ fn no_item_head(alloc: Global, path: &[usize], head: &str) -> Judged {
 }
 
 /// The problem of a tree that is no item.
-fn no_item(alloc: Global, path: &[usize], form: &Form) -> Judged {
+fn no_item(alloc: Global, path: &[usize], form: &Form) -> FoundProblem {
     if let Some(head) = head_of(form) {
         return no_item_head(alloc, path, head.as_str());
     }
@@ -78,7 +80,7 @@ fn is_taken(items: &[Form], word: &str, other: &str, name: &Text) -> bool {
 }
 
 /// The problem of an item with `number` parts, if this number is wrong.
-fn parts_number(alloc: Global, path: &[usize], form: ItemForm, number: usize) -> Judged {
+fn parts_number(alloc: Global, path: &[usize], form: ItemForm, number: usize) -> FoundProblem {
     let ItemForm { head, written, .. } = form;
     if number == form.least || head == "op" && number > form.least {
         return Ok(None);
@@ -93,7 +95,7 @@ fn parts_number(alloc: Global, path: &[usize], form: ItemForm, number: usize) ->
 }
 
 /// The problem of one more item of the form `form` after `before` others, if that is too many.
-fn items_number(alloc: Global, path: &[usize], form: ItemForm, before: usize) -> Judged {
+fn items_number(alloc: Global, path: &[usize], form: ItemForm, before: usize) -> FoundProblem {
     let head = form.head;
     if form.sharing_names.is_none() && before > 0 {
         return wrong(
@@ -119,7 +121,7 @@ fn as_declared(
     path: &[usize],
     form: ItemForm,
     word: &Text,
-) -> Judged {
+) -> FoundProblem {
     if form.head == "op" && is_name(word) {
         too_long(alloc, path, word)
     } else {
@@ -135,7 +137,7 @@ fn new_name(
     form: ItemForm,
     word: &Text,
     before: &[Form],
-) -> Judged {
+) -> FoundProblem {
     if let Some(found) = as_declared(alloc, has_maps, path, form, word)? {
         return Ok(Some(found));
     }
@@ -159,7 +161,7 @@ fn name_part(
     form: ItemForm,
     name: &Form,
     before: &[Form],
-) -> Judged {
+) -> FoundProblem {
     let head = form.head;
     match word_of(name) {
         Some(word) => {
@@ -191,7 +193,7 @@ fn add_each_parameter<'a>(
 }
 
 /// What is wrong with the list of the parameters of a function or an operation.
-fn parameters_part(alloc: Global, path: &[usize], params: &Form) -> Judged {
+fn parameters_part(alloc: Global, path: &[usize], params: &Form) -> FoundProblem {
     let Some(forms) = node_of(params) else {
         return noted_at(
             alloc,
@@ -305,7 +307,7 @@ fn plainest(word: &str) -> &'static str {
 }
 
 /// The problem of an operation that lacks callbacks, if it lacks one.
-fn lacking(alloc: Global, path: &[usize], parts: &[Form]) -> Judged {
+fn lacking(alloc: Global, path: &[usize], parts: &[Form]) -> FoundProblem {
     let mut names = Items::new(alloc);
     for word in ["pre", "next", "post"] {
         if headed(parts, word, word) == 0 {

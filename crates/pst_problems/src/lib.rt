@@ -7,9 +7,9 @@
 
 mod expressions;
 mod forms;
+mod found_problem;
 mod item_forms;
 mod items;
-mod judged;
 mod names;
 mod operations;
 mod problem;
@@ -19,10 +19,12 @@ mod tree;
 mod walk;
 mod writing;
 
-pub use forms::{Shown, expression, in_place_of, is_head, is_of_maps, nearest_head, type_form};
-pub use judged::{
-    CAPITAL, Judged, bound, declared, foreign, in_single_quotes, is_capitalized, is_name, noted,
-    noted_at, tell, too_long, with_note, wrong, wrong_at,
+pub use forms::{
+    HeadedForm, expression, in_place_of, is_head, is_of_maps, nearest_head, type_form,
+};
+pub use found_problem::{
+    CAPITAL, FoundProblem, bound, declared, foreign, in_single_quotes, is_capitalized, is_name,
+    noted, noted_at, tell, too_long, with_note, wrong, wrong_at,
 };
 pub use names::{DidYouMean, NearestName, add, nearest};
 pub use operations::{operation, unknown_among};

@@ -1,6 +1,6 @@
 //! Names of operations and functions that a model does not have.
 
-use crate::judged::{CAPITAL, Judged, is_capitalized, with_note, wrong};
+use crate::found_problem::{CAPITAL, FoundProblem, is_capitalized, with_note, wrong};
 use crate::names::{add, nearest};
 use crate::writing::Listed;
 use pst_model::{Item, Op};
@@ -44,7 +44,7 @@ pub fn unknown_among(
     path: &[usize],
     name: &str,
     are_operations: bool,
-) -> Judged {
+) -> FoundProblem {
     let known = names_of(alloc, items, are_operations)?;
     let kind = if are_operations {
         "operation"

@@ -1,6 +1,6 @@
 //! What a tree of a model has to be.
 
-use crate::judged::tell;
+use crate::found_problem::tell;
 use crate::problem::{Problem, below};
 use pst_sexpr::Form;
 use pst_value::Text;

@@ -1,7 +1,9 @@
 //! Models that are refused for their form.
 
+use crate::found_problem::{
+    FoundProblem, declared, is_name, noted, noted_at, tell, too_long, wrong,
+};
 use crate::items::item_problems;
-use crate::judged::{Judged, declared, is_name, noted, noted_at, tell, too_long, wrong};
 use crate::names::{DidYouMean, NearestName, add};
 use crate::problem::{MOST_PROBLEMS, Problem};
 use crate::tree::head_of;
@@ -20,7 +22,7 @@ pub fn has_maps(model: &Form) -> bool {
 }
 
 /// The problem of a model that lacks items.
-fn lacking(alloc: Global, items: &[Form]) -> Judged {
+fn lacking(alloc: Global, items: &[Form]) -> FoundProblem {
     let mut names = Items::new(alloc);
     for word in ["state", "init", "command"] {
         let stands = items.iter().any(|item| match head_of(item) {
@@ -53,7 +55,7 @@ fn model_meant(alloc: Global, head: &str) -> Result<Option<DidYouMean<'static>>,
 }
 
 /// The problem of a tree that is no model and has the head `head`.
-fn headed_otherwise(alloc: Global, head: &str) -> Judged {
+fn headed_otherwise(alloc: Global, head: &str) -> FoundProblem {
     if head == "case" || head == "run" {
         let what = format_args!("a `{head}` comes before the model");
         return noted_at(alloc, &[0], 0, what, MODEL);
@@ -71,7 +73,7 @@ fn headed_otherwise(alloc: Global, head: &str) -> Judged {
 }
 
 /// The problem of a model whose name is no word. `parts` are its parts after its head.
-fn nameless(alloc: Global, parts: &[Form]) -> Judged {
+fn nameless(alloc: Global, parts: &[Form]) -> FoundProblem {
     let what = "the model has no name";
     if parts.is_empty() {
         return noted(alloc, &[0], what, MODEL);
@@ -80,7 +82,7 @@ fn nameless(alloc: Global, parts: &[Form]) -> Judged {
 }
 
 /// The problem of a tree that is no model.
-fn no_model(alloc: Global, form: &Form) -> Judged {
+fn no_model(alloc: Global, form: &Form) -> FoundProblem {
     let what = "the file does not begin with a model";
     match word_of(form) {
         Some(word) if word.as_str().starts_with("//") || word.as_str().starts_with("#") => {
@@ -98,7 +100,7 @@ fn no_model(alloc: Global, form: &Form) -> Judged {
 }
 
 /// What is wrong with the name of a model, if something is.
-fn of_name(alloc: Global, name: Option<&Form>) -> Judged {
+fn of_name(alloc: Global, name: Option<&Form>) -> FoundProblem {
     match name {
         Some(Form::Word(word)) if is_name(word) => too_long(alloc, &[0, 1], word),
         Some(Form::Word(word)) => declared(alloc, false, &[0, 1], word),
@@ -107,7 +109,7 @@ fn of_name(alloc: Global, name: Option<&Form>) -> Judged {
 }
 
 /// What is wrong with a model outside of its items.
-fn of_model(alloc: Global, form: &Form, kind: FaultKind) -> Judged {
+fn of_model(alloc: Global, form: &Form, kind: FaultKind) -> FoundProblem {
     let parts = node_of(form).unwrap_or(&[]);
     let items = parts.get(2..).unwrap_or(&[]);
     match kind {

@@ -2,7 +2,9 @@
 
 use crate::expressions::{arity, as_expression, small_parts, spells_value};
 use crate::forms::{in_place_of, is_of_maps, type_form};
-use crate::judged::{Judged, bound, foreign, is_name, noted, noted_at, with_note, wrong};
+use crate::found_problem::{
+    FoundProblem, bound, foreign, is_name, noted, noted_at, with_note, wrong,
+};
 use crate::names::{DidYouMean, NearestName};
 use crate::problem::{MOST_PROBLEMS, below};
 use crate::roles::{Role, Task, Tasks};
@@ -19,7 +21,7 @@ fn headed(form: &Form) -> Option<(&Text, &[Form])> {
 }
 
 /// The problem of a form of maps in a language without maps.
-fn no_maps(alloc: Global, path: &[usize]) -> Judged {
+fn no_maps(alloc: Global, path: &[usize]) -> FoundProblem {
     noted(
         alloc,
         path,
@@ -36,7 +38,7 @@ fn type_problem(
     form: &Form,
     head: &str,
     rest: &[Form],
-) -> Judged {
+) -> FoundProblem {
     let Some(shown) = type_form(head) else {
         return no_headed_type(alloc, path, form, head);
     };
@@ -56,7 +58,7 @@ fn add_types<'a>(
     head: &str,
     rest: &'a [Form],
     room: usize,
-) -> Judged {
+) -> FoundProblem {
     let alloc = tasks.alloc();
     if room == 0 {
         return wrong(alloc, path, "types are nested more than 16 deep");
@@ -76,7 +78,7 @@ fn as_type<'a>(
     path: &[usize],
     form: &'a Form,
     room: usize,
-) -> Judged {
+) -> FoundProblem {
     let alloc = tasks.alloc();
     if node_of(form).is_none() {
         return word_type(alloc, path, form);
@@ -96,7 +98,7 @@ fn as_item_type<'a>(
     has_maps: bool,
     path: &[usize],
     form: &'a Form,
-) -> Judged {
+) -> FoundProblem {
     let hint = "hint: a list begins with the type of its items: `(list int 1 2)`";
     if spells_value(has_maps, form) {
         let what = "`list` takes the type of its items first";
@@ -107,7 +109,7 @@ fn as_item_type<'a>(
 }
 
 /// Judges a word or a text as a type.
-fn word_type(alloc: Global, path: &[usize], form: &Form) -> Judged {
+fn word_type(alloc: Global, path: &[usize], form: &Form) -> FoundProblem {
     let Some(word) = word_of(form) else {
         return no_type(alloc, path, form);
     };
@@ -136,7 +138,7 @@ fn near_type(alloc: Global, word: &str) -> Result<Option<DidYouMean<'static>>, A
 }
 
 /// The problem of a node that has to be a type, and whose head heads no type.
-fn no_headed_type(alloc: Global, path: &[usize], form: &Form, head: &str) -> Judged {
+fn no_headed_type(alloc: Global, path: &[usize], form: &Form, head: &str) -> FoundProblem {
     let what = format_args!("`{head}` is not a type");
     match in_place_of(head) {
         Some(hint) => noted_at(alloc, path, 0, what, format_args!("hint: {hint}")),
@@ -145,7 +147,7 @@ fn no_headed_type(alloc: Global, path: &[usize], form: &Form, head: &str) -> Jud
 }
 
 /// The problem of a tree that has to be a type and is no type.
-fn no_type(alloc: Global, path: &[usize], form: &Form) -> Judged {
+fn no_type(alloc: Global, path: &[usize], form: &Form) -> FoundProblem {
     let shown = short_text(alloc, form)?;
     noted(
         alloc,
@@ -162,20 +164,30 @@ fn add_in<'a>(
     name: &'a Form,
     list: &'a Form,
     room: usize,
-) -> Judged {
+) -> FoundProblem {
     tasks.add(path, 1, name, Role::Bound)?;
     tasks.add(path, 2, list, Role::Expression(room))?;
     Ok(None)
 }
 
 /// Adds the test of a clause, to be judged.
-fn add_when<'a>(tasks: &mut Tasks<'a>, path: &[usize], test: &'a Form, room: usize) -> Judged {
+fn add_when<'a>(
+    tasks: &mut Tasks<'a>,
+    path: &[usize],
+    test: &'a Form,
+    room: usize,
+) -> FoundProblem {
     tasks.add(path, 1, test, Role::Expression(room))?;
     Ok(None)
 }
 
 /// Judges a tree as a clause of a comprehension.
-fn as_clause<'a>(tasks: &mut Tasks<'a>, path: &[usize], form: &'a Form, room: usize) -> Judged {
+fn as_clause<'a>(
+    tasks: &mut Tasks<'a>,
+    path: &[usize],
+    form: &'a Form,
+    room: usize,
+) -> FoundProblem {
     let none: &[Form] = &[];
     let (head, rest) = match headed(form) {
         Some((head, rest)) => (head.as_str(), rest),
@@ -194,7 +206,7 @@ fn as_clause<'a>(tasks: &mut Tasks<'a>, path: &[usize], form: &'a Form, room: us
 }
 
 /// Judges a tree as the name of an operation where it is used.
-fn as_operation(alloc: Global, path: &[usize], form: &Form) -> Judged {
+fn as_operation(alloc: Global, path: &[usize], form: &Form) -> FoundProblem {
     match word_of(form) {
         Some(word) if is_name(word) && word.len() <= MAX_NAME => Ok(None),
         _ => wrong(alloc, path, "expected the name of an operation here"),
@@ -216,7 +228,7 @@ fn parameter_name(
     path: &[usize],
     name: &Form,
     before: &[Form],
-) -> Judged {
+) -> FoundProblem {
     if let Some(found) = bound(alloc, has_maps, path, name, None)? {
         return Ok(Some(found));
     }
@@ -240,7 +252,7 @@ fn as_parameter<'a>(
     path: &[usize],
     form: &'a Form,
     before: &[Form],
-) -> Judged {
+) -> FoundProblem {
     let alloc = tasks.alloc();
     let Some([name, ty]) = node_of(form) else {
         return wrong(alloc, path, "a parameter is `(NAME TYPE)`");
@@ -271,7 +283,7 @@ fn as_callback<'a>(
     path: &[usize],
     form: &'a Form,
     before: &[Form],
-) -> Judged {
+) -> FoundProblem {
     let alloc = tasks.alloc();
     let (Some(head), Some([_, body])) = (callback_head(form), node_of(form)) else {
         return noted(
@@ -296,7 +308,7 @@ fn as_callback<'a>(
 }
 
 /// Judges one tree.
-fn judge<'a>(tasks: &mut Tasks<'a>, has_maps: bool, task: &Task<'a>) -> Judged {
+fn judge<'a>(tasks: &mut Tasks<'a>, has_maps: bool, task: &Task<'a>) -> FoundProblem {
     let alloc = tasks.alloc();
     let path = task.path.as_slice();
     match task.role {

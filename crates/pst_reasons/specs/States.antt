@@ -4,11 +4,11 @@ use Rattle.pst_case.specs.Shape.{joined}
 use Rattle.pst_case.specs.declared.case.Case.{Case}
 use Rattle.pst_case.specs.declared.history.History.{History}
 use Rattle.pst_eval.specs.Callbacks.{init_of}
-use Rattle.pst_eval.specs.declared.place.Place.{Place}
+use Rattle.pst_eval.specs.declared.place.FaultPlace.{FaultPlace}
 use Rattle.pst_grid.specs.Merges.{none_done, one_more}
-use Rattle.pst_grid.specs.declared.answer.Turn.{Turn}
-use Rattle.pst_grid.specs.declared.answer.Turn.TheVariants.{Next, Stop}
-use Rattle.pst_judge.specs.Replay.{Asking, EventFits, event_at, turn_asking, branch_turn_asking, prefix_events, branch_events, suffix_events, branch_lengths}
+use Rattle.pst_grid.specs.declared.answer.StepOutcome.{StepOutcome}
+use Rattle.pst_grid.specs.declared.answer.StepOutcome.TheVariants.{Next, Stop}
+use Rattle.pst_judge.specs.Replay.{Asking, EventFits, event_at, outcome_asking, branch_outcome_asking, prefix_events, branch_events, suffix_events, branch_lengths}
 use Rattle.pst_judge.specs.declared.events.Event.{Event}
 use Rattle.pst_model.specs.declared.model.Source.{Source}
 use Rattle.pst_operators.specs.Outcome.{Outcome, Gives, Faults, Stuck}
@@ -16,7 +16,7 @@ use Rattle.pst_value.specs.declared.ty.Ty.{Ty}
 use Rattle.pst_value.specs.declared.value.Value.{Value}
 
 -- the state after a turn, and the rest; none where it stops
-abbrev pub states_after : Turn Value Place → (Value → List Value) → List Value
+abbrev pub states_after : StepOutcome Value FaultPlace → (Value → List Value) → List Value
 states_after (Next s) rest = s ∷ rest s
 states_after (Stop why) rest = []
 
@@ -24,11 +24,11 @@ states_after (Stop why) rest = []
 abbrev pub event_states : Source → Asking → List Event → Value → (Value → List Value) → List Value
 event_states m asked [] s rest = rest s
 event_states m asked (e ∷ es) s rest =
-    states_after (turn_asking m asked s e) (λ next. event_states m asked es next rest)
+    states_after (outcome_asking m asked s e) (λ next. event_states m asked es next rest)
 
 -- the states after the event of each letter in turn, as far as they are true, and then the rest
 abbrev pub word_states :
-    (Value → ℕ → ℕ → Turn Value Place) → (done : List ℕ) → Value → List ℕ → (Value → List Value) → List Value
+    (Value → ℕ → ℕ → StepOutcome Value FaultPlace) → (done : List ℕ) → Value → List ℕ → (Value → List Value) → List Value
 word_states turn done s [] rest = rest s
 word_states turn done s (b ∷ w) rest =
     states_after (turn s b (slice_index done b)) (λ next. word_states turn (one_more done b) next w rest)
@@ -44,7 +44,7 @@ abbrev pub branch_states :
     Source → Asking → Case → (branches : List (List Event)) → (suffix : List Event) → List ℕ → Value
     → List Value
 branch_states m asked c branches suffix word s =
-    word_states (branch_turn_asking m asked branches) (none_done (branch_lengths c)) s word
+    word_states (branch_outcome_asking m asked branches) (none_done (branch_lengths c)) s word
     (λ last. if nat_le (length (joined c.branches)) (length word)
     then event_states m asked suffix last (λ end. []) else [])
 

@@ -10,7 +10,7 @@ use std::alloc::{AllocError, Global};
 
 /// Checks the postconditions of the commands `first` and `rest`. Those of other commands count as true.
 #[derive(Clone, Copy, Drop)]
-pub struct Asked<'a> {
+pub struct SomePostconditions<'a> {
     /// Numbers of commands.
     pub first: &'a [u32],
     /// More numbers of commands.
@@ -34,7 +34,7 @@ fn is_asked(number: u32, first: &[u32], rest: &[u32]) -> bool
     is_among(number, first) || is_among(number, rest)
 }
 
-impl<'a> Condition for Asked<'a> {
+impl<'a> Condition for SomePostconditions<'a> {
     ghost use Rattle.std.specs.Prelude.{◌++◌};
     ghost use Rattle.pst_reasons.specs.Reasons.{asks};
 

@@ -2,7 +2,7 @@
 ghost use Rattle.std.specs.Prelude.{◌≡◌, []};
 
 use crate::answers::{is_right, one_is_right};
-use crate::asked::Asked;
+use crate::asked::SomePostconditions;
 use pst_eval::Callbacks;
 use pst_judge::{Condition, Event};
 use pst_model::Source;
@@ -47,7 +47,7 @@ impl<'a> Condition for AskedInstead<'a> {
         if event.number == self.number {
             return is_right(self.model, alloc, state, event, self.answer);
         }
-        let others = Asked {
+        let others = SomePostconditions {
             first: self.others,
             rest: &[],
         };
@@ -74,7 +74,7 @@ impl<'a> Condition for AskedNoneOf<'a> {
                 Err(fault) => Ok(Err(fault)),
             };
         }
-        let others = Asked {
+        let others = SomePostconditions {
             first: self.others,
             rest: &[],
         };

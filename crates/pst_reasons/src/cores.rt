@@ -5,7 +5,7 @@ ghost use Rattle.pst_case.specs.Recorded.{recorded};
 ghost use Rattle.pst_judge.specs.Verdict.{first_broken};
 ghost use Rattle.pst_reasons.specs.Reasons.{AreRising, IsCore, IsImpossible, IsLeastTrue, IsNeeded, IsUnexplained, is_among, number_of_commands, without};
 
-use crate::asked::Asked;
+use crate::asked::SomePostconditions;
 use crate::numbers::{commands_in, no_numbers, numbers_to, split_last, without};
 use pst_case::{History, Shaped};
 use pst_eval::Callbacks;
@@ -29,7 +29,7 @@ fn true_merge<C: Callbacks>(
         (λ merge. MatchOption merge (IsImpossible m shaped.now.case history.now numbers)
         (λ word. IsLeastTrue m shaped.now.case history.now numbers word.items)) }
 {
-    let asked = Asked { first, rest };
+    let asked = SomePostconditions { first, rest };
     match verdict_asking(callbacks, &asked, alloc, shaped, history)? {
         Verdict::Explained(word) => Ok(Some(word)),
         Verdict::Faulted(_) => Ok(None),

@@ -15,7 +15,7 @@ mod searching;
 mod state_list;
 
 pub use allowing::{AllowedValues, Candidates, allowed};
-pub use asked::Asked;
+pub use asked::SomePostconditions;
 pub use cores::{core, merge_without};
 pub use laws::equality_has_one_answer;
 pub use numbers::{letters_in, without};

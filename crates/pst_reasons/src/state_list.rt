@@ -3,7 +3,7 @@ ghost use Rattle.std.specs.Prelude.{◌≡◌, ◌∷◌, ◌++◌, ◌≤◌, [
 ghost use Rattle.pst_case.specs.Matches.{matches};
 ghost use Rattle.pst_case.specs.Recorded.{recorded};
 ghost use Rattle.pst_case.specs.Shape.{joined, result_types};
-ghost use Rattle.pst_judge.specs.Replay.{branch_turn_asking};
+ghost use Rattle.pst_judge.specs.Replay.{branch_outcome_asking};
 ghost use Rattle.pst_judge.specs.Running.{EventsFit, IsRealState};
 ghost use Rattle.pst_judge.specs.Verdict.{first_broken};
 ghost use Rattle.pst_model.specs.Fitting.{is_state};
@@ -14,8 +14,8 @@ ghost use Rattle.pst_value.specs.declared.value.Value.{Value};
 use crate::numbers::letters_in;
 use pst_case::{History, Shaped};
 use pst_eval::Callbacks;
-use pst_grid::Turn;
-use pst_judge::{Branches, Condition, Event, branches_of, event_turn, prefix_of};
+use pst_grid::StepOutcome;
+use pst_judge::{Branches, Condition, Event, branches_of, event_outcome, prefix_of};
 use pst_value::{Items, Value};
 use std::alloc::{AllocError, Global};
 
@@ -47,9 +47,9 @@ fn along<C: Callbacks, A: Condition>(
     let Some((event, events)) = split_first(events) else {
         return Ok((states, Some(state)));
     };
-    match event_turn(callbacks, condition, alloc, &state, event)? {
-        Turn::Stop(_) => Ok((states, None)),
-        Turn::Next(next) => {
+    match event_outcome(callbacks, condition, alloc, &state, event)? {
+        StepOutcome::Stop(_) => Ok((states, None)),
+        StepOutcome::Next(next) => {
             states.push(next.copy(alloc)?)?;
             along(callbacks, condition, alloc, next, events, states)
         }
@@ -78,7 +78,7 @@ fn along_word<C: Callbacks, A: Condition>(
         AllFit m (result_types m branches.now.shaped.now.case) branches.now.events }
     ensures states { let b = branches.now in let m = C.model b.callbacks.now in
         IfOk result (λ r. (rest : Value → List Value)
-        → states ++ word_states (branch_turn_asking m (A.asked b.condition.now m) b.events) done.items state
+        → states ++ word_states (branch_outcome_asking m (A.asked b.condition.now m) b.events) done.items state
         word.now rest ≡ r.0 ++ onward r.1 rest) }
     ensures last { let m = C.model branches.now.callbacks.now in
         IfOk result (λ r. OnLast r.1 (IsRealState m branches.now.shaped.now.case)) }
@@ -95,9 +95,9 @@ fn along_word<C: Callbacks, A: Condition>(
     let Some(event) = events.get(index) else {
         return Ok((states, None));
     };
-    match event_turn(branches.callbacks, branches.condition, alloc, &state, event)? {
-        Turn::Stop(_) => Ok((states, None)),
-        Turn::Next(next) => {
+    match event_outcome(branches.callbacks, branches.condition, alloc, &state, event)? {
+        StepOutcome::Stop(_) => Ok((states, None)),
+        StepOutcome::Next(next) => {
             done[*branch] = index + 1;
             states.push(next.copy(alloc)?)?;
             along_word(branches, alloc, next, word, done, states)

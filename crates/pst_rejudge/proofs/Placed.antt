@@ -11,7 +11,7 @@ use Rattle.pst_rejudge.specs.Parts.{AreParts, SpellsRuns, AreKept, IsJudgedPart,
 use Rattle.pst_rejudge.specs.Places.{StandsIn, AreFilled, HoldsPart, runs_in, judged_in}
 use Rattle.pst_rejudge.specs.declared.judging.JudgedParts.{JudgedParts}
 use Rattle.pst_rejudge.specs.declared.judging.JudgedRuns.{JudgedRuns}
-use Rattle.pst_rejudge.specs.declared.taking.Part.{Part}
+use Rattle.pst_rejudge.specs.declared.taking.JudgedPart.{JudgedPart}
 use Rattle.pst_judge.specs.Judgement.{IsJudgement}
 use Rattle.pst_judge.specs.declared.judgement.Judged.{Judged}
 use Rattle.pst_model.specs.declared.model.Source.{Source}
@@ -67,7 +67,7 @@ module _ (m : Source) (keeps : Bool) where
 
 module _ (m : Source) (keeps : Bool) (parts : List (Bor (List ℕ))) where
   -- a part that is put into its place
-  pub put_part : (places : List (Option JudgedRuns)) (taken : Part) → AreFilled m keeps parts places → StandsIn m keeps parts taken
+  pub put_part : (places : List (Option JudgedRuns)) (taken : JudgedPart) → AreFilled m keeps parts places → StandsIn m keeps parts taken
       → AreFilled m keeps parts (slice_set places taken.place (Some taken.content))
   put_part places taken h s =
       all_zip_set (λ part place. IfSome place (HoldsPart m keeps part.now)) parts places taken.place s.part (Some taken.content) h s.place s.content

@@ -5,7 +5,7 @@ use Rattle.std.specs.List.{AllZip}
 use Rattle.pst_case.specs.declared.history.Run.{Run}
 use Rattle.pst_rejudge.specs.Parts.{IsJudgedPart}
 use Rattle.pst_rejudge.specs.declared.judging.JudgedRuns.{JudgedRuns}
-use Rattle.pst_rejudge.specs.declared.taking.Part.{Part}
+use Rattle.pst_rejudge.specs.declared.taking.JudgedPart.{JudgedPart}
 use Rattle.pst_judge.specs.declared.judgement.Judged.{Judged}
 use Rattle.pst_model.specs.declared.model.Source.{Source}
 
@@ -14,7 +14,7 @@ abbrev pub HoldsPart : Source → Bool → List ℕ → JudgedRuns → Type 0
 HoldsPart m keeps bytes content = IsJudgedPart m keeps bytes content.runs.items content.judged.items
 
 -- what was taken is what the part at its place spells
-pub record StandsIn (m : Source) (keeps : Bool) (parts : List (Bor (List ℕ))) (taken : Part) : Type 0 where
+pub record StandsIn (m : Source) (keeps : Bool) (parts : List (Bor (List ℕ))) (taken : JudgedPart) : Type 0 where
   pub part : Bor (List ℕ)
   pub place : slice_get parts taken.place ≡ Some part
   pub content : HoldsPart m keeps part.now taken.content

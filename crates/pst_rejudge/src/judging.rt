@@ -8,7 +8,7 @@ use crate::places::{in_order, in_places};
 use crate::reading::PartFault;
 use crate::sharing::{may_send_parts, may_share_models};
 use crate::steps::Steps;
-use crate::taking::{Part, take_parts};
+use crate::taking::{JudgedPart, take_parts};
 use pst_case::Run;
 use pst_eval::Callbacks;
 use pst_judge::Judged;
@@ -70,7 +70,7 @@ pub fn judge_in_parts<C: Callbacks + Sync, R: Threads + Sync>(
         .par_iter()
         .with_min_len(1)
         .map(
-            |_: &u8| -> Result<Vec<Part>, PartFault>
+            |_: &u8| -> Result<Vec<JudgedPart>, PartFault>
                 requires { typed.now ≡ C.model callbacks.now }
                 ensures { IfOk result (λ taken. All (StandsIn (C.model callbacks.entry.now) keeps parts.entry.items) taken.items) }
             {
@@ -85,7 +85,7 @@ pub fn judge_in_parts<C: Callbacks + Sync, R: Threads + Sync>(
                 )
             },
         )
-        .collect::<Result<Vec<Vec<Part>>, PartFault>>(rt, alloc)?;
+        .collect::<Result<Vec<Vec<JudgedPart>>, PartFault>>(rt, alloc)?;
     match taken {
         Ok(lists) => {
             let places = in_places(alloc, parts.as_slice(), lists)?;

@@ -8,7 +8,7 @@ ghost use Rattle.pst_model.specs.declared.model.Source.{Source};
 ghost use Rattle.std.specs.Borrow.{Bor};
 
 use crate::judging::{JudgedParts, JudgedRuns};
-use crate::taking::Part;
+use crate::taking::JudgedPart;
 use std::alloc::{AllocError, Global};
 
 /// An empty place for each part.
@@ -23,12 +23,12 @@ fn no_parts(alloc: Global, parts: &[&[u8]]) -> Result<Vec<Option<JudgedRuns>>, A
 }
 
 /// The places with parts put into them.
-fn put(mut places: Vec<Option<JudgedRuns>>, taken: Vec<Part>) -> Vec<Option<JudgedRuns>>
+fn put(mut places: Vec<Option<JudgedRuns>>, taken: Vec<JudgedPart>) -> Vec<Option<JudgedRuns>>
     ensures { (m : Source) (keeps : Bool) (parts : List (Bor (List ℕ))) → AreFilled m keeps parts places.items
         → All (StandsIn m keeps parts) taken.items → AreFilled m keeps parts result.items }
 {
     for part in taken {
-        let Part { place, content } = part;
+        let JudgedPart { place, content } = part;
         if place < places.len() {
             places[place] = Some(content);
         }
@@ -40,7 +40,7 @@ fn put(mut places: Vec<Option<JudgedRuns>>, taken: Vec<Part>) -> Vec<Option<Judg
 pub(crate) fn in_places(
     alloc: Global,
     parts: &[&[u8]],
-    lists: Vec<Vec<Part>>,
+    lists: Vec<Vec<JudgedPart>>,
 ) -> Result<Vec<Option<JudgedRuns>>, AllocError>
     ensures { IfOk result (λ places. (m : Source) (keeps : Bool)
         → All (λ taken. All (StandsIn m keeps parts.now) taken.items) lists.items → AreFilled m keeps parts.now places.items) }

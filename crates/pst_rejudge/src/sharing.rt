@@ -2,10 +2,10 @@
 ghost use Rattle.std.specs.Thread.{IsSend, IsSync};
 ghost use Rattle.pst_case.specs.contracts.history.Run.{the_row as run_row};
 ghost use Rattle.pst_model.specs.contracts.typed.Typed.{the_row as typed_row};
-ghost use Rattle.pst_rejudge.specs.contracts.taking.Part.{the_row as part_row};
+ghost use Rattle.pst_rejudge.specs.contracts.taking.JudgedPart.{the_row as part_row};
 
 use crate::judging::JudgedRuns;
-use crate::taking::Part;
+use crate::taking::JudgedPart;
 use pst_case::{Case, Command, Run};
 use pst_judge::Judged;
 use pst_model::Typed;
@@ -45,5 +45,5 @@ pub(crate) fn may_send_parts()
     may_send::<Run>();
     may_send::<Judged>();
     may_send::<JudgedRuns>();
-    may_send::<Part>()
+    may_send::<JudgedPart>()
 }

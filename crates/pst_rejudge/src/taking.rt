@@ -18,7 +18,7 @@ use std::sync::atomic::{AtomicUsize, Ordering};
 
 /// A part of an input.
 #[derive(Drop)]
-pub(crate) struct Part {
+pub(crate) struct JudgedPart {
     /// Its place among the parts, from 0.
     pub place: usize,
     /// The runs that it spells, and the judgements on them.
@@ -72,7 +72,7 @@ pub(crate) fn take_parts<C: Callbacks>(
     keeps: bool,
     next: &AtomicUsize,
     steps: &Steps,
-) -> Result<Vec<Part>, PartFault>
+) -> Result<Vec<JudgedPart>, PartFault>
     requires { typed.now ≡ C.model callbacks.now }
     ensures { IfOk result (λ taken. All (StandsIn (C.model callbacks.now) keeps parts.now) taken.items) }
 {
@@ -83,7 +83,7 @@ pub(crate) fn take_parts<C: Callbacks>(
             return Ok(taken);
         };
         let content = judged_part(callbacks, alloc, typed, bytes, keeps, steps)?;
-        if taken.push(Part { place, content }).is_err() {
+        if taken.push(JudgedPart { place, content }).is_err() {
             return Err(PartFault::NoMemory);
         }
     }

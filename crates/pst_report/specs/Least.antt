@@ -1,6 +1,6 @@
 -- The least numbers of two kinds.
 use Rattle.std.specs.Prelude.{ℕ, ◌+◌, List, [], ◌∷◌, Option, Some, None}
-use Rattle.pst_eval.specs.declared.place.Place.{Place}
+use Rattle.pst_eval.specs.declared.place.FaultPlace.{FaultPlace}
 use Rattle.pst_ledger.specs.declared.entry.Entry.{Entry}
 use Rattle.pst_ledger.specs.declared.entry.Entry.TheVariants.{Undrawn, Held, Done, Lost}
 use Rattle.pst_shrink.specs.declared.shrunk.Shrunk.{Shrunk}
@@ -10,7 +10,7 @@ use Rattle.pst_trial.specs.declared.outcome.TrialOutcome.TheVariants.{GenFaulted
 use Rattle.pst_trial.specs.declared.run.JudgedRun.{JudgedRun}
 
 -- where generating the case of a trial faulted
-abbrev pub fault_in : TrialOutcome → Option Place
+abbrev pub fault_in : TrialOutcome → Option FaultPlace
 fault_in (GenFaulted place) = Some place
 fault_in (Passed case runs) = None
 fault_in (Failed earlier shrunk) = None
@@ -34,7 +34,7 @@ numbered_or number None later = later
 numbered_or number (Some a) later = Some (number, a)
 
 -- the least number for which generating a case faulted, and where; the first entry has the number
-abbrev pub least_fault : ℕ → List (Entry RecordView) → Option (ℕ × Place)
+abbrev pub least_fault : ℕ → List (Entry RecordView) → Option (ℕ × FaultPlace)
 least_fault number [] = None
 least_fault number (e ∷ es) = numbered_or number (of_record fault_in e) (least_fault (number + 1) es)
 

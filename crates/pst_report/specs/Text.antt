@@ -2,7 +2,7 @@
 use Rattle.std.specs.Prelude.{ℕ, ◌+◌, ◌==◌, if◌then◌else◌, List, [], ◌∷◌, ◌++◌, length, codes, decimal, Option, Some, None}
 use Rattle.pst_case.specs.declared.history.Run.{Run}
 use Rattle.pst_eval.specs.Places.{callback_name}
-use Rattle.pst_eval.specs.declared.place.Place.{Place}
+use Rattle.pst_eval.specs.declared.place.FaultPlace.{FaultPlace}
 use Rattle.pst_judge.specs.VerdictText.{verdict_text}
 use Rattle.pst_ledger.specs.Names.{cause_name}
 use Rattle.pst_ledger.specs.declared.entry.Cause.{Cause}
@@ -70,7 +70,7 @@ judged_lines entries =
     ++ count_line (codes "broken") kind.Broken entries
 
 -- `genfault-first NUMBER COMMAND CALLBACK KIND`, where there is such a number
-abbrev pub first_fault_line : Option (ℕ × Place) → List ℕ
+abbrev pub first_fault_line : Option (ℕ × FaultPlace) → List ℕ
 first_fault_line None = []
 first_fault_line (Some (number, place)) =
     codes "genfault-first " ++ (decimal number ++ (codes " " ++ (decimal place.command ++ (codes " "

@@ -4,13 +4,13 @@ ghost use Rattle.pst_report.specs.InOrder.{AreOf};
 ghost use Rattle.pst_report.specs.Least as spec;
 ghost use Rattle.pst_report.specs.Matching.{AreMatching};
 
-use pst_eval::Place;
+use pst_eval::FaultPlace;
 use pst_ledger::Entry;
 use pst_shrink::Shrunk;
 use pst_trial::{JudgedRun, Plan, Record, TrialOutcome};
 
 /// The place of the fault in generating the case of a trial, if there was one.
-fn fault_of(done: &Record) -> Option<Place>
+fn fault_of(done: &Record) -> Option<FaultPlace>
     ensures { result ≡ spec.fault_in done.now.outcome }
 {
     match done.outcome() {
@@ -32,7 +32,7 @@ pub(crate) fn failure_of(done: &Record) -> Option<&Shrunk<JudgedRun>>
 }
 
 /// The lowest number for which generating a case faulted, and the place of the fault.
-pub fn least_fault(entries: &[Entry<Record>]) -> Option<(usize, Place)>
+pub fn least_fault(entries: &[Entry<Record>]) -> Option<(usize, FaultPlace)>
     ensures { result ≡ spec.least_fault 0 entries.now }
 {
     for (number, entry) in entries.iter().enumerate() {

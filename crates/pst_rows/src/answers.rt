@@ -12,14 +12,14 @@ use std::thread::Threads;
 
 /// The text of a question, and what comes before it and after it.
 #[derive(Clone, Copy, Drop)]
-pub struct Asked<'a> {
+pub struct QuestionText<'a> {
     pub before: &'a str,
     pub text: &'a str,
     pub after: &'a str,
 }
 
 /// The whole text of a question, with a space between what comes before the text and the text.
-fn whole_of(alloc: Global, asked: &Asked<'_>) -> Result<String, AllocError> {
+fn whole_of(alloc: Global, asked: &QuestionText<'_>) -> Result<String, AllocError> {
     let mut whole = String::from_str(alloc, asked.before)?;
     if !asked.before.is_empty() {
         whole.push_str(" ")?;
@@ -57,7 +57,7 @@ pub fn answer_to<R: Threads + Sync>(
     rt: &R,
     alloc: Global,
     question: Question,
-    asked: &Asked<'_>,
+    asked: &QuestionText<'_>,
 ) -> Result<String, AllocError> {
     match question {
         Question::Write => write_answer(alloc, asked.before, asked.text),

@@ -5,7 +5,7 @@
 //! before and after each row's text (`before TEXT`, `after TEXT`). A row is `TEXT => WANTED`; its text may have several
 //! lines. In all texts braces mean what `texts.rt` says.
 
-use crate::answers::{Asked, answer_to};
+use crate::answers::{QuestionText, answer_to};
 use crate::questions::{Question, question_named};
 use crate::tally::Tally;
 use crate::texts::expanded;
@@ -58,7 +58,7 @@ fn ask_row<R: Threads + Sync + Files + Print + AllocGlobal>(
 ) -> io::Result<()> {
     let whole = expanded(rt, text)?;
     let wanted = expanded(rt, want)?;
-    let asked = Asked {
+    let asked = QuestionText {
         before: head.before.as_str(),
         text: whole.as_str(),
         after: head.after.as_str(),

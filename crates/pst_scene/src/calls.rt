@@ -9,7 +9,7 @@ use std::alloc::{AllocError, Global};
 
 /// A part of a case.
 #[derive(Clone, Copy, Debug, PartialEq, Eq, Drop)]
-pub enum Part {
+pub enum CasePart {
     /// What runs before the branches.
     Prefix,
     /// A branch, from 0.
@@ -18,13 +18,13 @@ pub enum Part {
     Suffix,
 }
 
-impl Part {
+impl CasePart {
     /// The letter of the part: `P`, that of the branch, or `X`.
     pub fn letter(self) -> u8 {
         match self {
-            Part::Prefix => b'P',
-            Part::Branch(branch) => letter(branch),
-            Part::Suffix => b'X',
+            CasePart::Prefix => b'P',
+            CasePart::Branch(branch) => letter(branch),
+            CasePart::Suffix => b'X',
         }
     }
 }
@@ -33,7 +33,7 @@ impl Part {
 #[derive(Clone, Copy, Drop)]
 pub struct Call<'a> {
     /// The part that it is in.
-    pub part: Part,
+    pub part: CasePart,
     /// Its place in its part, from 1.
     pub place: usize,
     /// Its number in the case, from 1.
@@ -58,7 +58,7 @@ pub struct Calls<'a> {
 /// Returns the commands of `part`, numbered from `first` on.
 fn part_calls<'a>(
     alloc: Global,
-    part: Part,
+    part: CasePart,
     first: u32,
     commands: &'a [Command],
     replies: &'a [Reply],
@@ -102,7 +102,7 @@ fn branch_calls<'a>(
             Some(answers) => answers.as_slice(),
             None => &[],
         };
-        calls.push(part_calls(alloc, Part::Branch(index), number, commands, answers)?)?;
+        calls.push(part_calls(alloc, CasePart::Branch(index), number, commands, answers)?)?;
         number = behind(number, commands);
     }
     Ok((calls, number))
@@ -118,9 +118,15 @@ pub fn calls_with<'a>(
 ) -> Result<Calls<'a>, AllocError> {
     let commands = case.prefix.as_slice();
     let number = behind(1, commands);
-    let prefix = part_calls(alloc, Part::Prefix, 1, commands, prefix)?;
+    let prefix = part_calls(alloc, CasePart::Prefix, 1, commands, prefix)?;
     let (branches, number) = branch_calls(alloc, number, case.branches.as_slice(), branches)?;
-    let suffix = part_calls(alloc, Part::Suffix, number, case.suffix.as_slice(), suffix)?;
+    let suffix = part_calls(
+        alloc,
+        CasePart::Suffix,
+        number,
+        case.suffix.as_slice(),
+        suffix,
+    )?;
     Ok(Calls {
         prefix,
         branches,

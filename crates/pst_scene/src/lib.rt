@@ -31,7 +31,7 @@ mod wanted;
 mod words;
 
 pub use binding::{Binding, bindings_of};
-pub use calls::{Call, Calls, Part};
+pub use calls::{Call, Calls, CasePart};
 pub use cutting::cut;
 pub use evaluating::evaluate;
 pub use evidence_falsity::{Evidence, FalsePart, false_part};

@@ -11,7 +11,7 @@ use pst_value::Value;
 use std::alloc::AllocError;
 
 /// A part, and how many turns are left when it begins.
-type Part<'a> = Option<(&'a Expr, u32)>;
+type DecidingPart<'a> = Option<(&'a Expr, u32)>;
 
 /// The test of an `if`, or the chosen one of the others.
 fn of_if<'a>(
@@ -19,7 +19,7 @@ fn of_if<'a>(
     context: &Context<'_>,
     env: &Env<'_>,
     turns: u32,
-) -> Result<Part<'a>, AllocError>
+) -> Result<DecidingPart<'a>, AllocError>
     ensures { IfOk result (λ r. MatchOption r (Unit {0})
         (λ p. Decides context.now expr.now (env_of env.now) turns p.0.now p.1)) }
 {
@@ -40,7 +40,7 @@ fn of_and<'a>(
     context: &Context<'_>,
     env: &Env<'_>,
     turns: u32,
-) -> Result<Part<'a>, AllocError>
+) -> Result<DecidingPart<'a>, AllocError>
     ensures { IfOk result (λ r. MatchOption r (Unit {0})
         (λ p. Decides context.now expr.now (env_of env.now) turns p.0.now p.1)) }
 {
@@ -65,7 +65,7 @@ fn of_or<'a>(
     context: &Context<'_>,
     env: &Env<'_>,
     turns: u32,
-) -> Result<Part<'a>, AllocError>
+) -> Result<DecidingPart<'a>, AllocError>
     ensures { IfOk result (λ r. MatchOption r (Unit {0})
         (λ p. Decides context.now expr.now (env_of env.now) turns p.0.now p.1)) }
 {
@@ -90,7 +90,7 @@ fn of_unary<'a>(
     context: &Context<'_>,
     env: &Env<'_>,
     turns: u32,
-) -> Result<Part<'a>, AllocError>
+) -> Result<DecidingPart<'a>, AllocError>
     ensures { IfOk result (λ r. MatchOption r (Unit {0})
         (λ p. Decides context.now expr.now (env_of env.now) turns p.0.now p.1)) }
 {
@@ -109,7 +109,7 @@ fn of_at<'a>(
     context: &Context<'_>,
     env: &Env<'_>,
     turns: u32,
-) -> Result<Part<'a>, AllocError>
+) -> Result<DecidingPart<'a>, AllocError>
     ensures { IfOk result (λ r. MatchOption r (Unit {0})
         (λ p. Decides context.now expr.now (env_of env.now) turns p.0.now p.1)) }
 {
@@ -128,7 +128,7 @@ fn of_binary<'a>(
     context: &Context<'_>,
     env: &Env<'_>,
     turns: u32,
-) -> Result<Part<'a>, AllocError>
+) -> Result<DecidingPart<'a>, AllocError>
     ensures { IfOk result (λ r. MatchOption r (Unit {0})
         (λ p. Decides context.now expr.now (env_of env.now) turns p.0.now p.1)) }
 {
@@ -151,7 +151,7 @@ fn of_put<'a>(
     context: &Context<'_>,
     env: &Env<'_>,
     turns: u32,
-) -> Result<Part<'a>, AllocError>
+) -> Result<DecidingPart<'a>, AllocError>
     ensures { IfOk result (λ r. MatchOption r (Unit {0})
         (λ p. Decides context.now expr.now (env_of env.now) turns p.0.now p.1)) }
 {
@@ -180,7 +180,7 @@ fn of_tuple<'a>(
     context: &Context<'_>,
     env: &Env<'_>,
     turns: u32,
-) -> Result<Part<'a>, AllocError>
+) -> Result<DecidingPart<'a>, AllocError>
     ensures { IfOk result (λ r. MatchOption r (Unit {0})
         (λ p. Decides context.now expr.now (env_of env.now) turns p.0.now p.1)) }
 {
@@ -199,7 +199,7 @@ fn of_list<'a>(
     context: &Context<'_>,
     env: &Env<'_>,
     turns: u32,
-) -> Result<Part<'a>, AllocError>
+) -> Result<DecidingPart<'a>, AllocError>
     ensures { IfOk result (λ r. MatchOption r (Unit {0})
         (λ p. Decides context.now expr.now (env_of env.now) turns p.0.now p.1)) }
 {
@@ -218,7 +218,7 @@ fn of_call<'a>(
     context: &Context<'_>,
     env: &Env<'_>,
     turns: u32,
-) -> Result<Part<'a>, AllocError>
+) -> Result<DecidingPart<'a>, AllocError>
     ensures { IfOk result (λ r. MatchOption r (Unit {0})
         (λ p. Decides context.now expr.now (env_of env.now) turns p.0.now p.1)) }
 {
@@ -238,7 +238,7 @@ pub fn deciding_part<'a>(
     context: &Context<'_>,
     env: &Env<'_>,
     turns: u32,
-) -> Result<Part<'a>, AllocError>
+) -> Result<DecidingPart<'a>, AllocError>
     ensures { IfOk result (λ r. MatchOption r (Unit {0})
         (λ p. Decides context.now expr.now (env_of env.now) turns p.0.now p.1)) }
 {

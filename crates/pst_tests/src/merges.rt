@@ -1,7 +1,9 @@
 //! The search over merges, on a lamp.
 ghost use Rattle.std.specs.Prelude.{◌<◌, ◌+◌, ◌^◌, sum};
 
-use pst_grid::{Ending, EveryAnswer, SomeAnswer, Steps, Turn, Why, every, some, some_plainly};
+use pst_grid::{
+    Ending, EveryAnswer, SomeAnswer, StepOutcome, Steps, StopReason, every, some, some_plainly,
+};
 use std::alloc::{AllocError, Global};
 use std::cell::Cell;
 use std::test::Fail;
@@ -42,8 +44,8 @@ impl Steps for Lamp {
     ghost use Rattle.std.proofs.Common.{refl, rules};
     ghost use Rattle.std.specs.Hash.{bool};
     ghost use Rattle.pst_grid.specs.declared.answer.Ending.TheVariants.{AllTrue, StopsAt};
-    ghost use Rattle.pst_grid.specs.declared.answer.Turn.TheVariants.{Next, Stop};
-    ghost use Rattle.pst_grid.specs.declared.answer.Why.TheVariants.{False, Fault};
+    ghost use Rattle.pst_grid.specs.declared.answer.StepOutcome.TheVariants.{Next, Stop};
+    ghost use Rattle.pst_grid.specs.declared.answer.StopReason.TheVariants.{False, Fault};
 
     type State = bool;
 
@@ -55,7 +57,7 @@ impl Steps for Lamp {
 
     ghost is_command = { λ _ _ _. Unit {0} };
 
-    ghost turn = { λ lamp is_on b i.
+    ghost outcome = { λ lamp is_on b i.
         if (b == lamp.on.branch) && (i == lamp.on.index) then Next true else
         if (b == lamp.off.branch) && (i == lamp.off.index) then Next false else
         if is_on then Next true else
@@ -83,24 +85,24 @@ impl Steps for Lamp {
         state: &bool,
         branch: usize,
         index: usize,
-    ) -> Result<Turn<bool, usize>, AllocError> {
+    ) -> Result<StepOutcome<bool, usize>, AllocError> {
         self.steps_made.set(self.steps_made.get().saturating_add(1));
         if branch == self.on.branch && index == self.on.index {
-            return Ok(Turn::Next(true));
+            return Ok(StepOutcome::Next(true));
         }
         if branch == self.off.branch && index == self.off.index {
-            return Ok(Turn::Next(false));
+            return Ok(StepOutcome::Next(false));
         }
         if *state {
-            return Ok(Turn::Next(true));
+            return Ok(StepOutcome::Next(true));
         }
         if branch == self.asks.branch && index == self.asks.index {
-            return Ok(Turn::Stop(Why::False));
+            return Ok(StepOutcome::Stop(StopReason::False));
         }
         if branch == self.needs.branch && index == self.needs.index {
-            return Ok(Turn::Stop(Why::Fault(index)));
+            return Ok(StepOutcome::Stop(StopReason::Fault(index)));
         }
-        Ok(Turn::Next(false))
+        Ok(StepOutcome::Next(false))
     }
 
     fn run_rest(&self, _alloc: Global, state: &bool) -> Result<(Ending<usize>, usize), AllocError> {
@@ -111,7 +113,7 @@ impl Steps for Lamp {
         if *state {
             Ok((Ending::AllTrue, 1))
         } else {
-            Ok((Ending::StopsAt(0, Why::False), 1))
+            Ok((Ending::StopsAt(0, StopReason::False), 1))
         }
     }
 

@@ -1,7 +1,7 @@
 -- What a trial came to, by its plan and its number.
 use Rattle.std.specs.Prelude.{◌≡◌, ⊤, ℕ, List, Result, Ok, Err}
 use Rattle.pst_case.specs.declared.case.Case.{Case}
-use Rattle.pst_eval.specs.declared.place.Place.{Place}
+use Rattle.pst_eval.specs.declared.place.FaultPlace.{FaultPlace}
 use Rattle.pst_gen.specs.Draws.{Draws}
 use Rattle.pst_gen.specs.Generated.{IsGenerated}
 use Rattle.pst_shrink.specs.Shrinking.{IsShrunk}
@@ -24,7 +24,7 @@ words_of seed number =
     stream_of (steps_u64_low pcg64) (started 128 multiplier_128 seed (increment_of 128 number))
 
 -- the case that is generated from the words of the trial, or the fault of a callback
-pub record IsTrialCase (p : PlanView) (number : ℕ) (answer : Result Case Place) : Type 0 where
+pub record IsTrialCase (p : PlanView) (number : ℕ) (answer : Result Case FaultPlace) : Type 0 where
   pub words : List ℕ
   pub left : Stream
   pub draws : Draws words (words_of p.settings.seed number) left

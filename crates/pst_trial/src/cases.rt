@@ -4,7 +4,7 @@ ghost use Rattle.pst_gen.specs.Generated.{case_in};
 ghost use Rattle.pst_trial.specs.Sound.{IsTrialCase};
 
 use crate::plan::Plan;
-use pst_eval::Place;
+use pst_eval::FaultPlace;
 use pst_gen::generate;
 use pst_judge::Valid;
 use rand_pcg::Pcg64;
@@ -15,7 +15,7 @@ pub fn trial_case(
     alloc: Global,
     plan: &Plan,
     number: u64,
-) -> Result<Result<Valid, Place>, AllocError>
+) -> Result<Result<Valid, FaultPlace>, AllocError>
     ensures model { IfOk result (λ answer. IfOk answer (λ valid. valid.model ≡ plan.now.model)) }
     ensures case { IfOk result (λ answer. IsTrialCase plan.now number (case_in answer)) }
 {

@@ -1,7 +1,7 @@
 //! The outcome of a trial.
 use crate::run::JudgedRun;
 use pst_case::Case;
-use pst_eval::Place;
+use pst_eval::FaultPlace;
 use pst_shrink::Shrunk;
 use pst_value::Items;
 
@@ -9,7 +9,7 @@ use pst_value::Items;
 #[derive(Debug, Drop)]
 pub enum TrialOutcome {
     /// No case was generated, since a callback faults at this place.
-    GenFaulted(Place),
+    GenFaulted(FaultPlace),
     /// The case was driven `repeats` times, a setting of the plan, and each history is explained.
     Passed {
         /// The case of the trial.

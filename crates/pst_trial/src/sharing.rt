@@ -3,7 +3,7 @@
 ghost use Rattle.std.specs.Thread.{IsSend, IsSync};
 ghost use Rattle.std.specs.contracts.option.Option.{the_row as option_row};
 ghost use Rattle.pst_case.specs.contracts.case.Case.{the_row as case_row};
-ghost use Rattle.pst_eval.specs.contracts.place.Place.{the_row as place_row};
+ghost use Rattle.pst_eval.specs.contracts.place.FaultPlace.{the_row as place_row};
 ghost use Rattle.pst_value.specs.contracts.items.Items.{the_row as items_row};
 ghost use Rattle.pst_shrink.specs.contracts.shrunk.Shrunk.{the_row as shrunk_row};
 ghost use Rattle.pst_shrink.specs.contracts.shrunk.Taken.{the_row as taken_row};
@@ -16,7 +16,7 @@ use crate::plan::Plan;
 use crate::run::JudgedRun;
 use pst_case::Case;
 use pst_compile::Compiled;
-use pst_eval::Place;
+use pst_eval::FaultPlace;
 use pst_machine::Code;
 use pst_model::Typed;
 use pst_shrink::Taken;
@@ -83,8 +83,8 @@ fn may_share_parts()
     ensures shrunk_sent { IsSend (shrunk_row run_row) }
     ensures shrunk_shared { IsSync (shrunk_row run_row) }
 {
-    may_send::<Place>();
-    may_share::<Place>();
+    may_send::<FaultPlace>();
+    may_share::<FaultPlace>();
     may_send::<Case>();
     may_share::<Case>();
     may_send::<Items<JudgedRun>>();

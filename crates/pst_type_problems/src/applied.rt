@@ -5,8 +5,8 @@ use crate::operands::wanted_type;
 use crate::trees::tree_in;
 use pst_model::{Fun, Item, Param};
 use pst_problems::{
-    Judged, Problem, Signature, below, counted, in_place_of, is_of_maps, nearest_head, noted_at,
-    operation, unknown_among, with_note, wrong,
+    FoundProblem, Problem, Signature, below, counted, in_place_of, is_of_maps, nearest_head,
+    noted_at, operation, unknown_among, with_note, wrong,
 };
 use pst_sexpr::word_of;
 use pst_typing::Kind;
@@ -64,7 +64,11 @@ fn are_swapped(leaf: &Leaf<'_>, params: &[Param], first: usize) -> Result<bool, 
 }
 
 /// The problem `refused`, with the declaration.
-fn with_signature(alloc: Global, refused: Option<Problem>, declared: &Signature<'_>) -> Judged {
+fn with_signature(
+    alloc: Global,
+    refused: Option<Problem>,
+    declared: &Signature<'_>,
+) -> FoundProblem {
     with_note(alloc, refused, format_args!("declared: {declared}"))
 }
 
@@ -76,7 +80,7 @@ fn ill_argument(
     declared: &Signature<'_>,
     place: usize,
     part: usize,
-) -> Judged {
+) -> FoundProblem {
     let Some(param) = declared.params.get(place) else {
         return Ok(None);
     };
@@ -99,7 +103,7 @@ fn ill_order(
     declared: &Signature<'_>,
     place: usize,
     part: usize,
-) -> Judged {
+) -> FoundProblem {
     let refused = ill_argument(alloc, leaf, declared, place, part)?;
     if are_swapped(leaf, declared.params, place)? {
         let hint = "hint: in the other order the two arguments fit";
@@ -109,7 +113,7 @@ fn ill_order(
 }
 
 /// The problem of arguments whose number is not that of the parameters.
-fn ill_number(alloc: Global, leaf: &Leaf<'_>, declared: &Signature<'_>) -> Judged {
+fn wrong_argument_count(alloc: Global, leaf: &Leaf<'_>, declared: &Signature<'_>) -> FoundProblem {
     let name = declared.name;
     let takes = counted(declared.params.len(), "argument");
     let found = leaf.kinds.len();
@@ -123,9 +127,14 @@ fn ill_number(alloc: Global, leaf: &Leaf<'_>, declared: &Signature<'_>) -> Judge
 
 /// The problem of arguments that do not fit the parameters, if one does not. `first` is the number of the first
 /// argument in the tree.
-fn arguments(alloc: Global, leaf: &Leaf<'_>, declared: &Signature<'_>, first: usize) -> Judged {
+fn arguments(
+    alloc: Global,
+    leaf: &Leaf<'_>,
+    declared: &Signature<'_>,
+    first: usize,
+) -> FoundProblem {
     if leaf.kinds.len() != declared.params.len() {
-        return ill_number(alloc, leaf, declared);
+        return wrong_argument_count(alloc, leaf, declared);
     }
     match first_ill(leaf, declared.params, 0)? {
         Some(place) => ill_order(alloc, leaf, declared, place, first.saturating_add(place)),
@@ -140,7 +149,7 @@ fn unknown_at(
     part: usize,
     name: &str,
     are_operations: bool,
-) -> Judged {
+) -> FoundProblem {
     let path = below(leaf.path, alloc, part)?;
     unknown_among(
         alloc,
@@ -152,7 +161,7 @@ fn unknown_at(
 }
 
 /// The problem of a call of an operation, if it has one.
-pub fn called(alloc: Global, leaf: &Leaf<'_>) -> Judged {
+pub fn called(alloc: Global, leaf: &Leaf<'_>) -> FoundProblem {
     let Some(name) = word_of(tree_in(leaf.form, 1)) else {
         return Ok(None);
     };
@@ -176,7 +185,7 @@ fn no_function_noted<N: Display + Drop>(
     leaf: &Leaf<'_>,
     name: &str,
     note: N,
-) -> Judged {
+) -> FoundProblem {
     noted_at(
         alloc,
         leaf.path,
@@ -188,7 +197,7 @@ fn no_function_noted<N: Display + Drop>(
 
 /// The problem of a function that no item declares, with the known name that is probably meant, or with the known
 /// functions.
-fn no_function_near(alloc: Global, leaf: &Leaf<'_>, name: &str) -> Judged {
+fn no_function_near(alloc: Global, leaf: &Leaf<'_>, name: &str) -> FoundProblem {
     match nearest_head(alloc, leaf.has_maps, name)? {
         Some(hint) => no_function_noted(alloc, leaf, name, hint),
         None => unknown_at(alloc, leaf, 0, name, false),
@@ -196,7 +205,7 @@ fn no_function_near(alloc: Global, leaf: &Leaf<'_>, name: &str) -> Judged {
 }
 
 /// The problem of a function that no item declares.
-fn no_function(alloc: Global, leaf: &Leaf<'_>, name: &str) -> Judged {
+fn no_function(alloc: Global, leaf: &Leaf<'_>, name: &str) -> FoundProblem {
     if let Some(hint) = in_place_of(name) {
         return no_function_noted(alloc, leaf, name, format_args!("hint: {hint}"));
     }
@@ -216,7 +225,7 @@ fn no_function(alloc: Global, leaf: &Leaf<'_>, name: &str) -> Judged {
 }
 
 /// The problem of a declared function that may not be applied here, if it may not.
-fn not_here(alloc: Global, leaf: &Leaf<'_>, fun: &Fun) -> Judged {
+fn not_here(alloc: Global, leaf: &Leaf<'_>, fun: &Fun) -> FoundProblem {
     let name = fun.name.as_str();
     if function(leaf.context.earlier, name).is_none() {
         return noted_at(
@@ -240,7 +249,7 @@ fn not_here(alloc: Global, leaf: &Leaf<'_>, fun: &Fun) -> Judged {
 }
 
 /// The problem of an application of a function, if it has one.
-pub fn applied(alloc: Global, leaf: &Leaf<'_>, name: &str) -> Judged {
+pub fn applied(alloc: Global, leaf: &Leaf<'_>, name: &str) -> FoundProblem {
     let Some(fun) = function(leaf.context.items, name) else {
         return no_function(alloc, leaf, name);
     };

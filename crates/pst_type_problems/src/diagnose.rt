@@ -9,11 +9,11 @@ use crate::spelling::spelled;
 use crate::trees::{clauses_of, goes_over_list, head_word};
 use pst_model::Expr;
 use pst_problems::{
-    Judged, Listed, Problem, TypeText, is_of_maps, key_word, nearest, noted, with_note, wrong,
-    wrong_at,
+    FoundProblem, Listed, Problem, TypeText, is_of_maps, key_word, nearest, noted, with_note,
+    wrong, wrong_at,
 };
-use pst_sexpr::{Form as Tree, word_of};
-use pst_typing::{Context, Form, Kind};
+use pst_sexpr::{Form, word_of};
+use pst_typing::{Context, Kind, KindForm};
 use pst_value::{Items, KeyTy, Text, Ty};
 use std::alloc::{AllocError, Global};
 use std::fmt::Display;
@@ -24,7 +24,7 @@ use std::fmt::Display;
 pub struct Leaf<'a> {
     pub context: &'a Context<'a>,
     pub expr: &'a Expr,
-    pub form: &'a Tree,
+    pub form: &'a Form,
     pub path: &'a [usize],
     pub kinds: &'a [Kind],
     pub names: &'a Items<Text>,
@@ -34,7 +34,7 @@ pub struct Leaf<'a> {
 }
 
 /// The problem `found`, with the names that the part sees.
-fn with_names(alloc: Global, leaf: &Leaf<'_>, found: Option<Problem>) -> Judged {
+fn with_names(alloc: Global, leaf: &Leaf<'_>, found: Option<Problem>) -> FoundProblem {
     if leaf.names.is_empty() {
         let called = leaf.called;
         return with_note(alloc, found, format_args!("{called} sees no names"));
@@ -53,7 +53,7 @@ fn callback_hint(name: &str) -> Option<&'static str> {
 }
 
 /// The problem of the name `name`, which nothing has here. A note lists the names that the part sees.
-fn no_meaning(alloc: Global, leaf: &Leaf<'_>, name: &str) -> Judged {
+fn no_meaning(alloc: Global, leaf: &Leaf<'_>, name: &str) -> FoundProblem {
     let called = leaf.called;
     let what = format_args!("{called}: nothing has the name `{name}` here");
     let found = wrong(alloc, leaf.path, what)?;
@@ -61,12 +61,17 @@ fn no_meaning(alloc: Global, leaf: &Leaf<'_>, name: &str) -> Judged {
 }
 
 /// The problem of the name `name`, which nothing has here, with a hint.
-fn unknown_noted<N: Display + Drop>(alloc: Global, leaf: &Leaf<'_>, name: &str, hint: N) -> Judged {
+fn unknown_noted<N: Display + Drop>(
+    alloc: Global,
+    leaf: &Leaf<'_>,
+    name: &str,
+    hint: N,
+) -> FoundProblem {
     with_note(alloc, no_meaning(alloc, leaf, name)?, hint)
 }
 
 /// The problem of the name `name`, which nothing has here, with a hint if there is one.
-fn unknown(alloc: Global, leaf: &Leaf<'_>, name: &str) -> Judged {
+fn unknown(alloc: Global, leaf: &Leaf<'_>, name: &str) -> FoundProblem {
     if let Some(hint) = callback_hint(name) {
         return unknown_noted(alloc, leaf, name, hint);
     }
@@ -77,7 +82,7 @@ fn unknown(alloc: Global, leaf: &Leaf<'_>, name: &str) -> Judged {
 }
 
 /// The problem of the first part that has another type than `wanted`.
-fn each_of(alloc: Global, leaf: &Leaf<'_>, head: &str, wanted: &Ty) -> Judged {
+fn each_of(alloc: Global, leaf: &Leaf<'_>, head: &str, wanted: &Ty) -> FoundProblem {
     let wanted = Kind::of(alloc, wanted)?;
     for (place, kind) in leaf.kinds.iter().enumerate() {
         if !kind.same(alloc, &wanted)? {
@@ -89,7 +94,7 @@ fn each_of(alloc: Global, leaf: &Leaf<'_>, head: &str, wanted: &Ty) -> Judged {
 }
 
 /// The problem of an `if`, if it has one.
-fn choice(alloc: Global, leaf: &Leaf<'_>) -> Judged {
+fn choice(alloc: Global, leaf: &Leaf<'_>) -> FoundProblem {
     let [test, yes, no] = leaf.kinds else {
         return Ok(None);
     };
@@ -101,9 +106,9 @@ fn choice(alloc: Global, leaf: &Leaf<'_>) -> Judged {
 }
 
 /// The problem of a comparison by order, if it has one.
-fn order(alloc: Global, leaf: &Leaf<'_>, head: &str, first: &Kind, second: &Kind) -> Judged {
+fn order(alloc: Global, leaf: &Leaf<'_>, head: &str, first: &Kind, second: &Kind) -> FoundProblem {
     match first.form(alloc)? {
-        Form::Int | Form::Text => {
+        KindForm::Int | KindForm::Text => {
             wanted_type(alloc, leaf, format_args!("`{head}`"), 2, first, second)
         }
         _ => ill_first(
@@ -116,7 +121,7 @@ fn order(alloc: Global, leaf: &Leaf<'_>, head: &str, first: &Kind, second: &Kind
 }
 
 /// The problem of a comparison by `=`, if it has one.
-fn equality(alloc: Global, leaf: &Leaf<'_>, first: &Kind, second: &Kind) -> Judged {
+fn equality(alloc: Global, leaf: &Leaf<'_>, first: &Kind, second: &Kind) -> FoundProblem {
     if let Some(found) = wanted_type(
         alloc,
         leaf,
@@ -140,9 +145,9 @@ fn equality(alloc: Global, leaf: &Leaf<'_>, first: &Kind, second: &Kind) -> Judg
 }
 
 /// The problem of a `same`, if it has one.
-fn sameness(alloc: Global, leaf: &Leaf<'_>, first: &Kind, second: &Kind) -> Judged {
+fn sameness(alloc: Global, leaf: &Leaf<'_>, first: &Kind, second: &Kind) -> FoundProblem {
     match first.form(alloc)? {
-        Form::Ref(_) => wanted_type(
+        KindForm::Ref(_) => wanted_type(
             alloc,
             leaf,
             "`same` compares references of one type",
@@ -155,13 +160,13 @@ fn sameness(alloc: Global, leaf: &Leaf<'_>, first: &Kind, second: &Kind) -> Judg
 }
 
 /// The problem of an `nth`, if it has one.
-fn place_in_list(alloc: Global, leaf: &Leaf<'_>, list: &Kind, place: &Kind) -> Judged {
+fn place_in_list(alloc: Global, leaf: &Leaf<'_>, list: &Kind, place: &Kind) -> FoundProblem {
     match (list.form(alloc)?, place.form(alloc)?) {
-        (Form::List(_), _) => {
+        (KindForm::List(_), _) => {
             let int = Kind::of(alloc, &Ty::Int)?;
             wanted_type(alloc, leaf, "`nth`", 2, &int, place)
         }
-        (Form::Int, Form::List(_)) => noted(
+        (KindForm::Int, KindForm::List(_)) => noted(
             alloc,
             leaf.path,
             "`nth` takes a list and a place, found int and a list",
@@ -172,7 +177,7 @@ fn place_in_list(alloc: Global, leaf: &Leaf<'_>, list: &Kind, place: &Kind) -> J
 }
 
 /// The problem of a `deref`, if it has one.
-fn dereference(alloc: Global, leaf: &Leaf<'_>) -> Judged {
+fn dereference(alloc: Global, leaf: &Leaf<'_>) -> FoundProblem {
     if !leaf.context.is_post {
         return noted(
             alloc,
@@ -188,12 +193,12 @@ fn dereference(alloc: Global, leaf: &Leaf<'_>) -> Judged {
 }
 
 /// The problem of a `len` or a `++`, if it has one.
-fn sequence(alloc: Global, leaf: &Leaf<'_>, head: &str) -> Judged {
+fn sequence(alloc: Global, leaf: &Leaf<'_>, head: &str) -> FoundProblem {
     let Some(first) = leaf.kinds.first() else {
         return Ok(None);
     };
     match (first.form(alloc)?, leaf.kinds.get(1)) {
-        (Form::Text | Form::List(_), Some(second)) => {
+        (KindForm::Text | KindForm::List(_), Some(second)) => {
             wanted_type(
                 alloc,
                 leaf,
@@ -208,11 +213,11 @@ fn sequence(alloc: Global, leaf: &Leaf<'_>, head: &str) -> Judged {
 }
 
 /// The problem of an `at`, if it has one.
-fn place_in_tuple(alloc: Global, leaf: &Leaf<'_>) -> Judged {
+fn place_in_tuple(alloc: Global, leaf: &Leaf<'_>) -> FoundProblem {
     let Some(found) = leaf.kinds.first() else {
         return Ok(None);
     };
-    let Form::Tuple(items) = found.form(alloc)? else {
+    let KindForm::Tuple(items) = found.form(alloc)? else {
         return wanted_tuple(alloc, leaf, found);
     };
     let number = items.len();
@@ -231,7 +236,7 @@ fn key_type(keys: KeyTy) -> Ty {
 }
 
 /// The problem of a key of another type than the keys of the map, if it has one.
-fn ill_key(alloc: Global, leaf: &Leaf<'_>, keys: KeyTy) -> Judged {
+fn ill_key(alloc: Global, leaf: &Leaf<'_>, keys: KeyTy) -> FoundProblem {
     let Some(found) = leaf.kinds.get(1) else {
         return Ok(None);
     };
@@ -242,7 +247,7 @@ fn ill_key(alloc: Global, leaf: &Leaf<'_>, keys: KeyTy) -> Judged {
 }
 
 /// The problem of a key or a value of another type than those of the map, if there is one.
-fn ill_entry(alloc: Global, leaf: &Leaf<'_>, keys: KeyTy, value: &Kind) -> Judged {
+fn ill_entry(alloc: Global, leaf: &Leaf<'_>, keys: KeyTy, value: &Kind) -> FoundProblem {
     if let Some(found) = ill_key(alloc, leaf, keys)? {
         return Ok(Some(found));
     }
@@ -253,18 +258,24 @@ fn ill_entry(alloc: Global, leaf: &Leaf<'_>, keys: KeyTy, value: &Kind) -> Judge
 }
 
 /// The problem of a form of maps, if it has one.
-fn of_map(alloc: Global, leaf: &Leaf<'_>, head: &str) -> Judged {
+fn of_map(alloc: Global, leaf: &Leaf<'_>, head: &str) -> FoundProblem {
     let Some(map) = leaf.kinds.first() else {
         return Ok(None);
     };
     match map.form(alloc)? {
-        Form::Map(keys, value) => ill_entry(alloc, leaf, keys, &value),
+        KindForm::Map(keys, value) => ill_entry(alloc, leaf, keys, &value),
         _ => wanted_map(alloc, leaf, head, map),
     }
 }
 
 /// The problem of an item of a list that has the type `found` instead of `wanted`. `part` is its number in the tree.
-fn ill_item(alloc: Global, leaf: &Leaf<'_>, part: usize, wanted: &Ty, found: &Kind) -> Judged {
+fn ill_item(
+    alloc: Global,
+    leaf: &Leaf<'_>,
+    part: usize,
+    wanted: &Ty,
+    found: &Kind,
+) -> FoundProblem {
     let wants = TypeText(wanted);
     let has = spelled(alloc, found)?;
     let what = format_args!("an item of the list: expected {wants}, found {has}");
@@ -273,7 +284,7 @@ fn ill_item(alloc: Global, leaf: &Leaf<'_>, part: usize, wanted: &Ty, found: &Ki
 }
 
 /// The problem of the first item of a list that has another type, if there is one.
-fn of_list(alloc: Global, leaf: &Leaf<'_>) -> Judged {
+fn of_list(alloc: Global, leaf: &Leaf<'_>) -> FoundProblem {
     let Expr::List(wanted, _) = leaf.expr else {
         return Ok(None);
     };
@@ -286,16 +297,22 @@ fn of_list(alloc: Global, leaf: &Leaf<'_>) -> Judged {
 }
 
 /// Whether a type is the one that the expression of a clause has to have.
-fn fits_clause(alloc: Global, clause: &Tree, found: &Kind) -> Result<bool, AllocError> {
+fn fits_clause(alloc: Global, clause: &Form, found: &Kind) -> Result<bool, AllocError> {
     match found.form(alloc)? {
-        Form::List(_) => Ok(goes_over_list(clause)),
-        Form::Bool => Ok(!goes_over_list(clause)),
+        KindForm::List(_) => Ok(goes_over_list(clause)),
+        KindForm::Bool => Ok(!goes_over_list(clause)),
         _ => Ok(false),
     }
 }
 
 /// The problem of clause `place`, which has another type.
-fn ill_clause(alloc: Global, leaf: &Leaf<'_>, clause: &Tree, place: usize, found: &Kind) -> Judged {
+fn ill_clause(
+    alloc: Global,
+    leaf: &Leaf<'_>,
+    clause: &Form,
+    place: usize,
+    found: &Kind,
+) -> FoundProblem {
     let mut path = Vec::from_slice(alloc, leaf.path)?;
     path.extend_from_slice(&[1, place])?;
     if goes_over_list(clause) {
@@ -308,7 +325,7 @@ fn ill_clause(alloc: Global, leaf: &Leaf<'_>, clause: &Tree, place: usize, found
 }
 
 /// The problem of the first clause of a comprehension that has another type, if there is one.
-fn of_for(alloc: Global, leaf: &Leaf<'_>) -> Judged {
+fn of_for(alloc: Global, leaf: &Leaf<'_>) -> FoundProblem {
     for (place, clause) in clauses_of(leaf.form).iter().enumerate() {
         let Some(found) = leaf.kinds.get(place) else {
             return Ok(None);
@@ -321,7 +338,7 @@ fn of_for(alloc: Global, leaf: &Leaf<'_>) -> Judged {
 }
 
 /// The problem of a fold over no list, or with a body of another type than its first value.
-fn of_fold(alloc: Global, leaf: &Leaf<'_>) -> Judged {
+fn of_fold(alloc: Global, leaf: &Leaf<'_>) -> FoundProblem {
     match leaf.kinds {
         [_, first, body] => wanted_type(
             alloc,
@@ -337,7 +354,7 @@ fn of_fold(alloc: Global, leaf: &Leaf<'_>) -> Judged {
 }
 
 /// What is wrong with an operator of two parts, by its head.
-fn of_two(alloc: Global, leaf: &Leaf<'_>, head: &str) -> Judged {
+fn of_two(alloc: Global, leaf: &Leaf<'_>, head: &str) -> FoundProblem {
     let [first, second] = leaf.kinds else {
         return Ok(None);
     };
@@ -351,7 +368,7 @@ fn of_two(alloc: Global, leaf: &Leaf<'_>, head: &str) -> Judged {
 }
 
 /// What is wrong with an operator, by its head.
-fn of_operator(alloc: Global, leaf: &Leaf<'_>, head: &str) -> Judged {
+fn of_operator(alloc: Global, leaf: &Leaf<'_>, head: &str) -> FoundProblem {
     match head {
         "and" | "or" | "not" => each_of(alloc, leaf, head, &Ty::Bool),
         "+" | "-" | "*" | "div" | "rem" | "range" => each_of(alloc, leaf, head, &Ty::Int),
@@ -361,7 +378,7 @@ fn of_operator(alloc: Global, leaf: &Leaf<'_>, head: &str) -> Judged {
 }
 
 /// What is wrong with a form of expressions, by its head.
-fn of_form(alloc: Global, leaf: &Leaf<'_>, head: &str) -> Judged {
+fn of_form(alloc: Global, leaf: &Leaf<'_>, head: &str) -> FoundProblem {
     match head {
         "if" => choice(alloc, leaf),
         "deref" => dereference(alloc, leaf),
@@ -376,7 +393,7 @@ fn of_form(alloc: Global, leaf: &Leaf<'_>, head: &str) -> Judged {
 }
 
 /// What is wrong with a form of expressions, or else with the application of a function, by the head.
-fn of_head(alloc: Global, leaf: &Leaf<'_>, head: &str) -> Judged {
+fn of_head(alloc: Global, leaf: &Leaf<'_>, head: &str) -> FoundProblem {
     match of_form(alloc, leaf, head)? {
         Some(found) => Ok(Some(found)),
         None => applied(alloc, leaf, head),
@@ -384,7 +401,7 @@ fn of_head(alloc: Global, leaf: &Leaf<'_>, head: &str) -> Judged {
 }
 
 /// What is wrong with the part that is to blame.
-pub fn diagnose(alloc: Global, leaf: &Leaf<'_>) -> Judged {
+pub fn diagnose(alloc: Global, leaf: &Leaf<'_>) -> FoundProblem {
     if let Some(word) = word_of(leaf.form) {
         return unknown(alloc, leaf, word.as_str());
     }

@@ -2,8 +2,8 @@
 
 use crate::diagnose::Leaf;
 use crate::spelling::{spelled, spelled_as_value};
-use pst_problems::{Judged, Problem, below, noted, with_note, wrong, wrong_at};
-use pst_typing::{Form, Kind};
+use pst_problems::{FoundProblem, Problem, below, noted, with_note, wrong, wrong_at};
+use pst_typing::{Kind, KindForm};
 use std::alloc::{AllocError, Global};
 use std::fmt::Display;
 
@@ -29,7 +29,7 @@ pub fn with_references_hint(
     refused: Option<Problem>,
     wanted: &Kind,
     found: &Kind,
-) -> Judged {
+) -> FoundProblem {
     if has_references(alloc, wanted, found)? {
         return with_note(alloc, refused, REFERENCE);
     }
@@ -37,17 +37,17 @@ pub fn with_references_hint(
 }
 
 /// The problem `refused` of a part that is no reference and has the type `found`, with a hint if that is one.
-pub fn with_reference_hint(alloc: Global, refused: Option<Problem>, found: &Kind) -> Judged {
+pub fn with_reference_hint(alloc: Global, refused: Option<Problem>, found: &Kind) -> FoundProblem {
     match found.form(alloc)? {
-        Form::Ref(_) => with_note(alloc, refused, REFERENCE),
+        KindForm::Ref(_) => with_note(alloc, refused, REFERENCE),
         _ => Ok(refused),
     }
 }
 
 /// The problem `refused`, with a hint if a map is in the place of a list.
-fn with_keys_hint(alloc: Global, refused: Option<Problem>, found: &Kind) -> Judged {
+fn with_keys_hint(alloc: Global, refused: Option<Problem>, found: &Kind) -> FoundProblem {
     match found.form(alloc)? {
-        Form::Map(_, _) => with_note(
+        KindForm::Map(_, _) => with_note(
             alloc,
             refused,
             "hint: `(keys m)` is the list of the keys of a map",
@@ -63,7 +63,7 @@ pub fn other_type<D: Display + Drop>(
     what: D,
     wanted: &Kind,
     found: &Kind,
-) -> Judged {
+) -> FoundProblem {
     let wants = spelled(alloc, wanted)?;
     let has = spelled(alloc, found)?;
     let refused = wrong(
@@ -82,7 +82,7 @@ pub fn wanted_type<D: Display + Drop>(
     part: usize,
     wanted: &Kind,
     found: &Kind,
-) -> Judged {
+) -> FoundProblem {
     if wanted.same(alloc, found)? {
         return Ok(None);
     }
@@ -96,17 +96,17 @@ pub fn ill_first<D: Display + Drop>(
     leaf: &Leaf<'_>,
     what: D,
     found: &Kind,
-) -> Judged {
+) -> FoundProblem {
     let has = spelled(alloc, found)?;
     let refused = wrong_at(alloc, leaf.path, 1, format_args!("{what}, found {has}"))?;
     with_reference_hint(alloc, refused, found)
 }
 
 /// The problem of the first part of `at`, which is no tuple.
-pub fn wanted_tuple(alloc: Global, leaf: &Leaf<'_>, found: &Kind) -> Judged {
+pub fn wanted_tuple(alloc: Global, leaf: &Leaf<'_>, found: &Kind) -> FoundProblem {
     let refused = ill_first(alloc, leaf, "`at` takes a tuple", found)?;
     match found.form(alloc)? {
-        Form::List(_) => with_note(
+        KindForm::List(_) => with_note(
             alloc,
             refused,
             "hint: for a list write `(nth LIST PLACE)`, counted from 0",
@@ -116,7 +116,7 @@ pub fn wanted_tuple(alloc: Global, leaf: &Leaf<'_>, found: &Kind) -> Judged {
 }
 
 /// The problem of a form that takes a text or a list, and whose first part is neither.
-pub fn wanted_sequence(alloc: Global, leaf: &Leaf<'_>, head: &str, found: &Kind) -> Judged {
+pub fn wanted_sequence(alloc: Global, leaf: &Leaf<'_>, head: &str, found: &Kind) -> FoundProblem {
     let refused = ill_first(
         alloc,
         leaf,
@@ -127,7 +127,13 @@ pub fn wanted_sequence(alloc: Global, leaf: &Leaf<'_>, head: &str, found: &Kind)
 }
 
 /// The problem of part `part` of the tree that `path` leads to, which is no list.
-pub fn wanted_list(alloc: Global, path: &[usize], what: &str, part: usize, found: &Kind) -> Judged {
+pub fn wanted_list(
+    alloc: Global,
+    path: &[usize],
+    what: &str,
+    part: usize,
+    found: &Kind,
+) -> FoundProblem {
     let has = spelled(alloc, found)?;
     let refused = wrong_at(
         alloc,
@@ -140,9 +146,9 @@ pub fn wanted_list(alloc: Global, path: &[usize], what: &str, part: usize, found
 }
 
 /// The problem of a form of maps whose first part is no map.
-pub fn wanted_map(alloc: Global, leaf: &Leaf<'_>, head: &str, found: &Kind) -> Judged {
+pub fn wanted_map(alloc: Global, leaf: &Leaf<'_>, head: &str, found: &Kind) -> FoundProblem {
     let is_second = match leaf.kinds.get(1) {
-        Some(second) => matches!(second.form(alloc)?, Form::Map(_, _)),
+        Some(second) => matches!(second.form(alloc)?, KindForm::Map(_, _)),
         None => false,
     };
     if !is_second {

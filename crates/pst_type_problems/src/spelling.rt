@@ -3,7 +3,7 @@
 ghost use Rattle.std.specs.Prelude.{◌≤◌};
 
 use pst_problems::key_word;
-use pst_typing::{Form, Kind};
+use pst_typing::{Kind, KindForm};
 use std::alloc::{AllocError, Global};
 
 /// The greatest number of forms of a type in a message. `..` replaces the others. A type may have more forms than
@@ -51,17 +51,17 @@ fn spell(
     }
     *left -= 1;
     match kind.form(alloc)? {
-        Form::Int => text.push_str("int"),
-        Form::Bool => text.push_str("bool"),
-        Form::Text => text.push_str("text"),
-        Form::Call => text.push_str("call"),
-        Form::Tuple(kinds) => spell_all(text, alloc, kinds.as_slice(), references, left),
-        Form::List(item) => spell_last(text, alloc, "(list ", &item, references, left),
-        Form::Ref(named) => match references {
+        KindForm::Int => text.push_str("int"),
+        KindForm::Bool => text.push_str("bool"),
+        KindForm::Text => text.push_str("text"),
+        KindForm::Call => text.push_str("call"),
+        KindForm::Tuple(kinds) => spell_all(text, alloc, kinds.as_slice(), references, left),
+        KindForm::List(item) => spell_last(text, alloc, "(list ", &item, references, left),
+        KindForm::Ref(named) => match references {
             References::Whole => spell_last(text, alloc, "(ref ", &named, references, left),
             References::Values => spell(text, alloc, &named, references, left),
         },
-        Form::Map(keys, value) => {
+        KindForm::Map(keys, value) => {
             text.push_str("(map ")?;
             text.push_str(key_word(keys))?;
             spell_last(text, alloc, " ", &value, references, left)

@@ -5,7 +5,7 @@ use crate::operands::other_type;
 use crate::trees::{enter_part, head_word, tree_in};
 use crate::walk::{names_in, part_at};
 use pst_model::{Expr, Fun, Item, Op, Source, state_of};
-use pst_problems::{Judged, MOST_PROBLEMS, Problem, noted, tell, wrong};
+use pst_problems::{FoundProblem, MOST_PROBLEMS, Problem, noted, tell, wrong};
 use pst_sexpr::{Form, node_of};
 use pst_typing::{Blame, Context, Found, Kind, Scope, find, holds_call, holds_ref};
 use pst_value::Ty;
@@ -55,7 +55,7 @@ fn blamed(
     scope: &Scope<'_>,
     site: &Site<'_>,
     blame: &Blame,
-) -> Judged {
+) -> FoundProblem {
     let alloc = context.alloc;
     let mut path = Vec::from_slice(alloc, site.path)?;
     let form = enter_parts(&mut path, site.form, blame.path.as_slice())?;
@@ -75,7 +75,7 @@ fn blamed(
 }
 
 /// The problem of an expression of the kind `found`, if it has to have another kind.
-fn of_kind(alloc: Global, site: &Site<'_>, found: &Kind) -> Judged {
+fn of_kind(alloc: Global, site: &Site<'_>, found: &Kind) -> FoundProblem {
     if found.same(alloc, site.wanted)? {
         return Ok(None);
     }
@@ -202,7 +202,7 @@ fn tell_post(
 }
 
 /// What is wrong with the types that an operation declares.
-fn of_declared(alloc: Global, op: &Op, number: usize) -> Judged {
+fn of_declared(alloc: Global, op: &Op, number: usize) -> FoundProblem {
     for (place, param) in op.params.as_slice().iter().enumerate() {
         if holds_call(&param.ty) {
             let what = "the parameter of an operation cannot hold a `call`";
@@ -300,7 +300,7 @@ fn tell_command(
 }
 
 /// What is wrong with the type of the state.
-fn of_state(alloc: Global, state: &Ty, here: Here<'_>) -> Judged {
+fn of_state(alloc: Global, state: &Ty, here: Here<'_>) -> FoundProblem {
     if holds_call(state) {
         wrong(
             alloc,

@@ -2,8 +2,8 @@
 use Rattle.std.proofs.Common.{◌≡◌, ℕ, zero, suc, ◌-◌, true, false, List, Some, None, slice_get, refl, sym, ap, ◌∙◌, arith}
 use Rattle.pst_typing.specs.Decision.{◌>>=◌, item_at, item_type, parts_at, part_type, referred_at, referred_type, is_ref_at, is_ref, is_sequence_at, is_sequence, values_at, values_type}
 use Rattle.pst_typing.specs.Forms.{formed}
-use Rattle.pst_typing.specs.declared.kinds.form.Form.{Form}
-use Rattle.pst_typing.specs.declared.kinds.form.Form.TheVariants as form
+use Rattle.pst_typing.specs.declared.kinds.form.KindForm.{KindForm}
+use Rattle.pst_typing.specs.declared.kinds.form.KindForm.TheVariants as form
 use Rattle.pst_value.specs.Subst.{numbered}
 use Rattle.pst_value.specs.declared.key.KeyTy.{KeyTy}
 use Rattle.pst_value.specs.declared.ty.Ty.{Ty, out-Ty}
@@ -11,7 +11,7 @@ use Rattle.pst_value.specs.declared.ty.Ty.TheOpen.{Ty-F}
 use Rattle.pst_value.specs.declared.ty.Ty.TheVariants as ty
 
 -- one level of the type of a form
-abbrev opened : Form → Ty-F Ty
+abbrev opened : KindForm → Ty-F Ty
 opened form.Int = Ty-F.Int
 opened form.Bool = Ty-F.Bool
 opened form.Text = Ty-F.Text
@@ -21,7 +21,7 @@ opened (form.Map k t) = Ty-F.Map k t
 opened (form.Ref t) = Ty-F.Ref t
 opened form.Call = Ty-F.Call
 
-opens : (f : Form) → out-Ty (formed f) ≡ opened f
+opens : (f : KindForm) → out-Ty (formed f) ≡ opened f
 opens form.Int = ty.outs-Int
 opens form.Bool = ty.outs-Bool
 opens form.Text = ty.outs-Text
@@ -33,7 +33,7 @@ opens form.Call = ty.outs-Call
 
 -- ---- forms of another kind
 
-no_item : (f : Form) → ((t : Ty) → f ≡ form.List t → ⊥) → item_at (opened f) ≡ None
+no_item : (f : KindForm) → ((t : Ty) → f ≡ form.List t → ⊥) → item_at (opened f) ≡ None
 no_item form.Int other = refl
 no_item form.Bool other = refl
 no_item form.Text other = refl
@@ -43,7 +43,7 @@ no_item (form.Map k t) other = refl
 no_item (form.Ref t) other = refl
 no_item form.Call other = refl
 
-no_parts : (f : Form) → ((ts : List Ty) → f ≡ form.Tuple ts → ⊥) → parts_at (opened f) ≡ None
+no_parts : (f : KindForm) → ((ts : List Ty) → f ≡ form.Tuple ts → ⊥) → parts_at (opened f) ≡ None
 no_parts form.Int other = refl
 no_parts form.Bool other = refl
 no_parts form.Text other = refl
@@ -53,7 +53,7 @@ no_parts (form.Map k t) other = refl
 no_parts (form.Ref t) other = refl
 no_parts form.Call other = refl
 
-no_referred : (f : Form) → ((t : Ty) → f ≡ form.Ref t → ⊥) → referred_at (opened f) ≡ None
+no_referred : (f : KindForm) → ((t : Ty) → f ≡ form.Ref t → ⊥) → referred_at (opened f) ≡ None
 no_referred form.Int other = refl
 no_referred form.Bool other = refl
 no_referred form.Text other = refl
@@ -63,7 +63,7 @@ no_referred (form.Map k t) other = refl
 no_referred (form.Ref t) other = absurd (other t refl)
 no_referred form.Call other = refl
 
-no_ref : (f : Form) → ((t : Ty) → f ≡ form.Ref t → ⊥) → is_ref_at (opened f) ≡ false
+no_ref : (f : KindForm) → ((t : Ty) → f ≡ form.Ref t → ⊥) → is_ref_at (opened f) ≡ false
 no_ref form.Int other = refl
 no_ref form.Bool other = refl
 no_ref form.Text other = refl
@@ -73,7 +73,7 @@ no_ref (form.Map k t) other = refl
 no_ref (form.Ref t) other = absurd (other t refl)
 no_ref form.Call other = refl
 
-no_sequence : (f : Form) → (f ≡ form.Text → ⊥) → ((t : Ty) → f ≡ form.List t → ⊥) → is_sequence_at (opened f) ≡ false
+no_sequence : (f : KindForm) → (f ≡ form.Text → ⊥) → ((t : Ty) → f ≡ form.List t → ⊥) → is_sequence_at (opened f) ≡ false
 no_sequence form.Int text list = refl
 no_sequence form.Bool text list = refl
 no_sequence form.Text text list = absurd (text refl)
@@ -83,7 +83,7 @@ no_sequence (form.Map k t) text list = refl
 no_sequence (form.Ref t) text list = refl
 no_sequence form.Call text list = refl
 
-no_values : (f : Form) → ((k : KeyTy) (t : Ty) → f ≡ form.Map k t → ⊥) → values_at (opened f) ≡ None
+no_values : (f : KindForm) → ((k : KeyTy) (t : Ty) → f ≡ form.Map k t → ⊥) → values_at (opened f) ≡ None
 no_values form.Int other = refl
 no_values form.Bool other = refl
 no_values form.Text other = refl
@@ -99,7 +99,7 @@ numbered_get ts (suc n) some = ap (slice_get ts) (omega arith)
 
 -- ---- the parts of the type of a form
 
-module _ (f : Form) (t : Ty) (is : formed f ≡ t) where
+module _ (f : KindForm) (t : Ty) (is : formed f ≡ t) where
   opens_to : out-Ty t ≡ opened f
   opens_to = ap out-Ty (sym is) ∙ opens f
 

@@ -1,15 +1,15 @@
 -- The forms of kinds, and which nodes hold references.
 use Rattle.std.specs.Prelude.{ℕ, Bool, true, false, List}
 use Rattle.std.specs.List.{list_any, slice_index_or}
-use Rattle.pst_typing.specs.declared.kinds.form.Form.{Form}
-use Rattle.pst_typing.specs.declared.kinds.form.Form.TheVariants as form
+use Rattle.pst_typing.specs.declared.kinds.form.KindForm.{KindForm}
+use Rattle.pst_typing.specs.declared.kinds.form.KindForm.TheVariants as form
 use Rattle.pst_typing.specs.declared.kinds.node.Node.{Node}
 use Rattle.pst_typing.specs.declared.kinds.node.Node.TheVariants as node
 use Rattle.pst_value.specs.declared.ty.Ty.{Ty}
 use Rattle.pst_value.specs.declared.ty.Ty.TheVariants as ty
 
 -- the type of a form
-abbrev pub formed : Form → Ty
+abbrev pub formed : KindForm → Ty
 formed form.Int = ty.Int
 formed form.Bool = ty.Bool
 formed form.Text = ty.Text

@@ -8,5 +8,5 @@ mod kind;
 mod node;
 mod nodes;
 
-pub use form::Form;
+pub use form::KindForm;
 pub use kind::Kind;

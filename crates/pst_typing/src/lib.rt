@@ -25,7 +25,7 @@ pub use checking::check;
 pub use context::Context;
 pub use expressions::find;
 pub use items::{first_ill, well_item};
-pub use kinds::{Form, Kind};
+pub use kinds::{Kind, KindForm};
 pub use laws::{first_ill_is_least, ill_is_not_well, items_are_exact, one_is_ill, types_are_exact};
 pub use load_refusal::Refusal;
 pub use loading::{ModelFile, items_of, load};

@@ -11,7 +11,7 @@ ghost use Rattle.pst_value.specs.Fits.{is_ty};
 ghost use Rattle.pst_value.specs.Text as lawful;
 ghost use Rattle.pst_value.specs.declared.ty.Ty.TheVariants.{Int as int, List as list, Text as text};
 
-use crate::kinds::{Form, Kind};
+use crate::kinds::{Kind, KindForm};
 use crate::refusal::Refusal;
 use pst_model::{Binary, Unary};
 use pst_value::{KeyTy, LIMIT, Ty};
@@ -60,8 +60,8 @@ fn is_sequence(alloc: Global, kind: &Kind) -> Result<bool, AllocError>
     ensures { IfOk result (λ is. is ≡ spec.is_sequence kind.now) }
 {
     match kind.form(alloc)? {
-        Form::Text => Ok(true),
-        Form::List(_) => Ok(true),
+        KindForm::Text => Ok(true),
+        KindForm::List(_) => Ok(true),
         _ => Ok(false),
     }
 }
@@ -70,7 +70,7 @@ fn is_ref(alloc: Global, kind: &Kind) -> Result<bool, AllocError>
     ensures { IfOk result (λ is. is ≡ spec.is_ref kind.now) }
 {
     match kind.form(alloc)? {
-        Form::Ref(_) => Ok(true),
+        KindForm::Ref(_) => Ok(true),
         _ => Ok(false),
     }
 }
@@ -141,7 +141,7 @@ pub fn item_type(alloc: Global, list: &Kind) -> Result<Kind, Refusal>
     ensures { Answers (spec.item_type list.now) result }
 {
     match list.form(alloc)? {
-        Form::List(item) => Ok(item),
+        KindForm::List(item) => Ok(item),
         _ => Err(Refusal::Ill),
     }
 }
@@ -151,7 +151,7 @@ fn referred_type(alloc: Global, reference: &Kind) -> Result<Kind, Refusal>
     ensures { Answers (spec.referred_type reference.now) result }
 {
     match reference.form(alloc)? {
-        Form::Ref(named) => Ok(named),
+        KindForm::Ref(named) => Ok(named),
         _ => Err(Refusal::Ill),
     }
 }
@@ -172,7 +172,7 @@ pub fn keys_type(alloc: Global, map: &Kind) -> Result<Kind, Refusal>
     ensures { Answers (spec.keys_type map.now) result }
 {
     match map.form(alloc)? {
-        Form::Map(keys, _) => kind_of(alloc, &key_type(keys)),
+        KindForm::Map(keys, _) => kind_of(alloc, &key_type(keys)),
         _ => Err(Refusal::Ill),
     }
 }
@@ -182,7 +182,7 @@ pub fn values_type(alloc: Global, map: &Kind) -> Result<Kind, Refusal>
     ensures { Answers (spec.values_type map.now) result }
 {
     match map.form(alloc)? {
-        Form::Map(_, value) => Ok(value),
+        KindForm::Map(_, value) => Ok(value),
         _ => Err(Refusal::Ill),
     }
 }
@@ -202,7 +202,7 @@ fn has_keys(alloc: Global, map: &Kind, key: &Kind) -> Result<bool, AllocError>
 pub fn part_type(alloc: Global, tuple: &Kind, place: u64) -> Result<Kind, Refusal>
     ensures { Answers (spec.part_type tuple.now place) result }
 {
-    let Form::Tuple(kinds) = tuple.form(alloc)? else {
+    let KindForm::Tuple(kinds) = tuple.form(alloc)? else {
         return Err(Refusal::Ill);
     };
     if place == 0 {

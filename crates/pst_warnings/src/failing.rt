@@ -13,7 +13,7 @@ use std::alloc::{AllocError, Global};
 
 /// A command whose precondition is not true on the state before it.
 #[derive(Debug, Drop)]
-pub struct Failing {
+pub struct FailingCommand {
     /// The number of the command, from 1.
     pub command: usize,
     /// The state before it.
@@ -97,7 +97,7 @@ pub fn first_failing<C: Callbacks>(
     alloc: Global,
     run: &Run,
     word: &[usize],
-) -> Result<Option<Failing>, AllocError>
+) -> Result<Option<FailingCommand>, AllocError>
     requires { IsLawful (C.model callbacks.now) run.now }
 {
     let Some(history) = &run.history else {
@@ -114,7 +114,7 @@ pub fn first_failing<C: Callbacks>(
         return Ok(None);
     }
     match states.pop() {
-        Some(state) => Ok(Some(Failing {
+        Some(state) => Ok(Some(FailingCommand {
             command: number_at(case, word, count.saturating_sub(1)),
             state,
         })),

@@ -5,7 +5,7 @@ use crate::scripts::{FaultyScript, Scripts, faulty_script};
 use crate::warning::{tree_of, warning};
 use pst_case::Command;
 use pst_compile::{Compiled, compile};
-use pst_eval::{Callback, Place};
+use pst_eval::{Callback, FaultPlace};
 use pst_explain::explain_script;
 use pst_model::{Item, Typed};
 use pst_sources::{Input, Notice};
@@ -41,7 +41,7 @@ fn path_of(
     alloc: Global,
     items: &[Item],
     commands: &[Command],
-    place: Place,
+    place: FaultPlace,
 ) -> Result<Vec<usize>, AllocError> {
     let operation = match commands.last() {
         Some(command) => command.op,

@@ -12,7 +12,7 @@ pub struct Spot {
     /// The path to its tree.
     pub path: Vec<usize>,
     /// Its place in its case.
-    pub place: Place,
+    pub place: CommandPlace,
     /// The command as it is written.
     pub call: String,
 }
@@ -33,24 +33,24 @@ fn letter_of(parts: &[Part<'_>], number: usize) -> char {
 
 /// The place of a command in its case, shown as `P1`, `L2` or `X1`.
 #[derive(Clone, Copy, Drop)]
-pub struct Place {
+pub struct CommandPlace {
     /// The letter of its part.
     part: char,
     /// Its number in the part, from 1.
     number: usize,
 }
 
-impl fmt::Display for Place {
+impl fmt::Display for CommandPlace {
     fn fmt<W: fmt::Write>(&self, f: &mut fmt::Formatter<W>) -> fmt::Result {
-        let Place { part, number } = *self;
+        let CommandPlace { part, number } = *self;
         write!(f, "{part}{number}")
     }
 }
 
 /// The place of command `command`, counted from 1, in its case.
-fn place_in(parts: &[Part<'_>], command: usize) -> Option<Place> {
+fn place_in(parts: &[Part<'_>], command: usize) -> Option<CommandPlace> {
     let (part, offset) = place_of(parts, command)?;
-    Some(Place {
+    Some(CommandPlace {
         part: letter_of(parts, part),
         number: offset.saturating_add(1),
     })

@@ -2,7 +2,7 @@
 ghost use Rattle.std.specs.Prelude.{◌≡◌, All};
 ghost use Rattle.pst_runs.specs.Lawful.{AreLawful, IsLawful};
 
-use crate::failing::{Failing, calls_marked, conditional, first_failing};
+use crate::failing::{FailingCommand, calls_marked, conditional, first_failing};
 use crate::places::{Spot, spot_of};
 use crate::spelling::shown;
 use crate::warning::warning;
@@ -31,8 +31,8 @@ struct Subject<'a> {
 
 /// The items with a command whose precondition is not true: the first ones by their numbers, and how many there are.
 #[derive(Drop)]
-struct Found {
-    first: Vec<(usize, Failing)>,
+struct FoundItems {
+    first: Vec<(usize, FailingCommand)>,
     count: usize,
 }
 
@@ -42,7 +42,7 @@ fn on_command(
     subject: &Subject<'_>,
     trees: &[Tree],
     item: usize,
-    failing: &Failing,
+    failing: &FailingCommand,
 ) -> Result<String, AllocError> {
     let Some(tree) = trees.get(item) else {
         return Ok(String::new(alloc));
@@ -80,7 +80,7 @@ fn at_spot(
 
 /// Adds the recorded run of item `item`, which the interleaving `word` explains, if it gets a warning.
 fn add_run<C: Callbacks>(
-    found: &mut Found,
+    found: &mut FoundItems,
     callbacks: &C,
     alloc: Global,
     subject: &Subject<'_>,
@@ -116,7 +116,7 @@ fn text_of(
     alloc: Global,
     subject: &Subject<'_>,
     trees: &[Tree],
-    found: &Found,
+    found: &FoundItems,
 ) -> Result<Option<String>, AllocError> {
     let mut text = String::new(alloc);
     for (item, failing) in found.first.as_slice() {
@@ -138,7 +138,7 @@ fn text_of(
 /// Adds the items of `runs` that get a warning. `judged` are their judgements, and `first` is the number of the first
 /// one, from 1.
 fn add_runs<C: Callbacks>(
-    found: &mut Found,
+    found: &mut FoundItems,
     callbacks: &C,
     alloc: Global,
     subject: &Subject<'_>,
@@ -167,7 +167,7 @@ fn add_runs<C: Callbacks>(
 
 /// Adds the items of all `parts` that get a warning. `judged` are their judgements in their order.
 fn add_parts<C: Callbacks>(
-    found: &mut Found,
+    found: &mut FoundItems,
     callbacks: &C,
     alloc: Global,
     subject: &Subject<'_>,
@@ -196,7 +196,7 @@ fn add_parts<C: Callbacks>(
 
 /// Adds item `item`, counted from 1, of the input if it was judged and gets a warning.
 fn add_answer<C: Callbacks>(
-    found: &mut Found,
+    found: &mut FoundItems,
     callbacks: &C,
     alloc: Global,
     typed: &Typed,
@@ -249,8 +249,8 @@ fn subject_of<'a>(
 }
 
 /// No items.
-fn nothing_found(alloc: Global) -> Found {
-    Found {
+fn nothing_found(alloc: Global) -> FoundItems {
+    FoundItems {
         first: Vec::new(alloc),
         count: 0,
     }

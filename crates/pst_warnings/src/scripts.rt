@@ -4,7 +4,7 @@ ghost use Rattle.std.specs.Prelude.{◌≤◌};
 use crate::bounded::Bounded;
 use pst_case::Command;
 use pst_compile::Compiled;
-use pst_eval::Place;
+use pst_eval::FaultPlace;
 use pst_gen::generate;
 use pst_judge::Valid;
 use pst_model::{Item, Typed};
@@ -28,7 +28,7 @@ pub struct FaultyScript {
     /// Its commands. If `pre` or `next` faults, the command of that call is the last.
     pub commands: Items<Command>,
     /// The place where the callback faults.
-    pub place: Place,
+    pub place: FaultPlace,
 }
 
 /// How a generation ends.

@@ -40,12 +40,12 @@ fn name_of(model: &Source, number: u32) -> &str {
 /// A value of `model` as items spell it. A reference is `$n=` and the value that it names; a call is its operation and
 /// its arguments.
 #[derive(Clone, Copy, Drop)]
-struct Spelled<'a> {
+struct SpelledValue<'a> {
     model: &'a Source,
     value: &'a Value,
 }
 
-impl fmt::Display for Spelled<'_> {
+impl fmt::Display for SpelledValue<'_> {
     fn fmt<W: fmt::Write>(&self, f: &mut fmt::Formatter<W>) -> fmt::Result {
         write_value(f, self.model, self.value)
     }
@@ -114,7 +114,7 @@ fn write_map<W: fmt::Write>(
 
 /// A value as items spell it: all of it, or its first 60 bytes and `...`.
 pub fn shown(alloc: Global, model: &Source, value: &Value) -> Result<String, AllocError> {
-    let value = Spelled { model, value };
+    let value = SpelledValue { model, value };
     let whole = format!(in alloc; "{value}")?;
     match whole.as_str().get(..MOST) {
         Some(start) if whole.len() > MOST => format!(in alloc; "{start}..."),

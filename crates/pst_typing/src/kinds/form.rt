@@ -15,7 +15,7 @@ use std::rc::Rc;
 
 /// The form of a type, with its parts as kinds.
 #[derive(Drop)]
-pub enum Form {
+pub enum KindForm {
     Int,
     Bool,
     Text,
@@ -27,19 +27,19 @@ pub enum Form {
 }
 
 /// The form of the type of a node.
-pub fn form_of(alloc: Global, nodes: &Rc<Nodes>, number: usize) -> Result<Form, AllocError>
+pub fn form_of(alloc: Global, nodes: &Rc<Nodes>, number: usize) -> Result<KindForm, AllocError>
     requires { number < length nodes.now.value }
     ensures { IfOk result (λ form. spec.formed form ≡ type_at nodes.now.value number) }
 {
     match nodes.as_ref().get(number) {
-        Node::Int => Ok(Form::Int),
-        Node::Bool => Ok(Form::Bool),
-        Node::Text => Ok(Form::Text),
-        Node::Tuple(parts) => Ok(Form::Tuple(parts_of(alloc, nodes, parts.as_slice())?)),
-        Node::List(part) => Ok(Form::List(Kind::of_node(nodes, *part)?)),
-        Node::Map(keys, part) => Ok(Form::Map(*keys, Kind::of_node(nodes, *part)?)),
-        Node::Ref(part) => Ok(Form::Ref(Kind::of_node(nodes, *part)?)),
-        Node::Call => Ok(Form::Call),
+        Node::Int => Ok(KindForm::Int),
+        Node::Bool => Ok(KindForm::Bool),
+        Node::Text => Ok(KindForm::Text),
+        Node::Tuple(parts) => Ok(KindForm::Tuple(parts_of(alloc, nodes, parts.as_slice())?)),
+        Node::List(part) => Ok(KindForm::List(Kind::of_node(nodes, *part)?)),
+        Node::Map(keys, part) => Ok(KindForm::Map(*keys, Kind::of_node(nodes, *part)?)),
+        Node::Ref(part) => Ok(KindForm::Ref(Kind::of_node(nodes, *part)?)),
+        Node::Call => Ok(KindForm::Call),
     }
 }
 

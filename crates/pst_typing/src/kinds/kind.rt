@@ -8,7 +8,7 @@ ghost use Rattle.pst_typing.specs.Nodes.{type_at};
 ghost use Rattle.pst_value.specs.Equality.{same_ty};
 ghost use Rattle.pst_value.specs.declared.ty.Ty.TheVariants as ty;
 
-use crate::kinds::form::{Form, form_of, node_holds_ref};
+use crate::kinds::form::{KindForm, form_of, node_holds_ref};
 use crate::kinds::node::Node;
 use crate::kinds::nodes::Nodes;
 use pst_value::{Items, KeyTy, Ty};
@@ -141,7 +141,7 @@ impl Kind {
     }
 
     /// The form of the type.
-    pub fn form(&self, alloc: Global) -> Result<Form, AllocError>
+    pub fn form(&self, alloc: Global) -> Result<KindForm, AllocError>
         ensures { IfOk result (λ form. formed form ≡ self.now) }
     {
         form_of(alloc, &self.nodes, self.root)

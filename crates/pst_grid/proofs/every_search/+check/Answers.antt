@@ -1,6 +1,6 @@
 use Rattle.std.proofs.Common.{◌≡◌, ◌++◌, rules, ◌+◌, ◌<◌, ◌≤◌, refl, ap, ◌∙◌, sym, subst, get_or, sum, length, arith}
 use Rattle.std.proofs.lemmas.Grind.{common_steps}
-use Rattle.pst_grid.specs.declared.answer.Turn.TheVariants.{Stop}
+use Rattle.pst_grid.specs.declared.answer.StepOutcome.TheVariants.{Stop}
 use Rattle.pst_grid.specs.Checked.{AreTrue, AreAllTrue, IsChecked, IsLeastFailed}
 use Rattle.pst_grid.specs.Completions.{Begins, Completes}
 use Rattle.pst_grid.specs.Remembered.{IsGrown}
@@ -13,13 +13,13 @@ use Rattle.pst_grid.proofs.every_search.+check.Goals as goal
 
 pub check_branches-loop-branch-init : goal.check_branches-loop-branch-init
 check_branches-loop-branch-init g t c = record {
-  checked = record { word = refl; done = refl; are_true = true-start (g.S.Steps.turn c.args.steps.now) (g.S.Steps.rest c.args.steps.now) c.args.lengths.now c.args.state.now c.args.search.now.done.items; all_true = c.requires.all_true };
-  grown = grown-none (g.S.Steps.turn c.args.steps.now) c.args.lengths.now (g.S.Steps.most_rest c.args.steps.now) _ _ _ c.args.seen.now.keys 0 c.args.search.now.steps c.args.search.now.steps (omega arith);
+  checked = record { word = refl; done = refl; are_true = true-start (g.S.Steps.outcome c.args.steps.now) (g.S.Steps.rest c.args.steps.now) c.args.lengths.now c.args.state.now c.args.search.now.done.items; all_true = c.requires.all_true };
+  grown = grown-none (g.S.Steps.outcome c.args.steps.now) c.args.lengths.now (g.S.Steps.most_rest c.args.steps.now) _ _ _ c.args.seen.now.keys 0 c.args.search.now.steps c.args.search.now.steps (omega arith);
 }
 
 pub check_branches-loop-branch-preserved : goal.check_branches-loop-branch-preserved
 check_branches-loop-branch-preserved g t c =
-    let turn = g.S.Steps.turn c.args.steps.now in
+    let turn = g.S.Steps.outcome c.args.steps.now in
     let rest = g.S.Steps.rest c.args.steps.now in
     let state = c.args.state.now in
     let here = c.args.search.now in
@@ -39,7 +39,7 @@ check_branches-loop-branch-preserved g t c =
 
 pub check_branches-returns-in-Some-clause-checked : goal.check_branches-returns-in-Some-clause-checked
 check_branches-returns-in-Some-clause-checked g t c =
-    let turn = g.S.Steps.turn c.args.steps.now in
+    let turn = g.S.Steps.outcome c.args.steps.now in
     let rest = g.S.Steps.rest c.args.steps.now in
     let state = c.args.state.now in
     let here = c.args.search.now in
@@ -55,9 +55,9 @@ check_branches-returns-in-Some-clause-grown g t c =
     let here = c.args.search.now in
     let state = c.args.state.now in
     let now = c.loop-branch.search in
-    let visited = subst (λ d. IsGrown (g.S.Steps.turn c.args.steps.now) c.args.lengths.now (g.S.Steps.most_rest c.args.steps.now) 1 (sum d + 1) d state c.loop-branch.seen.keys c.check_branch.new.seen.keys now.steps c.check_branch.new.search.steps) c.loop-branch.invariant.checked.done c.in_ok-failed.ensures.grown in
-    let all = grown-more (g.S.Steps.turn c.args.steps.now) c.args.lengths.now (g.S.Steps.most_rest c.args.steps.now) (sum here.done.items + 1) here.done.items state c.loop-branch.branch c.args.seen.now.keys c.loop-branch.seen.keys c.check_branch.new.seen.keys here.steps now.steps c.check_branch.new.search.steps c.loop-branch.invariant.grown visited in
-    grown-within (g.S.Steps.turn c.args.steps.now) c.args.lengths.now (g.S.Steps.most_rest c.args.steps.now) (sum here.done.items + 1) here.done.items state (c.loop-branch.branch + 1) (length c.args.lengths.now) c.args.seen.now.keys c.check_branch.new.seen.keys here.steps c.check_branch.new.search.steps
+    let visited = subst (λ d. IsGrown (g.S.Steps.outcome c.args.steps.now) c.args.lengths.now (g.S.Steps.most_rest c.args.steps.now) 1 (sum d + 1) d state c.loop-branch.seen.keys c.check_branch.new.seen.keys now.steps c.check_branch.new.search.steps) c.loop-branch.invariant.checked.done c.in_ok-failed.ensures.grown in
+    let all = grown-more (g.S.Steps.outcome c.args.steps.now) c.args.lengths.now (g.S.Steps.most_rest c.args.steps.now) (sum here.done.items + 1) here.done.items state c.loop-branch.branch c.args.seen.now.keys c.loop-branch.seen.keys c.check_branch.new.seen.keys here.steps now.steps c.check_branch.new.search.steps c.loop-branch.invariant.grown visited in
+    grown-within (g.S.Steps.outcome c.args.steps.now) c.args.lengths.now (g.S.Steps.most_rest c.args.steps.now) (sum here.done.items + 1) here.done.items state (c.loop-branch.branch + 1) (length c.args.lengths.now) c.args.seen.now.keys c.check_branch.new.seen.keys here.steps c.check_branch.new.search.steps
     (omega arith) all
 
 pub check_branches-returns-clause-checked : goal.check_branches-returns-clause-checked
@@ -66,21 +66,21 @@ check_branches-returns-clause-checked g t c =
     record {
       word = h.word;
       done = h.done;
-      are_true = true-all (g.S.Steps.turn c.args.steps.now) (g.S.Steps.rest c.args.steps.now) c.args.lengths.now c.args.state.now c.args.search.now.done.items c.loop-branch.branch c.requires.left (omega arith) h.are_true;
+      are_true = true-all (g.S.Steps.outcome c.args.steps.now) (g.S.Steps.rest c.args.steps.now) c.args.lengths.now c.args.state.now c.args.search.now.done.items c.loop-branch.branch c.requires.left (omega arith) h.are_true;
       all_true = h.all_true;
     }
 
 pub check_branches-returns-clause-grown : goal.check_branches-returns-clause-grown
 check_branches-returns-clause-grown g t c =
     let here = c.args.search.now in
-    grown-within (g.S.Steps.turn c.args.steps.now) c.args.lengths.now (g.S.Steps.most_rest c.args.steps.now) (sum here.done.items + 1) here.done.items c.args.state.now c.loop-branch.branch (length c.args.lengths.now) c.args.seen.now.keys c.loop-branch.seen.keys here.steps c.loop-branch.search.steps
+    grown-within (g.S.Steps.outcome c.args.steps.now) c.args.lengths.now (g.S.Steps.most_rest c.args.steps.now) (sum here.done.items + 1) here.done.items c.args.state.now c.loop-branch.branch (length c.args.lengths.now) c.args.seen.now.keys c.loop-branch.seen.keys here.steps c.loop-branch.search.steps
     (omega arith) c.loop-branch.invariant.grown
 
 pub check_branch-returns-then-index-lengths-clause-checked : goal.check_branch-returns-then-index-lengths-clause-checked
 check_branch-returns-then-index-lengths-clause-checked g t c =
     let here = c.args.search.now in
     let full : get_or c.args.lengths.now c.args.branch 0 ≤ get_or here.done.items c.args.branch 0 = grind (arith, common_steps) in
-    record { word = refl; done = refl; are_true = true-full (g.S.Steps.turn c.args.steps.now) (g.S.Steps.rest c.args.steps.now) c.args.lengths.now c.args.state.now here.done.items c.args.branch full; all_true = c.requires.all_true }
+    record { word = refl; done = refl; are_true = true-full (g.S.Steps.outcome c.args.steps.now) (g.S.Steps.rest c.args.steps.now) c.args.lengths.now c.args.state.now here.done.items c.args.branch full; all_true = c.requires.all_true }
 
 pub check_branch-returns-in-Some-clause-checked : goal.check_branch-returns-in-Some-clause-checked
 check_branch-returns-in-Some-clause-checked g t c =
@@ -88,7 +88,7 @@ check_branch-returns-in-Some-clause-checked g t c =
     let index_is : c.index-index.result.now ≡ get_or here.done.items c.args.branch 0 = grind (arith, common_steps) in
     let left : get_or here.done.items c.args.branch 0 < get_or c.args.lengths.now c.args.branch 0 = grind (arith, common_steps) in
     let turn_is = sym c.in_ok-next.ensures.answer ∙ c.in-Next.is in
-    failed-behind (g.S.Steps.turn c.args.steps.now) (g.S.Steps.rest c.args.steps.now) c.args.lengths.now c.args.state.now here.done.items here.word.items c.args.branch c.requires.place left
+    failed-behind (g.S.Steps.outcome c.args.steps.now) (g.S.Steps.rest c.args.steps.now) c.args.lengths.now c.args.state.now here.done.items here.word.items c.args.branch c.requires.place left
     c.in-Next.next c.enter.new.self.done.items c.enter.new.self.word.items c.in-Some.failed
     (rw index_is at turn_is) c.in_ok-enter-in-Next.ensures.done c.in_ok-enter-in-Next.ensures.word (rw c.in-Some.is at c.in_ok-failed-in-Next.ensures.checked)
 
@@ -102,9 +102,9 @@ check_branch-returns-in-Next-clause-checked g t c =
     record {
       word = c.leave.ensures.word ∙ take_again here.word.items c.check.new.search.word.items c.args.branch (h.word ∙ c.in_ok-enter-in-Next.ensures.word);
       done = c.leave.ensures.done ∙ back_again here.done.items c.check.new.search.done.items c.args.branch (IsAt-branch c.args.lengths.now here.done.items c.args.branch c.requires.place left) (h.done ∙ c.in_ok-enter-in-Next.ensures.done);
-      are_true = true-behind (g.S.Steps.turn c.args.steps.now) (g.S.Steps.rest c.args.steps.now) c.args.lengths.now c.args.state.now here.done.items here.word.items c.args.branch c.requires.place left
+      are_true = true-behind (g.S.Steps.outcome c.args.steps.now) (g.S.Steps.rest c.args.steps.now) c.args.lengths.now c.args.state.now here.done.items here.word.items c.args.branch c.requires.place left
           c.in-Next.next c.enter.new.self.done.items (rw index_is at turn_is) c.in_ok-enter-in-Next.ensures.done h.are_true;
-      all_true = subst (λ n. AreAllTrue (g.S.Steps.turn c.args.steps.now) (g.S.Steps.rest c.args.steps.now) c.args.lengths.now n c.check.new.seen.keys)
+      all_true = subst (λ n. AreAllTrue (g.S.Steps.outcome c.args.steps.now) (g.S.Steps.rest c.args.steps.now) c.args.lengths.now n c.check.new.seen.keys)
           (ap sum c.in_ok-enter-in-Next.ensures.done ∙ sum-more c.args.lengths.now here.done.items c.args.branch c.requires.place left) h.all_true;
     }
 
@@ -115,11 +115,11 @@ check_branch-returns-clause-checked g t c =
     let left : get_or here.done.items c.args.branch 0 < get_or c.args.lengths.now c.args.branch 0 = grind (arith, common_steps) in
     let e = c.in_ok-failed_merge-in-Stop.ensures in
     let turn_is = sym c.in_ok-next.ensures.answer ∙ c.in-Stop.is in
-    failed-here (g.S.Steps.turn c.args.steps.now) (g.S.Steps.rest c.args.steps.now) c.args.lengths.now c.args.state.now here.done.items here.word.items c.args.branch c.requires.place left
+    failed-here (g.S.Steps.outcome c.args.steps.now) (g.S.Steps.rest c.args.steps.now) c.args.lengths.now c.args.state.now here.done.items here.word.items c.args.branch c.requires.place left
     c.in_ok-failed_merge-in-Stop.field-0 ((rw index_is at turn_is) ∙ ap (λ w. Stop w) (sym e.why)) e.at e.word
 
 pub check_branch-returns-then-index-lengths-clause-grown : goal.check_branch-returns-then-index-lengths-clause-grown
-check_branch-returns-then-index-lengths-clause-grown g t c = grown-none (g.S.Steps.turn c.args.steps.now) c.args.lengths.now (g.S.Steps.most_rest c.args.steps.now) _ _ _ c.args.seen.now.keys 1 c.args.search.now.steps c.args.search.now.steps (omega arith)
+check_branch-returns-then-index-lengths-clause-grown g t c = grown-none (g.S.Steps.outcome c.args.steps.now) c.args.lengths.now (g.S.Steps.most_rest c.args.steps.now) _ _ _ c.args.seen.now.keys 1 c.args.search.now.steps c.args.search.now.steps (omega arith)
 
 pub check_branch-returns-in-Some-clause-grown : goal.check_branch-returns-in-Some-clause-grown
 check_branch-returns-in-Some-clause-grown g t c =
@@ -128,7 +128,7 @@ check_branch-returns-in-Some-clause-grown g t c =
     let left : get_or here.done.items c.args.branch 0 < get_or c.args.lengths.now c.args.branch 0 = grind (arith, common_steps) in
     let turn_is = sym c.in_ok-next.ensures.answer ∙ c.in-Next.is in
     let made : c.enter.new.self.steps ≤ here.steps + 1 = grind (arith, c.saturating_add-search.ensures, c.enter.ensures.steps) in
-    grown-behind (g.S.Steps.turn c.args.steps.now) c.args.lengths.now (g.S.Steps.most_rest c.args.steps.now) here.done.items c.args.state.now c.args.branch c.in-Next.next c.enter.new.self.done.items c.args.seen.now.keys c.check.new.seen.keys
+    grown-behind (g.S.Steps.outcome c.args.steps.now) c.args.lengths.now (g.S.Steps.most_rest c.args.steps.now) here.done.items c.args.state.now c.args.branch c.in-Next.next c.enter.new.self.done.items c.args.seen.now.keys c.check.new.seen.keys
     here.steps c.enter.new.self.steps c.check.new.search.steps left (rw index_is at turn_is) c.in_ok-enter-in-Next.ensures.done (sum-more c.args.lengths.now here.done.items c.args.branch c.requires.place left) made
     c.in_ok-failed-in-Next.ensures.grown
 
@@ -139,18 +139,18 @@ check_branch-returns-in-Next-clause-grown g t c =
     let left : get_or here.done.items c.args.branch 0 < get_or c.args.lengths.now c.args.branch 0 = grind (arith, common_steps) in
     let turn_is = sym c.in_ok-next.ensures.answer ∙ c.in-Next.is in
     let made : c.enter.new.self.steps ≤ here.steps + 1 = grind (arith, c.saturating_add-search.ensures, c.enter.ensures.steps) in
-    grown-behind (g.S.Steps.turn c.args.steps.now) c.args.lengths.now (g.S.Steps.most_rest c.args.steps.now) here.done.items c.args.state.now c.args.branch c.in-Next.next c.enter.new.self.done.items c.args.seen.now.keys c.check.new.seen.keys
+    grown-behind (g.S.Steps.outcome c.args.steps.now) c.args.lengths.now (g.S.Steps.most_rest c.args.steps.now) here.done.items c.args.state.now c.args.branch c.in-Next.next c.enter.new.self.done.items c.args.seen.now.keys c.check.new.seen.keys
     here.steps c.enter.new.self.steps c.leave.new.self.steps left (rw index_is at turn_is) c.in_ok-enter-in-Next.ensures.done (sum-more c.args.lengths.now here.done.items c.args.branch c.requires.place left) made
-    (subst (λ n. IsGrown (g.S.Steps.turn c.args.steps.now) c.args.lengths.now (g.S.Steps.most_rest c.args.steps.now) 0 (sum c.enter.new.self.done.items) c.enter.new.self.done.items c.in-Next.next c.args.seen.now.keys c.check.new.seen.keys c.enter.new.self.steps n) (sym c.leave.ensures.steps) c.in_ok-failed-in-Next.ensures.grown)
+    (subst (λ n. IsGrown (g.S.Steps.outcome c.args.steps.now) c.args.lengths.now (g.S.Steps.most_rest c.args.steps.now) 0 (sum c.enter.new.self.done.items) c.enter.new.self.done.items c.in-Next.next c.args.seen.now.keys c.check.new.seen.keys c.enter.new.self.steps n) (sym c.leave.ensures.steps) c.in_ok-failed-in-Next.ensures.grown)
 
 pub check_branch-returns-clause-grown : goal.check_branch-returns-clause-grown
 check_branch-returns-clause-grown g t c =
     let made : c.saturating_add-search.result ≤ c.args.search.now.steps + 1 = grind (arith, c.saturating_add-search.ensures) in
-    grown-none (g.S.Steps.turn c.args.steps.now) c.args.lengths.now (g.S.Steps.most_rest c.args.steps.now) _ _ _ c.args.seen.now.keys 1 c.args.search.now.steps c.saturating_add-search.result made
+    grown-none (g.S.Steps.outcome c.args.steps.now) c.args.lengths.now (g.S.Steps.most_rest c.args.steps.now) _ _ _ c.args.seen.now.keys 1 c.args.search.now.steps c.saturating_add-search.result made
 
 pub check-returns-then-not-branch-clause-grown : goal.check-returns-then-not-branch-clause-grown
 check-returns-then-not-branch-clause-grown g t c =
-    let turn = g.S.Steps.turn c.args.steps.now in
+    let turn = g.S.Steps.outcome c.args.steps.now in
     let rest = g.S.Steps.rest c.args.steps.now in
     let most = g.S.Steps.most_rest c.args.steps.now in
     let lengths = c.args.lengths.now in
@@ -163,7 +163,7 @@ check-returns-then-not-branch-clause-grown g t c =
 
 pub check-returns-then-not-branch-clause-checked : goal.check-returns-then-not-branch-clause-checked
 check-returns-then-not-branch-clause-checked g t c =
-    let turn = g.S.Steps.turn c.args.steps.now in
+    let turn = g.S.Steps.outcome c.args.steps.now in
     let rest = g.S.Steps.rest c.args.steps.now in
     let most = g.S.Steps.most_rest c.args.steps.now in
     let lengths = c.args.lengths.now in
@@ -180,7 +180,7 @@ check-returns-then-not-branch-clause-checked g t c =
 
 pub check-check_branches-requires : goal.check-check_branches-requires
 check-check_branches-requires g t c κs within =
-    let turn = g.S.Steps.turn c.args.steps.now in
+    let turn = g.S.Steps.outcome c.args.steps.now in
     let rest = g.S.Steps.rest c.args.steps.now in
     let most = g.S.Steps.most_rest c.args.steps.now in
     let lengths = c.args.lengths.now in
@@ -196,7 +196,7 @@ check-check_branches-requires g t c κs within =
 
 pub check-returns-clause-grown : goal.check-returns-clause-grown
 check-returns-clause-grown g t c =
-    let turn = g.S.Steps.turn c.args.steps.now in
+    let turn = g.S.Steps.outcome c.args.steps.now in
     let rest = g.S.Steps.rest c.args.steps.now in
     let most = g.S.Steps.most_rest c.args.steps.now in
     let lengths = c.args.lengths.now in
@@ -213,7 +213,7 @@ check-returns-clause-grown g t c =
 
 pub check-returns-clause-checked : goal.check-returns-clause-checked
 check-returns-clause-checked g t c =
-    let turn = g.S.Steps.turn c.args.steps.now in
+    let turn = g.S.Steps.outcome c.args.steps.now in
     let rest = g.S.Steps.rest c.args.steps.now in
     let most = g.S.Steps.most_rest c.args.steps.now in
     let lengths = c.args.lengths.now in

@@ -11,7 +11,7 @@ use Rattle.pst_grid.proofs.every_search.check_end.Goals as goal
 
 pub returns-then-not-has_rest-clause-checked : goal.returns-then-not-has_rest-clause-checked
 returns-then-not-has_rest-clause-checked g c =
-    let turn = g.S.Steps.turn c.args.steps.now in
+    let turn = g.S.Steps.outcome c.args.steps.now in
     let rest = g.S.Steps.rest c.args.steps.now in
     let most = g.S.Steps.most_rest c.args.steps.now in
     let lengths = c.args.lengths.now in
@@ -27,7 +27,7 @@ returns-then-not-has_rest-clause-checked g c =
 
 pub returns-then-not-branch-clause-checked : goal.returns-then-not-branch-clause-checked
 returns-then-not-branch-clause-checked g c =
-    let turn = g.S.Steps.turn c.args.steps.now in
+    let turn = g.S.Steps.outcome c.args.steps.now in
     let rest = g.S.Steps.rest c.args.steps.now in
     let most = g.S.Steps.most_rest c.args.steps.now in
     let lengths = c.args.lengths.now in
@@ -44,7 +44,7 @@ returns-then-not-branch-clause-checked g c =
 
 pub returns-clause-grown : goal.returns-clause-grown
 returns-clause-grown g c =
-    let turn = g.S.Steps.turn c.args.steps.now in
+    let turn = g.S.Steps.outcome c.args.steps.now in
     let rest = g.S.Steps.rest c.args.steps.now in
     let most = g.S.Steps.most_rest c.args.steps.now in
     let lengths = c.args.lengths.now in
@@ -61,7 +61,7 @@ returns-clause-grown g c =
 
 pub returns-clause-checked : goal.returns-clause-checked
 returns-clause-checked g c =
-    let turn = g.S.Steps.turn c.args.steps.now in
+    let turn = g.S.Steps.outcome c.args.steps.now in
     let rest = g.S.Steps.rest c.args.steps.now in
     let most = g.S.Steps.most_rest c.args.steps.now in
     let lengths = c.args.lengths.now in

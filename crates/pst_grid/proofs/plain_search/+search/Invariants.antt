@@ -11,6 +11,6 @@ decreases-visit g l = 2 * (sum l.lengths.now - sum l.search.now.done.items)
 
 abbrev pub invariant-explore-loop-branch : goal.invariant-explore-loop-branch
 invariant-explore-loop-branch g l = record {
-  covered : HasCovered (g.S.Steps.turn l.steps) (g.S.Steps.rest l.steps) l.state (BeginsBelow l.lengths l.initial.search.done.items l.branch) l.initial.search l.search;
+  covered : HasCovered (g.S.Steps.outcome l.steps) (g.S.Steps.rest l.steps) l.state (BeginsBelow l.lengths l.initial.search.done.items l.branch) l.initial.search l.search;
   some_left : (b : ℕ) × (slice_index l.initial.search.done.items b < slice_index l.lengths b);
 }

@@ -1,7 +1,7 @@
 use Rattle.std.proofs.Common.{◌≡◌, ◌++◌, rules, ◌+◌, ◌<◌, ◌≤◌, refl, ap, ◌∙◌, sym, subst, get_or, sum, length, arith}
 use Rattle.std.proofs.lemmas.Grind.{common_steps}
-use Rattle.pst_grid.specs.declared.answer.Turn.TheVariants.{Stop}
-use Rattle.pst_grid.specs.declared.answer.Why.TheVariants.{False, Fault}
+use Rattle.pst_grid.specs.declared.answer.StepOutcome.TheVariants.{Stop}
+use Rattle.pst_grid.specs.declared.answer.StopReason.TheVariants.{False, Fault}
 use Rattle.pst_grid.specs.Completions.{Completes}
 use Rattle.pst_grid.specs.Remembered.{AreAccounted, IsAccounted, IsSearched, IsGrown}
 use Rattle.pst_grid.proofs.Finishing.{if-ok, on-ok, searched-behind}
@@ -14,8 +14,8 @@ pub explore_branches-loop-branch-init : goal.explore_branches-loop-branch-init
 explore_branches-loop-branch-init g t c =
     let here = c.args.search.now in
     record {
-      covered = record { covered = explored-start (g.S.Steps.turn c.args.steps.now) (g.S.Steps.rest c.args.steps.now) c.args.lengths.now c.args.state.now here; accounted = c.requires.accounted };
-      grown = grown-none (g.S.Steps.turn c.args.steps.now) c.args.lengths.now (g.S.Steps.most_rest c.args.steps.now) _ _ _ c.args.seen.now.keys 0 here.steps here.steps (omega arith);
+      covered = record { covered = explored-start (g.S.Steps.outcome c.args.steps.now) (g.S.Steps.rest c.args.steps.now) c.args.lengths.now c.args.state.now here; accounted = c.requires.accounted };
+      grown = grown-none (g.S.Steps.outcome c.args.steps.now) c.args.lengths.now (g.S.Steps.most_rest c.args.steps.now) _ _ _ c.args.seen.now.keys 0 here.steps here.steps (omega arith);
     }
 
 pub explore_branches-loop-branch-preserved : goal.explore_branches-loop-branch-preserved
@@ -25,18 +25,18 @@ explore_branches-loop-branch-preserved g t c =
     let all = rw c.if-branch.false at c.in_ok-visit.ensures.searched in
     record {
       covered = record {
-        covered = explored-more (g.S.Steps.turn c.args.steps.now) (g.S.Steps.rest c.args.steps.now) c.args.lengths.now c.args.state.now c.args.search.now c.loop-branch.search c.visit.new.search c.loop-branch.branch
+        covered = explored-more (g.S.Steps.outcome c.args.steps.now) (g.S.Steps.rest c.args.steps.now) c.args.lengths.now c.args.state.now c.args.search.now c.loop-branch.search c.visit.new.search c.loop-branch.branch
             c.loop-branch.invariant.covered.covered all.covered;
-        accounted = subst (λ d. AreAccounted (g.S.Steps.turn c.args.steps.now) (g.S.Steps.rest c.args.steps.now) c.args.lengths.now (sum d + 1) c.visit.new.search.best c.visit.new.seen.keys) c.loop-branch.invariant.covered.covered.done all.accounted;
+        accounted = subst (λ d. AreAccounted (g.S.Steps.outcome c.args.steps.now) (g.S.Steps.rest c.args.steps.now) c.args.lengths.now (sum d + 1) c.visit.new.search.best c.visit.new.seen.keys) c.loop-branch.invariant.covered.covered.done all.accounted;
       };
-      grown = grown-more (g.S.Steps.turn c.args.steps.now) c.args.lengths.now (g.S.Steps.most_rest c.args.steps.now) (sum here.done.items + 1) here.done.items state c.loop-branch.branch c.args.seen.now.keys c.loop-branch.seen.keys c.visit.new.seen.keys here.steps c.loop-branch.search.steps c.visit.new.search.steps
+      grown = grown-more (g.S.Steps.outcome c.args.steps.now) c.args.lengths.now (g.S.Steps.most_rest c.args.steps.now) (sum here.done.items + 1) here.done.items state c.loop-branch.branch c.args.seen.now.keys c.loop-branch.seen.keys c.visit.new.seen.keys here.steps c.loop-branch.search.steps c.visit.new.search.steps
           c.loop-branch.invariant.grown
-          (subst (λ d. IsGrown (g.S.Steps.turn c.args.steps.now) c.args.lengths.now (g.S.Steps.most_rest c.args.steps.now) 1 (sum d + 1) d state c.loop-branch.seen.keys c.visit.new.seen.keys c.loop-branch.search.steps c.visit.new.search.steps) c.loop-branch.invariant.covered.covered.done c.in_ok-visit.ensures.grown);
+          (subst (λ d. IsGrown (g.S.Steps.outcome c.args.steps.now) c.args.lengths.now (g.S.Steps.most_rest c.args.steps.now) 1 (sum d + 1) d state c.loop-branch.seen.keys c.visit.new.seen.keys c.loop-branch.search.steps c.visit.new.search.steps) c.loop-branch.invariant.covered.covered.done c.in_ok-visit.ensures.grown);
     }
 
 pub explore_branches-returns-then-branch-clause-searched : goal.explore_branches-returns-then-branch-clause-searched
 explore_branches-returns-then-branch-clause-searched g t c =
-    explored-true (g.S.Steps.turn c.args.steps.now) (g.S.Steps.rest c.args.steps.now) c.args.lengths.now c.args.state.now c.args.search.now c.loop-branch.search c.loop-branch.branch _ c.loop-branch.invariant.covered.covered
+    explored-true (g.S.Steps.outcome c.args.steps.now) (g.S.Steps.rest c.args.steps.now) c.args.lengths.now c.args.state.now c.args.search.now c.loop-branch.search c.loop-branch.branch _ c.loop-branch.invariant.covered.covered
     (rw c.if-branch.true at c.in_ok-visit.ensures.searched)
 
 pub explore_branches-returns-then-branch-clause-grown : goal.explore_branches-returns-then-branch-clause-grown
@@ -44,21 +44,21 @@ explore_branches-returns-then-branch-clause-grown g t c =
     let here = c.args.search.now in
     let state = c.args.state.now in
     let now = c.loop-branch.search in
-    let visited = subst (λ d. IsGrown (g.S.Steps.turn c.args.steps.now) c.args.lengths.now (g.S.Steps.most_rest c.args.steps.now) 1 (sum d + 1) d state c.loop-branch.seen.keys c.visit.new.seen.keys now.steps c.visit.new.search.steps) c.loop-branch.invariant.covered.covered.done c.in_ok-visit.ensures.grown in
-    let all = grown-more (g.S.Steps.turn c.args.steps.now) c.args.lengths.now (g.S.Steps.most_rest c.args.steps.now) (sum here.done.items + 1) here.done.items state c.loop-branch.branch c.args.seen.now.keys c.loop-branch.seen.keys c.visit.new.seen.keys here.steps now.steps c.visit.new.search.steps c.loop-branch.invariant.grown visited in
-    grown-within (g.S.Steps.turn c.args.steps.now) c.args.lengths.now (g.S.Steps.most_rest c.args.steps.now) (sum here.done.items + 1) here.done.items state (c.loop-branch.branch + 1) (length c.args.lengths.now) c.args.seen.now.keys c.visit.new.seen.keys here.steps c.visit.new.search.steps
+    let visited = subst (λ d. IsGrown (g.S.Steps.outcome c.args.steps.now) c.args.lengths.now (g.S.Steps.most_rest c.args.steps.now) 1 (sum d + 1) d state c.loop-branch.seen.keys c.visit.new.seen.keys now.steps c.visit.new.search.steps) c.loop-branch.invariant.covered.covered.done c.in_ok-visit.ensures.grown in
+    let all = grown-more (g.S.Steps.outcome c.args.steps.now) c.args.lengths.now (g.S.Steps.most_rest c.args.steps.now) (sum here.done.items + 1) here.done.items state c.loop-branch.branch c.args.seen.now.keys c.loop-branch.seen.keys c.visit.new.seen.keys here.steps now.steps c.visit.new.search.steps c.loop-branch.invariant.grown visited in
+    grown-within (g.S.Steps.outcome c.args.steps.now) c.args.lengths.now (g.S.Steps.most_rest c.args.steps.now) (sum here.done.items + 1) here.done.items state (c.loop-branch.branch + 1) (length c.args.lengths.now) c.args.seen.now.keys c.visit.new.seen.keys here.steps c.visit.new.search.steps
     (omega arith) all
 
 pub explore_branches-returns-clause-searched : goal.explore_branches-returns-clause-searched
 explore_branches-returns-clause-searched g t c = record {
-  covered = explored-all (g.S.Steps.turn c.args.steps.now) (g.S.Steps.rest c.args.steps.now) c.args.lengths.now c.args.state.now c.args.search.now c.loop-branch.search c.loop-branch.branch c.requires.left (omega arith) c.loop-branch.invariant.covered.covered;
+  covered = explored-all (g.S.Steps.outcome c.args.steps.now) (g.S.Steps.rest c.args.steps.now) c.args.lengths.now c.args.state.now c.args.search.now c.loop-branch.search c.loop-branch.branch c.requires.left (omega arith) c.loop-branch.invariant.covered.covered;
   accounted = c.loop-branch.invariant.covered.accounted;
 }
 
 pub explore_branches-returns-clause-grown : goal.explore_branches-returns-clause-grown
 explore_branches-returns-clause-grown g t c =
     let here = c.args.search.now in
-    grown-within (g.S.Steps.turn c.args.steps.now) c.args.lengths.now (g.S.Steps.most_rest c.args.steps.now) (sum here.done.items + 1) here.done.items c.args.state.now c.loop-branch.branch (length c.args.lengths.now) c.args.seen.now.keys c.loop-branch.seen.keys here.steps c.loop-branch.search.steps
+    grown-within (g.S.Steps.outcome c.args.steps.now) c.args.lengths.now (g.S.Steps.most_rest c.args.steps.now) (sum here.done.items + 1) here.done.items c.args.state.now c.loop-branch.branch (length c.args.lengths.now) c.args.seen.now.keys c.loop-branch.seen.keys here.steps c.loop-branch.search.steps
     (omega arith) c.loop-branch.invariant.grown
 
 pub visit-returns-then-branch-clause-searched : goal.visit-returns-then-branch-clause-searched
@@ -67,7 +67,7 @@ visit-returns-then-branch-clause-searched g t c =
     let index_is : c.index-index.result.now ≡ get_or here.done.items c.args.branch 0 = grind (arith, common_steps) in
     let left : get_or here.done.items c.args.branch 0 < get_or c.args.lengths.now c.args.branch 0 = grind (arith, common_steps) in
     let turn_is = sym c.in_ok-next.ensures.answer ∙ c.in-Next.is in
-    visited-true (g.S.Steps.turn c.args.steps.now) (g.S.Steps.rest c.args.steps.now) c.args.lengths.now c.args.state.now here.done.items here.word.items c.args.branch c.requires.place left
+    visited-true (g.S.Steps.outcome c.args.steps.now) (g.S.Steps.rest c.args.steps.now) c.args.lengths.now c.args.state.now here.done.items here.word.items c.args.branch c.requires.place left
     c.in-Next.next c.enter.new.self.done.items c.enter.new.self.word.items _
     (rw index_is at turn_is) c.in_ok-enter-in-Next.ensures.done c.in_ok-enter-in-Next.ensures.word
     (rw c.if-branch.true at c.in_ok-explore-in-Next.ensures.searched)
@@ -86,12 +86,12 @@ visit-returns-else-branch-clause-searched g t c =
       covered = record {
         word = c.leave.ensures.word ∙ take_again here.word.items explored.word.items c.args.branch (h.word ∙ c.in_ok-enter-in-Next.ensures.word);
         done = c.leave.ensures.done ∙ back_again here.done.items explored.done.items c.args.branch (IsAt-branch c.args.lengths.now here.done.items c.args.branch c.requires.place left) (h.done ∙ c.in_ok-enter-in-Next.ensures.done);
-        covered = visited-Next (g.S.Steps.turn c.args.steps.now) (g.S.Steps.rest c.args.steps.now) c.args.lengths.now c.args.state.now here.done.items here.word.items c.args.branch c.requires.place left
+        covered = visited-Next (g.S.Steps.outcome c.args.steps.now) (g.S.Steps.rest c.args.steps.now) c.args.lengths.now c.args.state.now here.done.items here.word.items c.args.branch c.requires.place left
             c.in-Next.next here.best entered explored c.leave.new.self.best
             (rw index_is at turn_is) c.in_ok-enter-in-Next.ensures.done c.in_ok-enter-in-Next.ensures.word c.in_ok-enter-in-Next.ensures.best h c.leave.ensures.best;
       };
-      accounted = subst (λ b. AreAccounted (g.S.Steps.turn c.args.steps.now) (g.S.Steps.rest c.args.steps.now) c.args.lengths.now (sum here.done.items + 1) b c.explore.new.seen.keys) (sym c.leave.ensures.best)
-          (subst (λ n. AreAccounted (g.S.Steps.turn c.args.steps.now) (g.S.Steps.rest c.args.steps.now) c.args.lengths.now n explored.best c.explore.new.seen.keys)
+      accounted = subst (λ b. AreAccounted (g.S.Steps.outcome c.args.steps.now) (g.S.Steps.rest c.args.steps.now) c.args.lengths.now (sum here.done.items + 1) b c.explore.new.seen.keys) (sym c.leave.ensures.best)
+          (subst (λ n. AreAccounted (g.S.Steps.outcome c.args.steps.now) (g.S.Steps.rest c.args.steps.now) c.args.lengths.now n explored.best c.explore.new.seen.keys)
           (ap sum c.in_ok-enter-in-Next.ensures.done ∙ sum-more c.args.lengths.now here.done.items c.args.branch c.requires.place left) all.accounted);
     }
 
@@ -103,11 +103,11 @@ visit-returns-in_ok-note_false-in-Stop-False-clause-searched g t c =
     let stops : c.in_ok-next.field-0 ≡ Stop False = cc in
     let turn_is = sym c.in_ok-next.ensures.answer ∙ stops in
     let e = c.in_ok-note_false-in-Stop-False.ensures in
-    let k = visited-False (g.S.Steps.turn c.args.steps.now) (g.S.Steps.rest c.args.steps.now) c.args.lengths.now c.args.state.now here.done.items here.word.items c.args.branch c.requires.place left
+    let k = visited-False (g.S.Steps.outcome c.args.steps.now) (g.S.Steps.rest c.args.steps.now) c.args.lengths.now c.args.state.now here.done.items here.word.items c.args.branch c.requires.place left
     here.best c.note_false.new.self.best (rw index_is at turn_is) e.fault e.furthest in
     record {
       covered = record { word = e.word; done = e.done; covered = k };
-      accounted = all-accounted-on (g.S.Steps.turn c.args.steps.now) (g.S.Steps.rest c.args.steps.now) c.args.lengths.now (sum here.done.items + 1) here.done.items here.word.items c.args.state.now _ here.best c.note_false.new.self.best c.args.seen.now.keys k c.requires.accounted;
+      accounted = all-accounted-on (g.S.Steps.outcome c.args.steps.now) (g.S.Steps.rest c.args.steps.now) c.args.lengths.now (sum here.done.items + 1) here.done.items here.word.items c.args.state.now _ here.best c.note_false.new.self.best c.args.seen.now.keys k c.requires.accounted;
     }
 
 pub visit-returns-in_ok-note_fault-in-Stop-Fault-clause-searched : goal.visit-returns-in_ok-note_fault-in-Stop-Fault-clause-searched
@@ -118,15 +118,15 @@ visit-returns-in_ok-note_fault-in-Stop-Fault-clause-searched g t c =
     let stops : c.in_ok-next.field-0 ≡ Stop (Fault c.in-Stop-Fault.fault) = cc in
     let turn_is = sym c.in_ok-next.ensures.answer ∙ stops in
     let e = c.in_ok-note_fault-in-Stop-Fault.ensures in
-    let k = visited-Fault (g.S.Steps.turn c.args.steps.now) (g.S.Steps.rest c.args.steps.now) c.args.lengths.now c.args.state.now here.done.items here.word.items c.args.branch c.requires.place left
+    let k = visited-Fault (g.S.Steps.outcome c.args.steps.now) (g.S.Steps.rest c.args.steps.now) c.args.lengths.now c.args.state.now here.done.items here.word.items c.args.branch c.requires.place left
     c.in-Stop-Fault.fault here.best c.note_fault.new.self.best (rw index_is at turn_is) e.furthest e.later e.first in
     record {
       covered = record { word = e.word; done = e.done; covered = k };
-      accounted = all-accounted-on (g.S.Steps.turn c.args.steps.now) (g.S.Steps.rest c.args.steps.now) c.args.lengths.now (sum here.done.items + 1) here.done.items here.word.items c.args.state.now _ here.best c.note_fault.new.self.best c.args.seen.now.keys k c.requires.accounted;
+      accounted = all-accounted-on (g.S.Steps.outcome c.args.steps.now) (g.S.Steps.rest c.args.steps.now) c.args.lengths.now (sum here.done.items + 1) here.done.items here.word.items c.args.state.now _ here.best c.note_fault.new.self.best c.args.seen.now.keys k c.requires.accounted;
     }
 
 pub visit-returns-then-index-lengths-clause-grown : goal.visit-returns-then-index-lengths-clause-grown
-visit-returns-then-index-lengths-clause-grown g t c = grown-none (g.S.Steps.turn c.args.steps.now) c.args.lengths.now (g.S.Steps.most_rest c.args.steps.now) _ _ _ c.args.seen.now.keys 1 c.args.search.now.steps c.args.search.now.steps (omega arith)
+visit-returns-then-index-lengths-clause-grown g t c = grown-none (g.S.Steps.outcome c.args.steps.now) c.args.lengths.now (g.S.Steps.most_rest c.args.steps.now) _ _ _ c.args.seen.now.keys 1 c.args.search.now.steps c.args.search.now.steps (omega arith)
 
 pub visit-returns-then-branch-clause-grown : goal.visit-returns-then-branch-clause-grown
 visit-returns-then-branch-clause-grown g t c =
@@ -135,7 +135,7 @@ visit-returns-then-branch-clause-grown g t c =
     let left : get_or here.done.items c.args.branch 0 < get_or c.args.lengths.now c.args.branch 0 = grind (arith, common_steps) in
     let turn_is = sym c.in_ok-next.ensures.answer ∙ c.in-Next.is in
     let made : c.enter.new.self.steps ≤ here.steps + 1 = grind (arith, c.saturating_add-search.ensures, c.enter.ensures.steps) in
-    grown-behind (g.S.Steps.turn c.args.steps.now) c.args.lengths.now (g.S.Steps.most_rest c.args.steps.now) here.done.items c.args.state.now c.args.branch c.in-Next.next c.enter.new.self.done.items c.args.seen.now.keys c.explore.new.seen.keys
+    grown-behind (g.S.Steps.outcome c.args.steps.now) c.args.lengths.now (g.S.Steps.most_rest c.args.steps.now) here.done.items c.args.state.now c.args.branch c.in-Next.next c.enter.new.self.done.items c.args.seen.now.keys c.explore.new.seen.keys
     here.steps c.enter.new.self.steps c.explore.new.search.steps left (rw index_is at turn_is) c.in_ok-enter-in-Next.ensures.done (sum-more c.args.lengths.now here.done.items c.args.branch c.requires.place left) made
     c.in_ok-explore-in-Next.ensures.grown
 
@@ -146,23 +146,23 @@ visit-returns-else-branch-clause-grown g t c =
     let left : get_or here.done.items c.args.branch 0 < get_or c.args.lengths.now c.args.branch 0 = grind (arith, common_steps) in
     let turn_is = sym c.in_ok-next.ensures.answer ∙ c.in-Next.is in
     let made : c.enter.new.self.steps ≤ here.steps + 1 = grind (arith, c.saturating_add-search.ensures, c.enter.ensures.steps) in
-    grown-behind (g.S.Steps.turn c.args.steps.now) c.args.lengths.now (g.S.Steps.most_rest c.args.steps.now) here.done.items c.args.state.now c.args.branch c.in-Next.next c.enter.new.self.done.items c.args.seen.now.keys c.explore.new.seen.keys
+    grown-behind (g.S.Steps.outcome c.args.steps.now) c.args.lengths.now (g.S.Steps.most_rest c.args.steps.now) here.done.items c.args.state.now c.args.branch c.in-Next.next c.enter.new.self.done.items c.args.seen.now.keys c.explore.new.seen.keys
     here.steps c.enter.new.self.steps c.leave.new.self.steps left (rw index_is at turn_is) c.in_ok-enter-in-Next.ensures.done (sum-more c.args.lengths.now here.done.items c.args.branch c.requires.place left) made
-    (subst (λ n. IsGrown (g.S.Steps.turn c.args.steps.now) c.args.lengths.now (g.S.Steps.most_rest c.args.steps.now) 0 (sum c.enter.new.self.done.items) c.enter.new.self.done.items c.in-Next.next c.args.seen.now.keys c.explore.new.seen.keys c.enter.new.self.steps n) (sym c.leave.ensures.steps) c.in_ok-explore-in-Next.ensures.grown)
+    (subst (λ n. IsGrown (g.S.Steps.outcome c.args.steps.now) c.args.lengths.now (g.S.Steps.most_rest c.args.steps.now) 0 (sum c.enter.new.self.done.items) c.enter.new.self.done.items c.in-Next.next c.args.seen.now.keys c.explore.new.seen.keys c.enter.new.self.steps n) (sym c.leave.ensures.steps) c.in_ok-explore-in-Next.ensures.grown)
 
 pub visit-returns-in_ok-note_false-in-Stop-False-clause-grown : goal.visit-returns-in_ok-note_false-in-Stop-False-clause-grown
 visit-returns-in_ok-note_false-in-Stop-False-clause-grown g t c =
     let made : c.note_false.new.self.steps ≤ c.args.search.now.steps + 1 = grind (arith, c.saturating_add-search.ensures, c.note_false.ensures.steps) in
-    grown-none (g.S.Steps.turn c.args.steps.now) c.args.lengths.now (g.S.Steps.most_rest c.args.steps.now) _ _ _ c.args.seen.now.keys 1 c.args.search.now.steps c.note_false.new.self.steps made
+    grown-none (g.S.Steps.outcome c.args.steps.now) c.args.lengths.now (g.S.Steps.most_rest c.args.steps.now) _ _ _ c.args.seen.now.keys 1 c.args.search.now.steps c.note_false.new.self.steps made
 
 pub visit-returns-in_ok-note_fault-in-Stop-Fault-clause-grown : goal.visit-returns-in_ok-note_fault-in-Stop-Fault-clause-grown
 visit-returns-in_ok-note_fault-in-Stop-Fault-clause-grown g t c =
     let made : c.note_fault.new.self.steps ≤ c.args.search.now.steps + 1 = grind (arith, c.saturating_add-search.ensures, c.note_fault.ensures.steps) in
-    grown-none (g.S.Steps.turn c.args.steps.now) c.args.lengths.now (g.S.Steps.most_rest c.args.steps.now) _ _ _ c.args.seen.now.keys 1 c.args.search.now.steps c.note_fault.new.self.steps made
+    grown-none (g.S.Steps.outcome c.args.steps.now) c.args.lengths.now (g.S.Steps.most_rest c.args.steps.now) _ _ _ c.args.seen.now.keys 1 c.args.search.now.steps c.note_fault.new.self.steps made
 
 pub explore-returns-then-not-branch-clause-grown : goal.explore-returns-then-not-branch-clause-grown
 explore-returns-then-not-branch-clause-grown g t c =
-    let turn = g.S.Steps.turn c.args.steps.now in
+    let turn = g.S.Steps.outcome c.args.steps.now in
     let rest = g.S.Steps.rest c.args.steps.now in
     let most = g.S.Steps.most_rest c.args.steps.now in
     let lengths = c.args.lengths.now in
@@ -175,7 +175,7 @@ explore-returns-then-not-branch-clause-grown g t c =
 
 pub explore-returns-then-not-branch-clause-searched : goal.explore-returns-then-not-branch-clause-searched
 explore-returns-then-not-branch-clause-searched g t c =
-    let turn = g.S.Steps.turn c.args.steps.now in
+    let turn = g.S.Steps.outcome c.args.steps.now in
     let rest = g.S.Steps.rest c.args.steps.now in
     let most = g.S.Steps.most_rest c.args.steps.now in
     let lengths = c.args.lengths.now in
@@ -194,7 +194,7 @@ explore-returns-then-not-branch-clause-searched g t c =
 
 pub explore-explore_branches-requires : goal.explore-explore_branches-requires
 explore-explore_branches-requires g t c κs within =
-    let turn = g.S.Steps.turn c.args.steps.now in
+    let turn = g.S.Steps.outcome c.args.steps.now in
     let rest = g.S.Steps.rest c.args.steps.now in
     let most = g.S.Steps.most_rest c.args.steps.now in
     let lengths = c.args.lengths.now in
@@ -210,7 +210,7 @@ explore-explore_branches-requires g t c κs within =
 
 pub explore-returns-clause-grown : goal.explore-returns-clause-grown
 explore-returns-clause-grown g t c =
-    let turn = g.S.Steps.turn c.args.steps.now in
+    let turn = g.S.Steps.outcome c.args.steps.now in
     let rest = g.S.Steps.rest c.args.steps.now in
     let most = g.S.Steps.most_rest c.args.steps.now in
     let lengths = c.args.lengths.now in
@@ -227,7 +227,7 @@ explore-returns-clause-grown g t c =
 
 pub explore-returns-clause-searched : goal.explore-returns-clause-searched
 explore-returns-clause-searched g t c =
-    let turn = g.S.Steps.turn c.args.steps.now in
+    let turn = g.S.Steps.outcome c.args.steps.now in
     let rest = g.S.Steps.rest c.args.steps.now in
     let most = g.S.Steps.most_rest c.args.steps.now in
     let lengths = c.args.lengths.now in

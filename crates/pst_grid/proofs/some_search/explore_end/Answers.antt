@@ -9,7 +9,7 @@ use Rattle.pst_grid.proofs.some_search.explore_end.Goals as goal
 
 pub returns-then-not-has_rest-clause-searched : goal.returns-then-not-has_rest-clause-searched
 returns-then-not-has_rest-clause-searched g c =
-    let turn = g.S.Steps.turn c.args.steps.now in
+    let turn = g.S.Steps.outcome c.args.steps.now in
     let rest = g.S.Steps.rest c.args.steps.now in
     let most = g.S.Steps.most_rest c.args.steps.now in
     let lengths = c.args.lengths.now in
@@ -20,7 +20,7 @@ returns-then-not-has_rest-clause-searched g c =
 
 pub returns-then-not-branch-clause-searched : goal.returns-then-not-branch-clause-searched
 returns-then-not-branch-clause-searched g c =
-    let turn = g.S.Steps.turn c.args.steps.now in
+    let turn = g.S.Steps.outcome c.args.steps.now in
     let rest = g.S.Steps.rest c.args.steps.now in
     let most = g.S.Steps.most_rest c.args.steps.now in
     let lengths = c.args.lengths.now in
@@ -39,7 +39,7 @@ returns-then-not-branch-clause-searched g c =
 
 pub returns-clause-grown : goal.returns-clause-grown
 returns-clause-grown g c =
-    let turn = g.S.Steps.turn c.args.steps.now in
+    let turn = g.S.Steps.outcome c.args.steps.now in
     let rest = g.S.Steps.rest c.args.steps.now in
     let most = g.S.Steps.most_rest c.args.steps.now in
     let lengths = c.args.lengths.now in
@@ -56,7 +56,7 @@ returns-clause-grown g c =
 
 pub returns-clause-searched : goal.returns-clause-searched
 returns-clause-searched g c =
-    let turn = g.S.Steps.turn c.args.steps.now in
+    let turn = g.S.Steps.outcome c.args.steps.now in
     let rest = g.S.Steps.rest c.args.steps.now in
     let most = g.S.Steps.most_rest c.args.steps.now in
     let lengths = c.args.lengths.now in

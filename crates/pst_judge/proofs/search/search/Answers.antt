@@ -1,5 +1,5 @@
 use Rattle.pst_judge.proofs.Furthest.{far_counts}
-use Rattle.pst_judge.specs.Replay.{branch_turn_asking, branch_lengths}
+use Rattle.pst_judge.specs.Replay.{branch_outcome_asking, branch_lengths}
 use Rattle.pst_judge.proofs.search.search.Goals as goal
 
 pub some-requires-clause-state : goal.some-requires-clause-state
@@ -13,7 +13,7 @@ verdict_of-requires g c =
     let a = rw (c.as_slice-2.ensures.value, c.in_ok-lengths.ensures, c.as_slice.ensures, c.case.ensures.same) at c.in_ok-answer.ensures.answer in
     let m = g.C.Callbacks.model c.args.branches.now.callbacks.now in
     let asked = g.A.Condition.asked c.args.branches.now.condition.now m in
-    far_counts m asked c.args.branches.now.suffix (branch_turn_asking m asked c.args.branches.now.events) (branch_lengths c.args.branches.now.shaped.now.case) c.args.state.now c.args.prefix c.in_ok-answer.answer a c.requires.prefix c.requires.lengths c.requires.suffix
+    far_counts m asked c.args.branches.now.suffix (branch_outcome_asking m asked c.args.branches.now.events) (branch_lengths c.args.branches.now.shaped.now.case) c.args.state.now c.args.prefix c.in_ok-answer.answer a c.requires.prefix c.requires.lengths c.requires.suffix
 
 pub returns : goal.returns
 returns g c =

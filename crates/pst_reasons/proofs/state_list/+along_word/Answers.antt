@@ -4,8 +4,8 @@ use Rattle.pst_case.specs.Shape.{result_types}
 use Rattle.pst_reasons.proofs.Along.{the_command}
 use Rattle.pst_reasons.proofs.state_list.+along_word.Goals as goal
 
-pub event_turn-requires : goal.event_turn-requires
-event_turn-requires g t c =
+pub event_outcome-requires : goal.event_outcome-requires
+event_outcome-requires g t c =
     let m = g.C.Callbacks.model c.args.branches.now.callbacks.now in
     let is = the_command c.args.branches.now.events c.in-Some.branch.now c.index-index.result.now c.in-Some-get.events.now c.in-Some-get-2.event.now (sym c.in-Some-get.ensures.value) (sym c.in-Some-get-2.ensures.value) in
     (result_types m c.args.branches.now.shaped.now.case, c.requires.state, c.requires.fit _ _ _ is)
@@ -14,5 +14,5 @@ pub along_word-requires : goal.along_word-requires
 along_word-requires g t c κs within =
     let ts = result_types (g.C.Callbacks.model c.args.branches.now.callbacks.now) c.args.branches.now.shaped.now.case in
     let is = the_command c.args.branches.now.events c.in-Some.branch.now c.index-index.result.now c.in-Some-get.events.now c.in-Some-get-2.event.now (sym c.in-Some-get.ensures.value) (sym c.in-Some-get-2.ensures.value) in
-    let state = rw c.in-Next.is at (c.in_ok-event_turn.ensures.state ts c.requires.state (c.requires.fit _ _ _ is)) in
+    let state = rw c.in-Next.is at (c.in_ok-event_outcome.ensures.state ts c.requires.state (c.requires.fit _ _ _ is)) in
     (search rules, (within.0, (within.1, (length-set _ _ _ ∙ c.requires.lengths, (state, c.requires.fit)))))

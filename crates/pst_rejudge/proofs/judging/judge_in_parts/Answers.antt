@@ -4,13 +4,13 @@ use Rattle.rayon.proofs.ToStd.{slice-AllZip}
 use Rattle.pst_rejudge.proofs.Collected.{collected}
 use Rattle.pst_rejudge.proofs.Placed.{all_of_zip, if_in_all}
 use Rattle.pst_rejudge.specs.Places.{StandsIn, AreFilled}
-use Rattle.pst_rejudge.specs.declared.taking.Part.{Part}
+use Rattle.pst_rejudge.specs.declared.taking.JudgedPart.{JudgedPart}
 use Rattle.pst_model.specs.declared.model.Source.{Source}
 use Rattle.pst_rejudge.proofs.judging.judge_in_parts.Goals as goal
 
 pub returns-in-Ok : goal.returns-in-Ok
 returns-in-Ok g c =
-    let Stand : Source → Bool → List (Bor (List ℕ)) → Vec Part Global → Type 0 = λ m keeps parts taken. All (StandsIn m keeps parts) taken.items in
+    let Stand : Source → Bool → List (Bor (List ℕ)) → Vec JudgedPart Global → Type 0 = λ m keeps parts taken. All (StandsIn m keeps parts) taken.items in
     let keeps = c.args.keeps in
     let m = c.args.typed.now in
     let parts = c.in_ok-parts.parts.items in

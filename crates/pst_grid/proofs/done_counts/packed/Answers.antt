@@ -1,6 +1,6 @@
 use Rattle.std.proofs.Common.{arith}
 use Rattle.pst_grid.proofs.Packing.{room}
-use Rattle.pst_grid.proofs.place.packed.Goals as goal
+use Rattle.pst_grid.proofs.done_counts.packed.Goals as goal
 
 pub overflow_mul-word : goal.overflow_mul-word
 overflow_mul-word c =

@@ -1,6 +1,6 @@
 use Rattle.std.proofs.Common.{◌≡◌, ◌≤◌, true, length, drop}
-use Rattle.pst_grid.specs.Places.{are_small, word_of}
-use Rattle.pst_grid.proofs.place.packed.Given as goal
+use Rattle.pst_grid.specs.DoneCounts.{are_small, word_of}
+use Rattle.pst_grid.proofs.done_counts.packed.Given as goal
 
 abbrev pub invariant-loop-branch : goal.invariant-loop-branch
 invariant-loop-branch l = record {

@@ -2,15 +2,15 @@
 use Rattle.std.specs.Prelude.{ℕ, ◌<◌, List, slice_index}
 use Rattle.pst_grid.specs.declared.answer.Ending.{Ending}
 use Rattle.pst_grid.specs.declared.answer.Ending.TheVariants.{AllTrue, StopsAt}
-use Rattle.pst_grid.specs.declared.answer.Turn.{Turn}
-use Rattle.pst_grid.specs.declared.answer.Turn.TheVariants.{Next, Stop}
+use Rattle.pst_grid.specs.declared.answer.StepOutcome.{StepOutcome}
+use Rattle.pst_grid.specs.declared.answer.StepOutcome.TheVariants.{Next, Stop}
 
 -- a step may be asked for each command of branches of these lengths
 abbrev pub AreCommands : (ℕ → ℕ → Type 0) → List ℕ → Type 0
 AreCommands is_command lengths = (b i : ℕ) → i < slice_index lengths b → is_command b i
 
 -- a fact of the next state, if there is one
-abbrev pub OnNext : {S F : Type 0} → Turn S F → (S → Type 0) → Type 0
+abbrev pub OnNext : {S F : Type 0} → StepOutcome S F → (S → Type 0) → Type 0
 OnNext (Next s) P = P s
 OnNext (Stop why) P = Unit {0}
 

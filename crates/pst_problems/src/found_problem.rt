@@ -9,7 +9,7 @@ use std::alloc::{AllocError, Global};
 use std::fmt::Display;
 
 /// The result of a check: a problem, or none.
-pub type Judged = Result<Option<Problem>, AllocError>;
+pub type FoundProblem = Result<Option<Problem>, AllocError>;
 
 /// Adds `problem` to `problems`, if there is one.
 pub fn tell(problems: &mut Vec<Problem>, problem: Option<Problem>) -> Result<(), AllocError> {
@@ -20,19 +20,28 @@ pub fn tell(problems: &mut Vec<Problem>, problem: Option<Problem>) -> Result<(),
 }
 
 /// A problem at the tree that `path` leads to.
-pub fn wrong<D: Display + Drop>(alloc: Global, path: &[usize], what: D) -> Judged {
+pub fn wrong<D: Display + Drop>(alloc: Global, path: &[usize], what: D) -> FoundProblem {
     let path = Vec::from_slice(alloc, path)?;
     Ok(Some(Problem::new(alloc, path, what)?))
 }
 
 /// A problem at part `part` of the tree that `path` leads to.
-pub fn wrong_at<D: Display + Drop>(alloc: Global, path: &[usize], part: usize, what: D) -> Judged {
+pub fn wrong_at<D: Display + Drop>(
+    alloc: Global,
+    path: &[usize],
+    part: usize,
+    what: D,
+) -> FoundProblem {
     let path = below(path, alloc, part)?;
     Ok(Some(Problem::new(alloc, path, what)?))
 }
 
 /// The problem `found`, if there is one, with one more note.
-pub fn with_note<N: Display + Drop>(alloc: Global, found: Option<Problem>, note: N) -> Judged {
+pub fn with_note<N: Display + Drop>(
+    alloc: Global,
+    found: Option<Problem>,
+    note: N,
+) -> FoundProblem {
     match found {
         Some(problem) => Ok(Some(problem.with(alloc, note)?)),
         None => Ok(None),
@@ -45,7 +54,7 @@ pub fn noted<D: Display + Drop, N: Display + Drop>(
     path: &[usize],
     what: D,
     note: N,
-) -> Judged {
+) -> FoundProblem {
     with_note(alloc, wrong(alloc, path, what)?, note)
 }
 
@@ -56,12 +65,17 @@ pub fn noted_at<D: Display + Drop, N: Display + Drop>(
     part: usize,
     what: D,
     note: N,
-) -> Judged {
+) -> FoundProblem {
     with_note(alloc, wrong_at(alloc, path, part, what)?, note)
 }
 
 /// A problem at `word`, with a hint on what to write instead if it is a word of another language.
-pub fn foreign<D: Display + Drop>(alloc: Global, path: &[usize], word: &str, what: D) -> Judged {
+pub fn foreign<D: Display + Drop>(
+    alloc: Global,
+    path: &[usize],
+    word: &str,
+    what: D,
+) -> FoundProblem {
     match in_place_of(word) {
         Some(hint) => noted(alloc, path, what, format_args!("hint: {hint}")),
         None => wrong(alloc, path, what),
@@ -74,7 +88,7 @@ pub fn in_single_quotes(word: &str) -> Option<&str> {
 }
 
 /// The problem `found` of `word`, with a hint if the word begins a text in single quotes.
-pub fn with_quotes_hint(alloc: Global, found: Option<Problem>, word: &str) -> Judged {
+pub fn with_quotes_hint(alloc: Global, found: Option<Problem>, word: &str) -> FoundProblem {
     if let Some(text) = in_single_quotes(word) {
         let hint = format_args!("hint: a text is in double quotes: `\"{text}\"`");
         return with_note(alloc, found, hint);
@@ -126,7 +140,7 @@ fn taken(has_maps: bool, name: &str) -> Option<&'static str> {
 }
 
 /// The problem of `word` as a declared name, if it has one.
-pub fn declared(alloc: Global, has_maps: bool, path: &[usize], word: &Text) -> Judged {
+pub fn declared(alloc: Global, has_maps: bool, path: &[usize], word: &Text) -> FoundProblem {
     let name = word.as_str();
     if is_capitalized(name) {
         return noted(alloc, path, format_args!("`{name}` is not a name"), CAPITAL);
@@ -150,7 +164,7 @@ pub fn declared(alloc: Global, has_maps: bool, path: &[usize], word: &Text) -> J
 }
 
 /// The problem of the name `word`, if it has too many bytes.
-pub fn too_long(alloc: Global, path: &[usize], word: &Text) -> Judged {
+pub fn too_long(alloc: Global, path: &[usize], word: &Text) -> FoundProblem {
     let length = word.len();
     if length <= MAX_NAME {
         return Ok(None);
@@ -169,7 +183,7 @@ pub fn bound(
     path: &[usize],
     form: &Form,
     other: Option<&Text>,
-) -> Judged {
+) -> FoundProblem {
     let Some(word) = word_of(form) else {
         return wrong(alloc, path, "expected a name here");
     };

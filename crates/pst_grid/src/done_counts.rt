@@ -1,6 +1,6 @@
 //! How many commands of each branch are done, in little memory.
 ghost use Rattle.std.specs.Prelude.{◌≡◌, IfOk};
-ghost use Rattle.pst_grid.specs.Places.{word_for};
+ghost use Rattle.pst_grid.specs.DoneCounts.{word_for};
 
 use std::alloc::{AllocError, Global};
 use std::hash::{Hash, Hasher};
@@ -26,11 +26,11 @@ enum Packing {
 /// Four counts below 65,535 take one word and no further memory: the digits of the word, to the base 65,536, are the
 /// counts plus one, the first count lowest, so that a digit 0 ends the list.
 #[derive(Drop)]
-pub(crate) struct Place {
+pub(crate) struct DoneCounts {
     packing: Packing,
 }
 
-impl Model for Place {
+impl Model for DoneCounts {
     ghost use Rattle.std.specs.Prelude.{List, ℕ};
 
     ghost Value = { List ℕ };
@@ -60,20 +60,20 @@ fn packed(done: &[usize]) -> Option<u64>
     Some(word)
 }
 
-impl Place {
-    /// The place of these counts. Allocates only if they are many or large.
-    pub(crate) fn new(alloc: Global, done: &[usize]) -> Result<Place, AllocError>
+impl DoneCounts {
+    /// Keeps these counts. Allocates only if they are many or large.
+    pub(crate) fn new(alloc: Global, done: &[usize]) -> Result<DoneCounts, AllocError>
         ensures { IfOk result (λ p. p ≡ done.now) }
     {
         let packing = match packed(done) {
             Some(word) => Packing::Word(word),
             None => Packing::Counts(Box::new(alloc, done.to_vec(alloc)?)?),
         };
-        Ok(Place { packing })
+        Ok(DoneCounts { packing })
     }
 }
 
-impl PartialEq for Place {
+impl PartialEq for DoneCounts {
     ghost use Rattle.std.specs.Cmp.Lexicographic.{pointwise, nat_list_eq_equiv};
     ghost use Rattle.std.specs.Prelude.{nat_eq};
     ghost use Rattle.std.specs.Cmp as cmp;
@@ -91,16 +91,16 @@ impl PartialEq for Place {
     }
 }
 
-impl Eq for Place {
+impl Eq for DoneCounts {
     ghost use Rattle.std.specs.Cmp.Lexicographic.{nat_list_eq_equiv};
 
     ghost laws = { nat_list_eq_equiv };
 }
 
-impl Hash for Place {
+impl Hash for DoneCounts {
     ghost use Rattle.std.specs.Cmp.Lexicographic.{bytes_decides};
     ghost use Rattle.std.proofs.Common.{ap};
-    ghost use Rattle.pst_grid.specs.Places.{hash_input_of};
+    ghost use Rattle.pst_grid.specs.DoneCounts.{hash_input_of};
 
     ghost hash_input = { hash_input_of };
 

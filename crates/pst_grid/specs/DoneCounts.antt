@@ -1,4 +1,4 @@
--- How the counts of a place are packed into a word.
+-- How the counts are packed into a word.
 use Rattle.std.specs.Prelude.{ℕ, zero, suc, ◌+◌, ◌-◌, ◌*◌, ◌/◌, ◌%◌, ◌==◌, Bool, true, nat_lt, nat_le, ◌&&◌, List, [], ◌∷◌, length, Option, Some, None, if◌then◌else◌}
 use Rattle.std.specs.Hash as fed
 use Rattle.std.specs.Hash.{HashWrites}
@@ -27,6 +27,6 @@ counts_in (suc digits) word =
 abbrev pub word_for : List ℕ → Option ℕ
 word_for done = if fits done then Some (word_of done) else None
 
--- what a place feeds a hasher: its word, or else each of its counts
+-- what the counts feed a hasher: their word, or else each of them
 abbrev pub hash_input_of : List ℕ → HashWrites
 hash_input_of done = if fits done then fed.u64 (word_of done) else fed.slice fed.usize done

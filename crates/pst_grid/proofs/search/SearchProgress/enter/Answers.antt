@@ -1,7 +1,7 @@
 use Rattle.std.proofs.Common.{◌≡◌, ◌+◌, ap, ◌∙◌, get_or, set, sum, arith}
 use Rattle.std.proofs.lemmas.Grind.{common_steps}
 use Rattle.pst_grid.proofs.Searching.{sum-left, sum-more}
-use Rattle.pst_grid.proofs.search.Search.enter.Goals as goal
+use Rattle.pst_grid.proofs.search.SearchProgress.enter.Goals as goal
 
 pub returns-clause-fewer_left : goal.returns-clause-fewer_left
 returns-clause-fewer_left g c =

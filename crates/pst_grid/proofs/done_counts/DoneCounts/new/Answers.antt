@@ -1,9 +1,9 @@
 use Rattle.std.proofs.Common.{◌≡◌, ap, sym, subst, ◌∙◌, rules}
 use Rattle.pst_grid.specs.Packings.{counts_of, IsPacked}
-use Rattle.pst_grid.specs.Places.{fits}
+use Rattle.pst_grid.specs.DoneCounts.{fits}
 use Rattle.pst_grid.proofs.Packing.{word-packs, none-fits}
-use Rattle.pst_grid.proofs.place.Place.new.Goals.{in-Some, in-None+in_ok-to_vec-in-None+in_ok-new-in-None}
-use Rattle.pst_grid.proofs.place.Place.new.Goals as goal
+use Rattle.pst_grid.proofs.done_counts.DoneCounts.new.Goals.{in-Some, in-None+in_ok-to_vec-in-None+in_ok-new-in-None}
+use Rattle.pst_grid.proofs.done_counts.DoneCounts.new.Goals as goal
 
 pub invariant_of-result : goal.invariant_of-result
 invariant_of-result c = elim c.match-packed.branch [
