@@ -43,6 +43,7 @@ impl Model for DoneCounts {
 }
 
 /// The word of these counts, if one word can hold them.
+#[inline(always)]
 fn packed(done: &[usize]) -> Option<u64>
     ensures { result ≡ word_for done.now }
 {
@@ -62,6 +63,7 @@ fn packed(done: &[usize]) -> Option<u64>
 
 impl DoneCounts {
     /// Keeps these counts. Allocates only if they are many or large.
+    #[inline(always)]
     pub(crate) fn new(alloc: Global, done: &[usize]) -> Result<DoneCounts, AllocError>
         ensures { IfOk result (λ p. p ≡ done.now) }
     {
@@ -82,6 +84,7 @@ impl PartialEq for DoneCounts {
 
     ghost laws = { cmp.partial_equiv_from_equiv nat_list_eq_equiv };
 
+    #[inline(always)]
     fn eq(&self, other: &Self) -> bool {
         match (&self.packing, &other.packing) {
             (Packing::Word(one), Packing::Word(two)) => one == two,
@@ -106,6 +109,7 @@ impl Hash for DoneCounts {
 
     ghost respects_eq = { λ x y h. ap hash_input_of ((bytes_decides x y).0 h) };
 
+    #[inline(always)]
     fn hash<H: Hasher>(&self, state: &mut H) {
         match &self.packing {
             Packing::Word(word) => state.write_u64(*word),

@@ -26,6 +26,7 @@ impl<S: Steps> Model for KeptState<S> {
 
 impl<S: Steps> KeptState<S> {
     /// The state as a search remembers it.
+    #[inline(always)]
     pub(crate) fn new(
         alloc: Global,
         steps: &S,
@@ -44,6 +45,7 @@ impl<S: Steps> PartialEq for KeptState<S> {
 
     ghost laws = { S.State.PartialEq.laws };
 
+    #[inline(always)]
     fn eq(&self, other: &Self) -> bool {
         self.kept == other.kept
     }
@@ -60,6 +62,7 @@ impl<S: Steps> Hash for KeptState<S> {
 
     ghost respects_eq = { λ a b h. ap S.fed (S.exact a b h) };
 
+    #[inline(always)]
     fn hash<H: Hasher>(&self, state: &mut H) {
         self.kept.hash(state);
     }

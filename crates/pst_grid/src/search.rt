@@ -64,6 +64,7 @@ impl<F: Drop> SearchProgress<F> {
     }
 
     /// Advances by one command of `branch`.
+    #[inline(always)]
     pub(crate) fn enter(&mut self, lengths: &[usize], branch: usize) -> Result<(), AllocError>
         requires place { IsAt lengths.now self.old.done.items }
         requires left { slice_index self.old.done.items branch < slice_index lengths.now branch }
@@ -86,6 +87,7 @@ impl<F: Drop> SearchProgress<F> {
     }
 
     /// Goes back by one command of `branch`.
+    #[inline(always)]
     pub(crate) fn leave(&mut self, branch: usize)
         requires branch { branch < length self.old.done.items }
         requires done { 0 < slice_index self.old.done.items branch }

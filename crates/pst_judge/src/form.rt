@@ -26,6 +26,7 @@ pub(crate) enum PackedForm {
 }
 
 /// The integer that a value is, if it is one.
+#[inline(always)]
 #[tactic(auto, using(crate::proofs::Coding::integers))]
 fn int_of(value: &Value) -> Option<i64>
     ensures { result ≡ int_of value.now }
@@ -60,12 +61,21 @@ fn form_of_code(alloc: Global, code: &[u8]) -> Result<PackedForm, AllocError>
 
 impl PackedForm {
     /// The form of a value.
+    #[inline(always)]
     pub(crate) fn new(alloc: Global, value: &Value) -> Result<PackedForm, AllocError>
         ensures { IfOk result (λ form. IsForm form value.now) }
     {
-        if let Some(n) = int_of(value) {
-            return Ok(PackedForm::Int(n));
+        match int_of(value) {
+            Some(n) => Ok(PackedForm::Int(n)),
+            None => PackedForm::coded(alloc, value),
         }
+    }
+
+    /// The form of a value that is no integer.
+    fn coded(alloc: Global, value: &Value) -> Result<PackedForm, AllocError>
+        requires { int_of value.now ≡ None }
+        ensures { IfOk result (λ form. IsForm form value.now) }
+    {
         let mut draft = Vec::with_capacity(alloc, DRAFT)?;
         put(value, &mut draft)?;
         form_of_code(alloc, draft.as_slice())

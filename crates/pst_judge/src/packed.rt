@@ -45,6 +45,7 @@ impl Model for Packed {
 
 impl Packed {
     /// Packs a value into little memory.
+    #[inline(always)]
     pub fn new(alloc: Global, value: &Value) -> Result<Packed, AllocError>
         ensures { IfOk result (λ p. p ≡ value.now) }
     {
@@ -64,6 +65,7 @@ impl PartialEq for Packed {
 
     ghost laws = { partial_equiv_from_equiv (decided same_value same_value-Decides) };
 
+    #[inline(always)]
     fn eq(&self, other: &Self) -> bool {
         match (self.form.int(), other.form.int()) {
             (Some(one), Some(two)) => one == two,
@@ -91,6 +93,7 @@ impl Hash for Packed {
 
     ghost respects_eq = { λ x y h. ap fed ((same_value-Decides x y).0 h) };
 
+    #[inline(always)]
     fn hash<H: Hasher>(&self, state: &mut H) {
         match self.form.int() {
             Some(n) => state.write_i64(n),

@@ -59,6 +59,7 @@ impl<'a, C: Callbacks, A: Condition> Steps for Branches<'a, C, A> {
 
     ghost most_rest = { λ b. length b.suffix };
 
+    #[inline(always)]
     fn step(
         &self,
         alloc: Global,
@@ -97,6 +98,7 @@ impl<'a, C: Callbacks, A: Condition> Steps for Branches<'a, C, A> {
         !self.suffix.is_empty()
     }
 
+    #[inline(always)]
     fn keep(&self, alloc: Global, state: &Value) -> Result<Packed, AllocError> {
         Packed::new(alloc, state)
     }
