@@ -38,7 +38,7 @@ use std::thread::Builder;
 /// How many counters there are for all campaigns, how many registries, and how many systems `stuck`.
 const SYSTEMS: u32 = 64;
 
-/// Puts a system into a box, and the box behind `$systems`; without memory the worker ends.
+/// Puts a system into a box, and the box at the end of `$systems`. Without memory the worker ends.
 macro_rules! add_boxed {
     ($systems:expr, $alloc:expr, $system:expr) => {
         let boxed: Result<BoxedSystem, AllocError> = match Box::new($alloc, $system) {
