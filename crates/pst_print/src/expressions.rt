@@ -11,7 +11,7 @@ use crate::types::{map_form, ty_form};
 use crate::words::{binary_word, unary_word};
 use pst_model::{Clause, Expr};
 use pst_sexpr::{Form, headed, list_of, word};
-use pst_value::{Boxed, Items, KeyTy, Text, Ty};
+use pst_value::{Items, KeyTy, Text, Ty};
 use std::alloc::{AllocError, Global};
 
 fn integer(alloc: Global, number: i64) -> Result<Form, AllocError>
@@ -131,14 +131,32 @@ pub fn expr_form(alloc: Global, expr: &Expr) -> Result<Form, AllocError>
             let value = expr_form(alloc, value.get())?;
             let_form(alloc, bound, value, expr_form(alloc, body.get())?)
         }
-        Expr::If(test, yes, no) => of_three_exprs(alloc, "if", test, yes, no),
-        Expr::And(first, second) => of_two_exprs(alloc, "and", first, second),
-        Expr::Or(first, second) => of_two_exprs(alloc, "or", first, second),
-        Expr::Unary(operator, operand) => {
-            let operand = expr_form(alloc, operand.get())?;
-            of_one(alloc, unary_word(*operator), operand)
+        Expr::If(condition, yes, otherwise) => {
+            let condition = expr_form(alloc, condition.get())?;
+            let yes = expr_form(alloc, yes.get())?;
+            let otherwise = expr_form(alloc, otherwise.get())?;
+            of_three(alloc, "if", condition, yes, otherwise)
         }
-        Expr::Binary(operator, a, b) => of_two_exprs(alloc, binary_word(*operator), a, b),
+        Expr::And(first, second) => {
+            let first = expr_form(alloc, first.get())?;
+            of_two(alloc, "and", first, expr_form(alloc, second.get())?)
+        }
+        Expr::Or(first, second) => {
+            let first = expr_form(alloc, first.get())?;
+            of_two(alloc, "or", first, expr_form(alloc, second.get())?)
+        }
+        Expr::Unary(operator, operand) => {
+            of_one(
+                alloc,
+                unary_word(*operator),
+                expr_form(alloc, operand.get())?,
+            )
+        }
+        Expr::Binary(operator, first, second) => {
+            let first = expr_form(alloc, first.get())?;
+            let second = expr_form(alloc, second.get())?;
+            of_two(alloc, binary_word(*operator), first, second)
+        }
         Expr::Tuple(parts) => headed(alloc, "tuple", each_expr(alloc, parts.as_slice())?),
         Expr::At(tuple, number) => at_form(alloc, expr_form(alloc, tuple.get())?, *number),
         Expr::List(ty, items) => list_form(alloc, ty, each_expr(alloc, items.as_slice())?),
@@ -153,7 +171,12 @@ pub fn expr_form(alloc: Global, expr: &Expr) -> Result<Form, AllocError>
             fold_form(alloc, (bound, built), items, first, body)
         }
         Expr::Map(kind, ty) => empty_map(alloc, *kind, ty),
-        Expr::Put(map, key, value) => of_three_exprs(alloc, "put", map, key, value),
+        Expr::Put(map, key, value) => {
+            let map = expr_form(alloc, map.get())?;
+            let key = expr_form(alloc, key.get())?;
+            let value = expr_form(alloc, value.get())?;
+            of_three(alloc, "put", map, key, value)
+        }
         Expr::Call(operation, args) => {
             call_form(alloc, operation, each_expr(alloc, args.as_slice())?)
         }
@@ -161,38 +184,6 @@ pub fn expr_form(alloc: Global, expr: &Expr) -> Result<Form, AllocError>
             headed(alloc, function.as_str(), each_expr(alloc, args.as_slice())?)
         }
     }
-}
-
-/// A node of a word and the trees of two expressions.
-#[cycle(expr_form)]
-fn of_two_exprs(
-    alloc: Global,
-    head: &str,
-    first: &Boxed<Expr>,
-    second: &Boxed<Expr>,
-) -> Result<Form, AllocError>
-    ensures { IfOk result (λ form. form ≡ headed head.now (expr_form first.now ∷ expr_form second.now ∷ [])) }
-{
-    let first = expr_form(alloc, first.get())?;
-    of_two(alloc, head, first, expr_form(alloc, second.get())?)
-}
-
-/// A node of a word and the trees of three expressions.
-#[cycle(expr_form)]
-fn of_three_exprs(
-    alloc: Global,
-    head: &str,
-    first: &Boxed<Expr>,
-    second: &Boxed<Expr>,
-    third: &Boxed<Expr>,
-) -> Result<Form, AllocError>
-    ensures { IfOk result (λ form. form ≡ headed head.now
-        (expr_form first.now ∷ expr_form second.now ∷ expr_form third.now ∷ [])) }
-{
-    let first = expr_form(alloc, first.get())?;
-    let second = expr_form(alloc, second.get())?;
-    let third = expr_form(alloc, third.get())?;
-    of_three(alloc, head, first, second, third)
 }
 
 #[cycle(expr_form)]
