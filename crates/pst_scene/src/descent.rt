@@ -7,7 +7,6 @@
 ghost use Rattle.std.specs.Prelude.{◌≡◌, IfOk};
 ghost use Rattle.pst_eval.specs.Env.{env_of, mean_in, parts_in, functions_in};
 ghost use Rattle.pst_eval.specs.Meaning as spec;
-ghost use Rattle.pst_model.specs.declared.expr.Expr as form;
 ghost use Rattle.pst_operators.specs.Operators as operators;
 ghost use Rattle.pst_scene.specs.Outcomes.{outcome_at};
 ghost use Rattle.pst_scene.specs.Parts.{Appends, SameIfSome, Visits};
@@ -18,7 +17,7 @@ use crate::parts::deciding_part;
 use pst_eval::{Context, Env};
 use pst_model::{Clause, Expr};
 use pst_operators::{Stop, append, items_of, take_turn};
-use pst_value::{Boxed, Fault, Items, Text, Value};
+use pst_value::{Fault, Items, Value};
 use std::alloc::AllocError;
 
 /// The result of visiting the clauses of a comprehension.
@@ -82,9 +81,31 @@ pub fn in_expr<'a>(
             }
         }
         Expr::Fold(name, list, acc, first, body) => {
-            match in_fold(name, list, acc, first, body, site, env, turns)? {
-                Some(part) => Ok(part),
-                None => here(expr, site, env, turns),
+            match attempt(list.get(), context, env, turns)? {
+                Tried::Faults(_) => in_expr(list.get(), site, env, turns),
+                Tried::Gives(value, left) => match items_of(value) {
+                    Ok(items) => match attempt(first.get(), context, env, left)? {
+                        Tried::Faults(_) => in_expr(first.get(), site, env, left),
+                        Tried::Gives(first, left) => {
+                            match in_items(
+                                body.get(),
+                                name.as_bytes(),
+                                acc.as_bytes(),
+                                items.as_slice(),
+                                first,
+                                site,
+                                env,
+                                left,
+                            )? {
+                                Some(part) => Ok(part),
+                                None => here(expr, site, env, turns),
+                            }
+                        }
+                        Tried::Stuck => here(expr, site, env, turns),
+                    },
+                    Err(_) => here(expr, site, env, turns),
+                },
+                Tried::Stuck => here(expr, site, env, turns),
             }
         }
         _ => match deciding_part(expr, context, env, turns)? {
@@ -127,49 +148,6 @@ fn in_body<'a>(
     };
     let frame = Env::Frame(function.params.as_slice(), arguments);
     Ok(Some(in_expr(&function.body, &inner, &frame, left)?))
-}
-
-/// The part of a fold that has no value by itself, unless that is the fold.
-#[cycle(descent)]
-fn in_fold<'a>(
-    name: &Text,
-    list: &'a Boxed<Expr>,
-    acc: &Text,
-    first: &'a Boxed<Expr>,
-    body: &'a Boxed<Expr>,
-    site: &Site<'a>,
-    env: &Env<'_>,
-    turns: u32,
-) -> Result<Option<FaultyPart<'a>>, AllocError>
-    ensures { IfOk result
-        (SameIfSome site.now.context.items.now
-        (mean_in site.now.context (form.Fold name.now list.now acc.now first.now body.now) (env_of env.now)
-        turns)) }
-{
-    let context = &site.context;
-    match attempt(list.get(), context, env, turns)? {
-        Tried::Faults(_) => Ok(Some(in_expr(list.get(), site, env, turns)?)),
-        Tried::Gives(value, left) => match items_of(value) {
-            Ok(items) => match attempt(first.get(), context, env, left)? {
-                Tried::Faults(_) => Ok(Some(in_expr(first.get(), site, env, left)?)),
-                Tried::Gives(first, left) => {
-                    in_items(
-                        body.get(),
-                        name.as_bytes(),
-                        acc.as_bytes(),
-                        items.as_slice(),
-                        first,
-                        site,
-                        env,
-                        left,
-                    )
-                }
-                Tried::Stuck => Ok(None),
-            },
-            Err(_) => Ok(None),
-        },
-        Tried::Stuck => Ok(None),
-    }
 }
 
 /// The part of the body of a fold that has no value by itself, of the first item for which it has none.

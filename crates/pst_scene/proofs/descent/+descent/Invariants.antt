@@ -13,10 +13,6 @@ decreases-in_body l = 4 * functions_weight (reverse l.site.now.context.earlier.n
 abbrev pub decreases-in_items : goal.decreases-in_items
 decreases-in_items l = 4 * (weight l.body.now + functions_weight (reverse l.site.now.context.earlier.now)) + 1
 
-abbrev pub decreases-in_fold : goal.decreases-in_fold
-decreases-in_fold l =
-    4 * (weight l.list.now + weight l.first.now + weight l.body.now + functions_weight (reverse l.site.now.context.earlier.now)) + 2
-
 abbrev pub decreases-in_clauses : goal.decreases-in_clauses
 decreases-in_clauses l =
     4 * (total (map clause_weight l.clauses.now) + weight l.body.now + functions_weight (reverse l.site.now.context.earlier.now)) + 1
