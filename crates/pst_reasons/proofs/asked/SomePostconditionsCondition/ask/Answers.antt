@@ -4,7 +4,7 @@ use Rattle.pst_judge.specs.Replay.{SaysTruth, post_asked}
 use Rattle.pst_reasons.proofs.FewerAsked.{truth_is}
 use Rattle.pst_reasons.specs.Reasons.{always_true}
 use Rattle.pst_value.specs.declared.value.Value.{Bool as Truth}
-use Rattle.pst_reasons.proofs.asked.AskedCondition.ask.Goals as goal
+use Rattle.pst_reasons.proofs.asked.SomePostconditionsCondition.ask.Goals as goal
 
 pub returns-then-is_asked : goal.returns-then-is_asked
 returns-then-is_asked g c =
