@@ -8,14 +8,14 @@ use std::fmt::Display;
 use std::rt::Files;
 
 /// The option that names the file of the page.
-pub fn option<'a>(alloc: Global) -> Arg<'a> {
+pub fn html_option<'a>(alloc: Global) -> Arg<'a> {
     Arg::new(alloc, "html").long("html").value_name("FILE").help(
         "Also writes a page for a browser to FILE, which explains the failures",
     )
 }
 
 /// Returns the name of the file of the page, if the arguments give one.
-pub fn name<'a>(matches: &ArgMatches<'a>) -> Option<&'a str> {
+pub fn file_name<'a>(matches: &ArgMatches<'a>) -> Option<&'a str> {
     let (_, words) = matches.subcommand()?;
     words.get_str("html")
 }

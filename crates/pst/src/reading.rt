@@ -48,7 +48,7 @@ fn refuse_arguments<R: Runtime + AllocGlobal>(
         return Err(streaming::refuse(rt, is_quiet, &mut out));
     }
     outputs::refuse_input(rt, inputs, "-o", output_name(matches), is_quiet)?;
-    outputs::refuse_input(rt, inputs, "--html", page::name(matches), is_quiet)
+    outputs::refuse_input(rt, inputs, "--html", page::file_name(matches), is_quiet)
 }
 
 /// Reads the files that the arguments name, with a tree in place of each JSON item.

@@ -30,7 +30,7 @@ fn asked(word: &str, words: &ArgMatches<'_>) -> Asked {
 }
 
 /// Writes to standard error that there is no item with the number that the arguments of `explain` give.
-fn report_item<R: Eprint>(rt: &R, words: &ArgMatches<'_>) {
+fn report_missing_item<R: Eprint>(rt: &R, words: &ArgMatches<'_>) {
     let item: Option<u64> = words.get_one("item");
     if let Some(item) = item {
         let _ = eprintln!(rt; "pst: there is no item {item}: --item counts cases and runs from 1");
@@ -51,7 +51,7 @@ pub fn report<R: Eprint + AllocGlobal>(
         Ok(Some(message)) => {
             let _ = eprint!(rt; "{message}");
         }
-        Ok(None) if word == "explain" => report_item(rt, words),
+        Ok(None) if word == "explain" => report_missing_item(rt, words),
         _ => {}
     }
 }

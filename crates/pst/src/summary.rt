@@ -33,7 +33,7 @@ pub fn add_number(text: &mut String, alloc: Global, number: usize) -> Result<(),
 }
 
 /// Returns the line for two or more items, as `pst: 3 items: 2 explained, 1 unexplained`. `None` for fewer items.
-fn line_of(alloc: Global, counts: &Counts) -> Result<Option<String>, AllocError> {
+fn summary_line(alloc: Global, counts: &Counts) -> Result<Option<String>, AllocError> {
     let each = each_count(counts);
     let mut total = 0usize;
     for (count, _) in &each {
@@ -61,7 +61,7 @@ fn line_of(alloc: Global, counts: &Counts) -> Result<Option<String>, AllocError>
 /// Writes a line to standard error that sums up the results of the items, if there is more than one item. It ignores
 /// failures.
 pub fn report<R: Eprint + AllocGlobal>(rt: &R, counts: &Counts) {
-    if let Ok(Some(line)) = line_of(rt.alloc(), counts) {
+    if let Ok(Some(line)) = summary_line(rt.alloc(), counts) {
         let _ = eprintln!(rt; "{line}");
     }
 }

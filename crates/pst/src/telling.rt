@@ -38,7 +38,7 @@ fn add_rest(
 }
 
 /// The line after some milliseconds, as `1,204 of 10,000 explained, 512 a second, 17 s left`. It leaves out what is not known.
-fn line_of(
+fn progress_line(
     alloc: Global,
     steps: &Steps,
     word: &str,
@@ -79,7 +79,7 @@ fn tell<R: Wait + Eprint>(rt: &R, alloc: Global, told: &Told) {
             break;
         }
         milliseconds = milliseconds.saturating_add(PAUSE);
-        if let Ok(line) = line_of(alloc, &told.steps, told.word, milliseconds) {
+        if let Ok(line) = progress_line(alloc, &told.steps, told.word, milliseconds) {
             let _ = eprint!(rt; "\r\x1b[K{line}");
         }
     }

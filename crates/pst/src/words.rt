@@ -85,7 +85,7 @@ fn campaign_command<'a>(alloc: Global) -> Result<Command<'a>, AllocError> {
         .arg(options::stop_file(alloc))?
         .arg(options::save(alloc))?
         .arg(options::format_option(alloc))?
-        .arg(page::option(alloc))?
+        .arg(page::html_option(alloc))?
         .arg(output(alloc))?
         .arg(quiet(alloc))
 }
