@@ -36,8 +36,9 @@ pub struct Explaining<'a> {
     pub form: ExplanationForm,
 }
 
-/// The explanation of an item in a form. `number` is its number, and `place` where it begins.
-fn item_text(
+/// `text` and after it the explanation of an item in a form. `number` is its number, and `place` where it begins.
+fn with_item(
+    mut text: Vec<u8>,
     alloc: Global,
     compiled: &Compiled,
     form: ExplanationForm,
@@ -51,10 +52,12 @@ fn item_text(
 {
     let typed = compiled.typed();
     if let ExplanationForm::Dot { is_whole } = form {
-        return graph_item(compiled, alloc, typed, run, judged, number, is_whole);
+        let graph = graph_item(compiled, alloc, typed, run, judged, number, is_whole)?;
+        text.extend_from_slice(graph.as_slice())?;
+        return Ok(text);
     }
     let explanation = explain_item(compiled, alloc, typed, run, judged, number, place)?;
-    form.item(alloc, &explanation)
+    form.with_item(text, alloc, &explanation)
 }
 
 /// How many of the judged items are explained.
@@ -99,8 +102,7 @@ fn explanations(
             if count > 0 {
                 text.extend_from_slice(form.between().as_bytes())?;
             }
-            let item = item_text(alloc, compiled, form, run, judged, number, place)?;
-            text.extend_from_slice(item.as_slice())?;
+            text = with_item(text, alloc, compiled, form, run, judged, number, place)?;
             count = count.saturating_add(1);
             steps.add(1);
         }

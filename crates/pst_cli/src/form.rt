@@ -52,17 +52,21 @@ impl ExplanationForm {
         }
     }
 
-    /// An item, but for a graph.
-    pub(crate) fn item(
+    /// `text` and after it an item, but for a graph.
+    pub(crate) fn with_item(
         self,
+        mut text: Vec<u8>,
         alloc: Global,
         explanation: &Explanation<'_>,
     ) -> Result<Vec<u8>, AllocError> {
         match self {
-            ExplanationForm::Text(width) => explanation_text(alloc, explanation, width),
-            ExplanationForm::Colored(width) => colored_text(alloc, explanation, width),
-            ExplanationForm::Json | ExplanationForm::Html => item_json(alloc, explanation),
-            ExplanationForm::Dot { .. } => Ok(Vec::new(alloc)),
+            ExplanationForm::Text(width) => explanation_text(text, alloc, explanation, width),
+            ExplanationForm::Colored(width) => colored_text(text, alloc, explanation, width),
+            ExplanationForm::Json | ExplanationForm::Html => {
+                text.extend_from_slice(item_json(alloc, explanation)?.as_slice())?;
+                Ok(text)
+            }
+            ExplanationForm::Dot { .. } => Ok(text),
         }
     }
 

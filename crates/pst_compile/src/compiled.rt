@@ -116,6 +116,10 @@ fn function_number(base: usize, op: u32, callback: usize) -> Result<usize, Alloc
 impl Callbacks for Compiled {
     ghost model = { λ c. c };
 
+    fn well_typed(&self) -> Option<&Typed> {
+        Some(&self.typed)
+    }
+
     fn init(&self, alloc: Global) -> Answer {
         let _model = self.typed.source();
         let place = function_number(self.base, 0, 0)?;

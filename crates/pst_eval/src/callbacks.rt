@@ -1,11 +1,12 @@
 //! The callbacks of a model, whoever evaluates them.
-ghost use Rattle.std.specs.Prelude.{◌≡◌, true, [], List, IfOk};
+ghost use Rattle.std.specs.Prelude.{◌≡◌, true, [], List, IfOk, IfSome};
 ghost use Rattle.pst_eval.specs.Callbacks.{Says, Given, GivenState, PreFits, NextFits, PostFits, init_of, command_of, pre_of, next_of, post_of};
 ghost use Rattle.pst_model.specs.Fitting.{is_state};
 ghost use Rattle.pst_model.specs.declared.model.Source.{Source};
 ghost use Rattle.pst_value.specs.declared.ty.Ty.{Ty};
 ghost use Rattle.pst_value.specs.declared.ty.Ty.TheVariants as ty;
 
+use pst_model::Typed;
 use pst_value::{Fault, Value};
 use std::alloc::{AllocError, Global};
 
@@ -20,6 +21,13 @@ pub type Answer = Result<Result<(Value, u32), Fault>, AllocError>;
 pub trait Callbacks {
     /// The model, as its name and items.
     ghost model: { Self → Source };
+
+    /// The model, if it is at hand.
+    fn well_typed(&self) -> Option<&Typed>
+        ensures { IfSome result (λ typed. typed.now ≡ model self.now) }
+    {
+        None
+    }
 
     /// The initial state.
     fn init(&self, alloc: Global) -> Answer

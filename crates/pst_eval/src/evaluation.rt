@@ -1,21 +1,18 @@
 //! The meaning of the model language, and its evaluation by recursion on the expression.
-ghost use Rattle.std.specs.Prelude.{◌≡◌, [], ◌∷◌, map, reverse, MatchOption};
+ghost use Rattle.std.specs.Prelude.{map};
 ghost use Rattle.pst_eval.specs.Meaning as spec;
 ghost use Rattle.pst_eval.specs.Env.{env_of, mean_in, parts_in, functions_in};
-ghost use Rattle.pst_model.specs.Parts.{number_of};
 ghost use Rattle.pst_model.specs.declared.expr.Expr as form;
-ghost use Rattle.pst_operators.specs.Answers.{Answers, Meets};
-ghost use Rattle.pst_operators.specs.Maps.{map_of};
-ghost use Rattle.pst_operators.specs.Outcome.{Gives};
+ghost use Rattle.pst_operators.specs.Answers.{Meets};
 
-use crate::context::Context;
+use crate::context::{Context, split_first, split_last};
 use crate::env::{Env, look_up};
-use pst_model::{Binary, Clause, Expr, Item, number_of};
+use crate::values::{call_of, empty_map};
+use pst_model::{Binary, Clause, Expr, Item};
 use pst_operators::{
     Stop, append, binary_of_owned, item, items_of, put, take_turn, truth_of, unary,
 };
 use pst_value::{Boxed, Items, Text, Value};
-use std::alloc::Global;
 
 /// The value of an expression in its environment. Each turn is taken from `turns`, which is unspecified after
 /// an `Err`.
@@ -397,40 +394,4 @@ fn apply(
         }
         _ => apply(&inner, name, arguments, turns),
     }
-}
-
-/// The map with no keys.
-fn empty_map(alloc: Global) -> Result<Value, Stop>
-    ensures { Answers (Gives (map_of [] [])) result }
-{
-    Ok(Value::Map(
-        Boxed::new(alloc, Items::new(alloc))?,
-        Boxed::new(alloc, Items::new(alloc))?,
-    ))
-}
-
-/// A call of the operation of the name, as a value.
-fn call_of(items: &[Item], name: &[u8], arguments: Items<Value>) -> Result<Value, Stop>
-    ensures { Answers (spec.call_of (number_of items.now name.now) arguments) result }
-{
-    let Some(number) = number_of(items, name) else {
-        return Err(Stop::Stuck);
-    };
-    match u32::try_from(number) {
-        Ok(number) => Ok(Value::Call(number, arguments)),
-        Err(_) => Err(Stop::Stuck),
-    }
-}
-
-fn split_last(items: &[Item]) -> Option<(&Item, &[Item])>
-    ensures { MatchOption result (reverse items.now ≡ [])
-        (λ p. reverse items.now ≡ p.0.now ∷ reverse p.1.now) }
-{
-    items.split_last()
-}
-
-fn split_first(clauses: &[Clause]) -> Option<(&Clause, &[Clause])>
-    ensures { MatchOption result (clauses.now ≡ []) (λ p. clauses.now ≡ p.0.now ∷ p.1.now) }
-{
-    clauses.split_first()
 }

@@ -9,6 +9,7 @@ mod evaluation;
 mod place;
 mod plain;
 mod symbolic;
+mod values;
 
 pub use callbacks::Callbacks;
 pub use context::Context;

@@ -54,6 +54,10 @@ impl<'a> Plain<'a> {
 impl<'a> Callbacks for Plain<'a> {
     ghost model = { λ p. p.typed.now };
 
+    fn well_typed(&self) -> Option<&Typed> {
+        Some(self.typed)
+    }
+
     fn init(&self, alloc: Global) -> Answer {
         let model = self.typed.source();
         let Some(opening) = opening_of(model.items.as_slice()) else {

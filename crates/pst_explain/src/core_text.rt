@@ -142,7 +142,7 @@ pub fn add_core(
     core: &Core<'_>,
 ) -> Result<(), AllocError> {
     page.add_sentence(alloc, 2, opening_sentence(core.answers.len()).as_bytes())?;
-    let mut table = Table::new(alloc);
+    let mut table = Table::new(alloc)?;
     let line = page.width.saturating_sub(6);
     for answer in &core.answers {
         table.add_row(answer_row(alloc, scene, answer, line)?)?;

@@ -56,7 +56,7 @@ fn add_position(
 ) -> Result<(), AllocError> {
     let state = value_text(alloc, scene.model, &position.state)?;
     add(out, "  ")?;
-    add_name(out, alloc, "p", number)?;
+    add_name(out, "p", number)?;
     add(out, " [")?;
     add_label(out, alloc, state.as_slice())?;
     if is_left(scene, search, number, position) {
@@ -76,7 +76,7 @@ fn add_level(
     for (number, position) in search.positions.iter().enumerate() {
         if position.level() == level {
             add(out, " ")?;
-            add_name(out, alloc, "p", number)?;
+            add_name(out, "p", number)?;
             add(out, ";")?;
         }
     }
@@ -104,9 +104,9 @@ fn add_edge(
 ) -> Result<(), AllocError> {
     let text = step.call.with_reply(alloc, scene.model)?;
     add(out, "  ")?;
-    add_name(out, alloc, "p", step.from)?;
+    add_name(out, "p", step.from)?;
     add(out, " -> ")?;
-    add_name(out, alloc, letter, to)?;
+    add_name(out, letter, to)?;
     add(out, " [")?;
     add_label(out, alloc, text.as_slice())?;
     add(out, style)?;
@@ -122,7 +122,7 @@ fn add_dead_end(
     style: &str,
 ) -> Result<(), AllocError> {
     add(out, "  ")?;
-    add_name(out, alloc, "d", number)?;
+    add_name(out, "d", number)?;
     add(out, " [")?;
     add_label(out, alloc, why)?;
     add(out, style)?;

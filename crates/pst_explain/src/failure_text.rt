@@ -20,7 +20,7 @@ fn add_evaluated(
 ) -> Result<(), AllocError> {
     let text = expression_text(alloc, evaluated.expr)?;
     page.add_line(alloc, 4, text.as_slice())?;
-    let mut table = Table::new(alloc);
+    let mut table = Table::new(alloc)?;
     for binding in &evaluated.names {
         let name = Vec::from_slice(alloc, binding.name.as_slice())?;
         table.add_row(two(alloc, name, value_text(alloc, model, &binding.value)?)?)?;

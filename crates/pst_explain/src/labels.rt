@@ -7,14 +7,9 @@ use std::alloc::{AllocError, Global};
 const MOST_BYTES: usize = 60;
 
 /// Adds a name of a letter and a number.
-pub fn add_name(
-    out: &mut Vec<u8>,
-    alloc: Global,
-    letter: &str,
-    number: usize,
-) -> Result<(), AllocError> {
+pub fn add_name(out: &mut Vec<u8>, letter: &str, number: usize) -> Result<(), AllocError> {
     add(out, letter)?;
-    add_number(out, alloc, number)
+    add_number(out, number)
 }
 
 /// Adds a text in quotes, escaped so that Graphviz shows each byte.

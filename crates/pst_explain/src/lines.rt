@@ -43,21 +43,23 @@ pub fn first_lines(alloc: Global, bytes: &[u8]) -> Result<Vec<usize>, AllocError
     let mut line = 1usize;
     let mut open = 0usize;
     for byte in bytes {
-        if mode == Mode::Plain {
-            if *byte == b'(' {
+        if *byte == b'\n' {
+            line = line.saturating_add(1);
+        }
+        if mode != Mode::Plain {
+            mode = mode_after(mode, *byte);
+            continue;
+        }
+        match *byte {
+            b'(' => {
                 if open == 0 {
                     lines.push(line)?;
                 }
                 open = open.saturating_add(1);
             }
-            if *byte == b')' {
-                open = open.saturating_sub(1);
-            }
+            b')' => open = open.saturating_sub(1),
+            other => mode = mode_after(mode, other),
         }
-        if *byte == b'\n' {
-            line = line.saturating_add(1);
-        }
-        mode = mode_after(mode, *byte);
     }
     Ok(lines)
 }

@@ -83,11 +83,11 @@ fn add_branches(
     scene: &Scene<'_>,
     marked: &[u32],
 ) -> Result<(), AllocError> {
-    let mut table = Table::new(alloc);
+    let mut table = Table::new(alloc)?;
     for index in 0..longest(scene) {
         table.add_row(branch_row(alloc, scene, marked, index)?)?;
     }
-    if table.is_wide_enough(alloc, page, 3, LEAST_COLUMN)? {
+    if table.is_wide_enough(page, 3, LEAST_COLUMN) {
         return table.write(page, alloc, 3);
     }
     for branch in &scene.calls.branches {

@@ -26,8 +26,8 @@ fn add_heading(
     alloc: Global,
     explanation: &Explanation<'_>,
 ) -> Result<(), AllocError> {
-    let mut heading = Vec::new(alloc);
-    add_number(&mut heading, alloc, explanation.number)?;
+    let mut heading = Vec::with_capacity(alloc, page.width)?;
+    add_number(&mut heading, explanation.number)?;
     add(&mut heading, " ")?;
     let words = explanation.judged.text(alloc)?;
     add(&mut heading, words.as_str())?;
@@ -42,11 +42,11 @@ fn add_heading(
 }
 
 /// Adds that `far` events hold.
-fn add_events(text: &mut Vec<u8>, alloc: Global, far: usize) -> Result<(), AllocError> {
+fn add_events(text: &mut Vec<u8>, far: usize) -> Result<(), AllocError> {
     if far == 1 {
         return add(text, "1 event holds");
     }
-    add_number(text, alloc, far)?;
+    add_number(text, far)?;
     add(text, " events hold")
 }
 
@@ -61,14 +61,14 @@ fn far_sentence(alloc: Global, far: usize, word: &[usize]) -> Result<Vec<u8>, Al
     }
     if word.is_empty() {
         let mut text = text_of(alloc, "In every interleaving ")?;
-        add_events(&mut text, alloc, far)?;
+        add_events(&mut text, far)?;
         add(&mut text, " before one does not:")?;
         return Ok(text);
     }
     let mut text = text_of(alloc, "No interleaving gets further than ")?;
     add_word(&mut text, word)?;
     add(&mut text, ", where ")?;
-    add_events(&mut text, alloc, far)?;
+    add_events(&mut text, far)?;
     add(&mut text, ":")?;
     Ok(text)
 }
@@ -150,26 +150,28 @@ fn add_explanation(
     add_reason(page, alloc, &explanation.scene, &explanation.reason)
 }
 
-/// Returns the text of an explanation in lines of at most `width` bytes. Parts that are longer than a line are cut in
-/// the middle with `..`.
+/// Returns `text` and after it the text of an explanation in lines of at most `width` bytes. Parts that are longer than a
+/// line are cut in the middle with `..`.
 pub fn explanation_text(
+    text: Vec<u8>,
     alloc: Global,
     explanation: &Explanation<'_>,
     width: usize,
 ) -> Result<Vec<u8>, AllocError> {
-    let mut page = Page::new(alloc, width);
+    let mut page = Page::after(text, width);
     add_explanation(&mut page, alloc, explanation)?;
     Ok(page.into_text())
 }
 
-/// An explanation as `explanation_text` gives it, in the colors of a terminal: the core is red, and the answers that the model
-/// allows are green.
+/// An explanation after `text` as `explanation_text` gives it, in the colors of a terminal: the core is red, and the answers
+/// that the model allows are green.
 pub fn colored_text(
+    text: Vec<u8>,
     alloc: Global,
     explanation: &Explanation<'_>,
     width: usize,
 ) -> Result<Vec<u8>, AllocError> {
-    let mut page = Page::colored(alloc, width);
+    let mut page = Page::colored_after(text, width);
     add_explanation(&mut page, alloc, explanation)?;
     Ok(page.into_text())
 }

@@ -2,14 +2,23 @@
 
 use crate::walks::{Stopped, Walk};
 use pst_model::Source;
-use pst_scene::{Call, Page, PreAnswer, Table, add_value, dead_end_text, joined, text_of, two};
+use pst_scene::{Call, Page, PreAnswer, Style, Table, add, add_value, dead_end_text, joined, two};
 use pst_value::Value;
 use std::alloc::{AllocError, Global};
 
-fn state_text(alloc: Global, model: &Source, state: &Value) -> Result<Vec<u8>, AllocError> {
-    let mut text = text_of(alloc, "state ")?;
-    add_value(&mut text, alloc, model, state)?;
-    Ok(text)
+/// Ends a row by the cell of a state.
+fn add_state(
+    table: &mut Table,
+    alloc: Global,
+    model: &Source,
+    state: &Value,
+) -> Result<(), AllocError> {
+    table.end_cell(Style::Plain)?;
+    add(&mut table.text, "state ")?;
+    add_value(&mut table.text, alloc, model, state)?;
+    table.end_cell(Style::Plain)?;
+    table.end_row();
+    Ok(())
 }
 
 /// Adds the initial state, and the commands as rows with the state after each.
@@ -22,12 +31,12 @@ pub fn add_states(
     let Some(start) = &walk.start else {
         return Ok(());
     };
-    let mut table = Table::new(alloc);
-    let start = state_text(alloc, model, start)?;
-    table.add_row(two(alloc, text_of(alloc, "at first")?, start)?)?;
+    let mut table = Table::new(alloc)?;
+    add(&mut table.text, "at first")?;
+    add_state(&mut table, alloc, model, start)?;
     for step in &walk.steps {
-        let text = step.call.with_reply(alloc, model)?;
-        table.add_row(two(alloc, text, state_text(alloc, model, &step.state)?)?)?;
+        step.call.add_with_reply(&mut table.text, alloc, model)?;
+        add_state(&mut table, alloc, model, &step.state)?;
     }
     table.write_or_stack(page, alloc, 4)
 }
@@ -39,6 +48,9 @@ fn precondition_sentence(
     call: &Call<'_>,
     answer: PreAnswer,
 ) -> Result<Option<Vec<u8>>, AllocError> {
+    if answer == PreAnswer::Holds {
+        return Ok(None);
+    }
     let text = call.text(alloc, model)?;
     let text = text.as_slice();
     match answer {
@@ -97,7 +109,7 @@ pub fn add_stopped(
             b"There the postcondition of each next command is false:"
         },
     )?;
-    let mut table = Table::new(alloc);
+    let mut table = Table::new(alloc)?;
     for stop in stopped {
         let text = stop.call.with_reply(alloc, model)?;
         let why = dead_end_text(alloc, model, &stop.why)?;

@@ -6,8 +6,8 @@ ghost use Rattle.pst_judge.specs.Verdict.{first_broken};
 
 use pst_case::History;
 use pst_eval::Callbacks;
-use pst_judge::{Postconditions, verdict_with_interleaving};
-use pst_reasons::states;
+use pst_judge::{Condition, Postconditions, verdict_with_interleaving};
+use pst_reasons::{SomePostconditions, states};
 use pst_scene::{
     Call, CasePart, DeadEnd, Outcome, PreAnswer, Scene, falsity_of, in_order, next_calls,
     outcome_of, precondition,
@@ -122,9 +122,10 @@ pub fn stopped_after<'a>(
     Ok(stopped)
 }
 
-/// Returns the walk of the interleaving `word`, which explains the item.
-pub fn explaining_walk<'a, C: Callbacks>(
+/// Returns the walk of the interleaving `word`, up to the first command of which `condition` is not true.
+fn walk_asking<'a, C: Callbacks, A: Condition>(
     callbacks: &C,
+    condition: &A,
     alloc: Global,
     scene: &Scene<'a>,
     history: &History,
@@ -136,8 +137,28 @@ pub fn explaining_walk<'a, C: Callbacks>(
 {
     let order = in_order(alloc, &scene.calls, word)?;
     let shaped = &scene.run.shaped;
-    let states = states(callbacks, &Postconditions, alloc, shaped, history, word)?;
+    let states = states(callbacks, condition, alloc, shaped, history, word)?;
     walk_along(alloc, scene, word, order.as_slice(), states.as_slice())
+}
+
+/// Returns the walk of the interleaving `word`, which explains the item: since each postcondition is true along it, none
+/// is asked again.
+pub fn explaining_walk<'a, C: Callbacks>(
+    callbacks: &C,
+    alloc: Global,
+    scene: &Scene<'a>,
+    history: &History,
+    word: &[usize],
+) -> Result<Walk<'a>, AllocError>
+    requires shaped { scene.now.run.now.shaped.model ≡ C.model callbacks.now }
+    requires matches { matches (C.model callbacks.now) scene.now.run.now.shaped.case history.now ≡ true }
+    requires answered { first_broken 1 (recorded history.now) ≡ None }
+{
+    let none = SomePostconditions {
+        first: &[],
+        rest: &[],
+    };
+    walk_asking(callbacks, &none, alloc, scene, history, word)
 }
 
 /// Returns each of the commands `next`, with the reason why its postcondition is not true on `state`.
@@ -169,7 +190,14 @@ pub fn furthest_walk<'a, C: Callbacks>(
 {
     let shaped = &scene.run.shaped;
     let (_, word) = verdict_with_interleaving(callbacks, alloc, shaped, history)?;
-    let mut walk = explaining_walk(callbacks, alloc, scene, history, word.as_slice())?;
+    let mut walk = walk_asking(
+        callbacks,
+        &Postconditions,
+        alloc,
+        scene,
+        history,
+        word.as_slice(),
+    )?;
     let next = next_calls(alloc, &scene.calls, word.as_slice(), far)?;
     let stopped = match walk.last_state() {
         Some(state) => all_stopped(alloc, scene, next.as_slice(), state)?,

@@ -15,7 +15,7 @@ pub fn put_id(
     call: &Call<'_>,
 ) -> Result<(), AllocError> {
     let mut id = Vec::new(alloc);
-    call.add_place(&mut id, alloc)?;
+    call.add_place(&mut id)?;
     put_bytes(writer, alloc, id.as_slice())
 }
 

@@ -1,14 +1,18 @@
 //! The search for an interleaving that fails on symbolic states.
-ghost use Rattle.std.specs.Prelude.{◌≡◌, ◌+◌, ◌++◌, ◌<◌, ◌≤◌, ◌^◌, IfOk, map, length, replicate, sum};
+ghost use Rattle.std.specs.Prelude.{◌≡◌, ◌+◌, ◌++◌, ◌<◌, ◌≤◌, ◌^◌, IfOk, IsTrue, map, length, replicate, sum};
 ghost use Rattle.pst_case.specs.Shape.{result_types};
 ghost use Rattle.pst_judge.specs.Replay.{branch_lengths};
-ghost use Rattle.pst_judge.specs.SymbolicSearch.{BranchesFit, CommandsFit, FailsByReason, IsReasonOf, IsReasonOfSearch, IsSymbolicState, in_turn, reason_of, reason_of_answer};
+ghost use Rattle.pst_grid.specs.Answers.{IsEveryAnswer};
+ghost use Rattle.pst_grid.specs.declared.answer.EveryAnswer.TheVariants.{All};
+ghost use Rattle.pst_judge.specs.Symbolic.{symbolic_outcome};
+ghost use Rattle.pst_judge.specs.SymbolicSearch.{BranchesFit, CommandsFit, FailsByReason, IsReasonOf, IsReasonOfSearch, IsSymbolicState, in_turn, last_commands, reason_of, reason_of_answer};
 
 use crate::events::{split_commands, split_parts};
 use crate::numbered::NumberedCommand;
 use crate::packed::Packed;
 use crate::search::lengths_of;
 use crate::symbolic::{Failing, run_last, symbolic_step};
+use crate::total::is_total;
 use crate::why::Why;
 use pst_case::{Command, Shaped};
 use pst_eval::Callbacks;
@@ -129,8 +133,52 @@ fn reason_of_answer(answer: EveryAnswer<Failing>) -> Option<Why>
     }
 }
 
+/// The sum of the lengths.
+fn sum_of(lengths: &[usize]) -> usize
+    requires { sum lengths.now ≤ 16 }
+    ensures { result ≡ sum lengths.now }
+{
+    match lengths.split_first() {
+        Some((first, rest)) => *first + sum_of(rest),
+        None => 0,
+    }
+}
+
+/// Whether the model is at hand and its form shows that no interleaving of branches of these lengths fails.
+fn is_total_by<C: Callbacks>(
+    branches: &SymbolicBranches<'_, C>,
+    lengths: &[usize],
+    state: &Value,
+) -> bool
+    requires state { let m = C.model branches.now.callbacks.now in
+        IsSymbolicState m branches.now.shaped.now.case state.now }
+    requires commands { let m = C.model branches.now.callbacks.now in
+        BranchesFit m branches.now.shaped.now.case branches.now.commands }
+    requires last { let m = C.model branches.now.callbacks.now in
+        CommandsFit m (result_types m branches.now.shaped.now.case) branches.now.suffix }
+    requires lengths { lengths.now ≡ branch_lengths branches.now.shaped.now.case }
+    requires few { sum lengths.now ≤ 16 }
+    requires suffix { length branches.now.suffix ≤ 8 }
+    ensures { let b = branches.now in let m = C.model b.callbacks.now in
+        IsTrue result
+        → IsEveryAnswer (symbolic_outcome m b.commands) (last_commands m b.suffix) lengths.now state.now All }
+{
+    let steps = sum_of(lengths) + branches.suffix.len();
+    let commands = branches.commands.as_slice();
+    match branches.callbacks.well_typed() {
+        Some(typed) => is_total(
+            typed.source(),
+            commands,
+            branches.suffix.as_slice(),
+            steps,
+            state,
+        ),
+        None => false,
+    }
+}
+
 /// Searches the interleavings of the branches for the first that fails, from the symbolic state after the prefix and
-/// with the suffix after each.
+/// with the suffix after each. It needs no search where the form of the model shows that none fails.
 pub fn search_failing<C: Callbacks>(
     alloc: Global,
     branches: &SymbolicBranches<'_, C>,
@@ -149,6 +197,9 @@ pub fn search_failing<C: Callbacks>(
         state.now) }
 {
     let lengths = lengths_of(alloc, branches.shaped.case().branches.as_slice())?;
+    if is_total_by(branches, lengths.as_slice(), state) {
+        return Ok(None);
+    }
     let (answer, _) = every(alloc, branches, lengths.as_slice(), state)?;
     Ok(reason_of_answer(answer))
 }

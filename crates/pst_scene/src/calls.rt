@@ -154,28 +154,44 @@ pub fn calls_of<'a>(
 
 impl<'a> Call<'a> {
     /// Adds the place of the command, as `P1`, `L2` or `X1`.
-    pub fn add_place(&self, out: &mut Vec<u8>, alloc: Global) -> Result<(), AllocError> {
+    pub fn add_place(&self, out: &mut Vec<u8>) -> Result<(), AllocError> {
         out.push(self.part.letter())?;
-        add_number(out, alloc, self.place)
+        add_number(out, self.place)
+    }
+
+    /// Adds the place of the command and its spelling, as `L2 (put 1)`.
+    fn add_text(&self, out: &mut Vec<u8>, alloc: Global, model: &Source) -> Result<(), AllocError> {
+        self.add_place(out)?;
+        add(out, " ")?;
+        add_command(out, alloc, model, self.command)
     }
 
     /// The place of the command and its spelling, as `L2 (put 1)`.
     pub fn text(&self, alloc: Global, model: &Source) -> Result<Vec<u8>, AllocError> {
         let mut out = Vec::new(alloc);
-        self.add_place(&mut out, alloc)?;
-        add(&mut out, " ")?;
-        add_command(&mut out, alloc, model, self.command)?;
+        self.add_text(&mut out, alloc, model)?;
         Ok(out)
+    }
+
+    /// Adds the text, followed by the reply, or by the command's variable if it has no reply.
+    pub fn add_with_reply(
+        &self,
+        out: &mut Vec<u8>,
+        alloc: Global,
+        model: &Source,
+    ) -> Result<(), AllocError> {
+        self.add_text(out, alloc, model)?;
+        add(out, " -> ")?;
+        match self.reply {
+            Some(reply) => add_reply(out, alloc, model, reply),
+            None => add_variable(out, alloc, self.number),
+        }
     }
 
     /// The text, followed by the reply, or by the command's variable if it has no reply.
     pub fn with_reply(&self, alloc: Global, model: &Source) -> Result<Vec<u8>, AllocError> {
-        let mut out = self.text(alloc, model)?;
-        add(&mut out, " -> ")?;
-        match self.reply {
-            Some(reply) => add_reply(&mut out, alloc, model, reply)?,
-            None => add_variable(&mut out, alloc, self.number)?,
-        }
+        let mut out = Vec::new(alloc);
+        self.add_with_reply(&mut out, alloc, model)?;
         Ok(out)
     }
 }

@@ -36,12 +36,11 @@ pub fn in_order<'a>(
 ) -> Result<Vec<Call<'a>>, AllocError> {
     let mut order = Vec::new(alloc);
     add_calls(&mut order, calls.prefix.as_slice())?;
-    let mut before = Vec::new(alloc);
-    for branch in word {
-        if let Some(call) = call_behind(calls, before.as_slice(), *branch) {
+    for (index, branch) in word.iter().enumerate() {
+        let before = word.get(..index).unwrap_or(&[]);
+        if let Some(call) = call_behind(calls, before, *branch) {
             order.push(call)?;
         }
-        before.push(*branch)?;
     }
     add_calls(&mut order, calls.suffix.as_slice())?;
     Ok(order)

@@ -18,17 +18,22 @@ pub struct Page {
 impl Page {
     /// An empty page without colors.
     pub fn new(alloc: Global, width: usize) -> Page {
+        Page::after(Vec::new(alloc), width)
+    }
+
+    /// A page without colors whose lines come after `text`.
+    pub fn after(text: Vec<u8>, width: usize) -> Page {
         Page {
-            text: Vec::new(alloc),
+            text,
             width,
             has_color: false,
         }
     }
 
-    /// An empty page for a terminal, which shows styles as colors.
-    pub fn colored(alloc: Global, width: usize) -> Page {
+    /// A page for a terminal, which shows styles as colors. Its lines come after `text`.
+    pub fn colored_after(text: Vec<u8>, width: usize) -> Page {
         Page {
-            text: Vec::new(alloc),
+            text,
             width,
             has_color: true,
         }
@@ -82,10 +87,32 @@ impl Page {
         line: &[u8],
     ) -> Result<(), AllocError> {
         self.add_spaces(indent)?;
-        let line = cut(alloc, line, self.width.saturating_sub(indent))?;
-        self.add_styled(style, line.as_slice())?;
+        self.add_cut(alloc, style, line, self.width.saturating_sub(indent))?;
         self.text.push(b'\n')?;
         Ok(())
+    }
+
+    /// Adds a text in a style, cut in the middle if it has more than `width` bytes, and returns how many bytes of it
+    /// there are.
+    pub(crate) fn add_cut(
+        &mut self,
+        alloc: Global,
+        style: Style,
+        text: &[u8],
+        width: usize,
+    ) -> Result<usize, AllocError> {
+        if text.len() <= width {
+            self.add_styled(style, text)?;
+            return Ok(text.len());
+        }
+        let text = cut(alloc, text, width)?;
+        self.add_styled(style, text.as_slice())?;
+        Ok(text.len())
+    }
+
+    /// Whether the words of a sentence fit on one line that is indented by `indent` spaces.
+    fn has_room(&self, indent: usize, sentence: &[u8]) -> bool {
+        sentence.first() != Some(&b' ') && indent.saturating_add(sentence.len()) <= self.width
     }
 
     /// Adds a word of a sentence and returns the column after it. If the word does not fit, it begins a new line; if it
@@ -121,6 +148,12 @@ impl Page {
         later: usize,
         sentence: &[u8],
     ) -> Result<(), AllocError> {
+        if self.has_room(first, sentence) {
+            self.add_spaces(first)?;
+            self.text.extend_from_slice(sentence)?;
+            self.text.push(b'\n')?;
+            return Ok(());
+        }
         let mut column = 0usize;
         let mut word = Vec::new(alloc);
         for byte in sentence {
@@ -155,6 +188,11 @@ impl Page {
         style: Style,
         heading: &[u8],
     ) -> Result<(), AllocError> {
+        if self.has_room(0, heading) {
+            self.add_styled(style, heading)?;
+            self.text.push(b'\n')?;
+            return Ok(());
+        }
         let mut lines = Page::new(alloc, self.width);
         lines.add_words(alloc, 0, 2, heading)?;
         let mut text = lines.into_text();

@@ -12,12 +12,19 @@ pub fn add(out: &mut Vec<u8>, text: &str) -> Result<(), AllocError> {
 }
 
 /// Adds a number.
-pub fn add_number(out: &mut Vec<u8>, alloc: Global, number: usize) -> Result<(), AllocError> {
-    let text = format!(in alloc; "{number}")?;
-    add(out, text.as_str())
+pub fn add_number(out: &mut Vec<u8>, number: usize) -> Result<(), AllocError> {
+    if number >= 10 {
+        add_number(out, number / 10)?;
+    }
+    let digit = (number % 10) as u8;
+    out.push(b'0' + digit)?;
+    Ok(())
 }
 
 fn add_integer(out: &mut Vec<u8>, alloc: Global, number: i64) -> Result<(), AllocError> {
+    if number >= 0 {
+        return add_number(out, number as usize);
+    }
     let text = format!(in alloc; "{number}")?;
     add(out, text.as_str())
 }

@@ -1,6 +1,5 @@
 //! Cells in columns.
 
-use crate::cutting::cut;
 use crate::page::Page;
 use crate::style::Style;
 use std::alloc::{AllocError, Global};
@@ -10,6 +9,12 @@ const GAP: usize = 3;
 
 /// If cells have to be cut, a table has columns only if each column may have this many bytes.
 const LEAST_COLUMN: usize = 30;
+
+/// Room for the text of a small table, in bytes.
+const USUAL_TEXT: usize = 128;
+
+/// Room for the cells of a small table.
+const USUAL_CELLS: usize = 8;
 
 /// A text in a column.
 #[derive(Drop)]
@@ -33,10 +38,27 @@ impl Cell {
     }
 }
 
-/// Rows of cells.
+/// Where a cell of a table ends in the text of the table.
+#[derive(Clone, Copy, Drop)]
+struct CellEnd {
+    end: usize,
+    /// The cell's column, from 0.
+    column: usize,
+    style: Style,
+}
+
+/// Rows of cells. Each row has a cell.
 #[derive(Drop)]
 pub struct Table {
-    rows: Vec<Vec<Cell>>,
+    /// The texts of the cells, one after another, and that of a cell that has not ended.
+    pub text: Vec<u8>,
+    cells: Vec<CellEnd>,
+    /// The width of the widest cell of each column.
+    widths: Vec<usize>,
+    /// Where the last cell ends.
+    end: usize,
+    /// The column of the next cell.
+    column: usize,
 }
 
 /// A row of two cells of plain text.
@@ -45,19 +67,6 @@ pub fn two(alloc: Global, first: Vec<u8>, second: Vec<u8>) -> Result<Vec<Cell>, 
     row.push(Cell::plain(first))?;
     row.push(Cell::plain(second))?;
     Ok(row)
-}
-
-/// The greatest of the column's widths so far, and those of the row's cells.
-fn widened(alloc: Global, widths: &[usize], row: &[Cell]) -> Result<Vec<usize>, AllocError> {
-    let mut wider = Vec::new(alloc);
-    for (index, cell) in row.iter().enumerate() {
-        let width = widths.get(index).copied().unwrap_or(0);
-        wider.push(width.max(cell.text.len()))?;
-    }
-    for width in widths.iter().skip(row.len()) {
-        wider.push(*width)?;
-    }
-    Ok(wider)
 }
 
 /// The sum of the numbers.
@@ -83,12 +92,9 @@ fn small_and_large(widths: &[usize], share: usize) -> (usize, usize) {
     (sum, large)
 }
 
-/// Returns the widths of columns that may have `room` bytes together. If `widths` fit, they stay as they are. Otherwise
-/// each column that needs at most an equal share keeps its width, and the others share the rest equally.
+/// Returns the widths of columns that may have `room` bytes together. Each column that needs at most an equal share
+/// keeps its width, and the others share the rest equally.
 fn fitted(alloc: Global, widths: &[usize], room: usize) -> Result<Vec<usize>, AllocError> {
-    if sum_of(widths) <= room {
-        return Vec::from_slice(alloc, widths);
-    }
     let share = room.checked_div(widths.len()).unwrap_or(0);
     let (sum, large) = small_and_large(widths, share);
     let most = room.saturating_sub(sum).checked_div(large).unwrap_or(0);
@@ -111,39 +117,59 @@ fn room_for(page: &Page, indent: usize, columns: usize) -> usize {
 
 impl Table {
     /// No rows.
-    pub fn new(alloc: Global) -> Table {
-        Table {
-            rows: Vec::new(alloc),
+    pub fn new(alloc: Global) -> Result<Table, AllocError> {
+        Ok(Table {
+            text: Vec::with_capacity(alloc, USUAL_TEXT)?,
+            cells: Vec::with_capacity(alloc, USUAL_CELLS)?,
+            widths: Vec::new(alloc),
+            end: 0,
+            column: 0,
+        })
+    }
+
+    /// Ends a cell: its text is what was added to `text` after the cell before.
+    pub fn end_cell(&mut self, style: Style) -> Result<(), AllocError> {
+        let end = self.text.len();
+        let width = end.saturating_sub(self.end);
+        let column = self.column;
+        if let Some(widest) = self.widths.get_mut(column) {
+            if *widest < width {
+                *widest = width;
+            }
+        } else {
+            self.widths.push(width)?;
         }
+        self.cells.push(CellEnd { end, column, style })?;
+        self.end = end;
+        self.column = column.saturating_add(1);
+        Ok(())
+    }
+
+    /// Ends a row, which has the cells that ended after the row before.
+    pub fn end_row(&mut self) {
+        self.column = 0;
     }
 
     /// Adds a row.
     pub fn add_row(&mut self, row: Vec<Cell>) -> Result<(), AllocError> {
-        self.rows.push(row)?;
+        for cell in &row {
+            self.text.extend_from_slice(cell.text.as_slice())?;
+            self.end_cell(cell.style)?;
+        }
+        self.end_row();
         Ok(())
     }
 
-    /// The width of the widest cell of each column.
-    fn widths(&self, alloc: Global) -> Result<Vec<usize>, AllocError> {
-        let mut widths = Vec::new(alloc);
-        for row in &self.rows {
-            widths = widened(alloc, widths.as_slice(), row.as_slice())?;
-        }
-        Ok(widths)
+    /// Returns whether no cell has to be cut, or each column may have `least` bytes.
+    pub fn is_wide_enough(&self, page: &Page, indent: usize, least: usize) -> bool {
+        let room = room_for(page, indent, self.widths.len());
+        let share = room.checked_div(self.widths.len()).unwrap_or(0);
+        sum_of(self.widths.as_slice()) <= room || least <= share
     }
 
-    /// Returns whether no cell has to be cut, or each column may have `least` bytes.
-    pub fn is_wide_enough(
-        &self,
-        alloc: Global,
-        page: &Page,
-        indent: usize,
-        least: usize,
-    ) -> Result<bool, AllocError> {
-        let widths = self.widths(alloc)?;
-        let room = room_for(page, indent, widths.len());
-        let share = room.checked_div(widths.len()).unwrap_or(0);
-        Ok(sum_of(widths.as_slice()) <= room || least <= share)
+    /// The text of a cell that begins at `begin`.
+    fn text_of(&self, begin: usize, cell: &CellEnd) -> &[u8] {
+        self.text.as_slice().get(begin..cell.end).unwrap_or(&[])
     }
 
     /// Adds each cell to a page on a line of its own, with a deeper indent for the cells of a row after its first.
@@ -153,16 +179,16 @@ impl Table {
         alloc: Global,
         indent: usize,
     ) -> Result<(), AllocError> {
-        for row in &self.rows {
-            for (index, cell) in row.iter().enumerate() {
-                let further = if index == 0 { 0 } else { 2 };
-                page.add_styled_line(
-                    alloc,
-                    indent.saturating_add(further),
-                    cell.style,
-                    cell.text.as_slice(),
-                )?;
-            }
+        let mut begin = 0usize;
+        for cell in &self.cells {
+            let further = if cell.column == 0 { 0 } else { 2 };
+            page.add_styled_line(
+                alloc,
+                indent.saturating_add(further),
+                cell.style,
+                self.text_of(begin, cell),
+            )?;
+            begin = cell.end;
         }
         Ok(())
     }
@@ -174,7 +200,7 @@ impl Table {
         alloc: Global,
         indent: usize,
     ) -> Result<(), AllocError> {
-        if self.is_wide_enough(alloc, page, indent, LEAST_COLUMN)? {
+        if self.is_wide_enough(page, indent, LEAST_COLUMN) {
             self.write(page, alloc, indent)
         } else {
             self.write_stacked(page, alloc, indent)
@@ -183,36 +209,49 @@ impl Table {
 
     /// Adds the rows to a page in columns. Cells that do not fit are cut in the middle.
     pub fn write(&self, page: &mut Page, alloc: Global, indent: usize) -> Result<(), AllocError> {
-        let widths = self.widths(alloc)?;
+        let widths = self.widths.as_slice();
         let room = room_for(page, indent, widths.len());
-        let widths = fitted(alloc, widths.as_slice(), room)?;
-        for row in &self.rows {
-            page.add_spaces(indent)?;
-            add_row(page, alloc, widths.as_slice(), row.as_slice())?;
+        if sum_of(widths) <= room {
+            return self.write_in(page, alloc, indent, widths);
+        }
+        let widths = fitted(alloc, widths, room)?;
+        self.write_in(page, alloc, indent, widths.as_slice())
+    }
+
+    /// Adds the rows to a page, each cell cut to the width of its column, with spaces up to the next. No spaces come
+    /// after the last cell of a row that is not empty.
+    fn write_in(
+        &self,
+        page: &mut Page,
+        alloc: Global,
+        indent: usize,
+        widths: &[usize],
+    ) -> Result<(), AllocError> {
+        let mut begin = 0usize;
+        let mut column = 0usize;
+        let mut wanted = 0usize;
+        for (index, cell) in self.cells.iter().enumerate() {
+            if cell.column == 0 {
+                if index > 0 {
+                    page.text.push(b'\n')?;
+                }
+                page.add_spaces(indent)?;
+                column = 0;
+                wanted = 0;
+            }
+            let text = self.text_of(begin, cell);
+            let width = widths.get(cell.column).copied().unwrap_or(0);
+            if !text.is_empty() {
+                page.add_spaces(wanted.saturating_sub(column))?;
+                let count = page.add_cut(alloc, cell.style, text, width)?;
+                column = wanted.saturating_add(count);
+            }
+            wanted = wanted.saturating_add(width).saturating_add(GAP);
+            begin = cell.end;
+        }
+        if !self.cells.is_empty() {
+            page.text.push(b'\n')?;
         }
         Ok(())
     }
-}
-
-/// Adds the cells of a row and a line end, each cell cut to its width, with spaces up to the next. No spaces come after the last
-/// cell that is not empty.
-fn add_row(
-    page: &mut Page,
-    alloc: Global,
-    widths: &[usize],
-    row: &[Cell],
-) -> Result<(), AllocError> {
-    let mut column = 0usize;
-    let mut wanted = 0usize;
-    for (cell, width) in row.iter().zip(widths) {
-        if !cell.text.is_empty() {
-            page.add_spaces(wanted.saturating_sub(column))?;
-            let text = cut(alloc, cell.text.as_slice(), *width)?;
-            page.add_styled(cell.style, text.as_slice())?;
-            column = wanted.saturating_add(text.len());
-        }
-        wanted = wanted.saturating_add(*width).saturating_add(GAP);
-    }
-    page.text.push(b'\n')?;
-    Ok(())
 }

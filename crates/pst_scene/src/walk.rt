@@ -7,7 +7,7 @@ use crate::scene::Scene;
 use crate::texts::operation;
 use pst_case::Reply;
 use pst_eval::Env;
-use pst_model::opening_of;
+use pst_model::{Expr, opening_of};
 use pst_operators::Stop;
 use pst_value::{Boxed, Fault, Items, Value};
 use std::alloc::{AllocError, Global};
@@ -135,6 +135,9 @@ pub fn precondition(
     let Some(operation) = operation(scene, call) else {
         return Ok(PreAnswer::Holds);
     };
+    if let Expr::Bool(true) = operation.pre {
+        return Ok(PreAnswer::Holds);
+    }
     let args = arguments(alloc, scene, call)?;
     let frame = Env::Frame(operation.params.as_slice(), args.as_slice());
     let env = Env::With(b"s", &*state, &frame);

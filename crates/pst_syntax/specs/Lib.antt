@@ -11,6 +11,6 @@ pub mod Places
 pub mod Counting
 pub mod Faults
 pub mod ModelFaults
--- what the contracts within the crate cite: what the borrowed shapes of the code stand for
+-- what the borrowed shapes of the code stand for
 pub mod Shown
 pub mod ShownItems

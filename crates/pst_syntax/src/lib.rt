@@ -16,7 +16,15 @@ mod reader;
 mod shape;
 mod ty_shape;
 
+pub use count::room_after;
 pub use fault::{FaultKind, SyntaxFault};
+pub use item_shape::{
+    CallbackShape, FunShape, ItemShape, ModelShape, OpShape, ParamShape, callback_shape, item_shape,
+    model_shape, param_shape,
+};
 pub use limits::{MAX_DECLARED, MAX_EXPR_LEVELS, MAX_NAME, MAX_PARTS, MAX_TREES, MAX_TY_LEVELS};
 pub use model::Model;
+pub use names::{is_free, is_name, is_short, is_used, is_used_operation};
 pub use reader::read_model;
+pub use shape::{FoldShape, Shape, key_shape, shape_of};
+pub use ty_shape::{ClauseShape, TyShape, clause_shape, ty_shape};

@@ -45,7 +45,8 @@ pub fn is_name(word: &Text) -> bool
     begins_name(word.as_bytes())
 }
 
-fn is_short(word: &Text) -> bool
+/// Whether a word has at most `MAX_NAME` bytes.
+pub fn is_short(word: &Text) -> bool
     ensures { result ≡ spec.is_short word.now }
 {
     word.len() <= MAX_NAME

@@ -1,0 +1,94 @@
+//! Whether the form of a model shows that no interleaving of a case can fail.
+ghost use Rattle.std.specs.Prelude.{◌≡◌, IsTrue, IfSome};
+ghost use Rattle.pst_judge.specs.Total as spec;
+ghost use Rattle.pst_reach.specs.Reach.{extent};
+
+use crate::numbered::NumberedCommand;
+use pst_model::{Expr, Source, operation_of};
+use pst_reach::{Names, extent, greater, reach_of};
+use pst_value::{Items, Value};
+
+/// How far the state after a command can reach, from one that reaches at most `reach` before it, if the form of the
+/// operation shows that its precondition is true and its next state comes without a fault.
+fn reach_after(model: &Source, command: &NumberedCommand, reach: u64) -> Option<u64>
+    ensures { IfSome result (spec.StepReaches model.now command.now reach) }
+{
+    let operation = operation_of(model.items.as_slice(), command.op as usize)?;
+    match operation.pre {
+        Expr::Bool(true) => {
+            let frame = Names::Frame(operation.params.as_slice(), command.args.as_slice());
+            let outer = Names::With(b"s", reach, &frame);
+            let inner = Names::With(b"r", extent(&command.variable), &outer);
+            reach_of(&operation.next, &inner)
+        }
+        _ => None,
+    }
+}
+
+/// How far the state can reach after any one of the commands.
+fn reach_after_any(model: &Source, commands: &[NumberedCommand], reach: u64) -> Option<u64>
+    ensures { IfSome result (spec.EachReaches model.now commands.now reach) }
+{
+    match commands.split_first() {
+        Some((first, rest)) => {
+            let after = reach_after(model, first, reach)?;
+            Some(greater(after, reach_after_any(model, rest, reach)?))
+        }
+        None => Some(0),
+    }
+}
+
+/// How far the state can reach after any one of the commands of the branches.
+fn reach_after_branches(
+    model: &Source,
+    branches: &[Items<NumberedCommand>],
+    reach: u64,
+) -> Option<u64>
+    ensures { IfSome result (spec.BranchesReach model.now branches.now reach) }
+{
+    match branches.split_first() {
+        Some((first, rest)) => {
+            let after = reach_after_any(model, first.as_slice(), reach)?;
+            Some(greater(after, reach_after_branches(model, rest, reach)?))
+        }
+        None => Some(0),
+    }
+}
+
+/// Whether the form of the model shows that no command can fail in `steps` steps, whichever they are, from a state that
+/// reaches at most `reach`.
+fn is_total_for(
+    model: &Source,
+    branches: &[Items<NumberedCommand>],
+    suffix: &[NumberedCommand],
+    steps: usize,
+    reach: u64,
+) -> bool
+    ensures { IsTrue result → spec.TotalFor model.now branches.now suffix.now steps reach }
+{
+    if steps == 0 {
+        return true;
+    }
+    let Some(in_branches) = reach_after_branches(model, branches, reach) else {
+        return false;
+    };
+    let Some(in_suffix) = reach_after_any(model, suffix, reach) else {
+        return false;
+    };
+    let after = greater(in_branches, in_suffix);
+    is_total_for(model, branches, suffix, steps - 1, after)
+}
+
+/// Whether the form of the model shows that no interleaving of the branches fails from the state, with the suffix after
+/// each. `commands` is how many commands the branches and the suffix have.
+pub fn is_total(
+    model: &Source,
+    branches: &[Items<NumberedCommand>],
+    suffix: &[NumberedCommand],
+    commands: usize,
+    state: &Value,
+) -> bool
+    ensures { IsTrue result → spec.TotalFor model.now branches.now suffix.now commands (extent state.now) }
+{
+    is_total_for(model, branches, suffix, commands, extent(state))
+}

@@ -1,0 +1,2 @@
+-- what the public contracts cite
+pub mod Reach
