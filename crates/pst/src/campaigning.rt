@@ -13,7 +13,7 @@ use pst_campaign::{EarlyEnd, Ending};
 use pst_cli::{
     Absence, CampaignNotes, MEMORY_OBJECT, Status, campaign_noting, check_json, refuse_text,
 };
-use pst_json_verdicts::{Field, object_line};
+use pst_rejudge::{Field, object_line};
 use pst_sexpr::{Out, Sink, put_all};
 use pst_sources::Input;
 use pst_system::BoxedSystem;

@@ -16,11 +16,11 @@ use Rattle.pst_cli.specs.declared.status.Status.{Status}
 use Rattle.pst_cli.specs.declared.status.Status.TheVariants.{Accepted, Failed, Refused, Lost}
 use Rattle.pst_eval.specs.Places.{callback_name}
 use Rattle.pst_eval.specs.declared.place.FaultPlace.{FaultPlace}
-use Rattle.pst_json_verdicts.specs.Objects.{object_line}
-use Rattle.pst_json_verdicts.specs.Verdicts.{place_fields}
-use Rattle.pst_json_verdicts.specs.declared.field.Field.{Field}
-use Rattle.pst_json_verdicts.specs.declared.field.Field.TheVariants.{Number}
-use Rattle.pst_json_verdicts.specs.declared.field.Name.TheVariants as name
+use Rattle.pst_rejudge.specs.Objects.{object_line}
+use Rattle.pst_rejudge.specs.Verdicts.{place_fields}
+use Rattle.pst_rejudge.specs.declared.field.Field.{Field}
+use Rattle.pst_rejudge.specs.declared.field.Field.TheVariants.{Number}
+use Rattle.pst_rejudge.specs.declared.field.Name.TheVariants as name
 use Rattle.pst_model.specs.declared.model.Source.{Source}
 use Rattle.pst_sexpr.specs.declared.form.Form.{Form}
 use Rattle.pst_trial.specs.PlanView.{PlanView}

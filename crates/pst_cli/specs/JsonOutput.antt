@@ -10,8 +10,8 @@ use Rattle.pst_cli.specs.declared.status.Status.TheVariants.{Accepted, Refused}
 use Rattle.pst_rejudge.specs.Answers.{IsAnswer}
 use Rattle.pst_rejudge.specs.declared.each.Answer.{Answer}
 use Rattle.pst_rejudge.specs.declared.each.Answer.TheVariants as answer
-use Rattle.pst_json_verdicts.specs.Objects.{object_line}
-use Rattle.pst_json_verdicts.specs.Verdicts.{accepted_fields, judged_fields, refusal_fields, refused_fields}
+use Rattle.pst_rejudge.specs.Objects.{object_line}
+use Rattle.pst_rejudge.specs.Verdicts.{accepted_fields, judged_fields, refusal_fields, refused_fields}
 use Rattle.pst_typing.specs.Loading.{Holds, items_of, IsRefusal}
 use Rattle.pst_typing.specs.declared.load_refusal.Refusal.{Refusal}
 use Rattle.pst_model.specs.declared.model.Source.{Source}

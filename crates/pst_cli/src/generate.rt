@@ -22,7 +22,7 @@ use crate::status::Status;
 use crate::stream::Cut;
 use pst_case::Run;
 use pst_eval::FaultPlace;
-use pst_json_verdicts::{Field, Name, add_number, add_words, object_line};
+use pst_rejudge::{Field, Name, add_number, add_words, object_line};
 use pst_sexpr::{Sink, WriteFailed, put_all};
 use pst_trial::{Plan, Settings, may_share_records, trial_case};
 use pst_typing::{ModelFile, Refusal, load};

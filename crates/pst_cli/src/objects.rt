@@ -13,8 +13,8 @@ ghost use Rattle.pst_cli.specs.JsonOutput.{
 ghost use Rattle.pst_cli.specs.KeepingOn.{HoldsAnswers};
 ghost use Rattle.pst_cli.specs.Sending.{PrintsElse};
 ghost use Rattle.pst_cli.specs.declared.status.Status.TheVariants.{Refused};
-ghost use Rattle.pst_json_verdicts.specs.Objects.{object_line};
-ghost use Rattle.pst_json_verdicts.specs.Verdicts.{accepted_fields};
+ghost use Rattle.pst_rejudge.specs.Objects.{object_line};
+ghost use Rattle.pst_rejudge.specs.Verdicts.{accepted_fields};
 
 use crate::compiled::load_compiled;
 use crate::keep::{AnsweredFile, is_good_answer, worst_status};
@@ -22,11 +22,11 @@ use crate::output::{Output, send};
 use crate::sharing::may_share_compiled;
 use crate::shown::Shown;
 use crate::status::Status;
-use pst_json_verdicts::{
-    accepted_fields, judged_fields, object_line, refusal_fields, refused_fields,
-};
 use pst_model::Typed;
-use pst_rejudge::{Answer, Steps, judge_each};
+use pst_rejudge::{
+    Answer, Steps, accepted_fields, judge_each, judged_fields, object_line, refusal_fields,
+    refused_fields,
+};
 use pst_sexpr::Sink;
 use pst_typing::{Refusal, items_of, load, model_name};
 use std::alloc::{AllocError, Global};

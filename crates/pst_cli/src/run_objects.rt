@@ -12,11 +12,10 @@ use crate::repeat::counts_after;
 use crate::status::Status;
 use pst_case::{Run, Shaped};
 use pst_compile::Compiled;
-use pst_json_verdicts::{
-    Field, Name, add_number, add_words, judged_fields, object_line, refused_fields,
-};
 use pst_judge::{Judged, Valid, Why, valid};
-use pst_rejudge::Steps;
+use pst_rejudge::{
+    Field, Name, Steps, add_number, add_words, judged_fields, object_line, refused_fields,
+};
 use pst_runs::RunFault;
 use pst_sexpr::Sink;
 use pst_system::BoxedSystem;

@@ -5,7 +5,7 @@ use Rattle.json.specs.Json.{Json, document}
 use Rattle.json.specs.Strict.{HasUniqueKeys}
 use Rattle.pst_clients.specs.declared.answers.Answer.{Answer}
 use Rattle.pst_clients.specs.declared.answers.Answer.TheVariants as answer
-use Rattle.pst_json_values.specs.Reading.{value_in}
+use Rattle.pst_json_runs.specs.Reading.{value_in}
 use Rattle.pst_system.specs.declared.call.RealCall.{RealCall}
 use Rattle.pst_value.specs.declared.ty.Ty.{Ty}
 use Rattle.pst_value.specs.declared.value.Value.{Value}

@@ -3,7 +3,7 @@ ghost use Rattle.std.specs.Prelude.{◌≡◌, IfOk, option_copied};
 ghost use Rattle.pst_clients.specs.Answering.{IsAnswer};
 
 use json::{Error, Scratch, Value as Json};
-use pst_json_values::value_in;
+use pst_json_runs::value_in;
 use pst_value::{Ty, Value};
 use std::alloc::{AllocError, Global};
 

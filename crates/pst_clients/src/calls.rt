@@ -5,7 +5,7 @@ ghost use Rattle.json.specs.Tree.{depth};
 ghost use Rattle.pst_clients.specs.Calling.{call_json, text_of, line_of, is_one_line};
 
 use json::Writer;
-use pst_json_values::put_items;
+use pst_json_runs::put_items;
 use pst_system::RealCall;
 use std::alloc::{AllocError, Global};
 

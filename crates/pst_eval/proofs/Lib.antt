@@ -14,3 +14,5 @@ pub mod Mapping
 pub mod Operands
 pub mod SymbolicTable
 pub mod Values
+pub mod Bounding
+pub mod Reaching

@@ -3,6 +3,7 @@ pub mod Callbacks
 pub mod Places
 pub mod Env
 pub mod Meaning
+pub mod Reach
 pub mod SymbolicLaws
 -- what serves within: by it an evaluation ends
 pub mod Weight

@@ -1,5 +1,6 @@
-//! The meaning of expressions and its evaluator; the callbacks of a well-typed model, and their plain evaluation; and
-//! the laws that evaluating with results in place of variables is evaluating with variables.
+//! The meaning of expressions and its evaluator; the callbacks of a well-typed model, and their plain evaluation;
+//! the laws that evaluating with results in place of variables is evaluating with variables; and how far the value
+//! of an expression can reach, by the form of the expression.
 #![tactic(auto)]
 
 mod callbacks;
@@ -8,6 +9,7 @@ mod env;
 mod evaluation;
 mod place;
 mod plain;
+mod reach;
 mod symbolic;
 mod values;
 
@@ -17,6 +19,7 @@ pub use env::Env;
 pub use evaluation::eval;
 pub use place::{Callback, FaultPlace};
 pub use plain::Plain;
+pub use reach::{Names, extent, greater, reach_of};
 pub use symbolic::{
     command_is_real, init_is_real, next_is_real, pre_is_real, symbolic_equals_real,
 };

@@ -10,8 +10,8 @@ use Rattle.pst_json_runs.proofs.SpelledBack.{if_spelled_is}
 use Rattle.pst_json_runs.proofs.ValueBack.{value_back}
 use Rattle.pst_json_runs.specs.Trees as read
 use Rattle.pst_json_runs.specs.Written.{command_json, part_json}
-use Rattle.pst_json_values.specs.Reading.{count}
-use Rattle.pst_json_values.specs.Writing.{json_of}
+use Rattle.pst_json_runs.specs.Reading.{count}
+use Rattle.pst_json_runs.specs.Writing.{json_of}
 use Rattle.pst_model.proofs.Operations.{well_operation}
 use Rattle.pst_model.specs.Kinds.{holds_call}
 use Rattle.pst_model.specs.Operations.{HasOperations}

@@ -9,3 +9,7 @@ pub mod SpelledBack
 pub mod CommandBack
 pub mod ReplyBack
 pub mod ItemBack
+pub mod ValueLevels
+pub mod Wanted
+pub mod Wrote
+pub mod ReadBack

@@ -15,9 +15,9 @@ use Rattle.pst_json_runs.proofs.SpelledBack.{if_spelled_is}
 use Rattle.pst_json_runs.proofs.ValueBack.{value_back}
 use Rattle.pst_json_runs.specs.Trees as read
 use Rattle.pst_json_runs.specs.Written as json
-use Rattle.pst_json_values.proofs.Levels.{json-Int, json-Truth, json-Text, json-Tuple, json-ListOf, json-MapOf, json-Var, json-Ref, json-Call}
-use Rattle.pst_json_values.specs.Reading.{value_in}
-use Rattle.pst_json_values.specs.Writing.{json_of, key_name, members_of}
+use Rattle.pst_json_runs.proofs.ValueLevels.{json-Int, json-Truth, json-Text, json-Tuple, json-ListOf, json-MapOf, json-Var, json-Ref, json-Call}
+use Rattle.pst_json_runs.specs.Reading.{value_in}
+use Rattle.pst_json_runs.specs.Writing.{json_of, key_name, members_of}
 use Rattle.pst_model.proofs.Operations.{well_operation}
 use Rattle.pst_model.specs.Fitting.{fits_in}
 use Rattle.pst_model.specs.Language.{KeepsLanguage}

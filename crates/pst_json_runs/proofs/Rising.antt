@@ -5,7 +5,7 @@ use Rattle.std.proofs.lemmas.Bool.{true≢false, lt-ltb, ltb-true}
 use Rattle.std.proofs.lemmas.Int.{ints}
 use Rattle.std.proofs.lemmas.List.{take_all, drop_all}
 use Rattle.std.proofs.lemmas.Bool.Decides.{Decides-eqb}
-use Rattle.pst_json_values.specs.Reading.{place_of, put}
+use Rattle.pst_json_runs.specs.Reading.{place_of, put}
 use Rattle.pst_sexpr.proofs.Numbers.{both_hold}
 use Rattle.pst_value.specs.Text.{text_less}
 use Rattle.pst_value.specs.Keys.{key_less, is_first}

@@ -10,9 +10,9 @@ use Rattle.json.specs.Value.{items_of}
 use Rattle.pst_case.proofs.Variables.{reference-Tuple, reference-ListOf, reference-MapOf, reference-Ref}
 use Rattle.pst_case.specs.Shape.{holds_reference}
 use Rattle.pst_json_runs.proofs.Rising.{AreBefore, one_more, put_end}
-use Rattle.pst_json_values.proofs.Levels.{json-Int, json-Truth, json-Text, json-Tuple, json-ListOf, json-MapOf, json-Var}
-use Rattle.pst_json_values.specs.Reading.{int_or, key_in, put, count, size, tuple_level, tuple_or_list, or_none, item_level, map_level, reference_level, variable_of, reference_in, value_in, values_in, map_in}
-use Rattle.pst_json_values.specs.Writing.{key_name, members_of, variable_json, json_of}
+use Rattle.pst_json_runs.proofs.ValueLevels.{json-Int, json-Truth, json-Text, json-Tuple, json-ListOf, json-MapOf, json-Var}
+use Rattle.pst_json_runs.specs.Reading.{int_or, key_in, put, count, size, tuple_level, tuple_or_list, or_none, item_level, map_level, reference_level, variable_of, reference_in, value_in, values_in, map_in}
+use Rattle.pst_json_runs.specs.Writing.{key_name, members_of, variable_json, json_of}
 use Rattle.pst_model.specs.Kinds.{holds_call, holds_call_at}
 use Rattle.pst_runs.proofs.LevelOf.{call_of, neither, true_is_no_false}
 use Rattle.pst_sexpr.proofs.Numbers.{both_hold, integer_of-signed_decimal}

@@ -1,5 +1,5 @@
 -- The views of arrays and objects, and what is in them.
 use Rattle.json.proofs.Trees.{view-Array, view-Object}
-use Rattle.pst_json_values.proofs.Wanted.{count-items, size-members}
+use Rattle.pst_json_runs.proofs.Wanted.{count-items, size-members}
 
 pub ruleset views = (view-Array, view-Object, count-items, size-members)

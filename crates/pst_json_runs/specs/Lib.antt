@@ -1,4 +1,6 @@
 -- what the public contracts cite
+pub mod Reading
+pub mod Writing
 pub mod Spelled
 pub mod Trees
 pub mod Lines

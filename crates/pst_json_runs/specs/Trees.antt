@@ -4,7 +4,7 @@ use Rattle.std.specs.Str.{bytes_eq}
 use Rattle.json.specs.Find.{get}
 use Rattle.json.specs.Json.{Json, null, string, array, object, Items, no_items, item, Members, no_members, member}
 use Rattle.pst_json_runs.specs.Spelled.{if_spelled}
-use Rattle.pst_json_values.specs.Reading.{value_in, size, count as length_of}
+use Rattle.pst_json_runs.specs.Reading.{value_in, size, count as length_of}
 use Rattle.pst_model.specs.Parts.{number_of, operation_of}
 use Rattle.pst_model.specs.declared.model.Op.{Op}
 use Rattle.pst_model.specs.declared.model.Param.{Param}

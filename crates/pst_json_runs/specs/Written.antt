@@ -10,7 +10,7 @@ use Rattle.pst_case.specs.declared.history.History.{History}
 use Rattle.pst_case.specs.declared.history.Reply.{Reply}
 use Rattle.pst_case.specs.declared.history.Reply.TheVariants as reply
 use Rattle.pst_case.specs.declared.history.Run.{Run}
-use Rattle.pst_json_values.specs.Writing.{json_of}
+use Rattle.pst_json_runs.specs.Writing.{json_of}
 use Rattle.pst_model.specs.declared.model.Source.{Source}
 use Rattle.pst_runs.specs.Written.{name_of}
 

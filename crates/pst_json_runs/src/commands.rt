@@ -3,9 +3,9 @@ ghost use Rattle.std.specs.Prelude.{◌≡◌, IfOk, option_copied, slice_get};
 ghost use Rattle.json.specs.Value.{items_view, value_view};
 ghost use Rattle.pst_json_runs.specs.Trees as spec;
 
+use crate::reading::value_in;
 use crate::spelled::if_spelled;
 use json::Value as Json;
-use pst_json_values::value_in;
 use pst_model::{Op, Param, Source, number_of, operation_of};
 use pst_runs::value_form;
 use pst_sexpr::{Form, word};

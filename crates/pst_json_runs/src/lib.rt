@@ -1,4 +1,5 @@
-//! Items as JSON: the tree of each JSON item, and the JSON of each run.
+//! Values and items as JSON: the value that JSON spells where a type is wanted, the JSON of a value, the tree of
+//! each JSON item, and the JSON of each run.
 //!
 //! A JSON item is read by way of its tree (`specs/Trees.antt`), so cases and runs are judged in one way, whatever their
 //! spelling. `specs/Lines.antt` turns a text with JSON items into a text of trees, `specs/Written.antt` has what is
@@ -8,10 +9,14 @@
 mod commands;
 mod items;
 mod lines;
+mod reading;
 mod replies;
 mod spelled;
 mod write;
+mod writing;
 
 pub use items::item_form;
 pub use lines::{has_json, json_tree, trees_text};
+pub use reading::value_in;
 pub use write::{json_line, spells_tree};
+pub use writing::{put_items, put_value};

@@ -6,8 +6,8 @@ ghost use Rattle.pst_json_runs.specs.Shown.{shown};
 ghost use Rattle.pst_json_runs.specs.Trees as spec;
 
 use crate::commands::{items_in, operation_named, tree_or};
+use crate::reading::value_in;
 use json::Value as Json;
-use pst_json_values::value_in;
 use pst_model::Source;
 use pst_sexpr::{Form, word};
 use pst_value::{Items, Ty};

@@ -9,9 +9,9 @@ ghost use Rattle.pst_json_runs.specs.Written as spec;
 ghost use Rattle.pst_runs.specs.Lawful.{IsLawful};
 ghost use Rattle.pst_runs.specs.Written as trees;
 
+use crate::writing::{put_items, put_value};
 use json::Writer;
 use pst_case::{Case, Command, History, Reply, Run};
-use pst_json_values::{put_items, put_value};
 use pst_model::{Source, Typed, operation_of};
 use pst_value::Items;
 use std::alloc::{AllocError, Global};

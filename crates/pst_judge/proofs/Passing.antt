@@ -31,9 +31,9 @@ use Rattle.pst_model.specs.declared.model.Param.{Param}
 use Rattle.pst_model.specs.declared.model.Source.{Source}
 use Rattle.pst_operators.specs.Operators.{bool}
 use Rattle.pst_operators.specs.Outcome.{Outcome, Gives, Faults, Stuck}
-use Rattle.pst_reach.proofs.Bounding.{greater_first, greater_second}
-use Rattle.pst_reach.specs.Reach.{greater, extent, NoFault, Reaches, UpTo, Within}
-use Rattle.pst_reach.specs.declared.reach.Names.{Names, Frame, With'}
+use Rattle.pst_eval.proofs.Bounding.{greater_first, greater_second}
+use Rattle.pst_eval.specs.Reach.{greater, extent, NoFault, Reaches, UpTo, Within}
+use Rattle.pst_eval.specs.declared.reach.Names.{Names, Frame, With'}
 use Rattle.pst_value.specs.declared.ty.Ty.{Ty}
 use Rattle.pst_value.specs.declared.value.Value.{Value, out-roll-Value}
 use Rattle.pst_value.specs.declared.value.Value.TheOpen.{Value-F}

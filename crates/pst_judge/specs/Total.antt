@@ -6,7 +6,7 @@ use Rattle.pst_judge.specs.declared.numbered.NumberedCommand.{NumberedCommand}
 use Rattle.pst_model.specs.declared.model.Source.{Source}
 use Rattle.pst_operators.specs.Operators.{bool}
 use Rattle.pst_operators.specs.Outcome.{Gives}
-use Rattle.pst_reach.specs.Reach.{NoFault, UpTo}
+use Rattle.pst_eval.specs.Reach.{NoFault, UpTo}
 use Rattle.pst_value.specs.declared.value.Value.{Value}
 
 module _ (m : Source) where

@@ -1,11 +1,11 @@
 //! Whether the form of a model shows that no interleaving of a case can fail.
 ghost use Rattle.std.specs.Prelude.{◌≡◌, IsTrue, IfSome};
 ghost use Rattle.pst_judge.specs.Total as spec;
-ghost use Rattle.pst_reach.specs.Reach.{extent};
+ghost use Rattle.pst_eval.specs.Reach.{extent};
 
 use crate::numbered::NumberedCommand;
 use pst_model::{Expr, Source, operation_of};
-use pst_reach::{Names, extent, greater, reach_of};
+use pst_eval::{Names, extent, greater, reach_of};
 use pst_value::{Items, Value};
 
 /// How far the state after a command can reach, from one that reaches at most `reach` before it, if the form of the

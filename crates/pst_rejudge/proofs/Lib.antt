@@ -7,3 +7,5 @@ pub mod Pushed
 pub mod Together
 pub mod Answering
 pub mod Splitting
+mod Adding
+mod Reading

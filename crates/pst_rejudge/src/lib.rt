@@ -1,5 +1,6 @@
 //! Judges many items at once, by as many threads as there are processors: items that were read, those that an
-//! input spells, each tree by itself, or the lines of a stream as they come. `AllocError` means that an allocation of any thread failed.
+//! input spells, each tree by itself, or the lines of a stream as they come; and spells verdicts and refusals as
+//! JSON, objects on one line each. `AllocError` means that an allocation of any thread failed.
 #![tactic(auto)]
 
 ghost use Rattle.std.specs.Prelude.{◌≡◌, All, IfOk};
@@ -7,34 +8,46 @@ ghost use Rattle.std.specs.List.{AllZip};
 ghost use Rattle.pst_judge.specs.Judgement.{IsJudgement};
 ghost use Rattle.pst_rejudge.specs.Judging.{MayBeJudged};
 
+mod add;
 mod blocks;
 mod each;
+mod field;
+mod judgement;
 mod judging;
 mod keeping;
 mod laws;
+mod merge;
+mod object;
 mod parts;
 mod places;
 mod reading;
+mod refusal;
 mod sharing;
 mod steps;
 mod stream_judging;
 mod stream_reading;
 mod taking;
 
-pub use crate::sharing::may_share_models;
-use crate::sharing::may_share_runs;
+pub use add::{add_number, add_words};
 pub use blocks::{Block, StreamFault, next_block};
 pub use each::{Answer, answer_of, judge_each};
+pub use field::{Field, Name};
+pub use judgement::{judged_fields, refused_fields};
 pub use judging::{JudgedParts, judge_in_parts};
 pub use laws::lines_are_items;
+pub use object::object_line;
 pub use parts::head_and_rest;
+pub use refusal::{accepted_fields, refusal_fields};
+pub use sharing::may_share_models;
+pub use steps::Steps;
+
+use crate::sharing::may_share_runs;
 use pst_case::Run;
 use pst_eval::Callbacks;
 use pst_judge::{Judged, judge_one};
 use rayon::prelude::*;
 use std::alloc::{AllocError, Global};
 use std::thread::Threads;
-pub use steps::Steps;
 
 /// Judges an item, and counts it in `steps`.
 fn judge_counted<C: Callbacks>(

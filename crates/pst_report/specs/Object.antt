@@ -1,9 +1,9 @@
 -- The first members of the object of a campaign: how it ended, its plan, and its counts.
 use Rattle.std.specs.Prelude.{ℕ, List, [], ◌∷◌, ◌++◌, codes}
-use Rattle.pst_json_verdicts.specs.declared.field.Field.{Field}
-use Rattle.pst_json_verdicts.specs.declared.field.Field.TheVariants.{Number, Words}
-use Rattle.pst_json_verdicts.specs.declared.field.Name.{Name}
-use Rattle.pst_json_verdicts.specs.declared.field.Name.TheVariants as name
+use Rattle.pst_rejudge.specs.declared.field.Field.{Field}
+use Rattle.pst_rejudge.specs.declared.field.Field.TheVariants.{Number, Words}
+use Rattle.pst_rejudge.specs.declared.field.Name.{Name}
+use Rattle.pst_rejudge.specs.declared.field.Name.TheVariants as name
 use Rattle.pst_ledger.specs.declared.entry.Entry.{Entry}
 use Rattle.pst_report.specs.Kinds.{count_of}
 use Rattle.pst_report.specs.declared.kind.EntryKind.{EntryKind}

@@ -5,7 +5,7 @@ use Rattle.json.specs.Tree.{json_tokens}
 use Rattle.pst_clients.specs.Calling.{call_json, is_one_line}
 use Rattle.json.proofs.Printed.Tokens.{tokens-print}
 use Rattle.pst_clients.proofs.OneLine.{printed_line}
-use Rattle.pst_json_values.proofs.ReadBack.{read_back}
+use Rattle.pst_json_runs.proofs.ReadBack.{read_back}
 use Rattle.pst_clients.proofs.calls.call_line.Goals as goal
 
 pub returns-clause-reads_back : goal.returns-clause-reads_back

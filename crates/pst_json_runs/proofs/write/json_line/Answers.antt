@@ -3,7 +3,7 @@ use Rattle.json.specs.Lex.{tokens}
 use Rattle.json.specs.Print.{print}
 use Rattle.json.specs.Tree.{json_tokens}
 use Rattle.pst_json_runs.specs.Written.{run_json}
-use Rattle.pst_json_values.proofs.ReadBack.{read_back}
+use Rattle.pst_json_runs.proofs.ReadBack.{read_back}
 use Rattle.pst_json_runs.proofs.write.json_line.Goals as goal
 
 pub returns-clause-reads_back : goal.returns-clause-reads_back

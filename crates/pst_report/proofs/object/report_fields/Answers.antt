@@ -1,6 +1,6 @@
 use Rattle.std.proofs.Common.{◌≡◌, [], ◌∷◌, ◌++◌, ap, ◌∙◌, rules}
-use Rattle.pst_json_verdicts.specs.declared.field.Field.TheVariants.{Words}
-use Rattle.pst_json_verdicts.specs.declared.field.Name.TheVariants as name
+use Rattle.pst_rejudge.specs.declared.field.Field.TheVariants.{Words}
+use Rattle.pst_rejudge.specs.declared.field.Name.TheVariants as name
 use Rattle.pst_report.specs.Object.{case_fields, drive_fields, judged_fields, missing_fields, status_word}
 use Rattle.pst_report.proofs.Fields.{five_parts}
 use Rattle.pst_report.proofs.object.report_fields.Goals as goal

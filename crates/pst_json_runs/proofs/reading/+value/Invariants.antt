@@ -1,0 +1,24 @@
+use Rattle.std.proofs.Common.{◌≡◌, ◌++◌, drop, length, option_map, option_copied}
+use Rattle.json.specs.Tree.{json_tokens, items_tokens, members_tokens}
+use Rattle.json.specs.Value.{value_view, items_view, members_view}
+use Rattle.pst_json_runs.specs.Reading.{values_in, map_in}
+use Rattle.pst_json_runs.proofs.reading.+value.Given as goal
+
+abbrev pub decreases-value_in : goal.decreases-value_in
+decreases-value_in l = length (json_tokens (value_view l.json.now))
+
+abbrev pub decreases-values_in : goal.decreases-values_in
+decreases-values_in l = length (items_tokens (items_view l.parts.now))
+
+abbrev pub decreases-map_in : goal.decreases-map_in
+decreases-map_in l = length (members_tokens (members_view l.members.now))
+
+abbrev pub invariant-values_in-loop-part : goal.invariant-values_in-loop-part
+invariant-values_in-loop-part l =
+    values_in l.initial.rest (option_copied l.ty) (items_view l.parts)
+    ≡ option_map (λ more. l.values ++ more) (values_in l.rest (option_copied l.ty) (items_view (drop l.part-index l.parts)))
+
+abbrev pub invariant-map_in-loop-name : goal.invariant-map_in-loop-name
+invariant-map_in-loop-name l =
+    map_in l.kind (option_copied l.ty) l.initial.keys l.initial.values (members_view l.members)
+    ≡ map_in l.kind (option_copied l.ty) l.keys l.values (members_view (drop l.name-index l.members))

@@ -1,4 +1,0 @@
-pub mod Levels
-pub mod Wanted
-pub mod Wrote
-pub mod ReadBack

@@ -1,3 +1,0 @@
--- what the public contracts cite
-pub mod Verdicts
-pub mod Objects

@@ -1,0 +1,166 @@
+//! Members of JSON objects.
+ghost use Rattle.std.specs.Prelude.{◌≡◌};
+ghost use Rattle.pst_rejudge.specs.Objects.{name_text};
+
+use pst_value::Text;
+
+/// The name of a member.
+#[derive(Clone, Copy, Debug, PartialEq, Eq, Drop)]
+pub enum Name {
+    /// The number of an item, from 1.
+    Item,
+    /// The verdict on an item or on a model.
+    Verdict,
+    /// An interleaving, spelled by the letters of its branches.
+    Merge,
+    /// How many events an interleaving has true before its first false one.
+    Far,
+    /// The number of a command in its case, from 1, or 0 for the case itself.
+    Command,
+    /// The callback that faults.
+    Callback,
+    /// The kind of a fault.
+    Fault,
+    /// The part of the program that refuses an input: `read`, `model`, `type`, `item` or `memory`.
+    Stage,
+    /// A place in the input: how many bytes are before it.
+    Place,
+    /// The number of an item of a model, from 1, or 0 for the model itself.
+    ModelItem,
+    /// The name of a model.
+    Model,
+    /// How serious a message is: `error` or `warning`.
+    Severity,
+    /// The name of a file.
+    File,
+    /// The number of a line, from 1.
+    Line,
+    /// The number of a byte in its line, from 1.
+    Column,
+    /// How many bytes of the file are before what a message is about.
+    Start,
+    /// How many bytes of the file are before the end of what a message is about.
+    End,
+    /// What is wrong.
+    Message,
+    /// What was expected, what was found, and hints.
+    Notes,
+    /// Why it is wrong, in lines.
+    Explanation,
+    /// The seed of a campaign.
+    Seed,
+    /// How many trials a campaign has.
+    Trials,
+    /// The maximum number of commands in a case's branches.
+    Commands,
+    /// How many branches a case has.
+    Branches,
+    /// The maximum number of commands in a case's suffix.
+    Suffix,
+    /// How often each case is driven.
+    Repeats,
+    /// The maximum number of cases that are driven to shrink one case.
+    Limit,
+    /// How many trials passed.
+    Passed,
+    /// How many trials failed because no interleaving explains a run.
+    Unexplained,
+    /// How many trials failed because the model faults.
+    Faulted,
+    /// How many trials failed because a reply is not a value.
+    Broken,
+    /// How many trials have no case, because a callback faults while it is generated.
+    GenFault,
+    /// How many trials were lost.
+    Lost,
+    /// How many trials were not begun.
+    Undrawn,
+    /// The numbers of the trials that were lost, each with its cause.
+    Losses,
+    /// The first trial that failed.
+    Least,
+    /// The run with which that trial failed, as a tree.
+    From,
+    /// The verdict on that run.
+    FromVerdict,
+    /// How many cases shrinking took.
+    Steps,
+    /// Whether shrinking ended with a case that no step makes smaller: `minimal` or `stopped`.
+    Ending,
+    /// The last run that shrinking came to, as a tree.
+    To,
+    /// The verdict on that run.
+    ToVerdict,
+    /// The run that a system gave, as a tree.
+    Run,
+    /// How often a case was driven.
+    Drives,
+    /// How many of the drives of a case failed.
+    Failed,
+}
+
+impl Name {
+    /// Returns the name as it is written.
+    pub fn text(&self) -> &'static str
+        ensures { result.now ≡ name_text self.now }
+    {
+        match self {
+            Name::Item => "item",
+            Name::Verdict => "verdict",
+            Name::Merge => "merge",
+            Name::Far => "far",
+            Name::Command => "command",
+            Name::Callback => "callback",
+            Name::Fault => "fault",
+            Name::Stage => "stage",
+            Name::Place => "place",
+            Name::ModelItem => "model_item",
+            Name::Model => "model",
+            Name::Severity => "severity",
+            Name::File => "file",
+            Name::Line => "line",
+            Name::Column => "column",
+            Name::Start => "start",
+            Name::End => "end",
+            Name::Message => "message",
+            Name::Notes => "notes",
+            Name::Explanation => "explanation",
+            Name::Seed => "seed",
+            Name::Trials => "trials",
+            Name::Commands => "commands",
+            Name::Branches => "branches",
+            Name::Suffix => "suffix",
+            Name::Repeats => "repeats",
+            Name::Limit => "limit",
+            Name::Passed => "passed",
+            Name::Unexplained => "unexplained",
+            Name::Faulted => "faulted",
+            Name::Broken => "broken",
+            Name::GenFault => "genfault",
+            Name::Lost => "lost",
+            Name::Undrawn => "undrawn",
+            Name::Losses => "losses",
+            Name::Least => "least",
+            Name::From => "from",
+            Name::FromVerdict => "from_verdict",
+            Name::Steps => "steps",
+            Name::Ending => "ending",
+            Name::To => "to",
+            Name::ToVerdict => "to_verdict",
+            Name::Run => "run",
+            Name::Drives => "drives",
+            Name::Failed => "failed",
+        }
+    }
+}
+
+/// A member of an object.
+#[derive(Debug, Drop)]
+pub enum Field {
+    /// A member that is a number.
+    Number(Name, u64),
+    /// A member that is a text.
+    Words(Name, Text),
+    /// A member that is an array of texts.
+    Lines(Name, Vec<Text>),
+}

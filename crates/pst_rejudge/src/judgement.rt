@@ -1,0 +1,116 @@
+//! The members of the objects of items.
+ghost use Rattle.std.specs.Prelude.{◌≡◌, [], ◌∷◌, ◌++◌, IfOk, OnOk};
+ghost use Rattle.pst_rejudge.specs.Verdicts.{judged_fields, merge_field, outcome_fields, place_fields, refused_fields};
+ghost use Rattle.pst_judge.specs.declared.judgement.Judged.TheVariants as judged;
+
+use crate::add::{add_number, add_words};
+use crate::field::{Field, Name};
+use crate::merge::merge_text;
+use pst_eval::FaultPlace;
+use pst_judge::{Judged, Verdict, Why};
+use pst_runs::RunFaultKind;
+use std::alloc::{AllocError, Global};
+
+/// Adds the place of a fault.
+fn add_place(alloc: Global, fields: &mut Vec<Field>, place: &FaultPlace) -> Result<(), AllocError>
+    ensures { OnOk result (fields.new.items ≡ fields.old.items ++ place_fields place.now) }
+{
+    add_number(fields, Name::Command, place.command as u64)?;
+    add_words(alloc, fields, Name::Callback, place.callback.name())?;
+    add_words(alloc, fields, Name::Fault, place.fault.name())
+}
+
+/// Adds an interleaving, the numbers of its branches.
+fn add_merge(
+    alloc: Global,
+    fields: &mut Vec<Field>,
+    branches: &Vec<usize>,
+) -> Result<(), AllocError>
+    ensures { OnOk result (fields.new.items ≡ fields.old.items ++ merge_field branches.now.items ∷ []) }
+{
+    let merge = merge_text(alloc, branches.as_slice())?;
+    fields.push(Field::Words(Name::Merge, merge))?;
+    Ok(())
+}
+
+/// Adds the verdict on a run.
+fn add_verdict(alloc: Global, fields: &mut Vec<Field>, verdict: &Verdict) -> Result<(), AllocError>
+    ensures { OnOk result (fields.new.items ≡ fields.old.items ++ outcome_fields (judged.Verdict verdict.now)) }
+{
+    match verdict {
+        Verdict::Explained(word) => {
+            add_words(alloc, fields, Name::Verdict, "explained")?;
+            add_merge(alloc, fields, word)
+        }
+        Verdict::Faulted(place) => {
+            add_words(alloc, fields, Name::Verdict, "fault")?;
+            add_place(alloc, fields, place)
+        }
+        Verdict::Unexplained(far) => {
+            add_words(alloc, fields, Name::Verdict, "unexplained")?;
+            add_number(fields, Name::Far, *far as u64)
+        }
+        Verdict::Broken(command) => {
+            add_words(alloc, fields, Name::Verdict, "broken")?;
+            add_number(fields, Name::Command, *command as u64)
+        }
+    }
+}
+
+/// Adds why a case is not valid.
+fn add_why(alloc: Global, fields: &mut Vec<Field>, why: &Why) -> Result<(), AllocError>
+    ensures { OnOk result (fields.new.items ≡ fields.old.items ++ outcome_fields (judged.Invalid why.now)) }
+{
+    match why {
+        Why::PreFalse { command, merge } => {
+            add_words(alloc, fields, Name::Verdict, "prefalse")?;
+            add_number(fields, Name::Command, *command as u64)?;
+            add_merge(alloc, fields, merge)
+        }
+        Why::CallbackFault { place, merge } => {
+            add_words(alloc, fields, Name::Verdict, "casefault")?;
+            add_place(alloc, fields, place)?;
+            add_merge(alloc, fields, merge)
+        }
+        Why::NoMemory => {
+            add_words(alloc, fields, Name::Verdict, "refused")?;
+            add_words(alloc, fields, Name::Stage, "memory")
+        }
+    }
+}
+
+/// Returns the members of the object of a judged item: its number, its verdict, and the details of the verdict.
+pub fn judged_fields(
+    alloc: Global,
+    number: usize,
+    judged: &Judged,
+) -> Result<Vec<Field>, AllocError>
+    ensures { IfOk result (λ fields. fields.items ≡ judged_fields number judged.now) }
+{
+    let mut fields = Vec::new(alloc);
+    add_number(&mut fields, Name::Item, number as u64)?;
+    match judged {
+        Judged::Verdict(verdict) => add_verdict(alloc, &mut fields, verdict)?,
+        Judged::Valid => add_words(alloc, &mut fields, Name::Verdict, "valid")?,
+        Judged::Invalid(why) => add_why(alloc, &mut fields, why)?,
+    }
+    Ok(fields)
+}
+
+/// Returns the members of the object of a refused item: its number, the command at fault, and the kind of its fault.
+pub fn refused_fields(
+    alloc: Global,
+    number: usize,
+    kind: RunFaultKind,
+    command: u32,
+) -> Result<Vec<Field>, AllocError>
+    ensures { IfOk result (λ fields. fields.items ≡ refused_fields number kind command) }
+{
+    let mut fields = Vec::new(alloc);
+    add_number(&mut fields, Name::Item, number as u64)?;
+    add_words(alloc, &mut fields, Name::Verdict, "refused")?;
+    add_words(alloc, &mut fields, Name::Stage, "item")?;
+    add_number(&mut fields, Name::Command, command as u64)?;
+    add_words(alloc, &mut fields, Name::Fault, kind.name())?;
+    Ok(fields)
+}
