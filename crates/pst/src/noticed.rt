@@ -2,8 +2,8 @@
 
 use crate::words::is_json;
 use clap::ArgMatches;
-use pst_rejudge::{Field, Name, add_number, add_words, object_line};
 use pst_messages::{Asked, errors_of};
+use pst_rejudge::{Field, Name, add_number, add_words, object_line};
 use pst_sources::{Input, Notice, Notices, place_in};
 use pst_value::Text;
 use pst_warnings::warnings_in;

@@ -4,8 +4,8 @@ ghost use Rattle.pst_report.specs.InOrder.{AreOf};
 
 use crate::failure_page::CampaignFailures;
 use pst_case::{Case, History};
-use pst_rejudge::Field;
 use pst_ledger::Closed;
+use pst_rejudge::Field;
 use pst_report::{
     NumberedFailure, add_failure, distinct_failures, ended_status, least_failure, least_fault,
     report_fields,

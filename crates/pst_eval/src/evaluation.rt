@@ -5,9 +5,9 @@ ghost use Rattle.pst_eval.specs.Env.{env_of, mean_in, parts_in, functions_in};
 ghost use Rattle.pst_model.specs.declared.expr.Expr as form;
 ghost use Rattle.pst_operators.specs.Answers.{Meets};
 
+use crate::building::{call_of, empty_map};
 use crate::context::{Context, split_first, split_last};
 use crate::env::{Env, look_up};
-use crate::values::{call_of, empty_map};
 use pst_model::{Binary, Clause, Expr, Item};
 use pst_operators::{
     Stop, append, binary_of_owned, item, items_of, put, take_turn, truth_of, unary,

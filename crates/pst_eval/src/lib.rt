@@ -3,6 +3,7 @@
 //! of an expression can reach, by the form of the expression.
 #![tactic(auto)]
 
+mod building;
 mod callbacks;
 mod context;
 mod env;
@@ -11,7 +12,6 @@ mod place;
 mod plain;
 mod reach;
 mod symbolic;
-mod values;
 
 pub use callbacks::Callbacks;
 pub use context::Context;

@@ -4,8 +4,8 @@ ghost use Rattle.pst_judge.specs.Total as spec;
 ghost use Rattle.pst_eval.specs.Reach.{extent};
 
 use crate::numbered::NumberedCommand;
-use pst_model::{Expr, Source, operation_of};
 use pst_eval::{Names, extent, greater, reach_of};
+use pst_model::{Expr, Source, operation_of};
 use pst_value::{Items, Value};
 
 /// How far the state after a command can reach, from one that reaches at most `reach` before it, if the form of the

@@ -8,4 +8,4 @@ pub mod Together
 pub mod Answering
 pub mod Splitting
 mod Adding
-mod Reading
+mod ReadBack

@@ -28,6 +28,7 @@ mod stream_judging;
 mod stream_reading;
 mod taking;
 
+use crate::sharing::may_share_runs;
 pub use add::{add_number, add_words};
 pub use blocks::{Block, StreamFault, next_block};
 pub use each::{Answer, answer_of, judge_each};
@@ -37,17 +38,15 @@ pub use judging::{JudgedParts, judge_in_parts};
 pub use laws::lines_are_items;
 pub use object::object_line;
 pub use parts::head_and_rest;
-pub use refusal::{accepted_fields, refusal_fields};
-pub use sharing::may_share_models;
-pub use steps::Steps;
-
-use crate::sharing::may_share_runs;
 use pst_case::Run;
 use pst_eval::Callbacks;
 use pst_judge::{Judged, judge_one};
 use rayon::prelude::*;
+pub use refusal::{accepted_fields, refusal_fields};
+pub use sharing::may_share_models;
 use std::alloc::{AllocError, Global};
 use std::thread::Threads;
+pub use steps::Steps;
 
 /// Judges an item, and counts it in `steps`.
 fn judge_counted<C: Callbacks>(

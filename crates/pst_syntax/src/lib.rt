@@ -19,8 +19,8 @@ mod ty_shape;
 pub use count::room_after;
 pub use fault::{FaultKind, SyntaxFault};
 pub use item_shape::{
-    CallbackShape, FunShape, ItemShape, ModelShape, OpShape, ParamShape, callback_shape, item_shape,
-    model_shape, param_shape,
+    CallbackShape, FunShape, ItemShape, ModelShape, OpShape, ParamShape, callback_shape,
+    item_shape, model_shape, param_shape,
 };
 pub use limits::{MAX_DECLARED, MAX_EXPR_LEVELS, MAX_NAME, MAX_PARTS, MAX_TREES, MAX_TY_LEVELS};
 pub use model::Model;

@@ -3,7 +3,7 @@ use Rattle.json.specs.Lex.{tokens}
 use Rattle.json.specs.Print.{print}
 use Rattle.json.specs.Tree.{json_tokens}
 use Rattle.pst_rejudge.specs.Objects.{object_of}
-use Rattle.pst_rejudge.proofs.Reading.{read_back}
+use Rattle.pst_rejudge.proofs.ReadBack.{read_back}
 use Rattle.pst_rejudge.proofs.object.object_line.Goals as goal
 
 pub returns-clause-reads_back : goal.returns-clause-reads_back
