@@ -1,12 +1,12 @@
 -- What the borrowed shapes of items stand for.
 use Rattle.std.specs.Prelude.{ℕ, List, Option, Some, None}
 use Rattle.pst_sexpr.specs.declared.form.Form.{Form}
-use Rattle.pst_syntax.specs.declared.item_shape.ItemShape.{ItemShape as BorrowedItem}
-use Rattle.pst_syntax.specs.declared.item_shape.ItemShape.TheVariants as item
-use Rattle.pst_syntax.specs.declared.item_shape.CallbackShape.{CallbackShape as BorrowedCallback}
-use Rattle.pst_syntax.specs.declared.item_shape.CallbackShape.TheVariants as callback
-use Rattle.pst_syntax.specs.declared.item_shape.ParamShape.{ParamShape}
-use Rattle.pst_syntax.specs.declared.item_shape.ModelShape.{ModelShape as BorrowedModel}
+use Rattle.pst_syntax.specs.declared.item_shapes.ItemShape.{ItemShape as BorrowedItem}
+use Rattle.pst_syntax.specs.declared.item_shapes.ItemShape.TheVariants as item
+use Rattle.pst_syntax.specs.declared.item_shapes.CallbackShape.{CallbackShape as BorrowedCallback}
+use Rattle.pst_syntax.specs.declared.item_shapes.CallbackShape.TheVariants as callback
+use Rattle.pst_syntax.specs.declared.item_shapes.ParamShape.{ParamShape}
+use Rattle.pst_syntax.specs.declared.item_shapes.ModelShape.{ModelShape as BorrowedModel}
 use Rattle.pst_syntax.specs.ItemShape.{ItemShape, CallbackShape, ModelShape}
 use Rattle.pst_syntax.specs.ItemShape as spec
 

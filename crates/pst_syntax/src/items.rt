@@ -10,7 +10,7 @@ ghost use Rattle.std.specs.Option.{ok_or};
 ghost use Rattle.pst_syntax.specs.ShownItems.{shown_callback, shown_param};
 
 use crate::fault::FaultKind;
-use crate::item_shape::{
+use crate::item_shapes::{
     CallbackShape, FunShape, ItemShape, OpShape, ParamShape, callback_shape, item_shape,
     param_shape,
 };

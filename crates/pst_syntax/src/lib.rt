@@ -4,7 +4,7 @@
 mod count;
 mod fault;
 mod heads;
-mod item_shape;
+mod item_shapes;
 mod items;
 pub mod laws;
 mod limits;
@@ -14,11 +14,11 @@ mod place;
 mod read;
 mod reader;
 mod shape;
-mod ty_shape;
+mod ty_shapes;
 
 pub use count::room_after;
 pub use fault::{FaultKind, SyntaxFault};
-pub use item_shape::{
+pub use item_shapes::{
     CallbackShape, FunShape, ItemShape, ModelShape, OpShape, ParamShape, callback_shape,
     item_shape, model_shape, param_shape,
 };
@@ -27,4 +27,4 @@ pub use model::Model;
 pub use names::{is_free, is_name, is_short, is_used, is_used_operation};
 pub use reader::read_model;
 pub use shape::{FoldShape, Shape, key_shape, shape_of};
-pub use ty_shape::{ClauseShape, TyShape, clause_shape, ty_shape};
+pub use ty_shapes::{ClauseShape, TyShape, clause_shape, ty_shape};

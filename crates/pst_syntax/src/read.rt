@@ -14,7 +14,7 @@ use crate::fault::FaultKind;
 use crate::limits::{MAX_PARTS, MAX_TY_LEVELS};
 use crate::names::{declared, is_free, is_used_operation};
 use crate::shape::{FoldShape, Shape, shape_of};
-use crate::ty_shape::{ClauseShape, TyShape, clause_shape, ty_shape};
+use crate::ty_shapes::{ClauseShape, TyShape, clause_shape, ty_shape};
 use pst_model::{Clause, Expr};
 use pst_sexpr::{Form, value_of};
 use pst_value::{Boxed, Items, LIMIT, Text, Ty};

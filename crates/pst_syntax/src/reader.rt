@@ -8,7 +8,7 @@ ghost use Rattle.pst_syntax.specs.declared.fault.FaultKind.{FaultKind};
 
 use crate::count::room_after;
 use crate::fault::{FaultKind, SyntaxFault, fault};
-use crate::item_shape::{ModelShape, model_shape};
+use crate::item_shapes::{ModelShape, model_shape};
 use crate::items::{has_command, has_init, has_state, item_of};
 use crate::limits::MAX_TREES;
 use crate::model::Model;
