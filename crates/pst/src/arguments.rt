@@ -14,7 +14,7 @@ fn is_no_tip(line: &str) -> bool {
 }
 
 /// Returns what is wrong with the arguments, without tips that do not help.
-fn text_of<R: AllocGlobal>(rt: &R, error: &Error) -> Result<String, AllocError> {
+fn error_text<R: AllocGlobal>(rt: &R, error: &Error) -> Result<String, AllocError> {
     let alloc = rt.alloc();
     let whole = format!(in alloc; "{error}")?;
     let mut text = String::new(alloc);
@@ -32,9 +32,9 @@ fn text_of<R: AllocGlobal>(rt: &R, error: &Error) -> Result<String, AllocError> 
 
 /// Prints help on standard output, or what is wrong with the arguments on standard error, and returns the status that
 /// the program ends with.
-fn report<R: Runtime + AllocGlobal>(rt: &R, error: &Error) -> Status {
+fn report_parse_error<R: Runtime + AllocGlobal>(rt: &R, error: &Error) -> Status {
     if error.kind() == ErrorKind::OutOfMemory {
-        return refused::memory(rt);
+        return refused::report_out_of_memory(rt);
     }
     if !error.use_stderr() {
         return match error.print(rt) {
@@ -42,8 +42,8 @@ fn report<R: Runtime + AllocGlobal>(rt: &R, error: &Error) -> Status {
             Err(_) => Status::Lost,
         };
     }
-    let Ok(text) = text_of(rt, error) else {
-        return refused::memory(rt);
+    let Ok(text) = error_text(rt, error) else {
+        return refused::report_out_of_memory(rt);
     };
     match eprint!(rt; "{text}") {
         Ok(()) => Status::Refused,
@@ -52,7 +52,7 @@ fn report<R: Runtime + AllocGlobal>(rt: &R, error: &Error) -> Status {
 }
 
 /// Prints a text on standard output, and returns the status that the program ends with.
-fn show<R: Runtime + AllocGlobal>(rt: &R, text: &str) -> Status {
+fn print_text<R: Runtime + AllocGlobal>(rt: &R, text: &str) -> Status {
     match print!(rt; "{text}") {
         Ok(()) => Status::Accepted,
         Err(_) => Status::Lost,
@@ -71,29 +71,31 @@ fn refuse_client<R: Eprint>(rt: &R) -> Status {
 
 /// Parses the arguments of the program. If that fails, a client is to be started, or nothing but a text is to be
 /// printed, the error is the status that the program ends with.
-pub fn parsed<'a, R: Runtime + AllocGlobal>(
+pub fn parse_arguments<'a, R: Runtime + AllocGlobal>(
     rt: &R,
     started: &'a [String],
 ) -> Result<ArgMatches<'a>, Status> {
     let Ok(command) = words::command(rt.alloc()) else {
-        return Err(refused::memory(rt));
+        return Err(refused::report_out_of_memory(rt));
     };
     match command.try_get_matches_from(started) {
         Ok(matches) if matches.subcommand_name() == Some("verdicts") => {
-            Err(show(rt, help::VERDICTS))
+            Err(print_text(rt, help::VERDICTS))
         }
         Ok(matches) if words::starts_clients(&matches) => Err(refuse_client(rt)),
         Ok(matches) => Ok(matches),
-        Err(error) => Err(report(rt, &error)),
+        Err(error) => Err(report_parse_error(rt, &error)),
     }
 }
 
 /// Returns the words that the program was started with. If they cannot be read, the error is the status that the
 /// program ends with.
-pub fn started_with<R: Runtime + AllocGlobal>(rt: &R) -> Result<Vec<String>, Status> {
+pub fn program_arguments<R: Runtime + AllocGlobal>(rt: &R) -> Result<Vec<String>, Status> {
     let words = match env::args(rt) {
         Ok(words) => words,
-        Err(error) if error.kind() == io::ErrorKind::OutOfMemory => return Err(refused::memory(rt)),
+        Err(error) if error.kind() == io::ErrorKind::OutOfMemory => return Err(
+            refused::report_out_of_memory(rt),
+        ),
         Err(_) => {
             return match eprintln!(rt; "error: an argument is not UTF-8") {
                 Ok(()) => Err(Status::Refused),
@@ -103,6 +105,6 @@ pub fn started_with<R: Runtime + AllocGlobal>(rt: &R) -> Result<Vec<String>, Sta
     };
     match words.collect(rt.alloc()) {
         Ok(words) => Ok(words),
-        Err(_) => Err(refused::memory(rt)),
+        Err(_) => Err(refused::report_out_of_memory(rt)),
     }
 }

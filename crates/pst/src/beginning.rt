@@ -85,9 +85,15 @@ fn begins_wrong(
 
 /// Writes why no interleaving explains the least failure of a campaign, to standard error, and the note if it applies.
 /// The model is at the beginning of `input`. If an allocation fails or a text cannot be written, nothing else is said.
-pub fn explain_least<R: Eprint>(rt: &R, alloc: Global, input: &[u8], case: Case, history: History) {
+pub fn explain_failure<R: Eprint>(
+    rt: &R,
+    alloc: Global,
+    input: &[u8],
+    case: Case,
+    history: History,
+) {
     let begins_wrong = begins_wrong(alloc, input, &case, &history);
-    explained::report(rt, alloc, "the least failure:", input, case, history);
+    explained::report_unexplained(rt, alloc, "the least failure:", input, case, history);
     if begins_wrong == Ok(true) {
         let _ = eprint!(rt; "{NOTE}");
     }

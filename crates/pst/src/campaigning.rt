@@ -3,15 +3,15 @@
 ghost use Rattle.std.specs.Prelude.{◌≡◌, false};
 ghost use Rattle.pst_trial.specs.Settings.{AreInRange};
 
-use crate::page::Page;
-use crate::progress::Display;
+use crate::page::CampaignPage;
+use crate::progress::ProgressDisplay;
 use crate::saving::Saving;
-use crate::watching::Both;
+use crate::watching::BothWatchers;
 use crate::{least, words};
 use clap::ArgMatches;
-use pst_campaign::{EarlyEnd, Ending};
+use pst_campaign::{EarlyStop, StopCondition};
 use pst_cli::{
-    Absence, CampaignNotes, MEMORY_OBJECT, Status, campaign_noting, check_json, refuse_text,
+    Absence, CampaignNotes, MEMORY_OBJECT, Status, campaign_with_notes, check_json, refuse_text,
 };
 use pst_rejudge::{Field, object_line};
 use pst_sexpr::{Out, Sink, put_all};
@@ -24,9 +24,9 @@ use std::sync::Wait;
 use std::thread::Threads;
 
 /// Runs a campaign. If standard error is a terminal, a line on it displays the progress.
-fn watched<
+fn run_with_progress<
     W: Sink,
-    K: Ending + Sync,
+    K: StopCondition + Sync,
     R: Threads + Wait + Sync + Eprint + Copy + Drop + Send + 'static,
 >(
     rt: &R,
@@ -43,24 +43,26 @@ fn watched<
     requires stands { W.broken out.old ≡ false }
 {
     if is_terminal {
-        if let Ok(display) = Display::begin(rt, alloc, settings.trials as u64) {
-            let both = Both {
+        if let Ok(display) = ProgressDisplay::begin(rt, alloc, settings.trials as u64) {
+            let both = BothWatchers {
                 first: display.progress(),
                 second: watch,
             };
-            let status = campaign_noting(rt, alloc, input, settings, systems, &both, notes, out);
+            let status = campaign_with_notes(
+                rt, alloc, input, settings, systems, &both, notes, out,
+            );
             display.end(rt);
             return status;
         }
     }
-    campaign_noting(rt, alloc, input, settings, systems, watch, notes, out)
+    campaign_with_notes(rt, alloc, input, settings, systems, watch, notes, out)
 }
 
 /// Runs a campaign and writes its report once it is complete. Then it writes explanations of the least failure and of
 /// the first trial without a case to standard error.
 fn run_and_explain<
     W: Sink,
-    K: Ending + Sync,
+    K: StopCondition + Sync,
     R: Threads + Wait + Sync + Eprint + Files + Copy + Drop + Send + 'static,
 >(
     rt: &R,
@@ -69,7 +71,7 @@ fn run_and_explain<
     systems: Vec<BoxedSystem>,
     watch: &K,
     is_terminal: bool,
-    page: Page<'_>,
+    page: CampaignPage<'_>,
     input: &[u8],
     notes: &mut CampaignNotes,
     out: &mut W,
@@ -78,7 +80,7 @@ fn run_and_explain<
     requires stands { W.broken out.old ≡ false }
 {
     let mut report = Out::new(Vec::new(alloc));
-    let status = watched(
+    let status = run_with_progress(
         rt,
         alloc,
         settings,
@@ -98,7 +100,7 @@ fn run_and_explain<
         return Status::Lost;
     }
     let status = status.or_worse(page.write(rt, alloc, input, notes));
-    least::explain(rt, alloc, settings, input, notes);
+    least::explain_least_failure(rt, alloc, settings, input, notes);
     status
 }
 
@@ -133,9 +135,9 @@ fn write_object<W: Sink>(
 
 /// Runs a campaign and writes its report as a JSON object. Then it writes explanations to standard error, unless
 /// `is_quiet`.
-fn as_object<
+fn run_for_json<
     W: Sink,
-    K: Ending + Sync,
+    K: StopCondition + Sync,
     R: Threads + Wait + Sync + Eprint + Files + Copy + Drop + Send + 'static,
 >(
     rt: &R,
@@ -145,7 +147,7 @@ fn as_object<
     watch: &K,
     is_terminal: bool,
     is_quiet: bool,
-    page: Page<'_>,
+    page: CampaignPage<'_>,
     input: &[u8],
     notes: &mut CampaignNotes,
     out: &mut W,
@@ -154,7 +156,7 @@ fn as_object<
     requires stands { W.broken out.old ≡ false }
 {
     let mut text = Out::new(Vec::new(alloc));
-    let status = watched(
+    let status = run_with_progress(
         rt,
         alloc,
         settings,
@@ -168,19 +170,19 @@ fn as_object<
     let status = write_object(alloc, status, input, notes.report.as_ref(), out);
     let status = status.or_worse(page.write(rt, alloc, input, notes));
     if !is_quiet {
-        least::explain(rt, alloc, settings, input, notes);
+        least::explain_least_failure(rt, alloc, settings, input, notes);
     }
     status
 }
 
 /// Runs a campaign and writes its report, and nothing to standard error.
-fn quietly<W: Sink, K: Ending + Sync, R: Threads + Wait + Sync + Eprint + Files>(
+fn run_quietly<W: Sink, K: StopCondition + Sync, R: Threads + Wait + Sync + Eprint + Files>(
     rt: &R,
     alloc: Global,
     settings: Settings,
     systems: Vec<BoxedSystem>,
     watch: &K,
-    page: Page<'_>,
+    page: CampaignPage<'_>,
     input: &[u8],
     notes: &mut CampaignNotes,
     out: &mut W,
@@ -188,14 +190,14 @@ fn quietly<W: Sink, K: Ending + Sync, R: Threads + Wait + Sync + Eprint + Files>
     requires ranges { AreInRange settings }
     requires stands { W.broken out.old ≡ false }
 {
-    let status = campaign_noting(rt, alloc, input, settings, systems, watch, notes, out);
+    let status = campaign_with_notes(rt, alloc, input, settings, systems, watch, notes, out);
     status.or_worse(page.write(rt, alloc, input, notes))
 }
 
 /// Runs a campaign with `watch`, and writes messages to standard error unless the arguments forbid it.
-fn told<
+fn run_with_messages<
     W: Sink,
-    K: Ending + Sync,
+    K: StopCondition + Sync,
     R: Threads + Wait + Sync + Eprint + Files + Copy + Drop + Send + 'static,
 >(
     rt: &R,
@@ -205,7 +207,7 @@ fn told<
     systems: Vec<BoxedSystem>,
     watch: &K,
     is_terminal: bool,
-    page: Page<'_>,
+    page: CampaignPage<'_>,
     input: &[u8],
     notes: &mut CampaignNotes,
     out: &mut W,
@@ -215,7 +217,7 @@ fn told<
 {
     let is_quiet = words.get_flag("quiet");
     if words::is_json(words) {
-        return as_object(
+        return run_for_json(
             rt,
             alloc,
             settings,
@@ -230,7 +232,7 @@ fn told<
         );
     }
     if is_quiet {
-        return quietly(rt, alloc, settings, systems, watch, page, input, notes, out);
+        return run_quietly(rt, alloc, settings, systems, watch, page, input, notes, out);
     }
     run_and_explain(
         rt,
@@ -247,7 +249,7 @@ fn told<
 }
 
 /// Saves the failures of a campaign that has ended, if they were kept.
-fn save<R: Eprint + Files + AllocGlobal>(
+fn save_failures<R: Eprint + Files + AllocGlobal>(
     rt: &R,
     saving: &Saving<'_>,
     notes: &CampaignNotes,
@@ -260,7 +262,7 @@ fn save<R: Eprint + Files + AllocGlobal>(
 }
 
 /// Runs a campaign and saves its failures in a folder. The status is `Lost` too if one cannot be saved.
-fn saved<
+fn run_and_save<
     W: Sink,
     R: Threads + Wait + Sync + Eprint + Files + AllocGlobal + Copy + Drop + Send + 'static,
 >(
@@ -269,7 +271,7 @@ fn saved<
     settings: Settings,
     systems: Vec<BoxedSystem>,
     saving: &Saving<'_>,
-    ending: &EarlyEnd,
+    ending: &EarlyStop,
     is_terminal: bool,
     input: Input<'_>,
     out: &mut W,
@@ -278,10 +280,10 @@ fn saved<
     requires stands { W.broken out.old ≡ false }
 {
     let alloc = rt.alloc();
-    let page = Page::chosen(words, input);
+    let page = CampaignPage::from_arguments(words, input);
     let Input { files: _, bytes } = input;
     let mut notes = CampaignNotes::keeping(page.is_written(), true);
-    let status = told(
+    let status = run_with_messages(
         rt,
         alloc,
         words,
@@ -294,7 +296,7 @@ fn saved<
         &mut notes,
         out,
     );
-    status.or_worse(save(rt, saving, &notes, words.get_flag("quiet")))
+    status.or_worse(save_failures(rt, saving, &notes, words.get_flag("quiet")))
 }
 
 /// Runs a campaign with a worker for each of the systems, if there are some, and saves its failures if the arguments say
@@ -308,7 +310,7 @@ pub fn campaign<
     words: &ArgMatches<'_>,
     name: &str,
     systems: Vec<BoxedSystem>,
-    ending: &EarlyEnd,
+    ending: &EarlyStop,
     is_terminal: bool,
     input: Input<'_>,
     out: &mut W,
@@ -323,7 +325,7 @@ pub fn campaign<
     };
     if let Some(folder) = words.get_str("save") {
         return match Saving::begin(rt, words, folder, settings.seed, name) {
-            Ok(saving) => saved(
+            Ok(saving) => run_and_save(
                 rt,
                 words,
                 settings,
@@ -337,10 +339,10 @@ pub fn campaign<
             Err(status) => status,
         };
     }
-    let page = Page::chosen(words, input);
+    let page = CampaignPage::from_arguments(words, input);
     let Input { files: _, bytes } = input;
     let mut notes = CampaignNotes::keeping(page.is_written(), false);
-    told(
+    run_with_messages(
         rt,
         rt.alloc(),
         words,

@@ -11,10 +11,10 @@ use std::rt::Files;
 use std::sync::{Arc, Wait};
 
 /// The notes of all clients, which their boxes and the program share.
-pub type Shared = Arc<Notes, Global>;
+pub type SharedNotes = Arc<Notes, Global>;
 
 /// Returns an empty list of notes.
-pub fn notes(alloc: Global) -> Result<Shared, AllocError> {
+pub fn empty_notes(alloc: Global) -> Result<SharedNotes, AllocError> {
     Ok(Arc::new(alloc, Notes::new(alloc)?)?)
 }
 
@@ -29,13 +29,13 @@ fn types_in(alloc: Global, input: &[u8]) -> Result<Items<Ty>, AllocError> {
 
 /// Opens the clients of worker number `worker`, from 0, whose pipes are in `folder`. They answer calls of the model at
 /// the beginning of `input`. If the pipes cannot be opened, standard error says why.
-pub fn open<H: Wait + Drop, R: Files + Eprint + AllocGlobal>(
+pub fn open_for_worker<H: Wait + Drop, R: Files + Eprint + AllocGlobal>(
     handle: H,
     rt: &R,
     folder: Folder<'_>,
     worker: u64,
     input: &[u8],
-    notes: &Shared,
+    notes: &SharedNotes,
 ) -> Result<Clients<H, BufReader<R::File>, R::File>, Unmade> {
     let (Ok(types), Ok(notes)) = (types_in(rt.alloc(), input), Arc::try_clone(notes)) else {
         return Err(Unmade::NoMemory);
@@ -52,7 +52,7 @@ pub fn open<H: Wait + Drop, R: Files + Eprint + AllocGlobal>(
 }
 
 /// Writes what went wrong with clients to standard error, unless the arguments forbid it.
-pub fn report<R: Eprint>(rt: &R, matches: &ArgMatches<'_>, notes: &Notes) {
+pub fn report_client_notes<R: Eprint>(rt: &R, matches: &ArgMatches<'_>, notes: &Notes) {
     let Some((_, words)) = matches.subcommand() else {
         return;
     };

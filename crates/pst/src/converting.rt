@@ -16,7 +16,7 @@ pub fn command<'a>(alloc: Global) -> Result<Command<'a>, AllocError> {
     Command::new(alloc, "convert")
         .about("Writes cases and recorded runs as JSON, or as trees: one on each line")
         .after_help(help::CONVERT)
-        .arg(words::files(alloc))?
+        .arg(words::files_argument(alloc))?
         .arg(
             Arg::new(alloc, "to")
                 .long("to")
@@ -26,8 +26,8 @@ pub fn command<'a>(alloc: Global) -> Result<Command<'a>, AllocError> {
                 .help("json, or trees")
                 .hide_possible_values(true),
         )?
-        .arg(words::output(alloc))?
-        .arg(words::quiet(alloc))
+        .arg(words::output_option(alloc))?
+        .arg(words::quiet_option(alloc))
 }
 
 /// Writes the items of the input in the form that the words ask for.

@@ -1,7 +1,7 @@
 //! `pst run`.
 ghost use Rattle.std.specs.Prelude.{◌≡◌, false};
 
-use crate::telling::Telling;
+use crate::telling::StepsDisplay;
 use crate::words::is_json;
 use crate::{explained, overheard};
 use clap::ArgMatches;
@@ -28,7 +28,7 @@ fn explain_broken<R: Eprint>(rt: &R, alloc: Global, input: &[u8], counts: &mut C
     let Ok(heading) = format!(in alloc; "item {item} is broken:") else {
         return;
     };
-    explained::report(
+    explained::report_unexplained(
         rt,
         alloc,
         heading.as_str(),
@@ -45,7 +45,7 @@ fn explain_broken<R: Eprint>(rt: &R, alloc: Global, input: &[u8], counts: &mut C
 
 /// How items are driven and written.
 #[derive(Clone, Copy, Drop)]
-struct How {
+struct DriveOptions {
     /// How often each is driven; `None`: once, without a count of drives.
     repeats: Option<u32>,
     is_json: bool,
@@ -58,7 +58,7 @@ fn run_items<W: Sink, R: Threads + Wait>(
     rt: &R,
     alloc: Global,
     system: &mut BoxedSystem,
-    how: How,
+    how: DriveOptions,
     input: &[u8],
     counts: &mut Counts,
     steps: &Steps,
@@ -83,7 +83,7 @@ fn drive_and_explain<W: Sink, R: Threads + Wait + Sync + Eprint + Copy + Drop + 
     rt: &R,
     alloc: Global,
     system: &mut BoxedSystem,
-    how: How,
+    how: DriveOptions,
     misfits: &Misfits,
     input: &[u8],
     counts: &mut Counts,
@@ -91,8 +91,8 @@ fn drive_and_explain<W: Sink, R: Threads + Wait + Sync + Eprint + Copy + Drop + 
 ) -> Status
     requires { W.broken out.old ≡ false }
 {
-    overheard::begin(alloc, misfits, input);
-    let Ok(telling) = Telling::begin(rt, alloc, how.is_told, "run") else {
+    overheard::compare_with_model(alloc, misfits, input);
+    let Ok(telling) = StepsDisplay::begin(rt, alloc, how.is_told, "run") else {
         return refuse_text(Absence::NoMemory, out);
     };
     let mut report = Out::new(Vec::new(alloc));
@@ -115,7 +115,7 @@ fn drive_and_explain<W: Sink, R: Threads + Wait + Sync + Eprint + Copy + Drop + 
     if put_all(report.as_slice(), out).is_err() {
         return Status::Lost;
     }
-    overheard::report(rt, alloc, misfits);
+    overheard::report_misfits(rt, alloc, misfits);
     explain_broken(rt, alloc, input, counts);
     status
 }
@@ -139,7 +139,7 @@ pub fn drive<W: Sink, R: Threads + Wait + Sync + Eprint + Copy + Drop + Send + '
     let Some(mut system) = systems.pop() else {
         return refuse_text(Absence::NoSystem(name), out);
     };
-    let how = How {
+    let how = DriveOptions {
         repeats: words.get_one("repeats"),
         is_json: is_json(words),
         is_told,

@@ -2,13 +2,14 @@
 
 ghost use Rattle.std.specs.Prelude.{◌≡◌, false};
 
-use crate::telling::Telling;
+use crate::telling::StepsDisplay;
 use crate::terminal::{self, LEAST_WIDTH, MOST_WIDTH, Terminals};
 use crate::{help, words};
 use clap::builder::ValueParser;
 use clap::{Arg, ArgAction, ArgMatches, Command};
 use pst_cli::{
-    Absence, Chosen, Explaining, ExplanationForm, Status, explain_counting, graph_text, refuse_text,
+    Absence, Chosen, ExplainOptions, ExplanationForm, Status, explain_counting, graph_text,
+    refuse_text,
 };
 use pst_sexpr::{MAX_BYTES, Out, Sink, put_all};
 use pst_sources::Input;
@@ -85,7 +86,7 @@ fn with_files<'a>(alloc: Global) -> Result<Command<'a>, AllocError> {
     Command::new(alloc, "explain")
         .about("Explains the verdicts on cases and recorded runs")
         .after_help(help::EXPLAIN)
-        .arg(words::files(alloc))?
+        .arg(words::files_argument(alloc))?
         .arg(format_option(alloc))?
         .arg(dot_option(alloc)?)?
         .arg(all_option(alloc))?
@@ -96,15 +97,15 @@ fn with_files<'a>(alloc: Global) -> Result<Command<'a>, AllocError> {
 /// `explain`, with files, the form of explanations, and the items that are explained.
 pub fn command<'a>(alloc: Global) -> Result<Command<'a>, AllocError> {
     with_files(alloc)?
-        .arg(words::failures(alloc))?
+        .arg(words::failures_option(alloc))?
         .arg(item_option(alloc)?)?
         .arg(max_option(alloc))?
-        .arg(words::output(alloc))?
-        .arg(words::quiet(alloc))
+        .arg(words::output_option(alloc))?
+        .arg(words::quiet_option(alloc))
 }
 
 /// Returns the number of the item that the arguments choose, if they choose one.
-fn item(words: &ArgMatches<'_>) -> Option<usize> {
+fn item_number(words: &ArgMatches<'_>) -> Option<usize> {
     let item: Option<u64> = words.get_one("item");
     match item {
         Some(item) => Some(item as usize),
@@ -113,8 +114,8 @@ fn item(words: &ArgMatches<'_>) -> Option<usize> {
 }
 
 /// Returns the items to explain, by the arguments.
-fn chosen(words: &ArgMatches<'_>) -> Chosen {
-    match item(words) {
+fn chosen_items(words: &ArgMatches<'_>) -> Chosen {
+    match item_number(words) {
         Some(number) => Chosen::Item(number),
         None if words.get_flag("failures") => Chosen::Failures,
         None => Chosen::All,
@@ -122,7 +123,7 @@ fn chosen(words: &ArgMatches<'_>) -> Chosen {
 }
 
 /// Returns the maximum number of items that the arguments allow.
-fn most(words: &ArgMatches<'_>) -> usize {
+fn max_items(words: &ArgMatches<'_>) -> usize {
     let most: Option<u64> = words.get_one("max");
     match most {
         Some(most) => most as usize,
@@ -141,7 +142,7 @@ fn text_form<R: Env + AllocGlobal>(
     words: &ArgMatches<'_>,
     is_terminal: bool,
 ) -> ExplanationForm {
-    let width = terminal::width(rt, words);
+    let width = terminal::line_width(rt, words);
     if terminal::has_colors(rt, words, is_terminal) {
         ExplanationForm::Colored(width)
     } else {
@@ -150,7 +151,7 @@ fn text_form<R: Env + AllocGlobal>(
 }
 
 /// The form of explanations that the words ask for.
-fn form<R: Env + AllocGlobal>(
+fn explanation_form<R: Env + AllocGlobal>(
     rt: &R,
     words: &ArgMatches<'_>,
     is_terminal: bool,
@@ -171,11 +172,11 @@ fn form<R: Env + AllocGlobal>(
 fn explain_telling<
     W: Sink,
     R: Threads + Wait + Sync + Eprint + AllocGlobal + Copy + Drop + Send + 'static,
->(rt: &R, input: &[u8], asked: Explaining<'_>, is_told: bool, out: &mut W) -> Status
+>(rt: &R, input: &[u8], asked: ExplainOptions<'_>, is_told: bool, out: &mut W) -> Status
     requires { W.broken out.old ≡ false }
 {
     let alloc = rt.alloc();
-    let Ok(telling) = Telling::begin(rt, alloc, is_told, "explained") else {
+    let Ok(telling) = StepsDisplay::begin(rt, alloc, is_told, "explained") else {
         return refuse_text(Absence::NoMemory, out);
     };
     let mut text = Out::new(Vec::new(alloc));
@@ -207,16 +208,16 @@ pub fn explain<
             rt,
             rt.alloc(),
             bytes,
-            item(words),
+            item_number(words),
             words.get_flag("all"),
             out,
         );
     }
-    let asked = Explaining {
+    let asked = ExplainOptions {
         files,
-        chosen: chosen(words),
-        most: most(words),
-        form: form(rt, words, terminals.output),
+        chosen: chosen_items(words),
+        most: max_items(words),
+        form: explanation_form(rt, words, terminals.output),
     };
     let is_told = terminals.errors && !words.get_flag("quiet");
     explain_telling(rt, bytes, asked, is_told, out)

@@ -28,12 +28,12 @@ pub fn command<'a>(alloc: Global) -> Result<Command<'a>, AllocError> {
         .after_help(help::FMT)
         .arg(files)?
         .arg(check)?
-        .arg(words::quiet(alloc))
+        .arg(words::quiet_option(alloc))
 }
 
 /// How files are laid out.
 #[derive(Clone, Copy, Drop)]
-struct How {
+struct FormatOptions {
     /// Nothing is rewritten.
     only_checks: bool,
     reading: Reading,
@@ -103,7 +103,7 @@ fn report<R: Eprint>(rt: &R, name: &str, copy: &str, why: &Unwritten) {
 /// Rewrites a file.
 fn rewrite<R: Runtime + AllocGlobal>(rt: &R, name: &str, text: &[u8]) -> Status {
     let Ok(copy) = format!(in rt.alloc(); "{name}.pst-fmt") else {
-        return refused::memory(rt);
+        return refused::report_out_of_memory(rt);
     };
     match write_both(rt, name, copy.as_str(), text) {
         Ok(()) => Status::Accepted,
@@ -120,7 +120,7 @@ fn finish<R: Runtime + AllocGlobal>(
     rt: &R,
     file: &SourceFile<'_>,
     text: &[u8],
-    how: How,
+    how: FormatOptions,
 ) -> Status {
     let name = file.name;
     let is_same = text == file.bytes.as_slice();
@@ -148,10 +148,10 @@ fn refuse<R: Runtime + AllocGlobal>(
     files: &[SourceFile<'_>],
     bytes: &[u8],
     fault: SexprFault,
-    how: How,
+    how: FormatOptions,
 ) -> Status {
     if fault.kind == FaultKind::NoMemory {
-        return refused::memory(rt);
+        return refused::report_out_of_memory(rt);
     }
     let refusal = Refusal::Unread(fault);
     if println!(rt; "refused {refusal}").is_err() {
@@ -166,8 +166,8 @@ fn refuse<R: Runtime + AllocGlobal>(
 }
 
 /// Lays out the file `name`.
-fn lay_out_file<R: Runtime + AllocGlobal>(rt: &R, name: &str, how: How) -> Status {
-    let files = match input::files(rt, &[name], how.reading) {
+fn lay_out_file<R: Runtime + AllocGlobal>(rt: &R, name: &str, how: FormatOptions) -> Status {
+    let files = match input::read_files(rt, &[name], how.reading) {
         Ok(files) => files,
         Err(why) => return refuse_text(why, &mut Out::new(io::writer(rt))),
     };
@@ -194,7 +194,7 @@ pub fn lay_out<R: Runtime + AllocGlobal>(
     words: &ArgMatches<'_>,
     reading: Reading,
 ) -> Status {
-    let how = How {
+    let how = FormatOptions {
         only_checks: words.get_flag("check"),
         reading,
     };

@@ -8,7 +8,7 @@ use pst_sexpr::Sink;
 use std::thread::Threads;
 
 /// Returns the form of cases that the arguments choose.
-fn form(words: &ArgMatches<'_>) -> ItemForm {
+fn case_form(words: &ArgMatches<'_>) -> ItemForm {
     if words::is_json(words) {
         ItemForm::Json
     } else {
@@ -33,6 +33,6 @@ pub fn generate<W: Sink, R: Threads + Sync + AllocGlobal>(
         return Status::Refused;
     };
     let count = trials.min(u64::MAX - first);
-    let form = form(words);
+    let form = case_form(words);
     generate_text(rt, rt.alloc(), input, form, settings, first, count, out)
 }

@@ -1,7 +1,7 @@
 //! Lines on standard error that say which client does not answer, and that resets fail.
 
 use crate::interrupting::stop_file;
-use crate::systems::{Wanted, asked_for};
+use crate::systems::{ChosenSystems, chosen_systems};
 use clap::ArgMatches;
 use pst_clients::{Notes, Waits};
 use std::alloc::{AllocError, Global};
@@ -18,7 +18,7 @@ const MANY: u64 = 5;
 
 /// What the thread that watches clients shares with the one that ends it.
 #[derive(Drop)]
-struct Watched {
+struct WatchedClients {
     notes: Arc<Notes, Global>,
     /// Whether a file ends the campaign.
     has_stop_file: bool,
@@ -28,7 +28,7 @@ struct Watched {
 
 /// A client, as it was a second ago.
 #[derive(Clone, Copy, Drop)]
-struct Seen {
+struct ClientWait {
     /// The line that it had not answered, if there was one.
     line: Option<u64>,
     /// For how many seconds.
@@ -37,10 +37,10 @@ struct Seen {
     next: u64,
 }
 
-impl Seen {
+impl ClientWait {
     /// A client that was just asked a line, if there is one.
-    fn at(line: Option<u64>) -> Seen {
-        Seen {
+    fn at(line: Option<u64>) -> ClientWait {
+        ClientWait {
             line,
             seconds: 0,
             next: FIRST,
@@ -50,7 +50,7 @@ impl Seen {
     /// Counts a second in which it may have answered. The answer is whether a line is to be written.
     fn is_late(&mut self, line: Option<u64>) -> bool {
         if line.is_none() || line != self.line {
-            *self = Seen::at(line);
+            *self = ClientWait::at(line);
             return false;
         }
         self.seconds = self.seconds.saturating_add(1);
@@ -63,7 +63,13 @@ impl Seen {
 }
 
 /// Writes to standard error that a client does not answer its line.
-fn say<R: Eprint>(rt: &R, alloc: Global, waits: &Waits, place: usize, seconds: u64) {
+fn report_silent_client<R: Eprint>(
+    rt: &R,
+    alloc: Global,
+    waits: &Waits,
+    place: usize,
+    seconds: u64,
+) {
     let (worker, branch) = Waits::client(place);
     let Ok(line) = waits.last_line(alloc, place) else {
         let _ = eprintln!(rt;
@@ -90,12 +96,12 @@ fn say_resets_fail<R: Eprint>(rt: &R, has_stop_file: bool) {
 fn look_each_second<R: Wait + Eprint>(
     rt: &R,
     alloc: Global,
-    watched: &Watched,
+    watched: &WatchedClients,
 ) -> Result<(), AllocError> {
     let waits = watched.notes.waits();
     let mut clients = Vec::with_capacity(alloc, waits.len())?;
     for _ in 0..waits.len() {
-        clients.push(Seen::at(None))?;
+        clients.push(ClientWait::at(None))?;
     }
     let mut is_said = false;
     for _ in rt.forever() {
@@ -105,7 +111,7 @@ fn look_each_second<R: Wait + Eprint>(
         }
         for place in 0..clients.len() {
             if clients[place].is_late(waits.unanswered(place)) {
-                say(rt, alloc, waits, place, clients[place].seconds);
+                report_silent_client(rt, alloc, waits, place, clients[place].seconds);
             }
         }
         if !is_said && watched.notes.failed_resets() >= MANY {
@@ -118,12 +124,12 @@ fn look_each_second<R: Wait + Eprint>(
 
 /// A thread that says which clients do not answer.
 #[derive(Drop)]
-pub struct Watch {
-    watched: Arc<Watched, Global>,
+pub struct ClientWatch {
+    watched: Arc<WatchedClients, Global>,
     thread: JoinHandle<()>,
 }
 
-impl Watch {
+impl ClientWatch {
     /// Watches the clients of some notes, if there is a thread for it. `has_stop_file` says whether a file ends the
     /// campaign.
     pub fn start<R: Threads + Wait + Eprint + Copy + Drop + Send + 'static>(
@@ -131,8 +137,8 @@ impl Watch {
         alloc: Global,
         notes: &Arc<Notes, Global>,
         has_stop_file: bool,
-    ) -> Option<Watch> {
-        let watched = Watched {
+    ) -> Option<ClientWatch> {
+        let watched = WatchedClients {
             notes: Arc::try_clone(notes).ok()?,
             has_stop_file,
             is_over: AtomicBool::new(false),
@@ -145,12 +151,12 @@ impl Watch {
                 let _ = look_each_second(&rt, alloc, &own);
             })
             .ok()?;
-        Some(Watch { watched, thread })
+        Some(ClientWatch { watched, thread })
     }
 
     /// Ends the thread, and waits for it.
     pub fn end<R: Threads + Wait>(self, rt: &R) {
-        let Watch { watched, thread } = self;
+        let ClientWatch { watched, thread } = self;
         watched.is_over.store(true, Ordering::SeqCst);
         watched.parker.unpark();
         thread.join(rt)
@@ -163,11 +169,11 @@ pub fn watch_clients<R: Threads + Wait + Eprint + Copy + Drop + Send + 'static>(
     alloc: Global,
     matches: &ArgMatches<'_>,
     notes: &Arc<Notes, Global>,
-) -> Option<Watch> {
+) -> Option<ClientWatch> {
     let (_, words) = matches.subcommand()?;
-    match asked_for(matches)? {
-        (Wanted::Clients(_), _) if !words.get_flag("quiet") => {
-            Watch::start(rt, alloc, notes, stop_file(matches).is_some())
+    match chosen_systems(matches)? {
+        (ChosenSystems::Clients(_), _) if !words.get_flag("quiet") => {
+            ClientWatch::start(rt, alloc, notes, stop_file(matches).is_some())
         }
         _ => None,
     }

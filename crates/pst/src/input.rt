@@ -27,7 +27,7 @@ struct Unread {
 
 /// Reads at most `limit` bytes of standard input. If it is a terminal, a line on standard error says that it is read,
 /// unless `reading` is quiet.
-fn from_standard_input<R: Input + Eprint + AllocGlobal>(
+fn read_standard_input<R: Input + Eprint + AllocGlobal>(
     rt: &R,
     limit: u64,
     reading: Reading,
@@ -46,7 +46,7 @@ fn from_standard_input<R: Input + Eprint + AllocGlobal>(
 }
 
 /// Reads at most `limit` bytes of the file `name`.
-fn from_file<R: Files + AllocGlobal>(rt: &R, name: &str, limit: u64) -> Result<Vec<u8>, Unread> {
+fn read_file<R: Files + AllocGlobal>(rt: &R, name: &str, limit: u64) -> Result<Vec<u8>, Unread> {
     let file = match std::fs::open(rt, name) {
         Ok(file) => file,
         Err(error) => {
@@ -67,7 +67,7 @@ fn from_file<R: Files + AllocGlobal>(rt: &R, name: &str, limit: u64) -> Result<V
 }
 
 /// Writes to standard error which file cannot be read and why, unless `is_quiet`.
-fn report<R: Eprint>(rt: &R, name: &str, unread: &Unread, is_quiet: bool) {
+fn report_unread<R: Eprint>(rt: &R, name: &str, unread: &Unread, is_quiet: bool) {
     if is_quiet {
         return;
     }
@@ -95,7 +95,7 @@ fn absence<R: Eprint>(rt: &R, name: &str, unread: &Unread, is_quiet: bool) -> Ab
     if unread.error.kind() == ErrorKind::OutOfMemory {
         return Absence::NoMemory;
     }
-    report(rt, name, unread, is_quiet);
+    report_unread(rt, name, unread, is_quiet);
     Absence::NoFile
 }
 
@@ -129,7 +129,7 @@ pub fn try_to_open<R: Files + Eprint>(
 /// Reads the files `names`. `-` is standard input, which is also read if there is no name. In all, it reads at most one
 /// byte more than an input may have. `NoFile` means that a file cannot be opened or read; standard error says which,
 /// unless `reading` is quiet. `NoMemory` means that an allocation failed.
-pub fn files<'a, R: Files + Input + Eprint + AllocGlobal>(
+pub fn read_files<'a, R: Files + Input + Eprint + AllocGlobal>(
     rt: &R,
     names: &[&'a str],
     reading: Reading,
@@ -143,9 +143,9 @@ pub fn files<'a, R: Files + Input + Eprint + AllocGlobal>(
     let mut limit = MAX_BYTES as u64 + 1;
     for name in names {
         let found = if *name == STANDARD_INPUT {
-            from_standard_input(rt, limit, reading)
+            read_standard_input(rt, limit, reading)
         } else {
-            from_file(rt, name, limit)
+            read_file(rt, name, limit)
         };
         let bytes = match found {
             Ok(bytes) => bytes,

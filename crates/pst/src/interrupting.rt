@@ -2,7 +2,7 @@
 
 use crate::input;
 use clap::ArgMatches;
-use pst_campaign::EarlyEnd;
+use pst_campaign::EarlyStop;
 use std::alloc::{AllocError, Global};
 use std::rt::Files;
 use std::sync::atomic::{AtomicBool, Ordering};
@@ -97,10 +97,10 @@ impl StopFile {
 }
 
 /// When a campaign ends before all its trials have run, by the arguments.
-pub fn early_end(matches: &ArgMatches<'_>, has_appeared: Option<Arc<AtomicBool>>) -> EarlyEnd {
+pub fn early_end(matches: &ArgMatches<'_>, has_appeared: Option<Arc<AtomicBool>>) -> EarlyStop {
     let most = match matches.subcommand() {
         Some(("campaign", words)) => words.get_one("max-failures"),
         _ => None,
     };
-    EarlyEnd::new(most, has_appeared)
+    EarlyStop::new(most, has_appeared)
 }

@@ -2,7 +2,7 @@
 ghost use Rattle.std.specs.Prelude.{◌≡◌, false, All, IfSome};
 ghost use Rattle.pst_runs.specs.Lawful.{AreLawful};
 
-use crate::telling::Telling;
+use crate::telling::StepsDisplay;
 use crate::words::is_json;
 use clap::ArgMatches;
 use pst_cli::{
@@ -184,8 +184,8 @@ fn begin<R: Threads + Wait + Eprint + Copy + Drop + Send + 'static>(
     alloc: Global,
     is_told: bool,
     input: &[u8],
-) -> Result<Telling, AllocError> {
-    let telling = Telling::begin(rt, alloc, is_told, "judged")?;
+) -> Result<StepsDisplay, AllocError> {
+    let telling = StepsDisplay::begin(rt, alloc, is_told, "judged")?;
     if is_told {
         telling.steps().expect(item_count(alloc, input)?);
     }

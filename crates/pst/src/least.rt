@@ -33,7 +33,7 @@ fn explain_genfault<R: Eprint>(
 /// Writes to standard error why no interleaving explains the least failure of a campaign, if it has a failure, and why
 /// its first trial without a case has no case, if it has such a trial. If an allocation fails or the text cannot be
 /// written, the report and the status remain without it.
-pub fn explain<R: Eprint>(
+pub fn explain_least_failure<R: Eprint>(
     rt: &R,
     alloc: Global,
     settings: Settings,
@@ -43,7 +43,7 @@ pub fn explain<R: Eprint>(
     requires { AreInRange settings }
 {
     if let Some((case, history)) = notes.least.take() {
-        beginning::explain_least(rt, alloc, input, case, history);
+        beginning::explain_failure(rt, alloc, input, case, history);
     }
     if let Some(number) = notes.first_genfault {
         explain_genfault(rt, alloc, settings, input, number);

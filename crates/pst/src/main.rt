@@ -43,7 +43,7 @@ use driving::drive;
 use input::Reading;
 use interrupting::StopFile;
 use judging::judge;
-use pst_campaign::EarlyEnd;
+use pst_campaign::EarlyStop;
 use pst_cli::{
     Absence, Counts, KnownSystem, Status, check_json, check_text, list_text, refuse_text,
 };
@@ -60,7 +60,7 @@ use std::rt::{Files, Runtime};
 use std::sync::{Arc, Wait};
 use std::thread::{Builder, Threads};
 use std::time::Clock;
-use systems::{Unmade, Wanted};
+use systems::{ChosenSystems, Unmade};
 use terminal::Terminals;
 
 /// What the threads that drive cases share.
@@ -69,7 +69,7 @@ struct Shared<'a> {
     /// The list of answers of a wrong type, if it is kept.
     misfits: Option<&'a Misfits>,
     /// When a campaign ends before all its trials have run.
-    ending: &'a EarlyEnd,
+    ending: &'a EarlyStop,
 }
 
 /// The systems that the arguments name.
@@ -156,8 +156,8 @@ fn answer<W: Sink, R: Runtime + Threads + Wait + Sync + AllocGlobal + Copy + Dro
     let alloc = rt.alloc();
     let Input { files: _, bytes } = input;
     match word {
-        "check" if noticed::are_written(word, words) => {
-            let notices = noticed::lines(alloc, words, &input);
+        "check" if noticed::writes_notices(word, words) => {
+            let notices = noticed::notice_lines(alloc, words, &input);
             check_json(alloc, bytes, notices.as_slice(), out)
         }
         "check" => check_text(alloc, bytes, out),
@@ -165,7 +165,7 @@ fn answer<W: Sink, R: Runtime + Threads + Wait + Sync + AllocGlobal + Copy + Dro
         "generate" => generating::generate(rt, words, bytes, out),
         "convert" => converting::convert(alloc, words, bytes, out),
         "judge" if words.get_flag("stream") => {
-            streaming::judge(rt, words, terminals, bytes, counts, out)
+            streaming::judge_standard_input(rt, words, terminals, bytes, counts, out)
         }
         "judge" => judge(rt, alloc, words, terminals.errors, input, counts, out),
         "explain" => explaining::explain(rt, words, terminals, input, out),
@@ -184,13 +184,13 @@ fn say<R: Eprint + AllocGlobal>(
     let Some((word, words)) = matches.subcommand() else {
         return;
     };
-    if words.get_flag("quiet") || noticed::are_written(word, words) {
+    if words.get_flag("quiet") || noticed::writes_notices(word, words) {
         return;
     }
     let Input { files, bytes } = input;
     match status {
-        Status::Refused => refused::report(rt, word, words, files, bytes),
-        Status::Accepted if word == "check" => warned::report(rt, files, bytes),
+        Status::Refused => refused::report_refusals(rt, word, words, files, bytes),
+        Status::Accepted if word == "check" => warned::report_warnings(rt, files, bytes),
         _ => {}
     }
 }
@@ -220,11 +220,11 @@ fn read<'a, R: Runtime + AllocGlobal>(
 ) -> Result<Vec<SourceFile<'a>>, Status> {
     let mut out = Out::new(io::writer(rt));
     let is_quiet = is_quiet(matches);
-    if let Some(name) = systems::unknown(matches) {
-        return Err(systems::refuse(rt, name, names(matches), is_quiet, &mut out));
+    if let Some(name) = systems::unknown_system(matches) {
+        return Err(systems::refuse_system(rt, name, names(matches), is_quiet, &mut out));
     }
     if streaming::is_stream(matches) && !streaming::leaves_input(names(matches)) {
-        return Err(streaming::refuse(rt, is_quiet, &mut out));
+        return Err(streaming::refuse_stream(rt, is_quiet, &mut out));
     }
     let inputs = names(matches);
     outputs::refuse_input(rt, inputs, "-o", output_name(matches), is_quiet)?;
@@ -236,7 +236,7 @@ fn read<'a, R: Runtime + AllocGlobal>(
     if let Some(("fmt", words)) = matches.subcommand() {
         return Err(formatting::lay_out(rt, words, reading));
     }
-    let files = match input::files(rt, names(matches), reading) {
+    let files = match input::read_files(rt, names(matches), reading) {
         Ok(files) => files,
         Err(why) => return Err(refuse_text(why, &mut out)),
     };
@@ -275,7 +275,7 @@ fn run_to<
     );
     say(rt, matches, status, input);
     if !is_quiet(matches) {
-        summary::report(rt, &counts);
+        summary::report_counts(rt, &counts);
     }
     status
 }
@@ -324,7 +324,7 @@ macro_rules! boxed {
 /// A system in a box, which records its misfits if there is a list for them.
 macro_rules! overheard {
     ($alloc:expr, $misfits:expr, $system:expr) => {
-        boxed!($alloc, Overheard::new($system, overheard::another(&$misfits)))
+        boxed!($alloc, Overheard::new($system, overheard::share_misfits(&$misfits)))
     };
 }
 
@@ -357,11 +357,11 @@ fn main(rt: HostRuntime) -> ExitCode {
                 output: rt.stdout().is_terminal(),
                 errors: rt.stderr().is_terminal(),
             };
-            let started = match arguments::started_with(&rt) {
+            let started = match arguments::program_arguments(&rt) {
                 Ok(started) => started,
                 Err(status) => return status.code(),
             };
-            let matches = match arguments::parsed(&rt, started.as_slice()) {
+            let matches = match arguments::parse_arguments(&rt, started.as_slice()) {
                 Ok(matches) => matches,
                 Err(status) => return status.code(),
             };
@@ -369,9 +369,11 @@ fn main(rt: HostRuntime) -> ExitCode {
                 Ok(files) => files,
                 Err(status) => return status.code(),
             };
-            let (Ok(text), Ok(notes)) = (joined(alloc, files.as_slice()), clients::notes(alloc))
-            else {
-                return refused::memory(&rt).code();
+            let (Ok(text), Ok(notes)) = (
+                joined(alloc, files.as_slice()),
+                clients::empty_notes(alloc),
+            ) else {
+                return refused::report_out_of_memory(&rt).code();
             };
             let input = Input {
                 files: files.as_slice(),
@@ -380,11 +382,11 @@ fn main(rt: HostRuntime) -> ExitCode {
             // Boxed systems are made here, since a function cannot return one.
             let misfits = overheard::misfits_of(alloc, &matches);
             let mut systems: Systems = Ok(Vec::new(alloc));
-            if let Some((wanted, count)) = systems::asked_for(&matches) {
+            if let Some((wanted, count)) = systems::chosen_systems(&matches) {
                 for worker in 0..count {
                     let system: Result<BoxedSystem, Unmade> = match wanted {
-                        Wanted::Known(known) => known_system!(rt, alloc, misfits, known),
-                        Wanted::Clients(folder) => match clients::open(
+                        ChosenSystems::Known(known) => known_system!(rt, alloc, misfits, known),
+                        ChosenSystems::Clients(folder) => match clients::open_for_worker(
                             rt,
                             &rt,
                             folder,
@@ -400,7 +402,7 @@ fn main(rt: HostRuntime) -> ExitCode {
                 }
             }
             let Ok(has_appeared) = interrupting::first_look(&rt, alloc, &matches) else {
-                return refused::memory(&rt).code();
+                return refused::report_out_of_memory(&rt).code();
             };
             let watched = match &has_appeared {
                 Some(has_appeared) => interrupting::shared_watch(alloc, &matches, has_appeared),
@@ -432,11 +434,11 @@ fn main(rt: HostRuntime) -> ExitCode {
             if let Some(stop_file) = stop_file {
                 stop_file.end(&rt);
             }
-            clients::report(&rt, &matches, &notes);
+            clients::report_client_notes(&rt, &matches, &notes);
             status.code()
         });
     match worker {
         Ok(worker) => ExitCode::from(worker.join(&rt)),
-        Err(_) => ExitCode::from(refused::memory(&rt).code()),
+        Err(_) => ExitCode::from(refused::report_out_of_memory(&rt).code()),
     }
 }

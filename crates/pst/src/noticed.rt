@@ -79,13 +79,13 @@ fn model_notices(alloc: Global, input: &Input<'_>) -> Result<Vec<u8>, AllocError
 }
 
 /// Returns whether the errors and warnings are part of the output.
-pub fn are_written(word: &str, words: &ArgMatches<'_>) -> bool {
+pub fn writes_notices(word: &str, words: &ArgMatches<'_>) -> bool {
     word == "check" && is_json(words)
 }
 
 /// Returns the objects of the errors and warnings on a model, a line each. There are no lines if the arguments forbid
 /// them, or if an allocation for them fails.
-pub fn lines(alloc: Global, words: &ArgMatches<'_>, input: &Input<'_>) -> Vec<u8> {
+pub fn notice_lines(alloc: Global, words: &ArgMatches<'_>, input: &Input<'_>) -> Vec<u8> {
     if words.get_flag("quiet") {
         return Vec::new(alloc);
     }

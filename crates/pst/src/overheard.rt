@@ -7,11 +7,11 @@ use std::alloc::Global;
 use std::sync::Arc;
 
 /// The misfits of a system, which its box and the program share.
-pub type Shared = Arc<Misfits, Global>;
+pub type SharedMisfits = Arc<Misfits, Global>;
 
 /// Returns an empty list for the misfits of `run`. `None` for other commands, if the arguments forbid messages, and if
 /// an allocation fails.
-pub fn misfits_of(alloc: Global, matches: &ArgMatches<'_>) -> Option<Shared> {
+pub fn misfits_of(alloc: Global, matches: &ArgMatches<'_>) -> Option<SharedMisfits> {
     let (word, words) = matches.subcommand()?;
     if word != "run" || words.get_flag("quiet") {
         return None;
@@ -20,12 +20,12 @@ pub fn misfits_of(alloc: Global, matches: &ArgMatches<'_>) -> Option<Shared> {
 }
 
 /// Returns another owner of the misfits, if there is a list of them.
-pub fn another(misfits: &Option<Shared>) -> Option<Shared> {
+pub fn share_misfits(misfits: &Option<SharedMisfits>) -> Option<SharedMisfits> {
     misfits.as_ref()?.clone().ok()
 }
 
 /// Compares answers from now on with the model at the beginning of `input`, if it can be loaded.
-pub fn begin(alloc: Global, misfits: &Misfits, input: &[u8]) {
+pub fn compare_with_model(alloc: Global, misfits: &Misfits, input: &[u8]) {
     if let Ok(Ok(file)) = load(alloc, input) {
         misfits.compare_with(file.typed);
     }
@@ -33,7 +33,7 @@ pub fn begin(alloc: Global, misfits: &Misfits, input: &[u8]) {
 
 /// Writes a line for each recorded misfit to standard error. If an allocation fails or the lines cannot be written, the
 /// runs and their verdicts remain without them.
-pub fn report<R: Eprint>(rt: &R, alloc: Global, misfits: &Misfits) {
+pub fn report_misfits<R: Eprint>(rt: &R, alloc: Global, misfits: &Misfits) {
     if let Ok(text) = misfits_text(alloc, misfits) {
         let _ = eprint!(rt; "{text}");
     }

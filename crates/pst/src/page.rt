@@ -22,7 +22,7 @@ pub fn file_name<'a>(matches: &ArgMatches<'a>) -> Option<&'a str> {
 
 /// The page that the arguments of a campaign choose.
 #[derive(Clone, Copy, Drop)]
-pub struct Page<'a> {
+pub struct CampaignPage<'a> {
     /// The name of its file; `None`: no page is written.
     name: Option<&'a str>,
     /// The files of the input.
@@ -30,11 +30,11 @@ pub struct Page<'a> {
     is_quiet: bool,
 }
 
-impl<'a> Page<'a> {
+impl<'a> CampaignPage<'a> {
     /// The page that the arguments choose.
-    pub fn chosen(words: &'a ArgMatches<'_>, input: Input<'a>) -> Page<'a> {
+    pub fn from_arguments(words: &'a ArgMatches<'_>, input: Input<'a>) -> CampaignPage<'a> {
         let Input { files, bytes: _ } = input;
-        Page {
+        CampaignPage {
             name: words.get_str("html"),
             files,
             is_quiet: words.get_flag("quiet"),

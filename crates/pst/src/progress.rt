@@ -117,14 +117,14 @@ impl Watch for Progress {
 
 /// What the thread that writes the line shares with the campaign.
 #[derive(Drop)]
-struct Displayed {
+struct DisplayedProgress {
     progress: Progress,
     is_over: AtomicBool,
     parker: Parker,
 }
 
 /// Writes the line again and again until the campaign is over, and takes it away then.
-fn write_lines<R: Wait + Eprint>(rt: &R, displayed: &Displayed) {
+fn write_lines<R: Wait + Eprint>(rt: &R, displayed: &DisplayedProgress) {
     let mut milliseconds = 0u64;
     for _ in rt.forever() {
         displayed
@@ -143,19 +143,19 @@ fn write_lines<R: Wait + Eprint>(rt: &R, displayed: &Displayed) {
 
 /// The progress of a campaign, and the thread that displays it on standard error, if there is one.
 #[derive(Drop)]
-pub struct Display {
-    displayed: Arc<Displayed, Global>,
+pub struct ProgressDisplay {
+    displayed: Arc<DisplayedProgress, Global>,
     thread: Option<JoinHandle<()>>,
 }
 
-impl Display {
+impl ProgressDisplay {
     /// Begins the progress of a campaign of `all` trials. From now on a line displays it, if there is a thread for it.
     pub fn begin<R: Threads + Wait + Eprint + Copy + Drop + Send + 'static>(
         rt: &R,
         alloc: Global,
         all: u64,
-    ) -> Result<Display, AllocError> {
-        let displayed = Displayed {
+    ) -> Result<ProgressDisplay, AllocError> {
+        let displayed = DisplayedProgress {
             progress: Progress::new(all),
             is_over: AtomicBool::new(false),
             parker: Parker::new(),
@@ -166,7 +166,7 @@ impl Display {
         let thread = Builder::new()
             .spawn(&rt, move || write_lines(&rt, &own))
             .ok();
-        Ok(Display { displayed, thread })
+        Ok(ProgressDisplay { displayed, thread })
     }
 
     /// The progress, which watches the campaign.
@@ -176,7 +176,7 @@ impl Display {
 
     /// Ends the thread, and waits for it.
     pub fn end<R: Threads + Wait>(self, rt: &R) {
-        let Display { displayed, thread } = self;
+        let ProgressDisplay { displayed, thread } = self;
         displayed.is_over.store(true, Ordering::SeqCst);
         displayed.parker.unpark();
         if let Some(thread) = thread {

@@ -8,7 +8,7 @@ fn is_plain(character: char) -> bool {
 }
 
 /// Adds an argument to the text of a command, between quotes if a shell would not read it as one word.
-pub fn push_word(command: &mut String, argument: &str) -> Result<(), AllocError> {
+pub fn push_shell_word(command: &mut String, argument: &str) -> Result<(), AllocError> {
     if !argument.is_empty() && argument.chars().all(|character| is_plain(character)) {
         return command.push_str(argument);
     }

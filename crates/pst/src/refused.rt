@@ -10,7 +10,7 @@ use std::io;
 use std::rt::Runtime;
 
 /// Writes `refused memory` to standard output, and returns the status that the program ends with.
-pub fn memory<R: Runtime>(rt: &R) -> Status {
+pub fn report_out_of_memory<R: Runtime>(rt: &R) -> Status {
     refuse_text(Absence::NoMemory, &mut Out::new(io::writer(rt)))
 }
 
@@ -39,7 +39,7 @@ fn report_missing_item<R: Eprint>(rt: &R, words: &ArgMatches<'_>) {
 
 /// Writes the messages on the refusals of an input to standard error, for the command `word`. If an allocation fails or
 /// a message cannot be written, the lines of the refusals and the status remain without it.
-pub fn report<R: Eprint + AllocGlobal>(
+pub fn report_refusals<R: Eprint + AllocGlobal>(
     rt: &R,
     word: &str,
     words: &ArgMatches<'_>,

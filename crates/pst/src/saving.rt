@@ -1,7 +1,7 @@
 //! Files of the failures of a campaign.
 
 use crate::input::STANDARD_INPUT;
-use crate::quoting::push_word;
+use crate::quoting::push_shell_word;
 use clap::ArgMatches;
 use pst_cli::Status;
 use pst_clients::Folder;
@@ -20,7 +20,7 @@ pub struct Saving<'a> {
 }
 
 /// A number of 64 bits that bytes have, by FNV-1a.
-fn number_of(bytes: &[u8]) -> u64 {
+fn fnv1a_hash(bytes: &[u8]) -> u64 {
     let mut number: u64 = 0xcbf2_9ce4_8422_2325;
     for byte in bytes {
         number = (number ^ *byte as u64).wrapping_mul(0x0100_0000_01b3);
@@ -29,7 +29,10 @@ fn number_of(bytes: &[u8]) -> u64 {
 }
 
 /// The arguments that name clients: what the launcher wrote into their folder, or else a word in place of their command.
-fn clients<R: Files + AllocGlobal>(rt: &R, folder: Folder<'_>) -> Result<String, AllocError> {
+fn client_arguments<R: Files + AllocGlobal>(
+    rt: &R,
+    folder: Folder<'_>,
+) -> Result<String, AllocError> {
     let alloc = rt.alloc();
     let name = folder.name;
     let file = format!(in alloc; "{name}/arguments")?;
@@ -40,27 +43,27 @@ fn clients<R: Files + AllocGlobal>(rt: &R, folder: Folder<'_>) -> Result<String,
 }
 
 /// The arguments of a command that drives cases on the systems of a campaign, before the file of the cases.
-fn command<R: Files + AllocGlobal>(
+fn command_arguments<R: Files + AllocGlobal>(
     rt: &R,
     words: &ArgMatches<'_>,
     name: &str,
 ) -> Result<String, AllocError> {
     let alloc = rt.alloc();
     let mut command = String::from_str(alloc, "pst run ")?;
-    match Folder::named(name) {
-        Some(folder) => command.push_str(clients(rt, folder)?.as_str())?,
+    match Folder::from_word(name) {
+        Some(folder) => command.push_str(client_arguments(rt, folder)?.as_str())?,
         None => command.push_str(name)?,
     }
     command.push_str(" --repeats 20 ")?;
     match words.get_strs("FILE") {
-        Some(&[model]) if model != STANDARD_INPUT => push_word(&mut command, model)?,
+        Some(&[model]) if model != STANDARD_INPUT => push_shell_word(&mut command, model)?,
         _ => command.push_str("MODEL")?,
     }
     Ok(command)
 }
 
 /// The text of a file: comments that say where the failure is from and how its case is driven again, and the run.
-fn text_of(
+fn failure_file(
     alloc: Global,
     saving: &Saving<'_>,
     file: &str,
@@ -71,7 +74,7 @@ fn text_of(
     let mut text = format!(in alloc; "; Seed {seed}, trial {number}: {verdict}\n")?;
     let mut command = saving.command.clone()?;
     command.push_str(" ")?;
-    push_word(&mut command, file)?;
+    push_shell_word(&mut command, file)?;
     if !command.as_str().contains('\n') {
         let line = format!(in alloc; "; {command}\n")?;
         text.push_str(line.as_str())?;
@@ -95,7 +98,7 @@ impl<'a> Saving<'a> {
             let _ = eprintln!(rt; "pst: cannot make {folder}: {error}");
             return Err(Status::Lost);
         }
-        match command(rt, words, name) {
+        match command_arguments(rt, words, name) {
             Ok(command) => Ok(Saving {
                 folder,
                 seed,
@@ -108,10 +111,10 @@ impl<'a> Saving<'a> {
     /// Writes the file of a failure.
     fn write<R: Files + AllocGlobal>(&self, rt: &R, numbered: &NumberedFailure) -> io::Result<()> {
         let alloc = rt.alloc();
-        let case = number_of(numbered.failure.case.as_slice());
+        let case = fnv1a_hash(numbered.failure.case.as_slice());
         let folder = self.folder;
         let file = format!(in alloc; "{folder}/failure-{case:016x}.runs")?;
-        let text = text_of(alloc, self, file.as_str(), numbered)?;
+        let text = failure_file(alloc, self, file.as_str(), numbered)?;
         std::fs::write(rt, file.as_str(), text.as_slice())
     }
 

@@ -2,7 +2,7 @@
 ghost use Rattle.std.specs.Prelude.{◌≡◌, false};
 
 use crate::input::STANDARD_INPUT;
-use crate::telling::Telling;
+use crate::telling::StepsDisplay;
 use crate::terminal::Terminals;
 use clap::ArgMatches;
 use pst_cli::{Absence, Counts, Status, judge_stream, refuse_text};
@@ -25,7 +25,7 @@ pub fn leaves_input(names: &[&str]) -> bool {
 }
 
 /// Refuses the input. Unless `is_quiet`, it writes to standard error that standard input has the items of a stream.
-pub fn refuse<W: Sink, R: Eprint>(rt: &R, is_quiet: bool, out: &mut W) -> Status
+pub fn refuse_stream<W: Sink, R: Eprint>(rt: &R, is_quiet: bool, out: &mut W) -> Status
     requires { W.broken out.old ≡ false }
 {
     if !is_quiet {
@@ -38,7 +38,7 @@ pub fn refuse<W: Sink, R: Eprint>(rt: &R, is_quiet: bool, out: &mut W) -> Status
 
 /// Judges the items of standard input, one on each line, by the model at the beginning of `input`. If standard error is a
 /// terminal, and standard output, on which the verdicts come meanwhile, is none, a line says how many are judged.
-pub fn judge<
+pub fn judge_standard_input<
     W: Sink,
     R: Threads + Wait + Sync + Input + Eprint + AllocGlobal + Copy + Drop + Send + 'static,
 >(
@@ -53,7 +53,7 @@ pub fn judge<
 {
     let alloc = rt.alloc();
     let is_told = terminals.errors && !terminals.output && !words.get_flag("quiet");
-    let Ok(telling) = Telling::begin(rt, alloc, is_told, "judged") else {
+    let Ok(telling) = StepsDisplay::begin(rt, alloc, is_told, "judged") else {
         return refuse_text(Absence::NoMemory, out);
     };
     let steps = telling.steps();

@@ -19,7 +19,11 @@ fn each_count(counts: &Counts) -> [(usize, &'static str); 9] {
 }
 
 /// Adds a number to a text, with a comma between thousands, as `16,002`.
-pub fn add_number(text: &mut String, alloc: Global, number: usize) -> Result<(), AllocError> {
+pub fn add_grouped_number(
+    text: &mut String,
+    alloc: Global,
+    number: usize,
+) -> Result<(), AllocError> {
     let digits = format!(in alloc; "{number}")?;
     let mut left = digits.len();
     for digit in digits.as_str().chars() {
@@ -43,13 +47,13 @@ fn summary_line(alloc: Global, counts: &Counts) -> Result<Option<String>, AllocE
         return Ok(None);
     }
     let mut line = String::from_str(alloc, "pst: ")?;
-    add_number(&mut line, alloc, total)?;
+    add_grouped_number(&mut line, alloc, total)?;
     line.push_str(" items")?;
     let mut before = ": ";
     for (count, word) in &each {
         if *count > 0 {
             line.push_str(before)?;
-            add_number(&mut line, alloc, *count)?;
+            add_grouped_number(&mut line, alloc, *count)?;
             line.push_str(" ")?;
             line.push_str(word)?;
             before = ", ";
@@ -60,7 +64,7 @@ fn summary_line(alloc: Global, counts: &Counts) -> Result<Option<String>, AllocE
 
 /// Writes a line to standard error that sums up the results of the items, if there is more than one item. It ignores
 /// failures.
-pub fn report<R: Eprint + AllocGlobal>(rt: &R, counts: &Counts) {
+pub fn report_counts<R: Eprint + AllocGlobal>(rt: &R, counts: &Counts) {
     if let Ok(Some(line)) = summary_line(rt.alloc(), counts) {
         let _ = eprintln!(rt; "{line}");
     }

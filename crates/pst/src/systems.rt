@@ -16,7 +16,7 @@ pub const SYSTEMS: [&str; 6] = ["counter", "racy", "stuck", "registry", "queue",
 
 /// The systems that the arguments name, one for each worker.
 #[derive(Clone, Copy, Debug, PartialEq, Eq, Drop)]
-pub enum Wanted<'a> {
+pub enum ChosenSystems<'a> {
     /// Sample systems that the program makes.
     Known(KnownSystem),
     /// Clients, whose pipes are in a folder.
@@ -33,15 +33,15 @@ pub enum Unmade {
 }
 
 /// Returns the systems with the name `name`, if there are some.
-fn named(name: &str) -> Option<Wanted<'_>> {
-    if let Some(folder) = Folder::named(name) {
-        return Some(Wanted::Clients(folder));
+fn named(name: &str) -> Option<ChosenSystems<'_>> {
+    if let Some(folder) = Folder::from_word(name) {
+        return Some(ChosenSystems::Clients(folder));
     }
-    Some(Wanted::Known(KnownSystem::named(name)?))
+    Some(ChosenSystems::Known(KnownSystem::named(name)?))
 }
 
 /// Returns the systems that the arguments name, and how many of them are needed.
-pub fn asked_for<'a>(matches: &ArgMatches<'a>) -> Option<(Wanted<'a>, u64)> {
+pub fn chosen_systems<'a>(matches: &ArgMatches<'a>) -> Option<(ChosenSystems<'a>, u64)> {
     let (word, words) = matches.subcommand()?;
     let wanted = named(words.get_str("SYSTEM")?)?;
     match word {
@@ -51,7 +51,7 @@ pub fn asked_for<'a>(matches: &ArgMatches<'a>) -> Option<(Wanted<'a>, u64)> {
 }
 
 /// Returns the name of a system in the arguments, if no system has this name.
-pub fn unknown<'a>(matches: &ArgMatches<'a>) -> Option<&'a str> {
+pub fn unknown_system<'a>(matches: &ArgMatches<'a>) -> Option<&'a str> {
     let (_, words) = matches.subcommand()?;
     let name = words.get_str("SYSTEM")?;
     if named(name).is_some() {
@@ -82,7 +82,7 @@ fn hint<R: Files + AllocGlobal>(rt: &R, name: &str) -> Result<Option<String>, Al
 
 /// Writes `refused system NAME`, or `refused file` if one of the files cannot be opened. It reads nothing. Unless
 /// `is_quiet`, a message on standard error says what is wrong; for an unknown system it lists the known ones.
-pub fn refuse<W: Sink, R: Files + Eprint + AllocGlobal>(
+pub fn refuse_system<W: Sink, R: Files + Eprint + AllocGlobal>(
     rt: &R,
     name: &str,
     files: &[&str],

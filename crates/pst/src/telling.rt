@@ -1,6 +1,6 @@
 //! A line on a terminal that says how far a command is.
 
-use crate::summary::add_number;
+use crate::summary::add_grouped_number;
 use pst_cli::Steps;
 use std::alloc::{AllocError, Global};
 use std::sync::atomic::{AtomicBool, Ordering};
@@ -13,7 +13,7 @@ const PAUSE: u64 = 250;
 
 /// What the thread that writes the line shares with the one that does the work.
 #[derive(Drop)]
-struct Told {
+struct DisplayedSteps {
     steps: Steps,
     /// What is done with an item, as `explained`.
     word: &'static str,
@@ -33,7 +33,7 @@ fn add_rest(
         return Ok(());
     };
     line.push_str(", ")?;
-    add_number(line, alloc, seconds as usize)?;
+    add_grouped_number(line, alloc, seconds as usize)?;
     line.push_str(" s left")
 }
 
@@ -48,15 +48,15 @@ fn progress_line(
     let thousands = done.saturating_mul(1000);
     let rate = thousands.checked_div(milliseconds).unwrap_or(0);
     let mut line = String::new(alloc);
-    add_number(&mut line, alloc, done as usize)?;
+    add_grouped_number(&mut line, alloc, done as usize)?;
     if let Some(all) = steps.all() {
         line.push_str(" of ")?;
-        add_number(&mut line, alloc, all as usize)?;
+        add_grouped_number(&mut line, alloc, all as usize)?;
     }
     line.push_str(" ")?;
     line.push_str(word)?;
     line.push_str(", ")?;
-    add_number(&mut line, alloc, rate as usize)?;
+    add_grouped_number(&mut line, alloc, rate as usize)?;
     line.push_str(" a second")?;
     if let Some(all) = steps.all() {
         add_rest(
@@ -71,7 +71,7 @@ fn progress_line(
 }
 
 /// Writes the line again and again until the work is over, and takes it away then.
-fn tell<R: Wait + Eprint>(rt: &R, alloc: Global, told: &Told) {
+fn display_steps<R: Wait + Eprint>(rt: &R, alloc: Global, told: &DisplayedSteps) {
     let mut milliseconds = 0u64;
     for _ in rt.forever() {
         told.parker.park_timeout(rt, Duration::from_millis(PAUSE));
@@ -90,12 +90,12 @@ fn tell<R: Wait + Eprint>(rt: &R, alloc: Global, told: &Told) {
 
 /// The steps of a command, and the thread that displays how many are done, if there is one.
 #[derive(Drop)]
-pub struct Telling {
-    told: Arc<Told, Global>,
+pub struct StepsDisplay {
+    told: Arc<DisplayedSteps, Global>,
     thread: Option<JoinHandle<()>>,
 }
 
-impl Telling {
+impl StepsDisplay {
     /// Begins the steps of a command. `word` is what is done with an item, as `explained`. From now on a line displays the
     /// steps, if it is wanted and there is a thread for it.
     pub fn begin<R: Threads + Wait + Eprint + Copy + Drop + Send + 'static>(
@@ -103,8 +103,8 @@ impl Telling {
         alloc: Global,
         is_told: bool,
         word: &'static str,
-    ) -> Result<Telling, AllocError> {
-        let told = Told {
+    ) -> Result<StepsDisplay, AllocError> {
+        let told = DisplayedSteps {
             steps: Steps::new(),
             word,
             is_over: AtomicBool::new(false),
@@ -112,14 +112,14 @@ impl Telling {
         };
         let told = Arc::new(alloc, told)?;
         if !is_told {
-            return Ok(Telling { told, thread: None });
+            return Ok(StepsDisplay { told, thread: None });
         }
         let own = Arc::try_clone(&told)?;
         let rt = *rt;
         let thread = Builder::new()
-            .spawn(&rt, move || tell(&rt, alloc, &own))
+            .spawn(&rt, move || display_steps(&rt, alloc, &own))
             .ok();
-        Ok(Telling { told, thread })
+        Ok(StepsDisplay { told, thread })
     }
 
     /// The steps.
@@ -129,7 +129,7 @@ impl Telling {
 
     /// Ends the thread, and waits for it.
     pub fn end<R: Threads + Wait>(self, rt: &R) {
-        let Telling { told, thread } = self;
+        let StepsDisplay { told, thread } = self;
         told.is_over.store(true, Ordering::SeqCst);
         told.parker.unpark();
         if let Some(thread) = thread {

@@ -65,7 +65,7 @@ pub fn has_colors<R: Env + AllocGlobal>(rt: &R, words: &ArgMatches<'_>, is_termi
 }
 
 /// The width of lines that the environment gives by `COLUMNS`, if it does.
-fn columns<R: Env + AllocGlobal>(rt: &R) -> Option<u64> {
+fn environment_width<R: Env + AllocGlobal>(rt: &R) -> Option<u64> {
     let text = env::var(rt, "COLUMNS").ok()?;
     text.as_str()
         .parse::<u64>()
@@ -74,9 +74,9 @@ fn columns<R: Env + AllocGlobal>(rt: &R) -> Option<u64> {
 }
 
 /// The width of lines: as the arguments say, or else `COLUMNS`, or 80.
-pub fn width<R: Env + AllocGlobal>(rt: &R, words: &ArgMatches<'_>) -> usize {
+pub fn line_width<R: Env + AllocGlobal>(rt: &R, words: &ArgMatches<'_>) -> usize {
     let asked: Option<u64> = words.get_one("width");
-    match asked.or(columns(rt)) {
+    match asked.or(environment_width(rt)) {
         Some(width) => width.clamp(LEAST_WIDTH, MOST_WIDTH) as usize,
         None => WIDTH,
     }

@@ -5,7 +5,7 @@ use pst_warnings::warnings_of;
 
 /// Writes the warnings on an input to standard error. If an allocation fails or they cannot be written, the line and
 /// the status remain without them.
-pub fn report<R: Eprint + AllocGlobal>(rt: &R, files: &[SourceFile<'_>], input: &[u8]) {
+pub fn report_warnings<R: Eprint + AllocGlobal>(rt: &R, files: &[SourceFile<'_>], input: &[u8]) {
     if let Ok(Some(warnings)) = warnings_of(rt.alloc(), files, input) {
         let _ = eprint!(rt; "{warnings}");
     }

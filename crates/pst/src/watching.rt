@@ -1,17 +1,17 @@
 //! Several watchers of a campaign.
 
-use pst_campaign::{Ending, Watch};
+use pst_campaign::{StopCondition, Watch};
 use pst_ledger::Cause;
 use pst_trial::{Record, Shrinking};
 
 /// Two watchers of a campaign.
 #[derive(Clone, Copy, Drop)]
-pub struct Both<'a, J, K> {
+pub struct BothWatchers<'a, J, K> {
     pub first: &'a J,
     pub second: &'a K,
 }
 
-impl<'a, J: Watch, K: Watch> Watch for Both<'a, J, K> {
+impl<'a, J: Watch, K: Watch> Watch for BothWatchers<'a, J, K> {
     fn trial_ended(&self, ended: &Result<Record, Cause>) {
         self.first.trial_ended(ended);
         self.second.trial_ended(ended);
@@ -30,7 +30,7 @@ impl<'a, J: Watch, K: Watch> Watch for Both<'a, J, K> {
     }
 }
 
-impl<'a, J: Watch, K: Ending> Ending for Both<'a, J, K> {
+impl<'a, J: Watch, K: StopCondition> StopCondition for BothWatchers<'a, J, K> {
     ghost may_end = { λ b. K.may_end b.second.now };
 
     fn is_over(&self) -> bool {

@@ -5,7 +5,9 @@ mod plan;
 
 use crate::{converting, explaining, formatting, help, page};
 use clap::Command;
-pub use options::{failures, files, is_json, output, quiet, starts_clients};
+pub use options::{
+    failures_option, files_argument, is_json, output_option, quiet_option, starts_clients,
+};
 pub use plan::{case_settings, settings};
 use std::alloc::{AllocError, Global};
 
@@ -13,9 +15,9 @@ use std::alloc::{AllocError, Global};
 fn with_file<'a>(alloc: Global, name: &'a str, about: &'a str) -> Result<Command<'a>, AllocError> {
     Command::new(alloc, name)
         .about(about)
-        .arg(options::file(alloc))?
-        .arg(output(alloc))?
-        .arg(quiet(alloc))
+        .arg(options::file_argument(alloc))?
+        .arg(output_option(alloc))?
+        .arg(quiet_option(alloc))
 }
 
 /// `check`, with the file of a model.
@@ -46,14 +48,14 @@ fn judge_command<'a>(alloc: Global) -> Result<Command<'a>, AllocError> {
     Command::new(alloc, "judge")
         .about("Judges cases and recorded runs: prints a verdict for each")
         .after_help(help::JUDGE)
-        .arg(files(alloc))?
-        .arg(options::keep_going(alloc))?
-        .arg(options::all_messages(alloc))?
-        .arg(failures(alloc))?
+        .arg(files_argument(alloc))?
+        .arg(options::keep_going_option(alloc))?
+        .arg(options::all_messages_option(alloc))?
+        .arg(failures_option(alloc))?
         .arg(options::format_option(alloc))?
-        .arg(options::stream(alloc)?)?
-        .arg(output(alloc))?
-        .arg(quiet(alloc))
+        .arg(options::stream_option(alloc)?)?
+        .arg(output_option(alloc))?
+        .arg(quiet_option(alloc))
 }
 
 /// `run`, with a system or a client.
@@ -63,12 +65,12 @@ fn run_command<'a>(alloc: Global) -> Result<Command<'a>, AllocError> {
         .override_usage(help::RUN_USAGE)
         .after_help(help::RUN);
     options::with_client(alloc, command)?
-        .arg(options::branches(alloc)?)?
-        .arg(files(alloc))?
-        .arg(options::repeats(alloc))?
+        .arg(options::branches_option(alloc)?)?
+        .arg(files_argument(alloc))?
+        .arg(options::repeats_option(alloc))?
         .arg(options::format_option(alloc))?
-        .arg(output(alloc))?
-        .arg(quiet(alloc))
+        .arg(output_option(alloc))?
+        .arg(quiet_option(alloc))
 }
 
 /// `campaign`, with a system or a client, and the numbers of its plan.
@@ -79,15 +81,15 @@ fn campaign_command<'a>(alloc: Global) -> Result<Command<'a>, AllocError> {
         )
         .override_usage(help::CAMPAIGN_USAGE)
         .after_help(help::CAMPAIGN);
-    let command = options::with_client(alloc, command)?.arg(options::file(alloc))?;
+    let command = options::with_client(alloc, command)?.arg(options::file_argument(alloc))?;
     plan::with_numbers(alloc, command)?
-        .arg(options::max_failures(alloc))?
-        .arg(options::stop_file(alloc))?
-        .arg(options::save(alloc))?
+        .arg(options::max_failures_option(alloc))?
+        .arg(options::stop_file_option(alloc))?
+        .arg(options::save_option(alloc))?
         .arg(options::format_option(alloc))?
         .arg(page::html_option(alloc))?
-        .arg(output(alloc))?
-        .arg(quiet(alloc))
+        .arg(output_option(alloc))?
+        .arg(quiet_option(alloc))
 }
 
 /// `generate`, with the numbers that choose cases.
@@ -95,11 +97,11 @@ fn generate_command<'a>(alloc: Global) -> Result<Command<'a>, AllocError> {
     let command = Command::new(alloc, "generate")
         .about("Generates the cases of a campaign: prints one on each line")
         .after_help(help::GENERATE)
-        .arg(options::file(alloc))?;
+        .arg(options::file_argument(alloc))?;
     plan::with_case_numbers(alloc, command)?
         .arg(options::format_option(alloc))?
-        .arg(output(alloc))?
-        .arg(quiet(alloc))
+        .arg(output_option(alloc))?
+        .arg(quiet_option(alloc))
 }
 
 /// Adds the commands whose input is a model.

@@ -4,7 +4,7 @@ ghost use Rattle.std.specs.Arc.{arc_value};
 ghost use Rattle.pst_campaign.specs.Entries.{MayGive};
 ghost use Rattle.pst_campaign.specs.Working.{AllGiven, AllGivenUnless, HasWorkers, IsCampaignFault};
 
-use crate::ending::{Ending, ToTheEnd};
+use crate::ending::{NeverStops, StopCondition};
 use crate::fault::CampaignFault;
 use crate::plans::Watched;
 use crate::runner::TrialRunner;
@@ -71,12 +71,12 @@ pub fn campaign<K: Watch + Sync, H: Threads + Wait + Sync>(
         systems.items) }
     ensures fault { IfErr result (IsCampaignFault (length systems.items)) }
 {
-    campaign_until(rt, alloc, plan, systems, &ToTheEnd { watch })
+    campaign_until(rt, alloc, plan, systems, &NeverStops { watch })
 }
 
 /// Does what [`campaign`] does until `ending` says that the campaign is over: no worker draws a number from then on, trials that
 /// have begun are run to their end, and the numbers that were not drawn are `Undrawn`.
-pub fn campaign_until<K: Ending + Sync, H: Threads + Wait + Sync>(
+pub fn campaign_until<K: StopCondition + Sync, H: Threads + Wait + Sync>(
     rt: &H,
     alloc: Global,
     plan: Arc<Plan>,

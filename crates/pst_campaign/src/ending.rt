@@ -8,7 +8,7 @@ use std::sync::Arc;
 use std::sync::atomic::{AtomicBool, AtomicU64, Ordering};
 
 /// One who watches a campaign, and says whether it is over.
-pub trait Ending: Watch {
+pub trait StopCondition: Watch {
     ghost use Rattle.std.specs.Prelude.{IsTrue};
 
     /// That it may end a campaign before all numbers are drawn.
@@ -21,11 +21,11 @@ pub trait Ending: Watch {
 
 /// One who watches a campaign whose trials all run.
 #[derive(Clone, Copy, Drop)]
-pub struct ToTheEnd<'a, K> {
+pub struct NeverStops<'a, K> {
     pub watch: &'a K,
 }
 
-impl<'a, K: Watch> Watch for ToTheEnd<'a, K> {
+impl<'a, K: Watch> Watch for NeverStops<'a, K> {
     fn trial_ended(&self, ended: &Result<Record, Cause>) {
         self.watch.trial_ended(ended);
     }
@@ -39,7 +39,7 @@ impl<'a, K: Watch> Watch for ToTheEnd<'a, K> {
     }
 }
 
-impl<'a, K: Watch> Ending for ToTheEnd<'a, K> {
+impl<'a, K: Watch> StopCondition for NeverStops<'a, K> {
     ghost may_end = { λ _. ⊥ };
 
     fn is_over(&self) -> bool {
@@ -49,7 +49,7 @@ impl<'a, K: Watch> Ending for ToTheEnd<'a, K> {
 
 /// Ends a campaign once some of its trials did not pass, or when it is interrupted.
 #[derive(Drop)]
-pub struct EarlyEnd {
+pub struct EarlyStop {
     /// How many trials that did not pass end the campaign, if there is a limit.
     most: Option<u64>,
     /// How many did not pass so far.
@@ -58,15 +58,15 @@ pub struct EarlyEnd {
     interrupted: Option<Arc<AtomicBool>>,
 }
 
-impl EarlyEnd {
+impl EarlyStop {
     ghost use Rattle.std.specs.Prelude.{◌≡◌, IsTrue, IsSome};
 
     /// The end of a campaign in which no trial has ended.
-    pub fn new(most: Option<u64>, interrupted: Option<Arc<AtomicBool>>) -> EarlyEnd
+    pub fn new(most: Option<u64>, interrupted: Option<Arc<AtomicBool>>) -> EarlyStop
         ensures limit { result.most ≡ most }
         ensures interrupt { result.interrupted ≡ interrupted }
     {
-        EarlyEnd {
+        EarlyStop {
             most,
             failures: AtomicU64::new(0),
             interrupted,
@@ -95,17 +95,17 @@ impl EarlyEnd {
 }
 
 /// Whether the record is one of a trial that did not pass.
-fn has_failed(record: &Record) -> bool {
+fn did_not_pass(record: &Record) -> bool {
     match record.outcome() {
         TrialOutcome::Passed { .. } => false,
         TrialOutcome::Failed { .. } | TrialOutcome::GenFaulted(_) => true,
     }
 }
 
-impl Watch for EarlyEnd {
+impl Watch for EarlyStop {
     fn trial_ended(&self, ended: &Result<Record, Cause>) {
         if let Ok(record) = ended
-            && has_failed(record)
+            && did_not_pass(record)
         {
             self.failures.fetch_add(1, Ordering::SeqCst);
         }
@@ -114,7 +114,7 @@ impl Watch for EarlyEnd {
     fn campaign_ended(&self) {}
 }
 
-impl Ending for EarlyEnd {
+impl StopCondition for EarlyStop {
     ghost use Rattle.std.specs.Prelude.{◌⊎◌, IsSome};
 
     ghost may_end = { λ e. IsSome e.most ⊎ IsSome e.interrupted };

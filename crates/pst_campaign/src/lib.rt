@@ -11,7 +11,7 @@ mod watch;
 mod working;
 
 pub use campaigns::{campaign, campaign_until};
-pub use ending::{EarlyEnd, Ending, ToTheEnd};
+pub use ending::{EarlyStop, NeverStops, StopCondition};
 pub use fault::CampaignFault;
 pub use watch::{Unwatched, Watch};
 pub use working::work;

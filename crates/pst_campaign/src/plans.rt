@@ -5,7 +5,7 @@ ghost use Rattle.pst_campaign.specs.Entries.{MayGive, cause_of};
 ghost use Rattle.pst_ledger.specs.declared.entry.Entry.TheVariants.{Done, Lost};
 ghost use Rattle.pst_system.specs.Kept.{AreKept};
 
-use crate::ending::Ending;
+use crate::ending::StopCondition;
 use crate::runner::TrialRunner;
 use pst_ledger::Cause;
 use pst_system::{BoxedSystem, System};
@@ -57,7 +57,7 @@ pub(crate) struct Watched<'a, K> {
     pub watch: &'a K,
 }
 
-impl<'a, K: Ending> TrialRunner<Record, BoxedSystem> for Watched<'a, K> {
+impl<'a, K: StopCondition> TrialRunner<Record, BoxedSystem> for Watched<'a, K> {
     ghost use Rattle.std.specs.Arc.{arc_value};
     ghost use Rattle.pst_campaign.specs.Moving.{gives_before};
     ghost use Rattle.pst_campaign.specs.Entries.{MayGive};

@@ -6,7 +6,7 @@ ghost use Rattle.pst_campaign.specs.Workers.{IsFresh, IsMarked, IsWorked};
 ghost use Rattle.pst_campaign.specs.Working.{Adds};
 ghost use Rattle.pst_system.specs.Kept.{AreKept};
 
-use crate::ending::ToTheEnd;
+use crate::ending::NeverStops;
 use crate::plans::Watched;
 use crate::runner::TrialRunner;
 use crate::watch::Unwatched;
@@ -98,7 +98,7 @@ pub fn work<H: Threads + Wait + Sync>(
     may_share_records();
     let watched = Watched {
         plan,
-        watch: &ToTheEnd { watch: &Unwatched },
+        watch: &NeverStops { watch: &Unwatched },
     };
     work_with(rt, alloc, &watched, ledger, seat, system)
 }

@@ -17,7 +17,7 @@ use crate::notes::CampaignNotes;
 use crate::output::{Output, send};
 use crate::refusal::refusal_output;
 use crate::status::Status;
-use pst_campaign::{CampaignFault, Ending, ToTheEnd, Watch, campaign_until};
+use pst_campaign::{CampaignFault, NeverStops, StopCondition, Watch, campaign_until};
 use pst_ledger::Closed;
 use pst_model::Typed;
 use pst_report::{CampaignStatus, ended_status, report};
@@ -97,7 +97,7 @@ fn plan_of(alloc: Global, typed: Typed, settings: Settings) -> Result<Arc<Plan>,
 }
 
 /// Runs the trials of a model, and returns the report, or the line that says why the campaign did not start.
-fn output_for<K: Ending + Sync, R: Threads + Wait + Sync>(
+fn output_for<K: StopCondition + Sync, R: Threads + Wait + Sync>(
     rt: &R,
     alloc: Global,
     typed: Typed,
@@ -120,7 +120,7 @@ fn output_for<K: Ending + Sync, R: Threads + Wait + Sync>(
 }
 
 /// The output for the model at the start of the input, or the first refusal.
-fn campaign_output<K: Ending + Sync, R: Threads + Wait + Sync>(
+fn campaign_output<K: StopCondition + Sync, R: Threads + Wait + Sync>(
     rt: &R,
     alloc: Global,
     input: &[u8],
@@ -170,13 +170,13 @@ pub fn campaign_text<W: Sink, K: Watch + Sync, R: Threads + Wait + Sync>(
         (W.taken sink.old) (W.taken sink.new) (W.broken sink.new) result }
 {
     let mut notes = CampaignNotes::new();
-    campaign_noting(
+    campaign_with_notes(
         rt,
         alloc,
         input,
         settings,
         systems,
-        &ToTheEnd { watch },
+        &NeverStops { watch },
         &mut notes,
         sink,
     )
@@ -185,7 +185,7 @@ pub fn campaign_text<W: Sink, K: Watch + Sync, R: Threads + Wait + Sync>(
 /// Does what [`campaign_text`] does until `watch` says that the campaign is over, and notes what is wanted beside the report.
 /// If the campaign ends early, the status is `Failed` if a trial did not pass and none is lost, and else `Lost`. If an
 /// allocation fails, notes may be missing.
-pub fn campaign_noting<W: Sink, K: Ending + Sync, R: Threads + Wait + Sync>(
+pub fn campaign_with_notes<W: Sink, K: StopCondition + Sync, R: Threads + Wait + Sync>(
     rt: &R,
     alloc: Global,
     input: &[u8],

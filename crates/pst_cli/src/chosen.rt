@@ -32,7 +32,7 @@ impl Chosen {
 }
 
 /// Whether the judged items have an item `number`, from 1.
-pub(crate) fn is_item(number: usize, all: &[Judged]) -> bool
+pub(crate) fn has_item(number: usize, all: &[Judged]) -> bool
     ensures { IsTrue result ↔ IsItem number all.now }
 {
     1 <= number && number <= all.len()

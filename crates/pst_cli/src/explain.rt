@@ -6,7 +6,7 @@ ghost use Rattle.pst_cli.specs.Sending.{Prints};
 ghost use Rattle.pst_judge.specs.Judgement.{IsJudgement};
 ghost use Rattle.pst_runs.specs.Lawful.{AreLawful, IsLawful};
 
-use crate::chosen::{Chosen, is_item, refused_item};
+use crate::chosen::{Chosen, has_item, refused_item};
 use crate::form::ExplanationForm;
 use crate::judge::status_of;
 use crate::judged::{JudgedFile, joined, judged_file};
@@ -25,7 +25,7 @@ use std::thread::Threads;
 
 /// What to explain of an input, and in which form.
 #[derive(Clone, Copy, Drop)]
-pub struct Explaining<'a> {
+pub struct ExplainOptions<'a> {
     /// The files of the input; none if it is one text.
     pub files: &'a [SourceFile<'a>],
     /// Which items to explain.
@@ -61,7 +61,7 @@ fn with_item(
 }
 
 /// How many of the judged items are explained.
-fn chosen_count(asked: Explaining<'_>, all: &[Judged]) -> usize {
+fn chosen_count(asked: ExplainOptions<'_>, all: &[Judged]) -> usize {
     let mut count = 0usize;
     for (index, judged) in all.iter().enumerate() {
         if asked.chosen.includes(index + 1, judged) {
@@ -75,7 +75,7 @@ fn chosen_count(asked: Explaining<'_>, all: &[Judged]) -> usize {
 fn explanations(
     alloc: Global,
     compiled: &Compiled,
-    asked: Explaining<'_>,
+    asked: ExplainOptions<'_>,
     places: &[TreePlace<'_>],
     runs: &[Run],
     all: &[Judged],
@@ -117,7 +117,7 @@ fn explanations(
 fn chosen_output(
     alloc: Global,
     compiled: &Compiled,
-    asked: Explaining<'_>,
+    asked: ExplainOptions<'_>,
     places: &[TreePlace<'_>],
     runs: &[Run],
     all: &[Judged],
@@ -128,7 +128,7 @@ fn chosen_output(
     ensures { IfOk result (λ output. IsExplanation asked.entry.chosen all.now output.text.items output.status) }
 {
     if let Chosen::Item(number) = asked.chosen {
-        if !is_item(number, all) {
+        if !has_item(number, all) {
             return refused_item(alloc, number, all.len());
         }
     }
@@ -143,7 +143,7 @@ fn explain_output<R: Threads + Sync>(
     rt: &R,
     alloc: Global,
     input: &[u8],
-    asked: Explaining<'_>,
+    asked: ExplainOptions<'_>,
     steps: &Steps,
 ) -> Result<Output, AllocError>
     ensures { IfOk result (λ output. IsExplainOutput input.now asked.entry.chosen output.text.items output.status) }
@@ -179,7 +179,7 @@ pub fn explain_text<W: Sink, R: Threads + Sync>(
     rt: &R,
     alloc: Global,
     input: &[u8],
-    asked: Explaining<'_>,
+    asked: ExplainOptions<'_>,
     sink: &mut W,
 ) -> Status
     requires { W.broken sink.old ≡ false }
@@ -194,7 +194,7 @@ pub fn explain_counting<W: Sink, R: Threads + Sync>(
     rt: &R,
     alloc: Global,
     input: &[u8],
-    asked: Explaining<'_>,
+    asked: ExplainOptions<'_>,
     steps: &Steps,
     sink: &mut W,
 ) -> Status

@@ -50,7 +50,7 @@ fn has_run(failures: &[TrialFailure], taken: &Taken<JudgedRun>) -> bool {
 }
 
 /// The run that the case of a trial was shrunk to, if the trial failed.
-fn last_run(entry: &Entry<Record>) -> Option<&Taken<JudgedRun>> {
+fn shrunk_run(entry: &Entry<Record>) -> Option<&Taken<JudgedRun>> {
     match entry {
         Entry::Done(record) => match record.outcome() {
             TrialOutcome::Failed { earlier: _, shrunk } => Some(&shrunk.last),
@@ -62,7 +62,7 @@ fn last_run(entry: &Entry<Record>) -> Option<&Taken<JudgedRun>> {
 
 impl CampaignFailures {
     /// The failures of a campaign.
-    pub(crate) fn of(
+    pub(crate) fn from_entries(
         alloc: Global,
         plan: &Plan,
         entries: &[Entry<Record>],
@@ -70,7 +70,7 @@ impl CampaignFailures {
         let mut each: Vec<TrialFailure> = Vec::new(alloc);
         let mut failed = 0u64;
         for (trial, entry) in entries.iter().enumerate() {
-            let Some(taken) = last_run(entry) else {
+            let Some(taken) = shrunk_run(entry) else {
                 continue;
             };
             failed = failed.saturating_add(1);

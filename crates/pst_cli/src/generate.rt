@@ -198,7 +198,7 @@ fn refusal_in(alloc: Global, form: ItemForm, refusal: &Refusal) -> Result<Output
 }
 
 /// Writes that an allocation failed, and returns the status.
-fn send_memory<W: Sink>(form: ItemForm, sink: &mut W) -> Status
+fn send_out_of_memory<W: Sink>(form: ItemForm, sink: &mut W) -> Status
     requires { W.broken sink.old ≡ false }
     ensures { Sends (W.taken sink.old) (W.taken sink.new) (W.broken sink.new) result (memory_in form) Lost }
 {
@@ -240,18 +240,18 @@ pub fn generate_text<W: Sink, R: Threads + Sync>(
         Ok(Err(refusal)) => {
             return match refusal_in(alloc, form, &refusal) {
                 Ok(output) => send(output.text.as_slice(), output.status, sink),
-                Err(AllocError) => send_memory(form, sink),
+                Err(AllocError) => send_out_of_memory(form, sink),
             };
         }
-        Err(AllocError) => return send_memory(form, sink),
+        Err(AllocError) => return send_out_of_memory(form, sink),
     };
     let Ok(plan) = Plan::new(alloc, typed, settings) else {
-        return send_memory(form, sink);
+        return send_out_of_memory(form, sink);
     };
     match write_cases(rt, alloc, &plan, form, first, first + count, sink) {
         Ok(status) => status,
-        Err(Cut::Unread) => send_memory(form, sink),
-        Err(Cut::NoMemory) => send_memory(form, sink),
+        Err(Cut::Unread) => send_out_of_memory(form, sink),
+        Err(Cut::NoMemory) => send_out_of_memory(form, sink),
         Err(Cut::Unwritten) => Status::Lost,
     }
 }

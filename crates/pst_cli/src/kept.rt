@@ -16,7 +16,7 @@ pub(crate) enum Keep {
 }
 
 /// Whether the precondition of an operation is another expression than `true`.
-fn asks_precondition(item: &Item) -> bool {
+fn has_precondition(item: &Item) -> bool {
     match item {
         Item::Op(op) => !matches!(&op.pre, Expr::Bool(true)),
         _ => false,
@@ -32,7 +32,7 @@ impl Keep {
             Keep::All => true,
             Keep::ForWarnings => {
                 let items = typed.source().items.as_slice();
-                items.iter().any(|item| asks_precondition(item))
+                items.iter().any(|item| has_precondition(item))
             }
             Keep::Nothing => false,
         }

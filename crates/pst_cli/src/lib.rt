@@ -37,13 +37,13 @@ mod status;
 mod stream;
 
 pub use absent::{Absence, refuse_text};
-pub use campaign::{campaign_noting, campaign_text};
+pub use campaign::{campaign_text, campaign_with_notes};
 pub use check::check_text;
 pub use chosen::Chosen;
 pub use compiled::CompiledFile;
 pub use convert::{ItemForm, convert_text};
 pub use counts::Counts;
-pub use explain::{Explaining, explain_counting, explain_text};
+pub use explain::{ExplainOptions, explain_counting, explain_text};
 pub use explained_run::explain_run;
 pub use failure_page::{CampaignFailures, campaign_page};
 pub use form::ExplanationForm;

@@ -65,7 +65,7 @@ impl CampaignNotes {
         add_failure(alloc, &mut fields, plan, entries)?;
         self.report = Some(fields);
         if self.for_page {
-            self.explained = Some(CampaignFailures::of(alloc, plan, entries)?);
+            self.explained = Some(CampaignFailures::from_entries(alloc, plan, entries)?);
         }
         if self.for_files {
             self.saved = Some(distinct_failures(alloc, entries)?);

@@ -3,8 +3,8 @@ use Rattle.std.specs.Prelude.{◌≡◌, ℕ, nat_eq, Bool, true, false, List, O
 use Rattle.std.specs.List.{starts_with}
 use Rattle.json.specs.Json.{Json, document}
 use Rattle.json.specs.Strict.{HasUniqueKeys}
-use Rattle.pst_clients.specs.declared.answers.Answer.{Answer}
-use Rattle.pst_clients.specs.declared.answers.Answer.TheVariants as answer
+use Rattle.pst_clients.specs.declared.answers.ClientAnswer.{ClientAnswer}
+use Rattle.pst_clients.specs.declared.answers.ClientAnswer.TheVariants as answer
 use Rattle.pst_json_runs.specs.Reading.{value_in}
 use Rattle.pst_system.specs.declared.call.RealCall.{RealCall}
 use Rattle.pst_value.specs.declared.ty.Ty.{Ty}
@@ -19,7 +19,7 @@ abbrev pub says_failed : List ℕ → Bool
 says_failed line = starts_with nat_eq line (codes "failed")
 
 -- what a line answers to a call whose result is wanted to have the type
-abbrev pub IsAnswer : Option Ty → List ℕ → Answer → Type 0
+abbrev pub IsAnswer : Option Ty → List ℕ → ClientAnswer → Type 0
 IsAnswer t line (answer.Value v) = Spells t line v
 IsAnswer t line answer.Failed = says_failed line ≡ true
 IsAnswer t line answer.NoValue = (says_failed line ≡ false) × ((v : Value) → ¬ Spells t line v)

@@ -9,7 +9,7 @@ use std::alloc::{AllocError, Global};
 
 /// What a line answers.
 #[derive(Debug, PartialEq, Eq, Drop)]
-pub enum Answer {
+pub enum ClientAnswer {
     Value(Value),
     /// The client says that the call failed.
     Failed,
@@ -18,20 +18,20 @@ pub enum Answer {
 }
 
 /// What a line means as the answer to a call whose result has type `ty`, if that is known.
-pub fn answer_of(alloc: Global, ty: Option<&Ty>, line: &str) -> Result<Answer, AllocError>
+pub fn answer_of(alloc: Global, ty: Option<&Ty>, line: &str) -> Result<ClientAnswer, AllocError>
     ensures { IfOk result (λ answer. IsAnswer (option_copied ty.entry) line.now answer) }
 {
     if line.as_bytes().starts_with(b"failed") {
-        return Ok(Answer::Failed);
+        return Ok(ClientAnswer::Failed);
     }
     let mut scratch = Scratch::new(alloc);
     match Json::parse_strict(alloc, line, &mut scratch) {
         Ok(json) => match value_in(alloc, ty, &json)? {
-            Some(value) => Ok(Answer::Value(value)),
-            None => Ok(Answer::NoValue),
+            Some(value) => Ok(ClientAnswer::Value(value)),
+            None => Ok(ClientAnswer::NoValue),
         },
         Err(Error::OutOfMemory) => Err(AllocError),
-        Err(Error::Invalid | Error::DuplicateKey) => Ok(Answer::NoValue),
+        Err(Error::Invalid | Error::DuplicateKey) => Ok(ClientAnswer::NoValue),
         Err(Error::TooLong) => unreachable!(),
     }
 }

@@ -2,10 +2,10 @@
 ghost use Rattle.std.specs.Prelude.{◌≡◌, ⊤, IfOk};
 ghost use Rattle.pst_clients.specs.Answering.{Answered};
 
-use crate::answers::{Answer, answer_of};
+use crate::answers::{ClientAnswer, answer_of};
 use crate::calls::call_line;
 use crate::connection::{Connection, LostAnswer, State};
-use crate::notes::{Client, Kind, Notes, Wrong};
+use crate::notes::{BadLine, ClientId, NoteKind, Notes};
 use pst_system::{CallFault, RealCall, System};
 use pst_value::{Items, Ty, Value};
 use std::alloc::{AllocError, Global};
@@ -117,16 +117,16 @@ impl<R: Wait, I: Read + Drop, O: Write + Drop> Clients<R, I, O> {
     }
 
     /// A branch's client.
-    fn client(&self, branch: u32) -> Client {
-        Client {
+    fn client(&self, branch: u32) -> ClientId {
+        ClientId {
             worker: self.worker,
             branch,
         }
     }
 
     /// Notes what went wrong with a line for a branch's client.
-    fn note(&self, branch: u32, kind: Kind, line: &[u8], answer: &str, hint: &'static str) {
-        let wrong = Wrong {
+    fn note(&self, branch: u32, kind: NoteKind, line: &[u8], answer: &str, hint: &'static str) {
+        let wrong = BadLine {
             kind,
             line,
             answer,
@@ -138,11 +138,11 @@ impl<R: Wait, I: Read + Drop, O: Write + Drop> Clients<R, I, O> {
     /// Notes why a line was not answered.
     fn note_lost(&self, branch: u32, line: &[u8], lost: &LostAnswer) {
         let (kind, why) = match lost {
-            LostAnswer::NoClient => (Kind::NotAsked, "this branch has no client (--branches)"),
-            LostAnswer::Ended(how) => (Kind::NotAnswered, how.as_str()),
-            LostAnswer::Closed => (Kind::NotAnswered, "the client has gone"),
-            LostAnswer::TooLong => (Kind::NotAnswered, "the line is longer than 1 MiB"),
-            LostAnswer::NoText => (Kind::NoValue, "no UTF-8"),
+            LostAnswer::NoClient => (NoteKind::NotAsked, "this branch has no client (--branches)"),
+            LostAnswer::Ended(how) => (NoteKind::NotAnswered, how.as_str()),
+            LostAnswer::Closed => (NoteKind::NotAnswered, "the client has gone"),
+            LostAnswer::TooLong => (NoteKind::NotAnswered, "the line is longer than 1 MiB"),
+            LostAnswer::NoText => (NoteKind::NoValue, "no UTF-8"),
             LostAnswer::NoMemory => return,
         };
         self.note(branch, kind, line, why, "")
@@ -186,7 +186,7 @@ impl<R: Wait, I: Read + Drop, O: Write + Drop> Clients<R, I, O> {
             }
         };
         if answer.as_bytes().starts_with(b"failed") {
-            self.note(branch, Kind::Failed, line, answer.as_str(), "");
+            self.note(branch, NoteKind::Failed, line, answer.as_str(), "");
             return Err(CallFault::Refused);
         }
         Ok(())
@@ -196,7 +196,7 @@ impl<R: Wait, I: Read + Drop, O: Write + Drop> Clients<R, I, O> {
     fn note_misfit(&self, branch: u32, line: &[u8], text: &str, value: &Value, ty: Option<&Ty>) {
         if let Some(ty) = ty {
             if !value.has_type(ty, &[], &[]) {
-                self.note(branch, Kind::Misfit, line, text, type_hint(ty))
+                self.note(branch, NoteKind::Misfit, line, text, type_hint(ty))
             }
         }
     }
@@ -212,16 +212,16 @@ impl<R: Wait, I: Read + Drop, O: Write + Drop> Clients<R, I, O> {
         let (line, text) = (line.as_slice(), text.as_str());
         let ty = self.results.get(call.op as usize);
         match answer_of(self.alloc, ty, text) {
-            Ok(Answer::Value(value)) => {
+            Ok(ClientAnswer::Value(value)) => {
                 self.note_misfit(branch, line, text, &value, ty);
                 Ok(value)
             }
-            Ok(Answer::Failed) => {
-                self.note(branch, Kind::Failed, line, text, "");
+            Ok(ClientAnswer::Failed) => {
+                self.note(branch, NoteKind::Failed, line, text, "");
                 Err(CallFault::Refused)
             }
-            Ok(Answer::NoValue) => {
-                self.note(branch, Kind::NoValue, line, text, value_hint(text));
+            Ok(ClientAnswer::NoValue) => {
+                self.note(branch, NoteKind::NoValue, line, text, value_hint(text));
                 Err(CallFault::Refused)
             }
             Err(AllocError) => Err(CallFault::NoMemory),

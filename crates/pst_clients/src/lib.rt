@@ -13,7 +13,7 @@ mod opening;
 mod types;
 mod waits;
 
-pub use answers::{Answer, answer_of};
+pub use answers::{ClientAnswer, answer_of};
 pub use calls::call_line;
 pub use clients::Clients;
 pub use connection::{Connection, LostAnswer, MAX_LINE, State};

@@ -13,7 +13,7 @@ const MOST_SHOWN: usize = 100;
 
 /// What went wrong with a line for a client.
 #[derive(Clone, Copy, Debug, PartialEq, Eq, Drop)]
-pub(crate) enum Kind {
+pub(crate) enum NoteKind {
     NotAsked,
     NotAnswered,
     Failed,
@@ -22,23 +22,23 @@ pub(crate) enum Kind {
 }
 
 /// All kinds, in the order of their notes.
-const KINDS: [Kind; 5] = [
-    Kind::NotAsked,
-    Kind::NotAnswered,
-    Kind::Failed,
-    Kind::NoValue,
-    Kind::Misfit,
+const KINDS: [NoteKind; 5] = [
+    NoteKind::NotAsked,
+    NoteKind::NotAnswered,
+    NoteKind::Failed,
+    NoteKind::NoValue,
+    NoteKind::Misfit,
 ];
 
-impl Kind {
+impl NoteKind {
     /// What the note says about the line.
     fn what(self) -> &'static str {
         match self {
-            Kind::NotAsked => "was not asked:",
-            Kind::NotAnswered => "was not answered:",
-            Kind::Failed => "was answered with",
-            Kind::NoValue => "was answered with something that is not a value:",
-            Kind::Misfit => "was answered with another type:",
+            NoteKind::NotAsked => "was not asked:",
+            NoteKind::NotAnswered => "was not answered:",
+            NoteKind::Failed => "was answered with",
+            NoteKind::NoValue => "was answered with something that is not a value:",
+            NoteKind::Misfit => "was answered with another type:",
         }
     }
 }
@@ -64,8 +64,8 @@ struct Kept {
 
 /// What went wrong with a line, and the line.
 #[derive(Clone, Copy, Drop)]
-pub(crate) struct Wrong<'a> {
-    pub(crate) kind: Kind,
+pub(crate) struct BadLine<'a> {
+    pub(crate) kind: NoteKind,
     pub(crate) line: &'a [u8],
     /// The line that the client answered, or the reason that none came.
     pub(crate) answer: &'a str,
@@ -90,13 +90,13 @@ pub struct Notes {
 
 /// A client by the numbers of its worker and of its branch, both from 0.
 #[derive(Clone, Copy, Debug, PartialEq, Eq, Drop)]
-pub(crate) struct Client {
+pub(crate) struct ClientId {
     pub(crate) worker: u64,
     pub(crate) branch: u32,
 }
 
 /// The beginning of a line, with control characters as `\x1b`.
-pub(crate) fn shown(alloc: Global, line: &str) -> Result<String, AllocError> {
+pub(crate) fn printable_beginning(alloc: Global, line: &str) -> Result<String, AllocError> {
     let mut shown = String::new(alloc);
     for (place, character) in line.trim().chars().enumerate() {
         if place == MOST_SHOWN {
@@ -207,19 +207,19 @@ impl Notes {
         self.failed_resets.store(0, Ordering::SeqCst);
     }
 
-    fn of_kind(&self, kind: Kind) -> &Kept {
+    fn of_kind(&self, kind: NoteKind) -> &Kept {
         match kind {
-            Kind::NotAsked => &self.not_asked,
-            Kind::NotAnswered => &self.not_answered,
-            Kind::Failed => &self.failed,
-            Kind::NoValue => &self.no_value,
-            Kind::Misfit => &self.misfit,
+            NoteKind::NotAsked => &self.not_asked,
+            NoteKind::NotAnswered => &self.not_answered,
+            NoteKind::Failed => &self.failed,
+            NoteKind::NoValue => &self.no_value,
+            NoteKind::Misfit => &self.misfit,
         }
     }
 
-    fn note_of(&self, client: Client, wrong: &Wrong<'_>) -> Result<Note, AllocError> {
-        let line = shown(self.alloc, std::str::from_utf8(wrong.line).unwrap_or(""))?;
-        let answer = shown(self.alloc, wrong.answer)?;
+    fn note_of(&self, client: ClientId, wrong: &BadLine<'_>) -> Result<Note, AllocError> {
+        let line = printable_beginning(self.alloc, std::str::from_utf8(wrong.line).unwrap_or(""))?;
+        let answer = printable_beginning(self.alloc, wrong.answer)?;
         let (operation, _) = line.as_str().split_once(',').unwrap_or((line.as_str(), ""));
         let worker = client.worker.saturating_add(1);
         let branch = client.branch.saturating_add(1);
@@ -233,7 +233,7 @@ impl Notes {
     }
 
     /// Notes what went wrong with a client's line.
-    pub(crate) fn note(&self, client: Client, wrong: &Wrong<'_>) {
+    pub(crate) fn note(&self, client: ClientId, wrong: &BadLine<'_>) {
         let kept = self.of_kind(wrong.kind);
         kept.count.fetch_add(1, Ordering::SeqCst);
         if kept.is_full() {

@@ -20,7 +20,7 @@ pub struct Folder<'a> {
 
 impl<'a> Folder<'a> {
     /// The folder that a word such as `clients:FOLDER` or `shared:FOLDER` names.
-    pub fn named(word: &'a str) -> Option<Folder<'a>> {
+    pub fn from_word(word: &'a str) -> Option<Folder<'a>> {
         if let Some(name) = word.strip_prefix("clients:") {
             return Some(Folder {
                 name,

@@ -1,6 +1,6 @@
 //! Which clients have a line that they have not answered yet.
 
-use crate::notes::{Client, shown};
+use crate::notes::{ClientId, printable_beginning};
 use std::alloc::{AllocError, Global};
 use std::sync::atomic::{AtomicU64, Ordering};
 
@@ -74,7 +74,7 @@ impl Waits {
     }
 
     /// The lines of a client, if it is watched.
-    fn lines_of(&self, client: Client) -> Option<&Lines> {
+    fn lines_of(&self, client: ClientId) -> Option<&Lines> {
         let worker = usize::try_from(client.worker).ok()?;
         let branch = client.branch as usize;
         if branch >= MOST_BRANCHES {
@@ -85,7 +85,7 @@ impl Waits {
     }
 
     /// Counts that a client gets a line.
-    pub(crate) fn begin(&self, client: Client, line: &[u8]) {
+    pub(crate) fn begin(&self, client: ClientId, line: &[u8]) {
         if let Some(lines) = self.lines_of(client) {
             lines.keep(line);
             lines.sum.fetch_add(1, Ordering::SeqCst);
@@ -93,7 +93,7 @@ impl Waits {
     }
 
     /// Counts that a client is done with its line.
-    pub(crate) fn end(&self, client: Client) {
+    pub(crate) fn end(&self, client: ClientId) {
         if let Some(lines) = self.lines_of(client) {
             lines.sum.fetch_add(1, Ordering::SeqCst);
         }
@@ -116,7 +116,7 @@ impl Waits {
         match self.clients.get(place) {
             Some(lines) => {
                 let line = lines.last(alloc)?;
-                shown(alloc, std::str::from_utf8(line.as_slice()).unwrap_or(""))
+                printable_beginning(alloc, std::str::from_utf8(line.as_slice()).unwrap_or(""))
             }
             None => Ok(String::new(alloc)),
         }

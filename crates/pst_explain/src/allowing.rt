@@ -18,7 +18,7 @@ const MOST: u32 = 8;
 
 /// Why an answer is wrong in an interleaving in which the rest of the core is right.
 #[derive(Drop)]
-pub struct WrongIn<'a> {
+pub struct WrongAnswer<'a> {
     /// The branches, from 0, of the letters that name the interleaving.
     pub word: Vec<usize>,
     /// The state before the command.
@@ -28,7 +28,7 @@ pub struct WrongIn<'a> {
 
 /// Proposes, for an interleaving, the reply that the postcondition of a command requires there.
 #[derive(Drop)]
-struct Wanted<'s, 'a> {
+struct RequiredReply<'s, 'a> {
     scene: &'s Scene<'a>,
     call: &'s Call<'a>,
 }
@@ -60,7 +60,7 @@ fn reply_on(
     }
 }
 
-impl<'s, 'a> Candidates for Wanted<'s, 'a> {
+impl<'s, 'a> Candidates for RequiredReply<'s, 'a> {
     fn candidate(&self, alloc: Global, word: &[usize]) -> Result<Option<Value>, AllocError> {
         match state_before(alloc, self.scene, word, self.call)? {
             Some(state) => reply_on(alloc, self.scene, self.call, &state),
@@ -76,12 +76,12 @@ fn wrong_by<'a>(
     scene: &Scene<'a>,
     call: &Call<'_>,
     word: Vec<usize>,
-) -> Result<Option<WrongIn<'a>>, AllocError> {
+) -> Result<Option<WrongAnswer<'a>>, AllocError> {
     let Some(state) = state_before(alloc, scene, word.as_slice(), call)? else {
         return Ok(None);
     };
     let falsity = falsity_of(alloc, scene, call, &state)?;
-    Ok(Some(WrongIn {
+    Ok(Some(WrongAnswer {
         word,
         state,
         falsity,
@@ -97,7 +97,7 @@ pub fn wrong_without<'a, C: Callbacks>(
     history: &History,
     core: &[u32],
     call: &Call<'_>,
-) -> Result<Option<WrongIn<'a>>, AllocError>
+) -> Result<Option<WrongAnswer<'a>>, AllocError>
     requires model { scene.now.model.now ≡ C.model callbacks.now }
     requires shaped { scene.now.run.now.shaped.model ≡ C.model callbacks.now }
     requires matches { matches (C.model callbacks.now) scene.now.run.now.shaped.case history.now ≡ true }
@@ -126,7 +126,7 @@ pub fn wrong_without<'a, C: Callbacks>(
 /// Returns what the model allows in place of the answer of a command of a core, in the interleavings in which the rest
 /// of the core is right. It evaluates the postcondition by recursion: the deepest valid model takes some tens of MiB of
 /// stack.
-pub fn allowed_of<C: Callbacks>(
+pub fn allowed_answers<C: Callbacks>(
     callbacks: &C,
     alloc: Global,
     scene: &Scene<'_>,
@@ -139,7 +139,7 @@ pub fn allowed_of<C: Callbacks>(
     requires matches { matches (C.model callbacks.now) scene.now.run.now.shaped.case history.now ≡ true }
     requires answered { first_broken 1 (recorded history.now) ≡ None }
 {
-    let wanted = Wanted { scene, call };
+    let wanted = RequiredReply { scene, call };
     let shaped = &scene.run.shaped;
     allowed(
         callbacks,

@@ -1,6 +1,6 @@
 //! The text of cores.
 
-use crate::allowing::WrongIn;
+use crate::allowing::WrongAnswer;
 use crate::cores::{Core, CoreAnswer};
 use crate::parts::add_parts;
 use pst_model::Source;
@@ -12,7 +12,7 @@ use pst_scene::{
 use std::alloc::{AllocError, Global};
 
 /// The place and the spelling of a command, and what it answered.
-fn answered(alloc: Global, model: &Source, call: &Call<'_>) -> Result<Vec<u8>, AllocError> {
+fn answer_text(alloc: Global, model: &Source, call: &Call<'_>) -> Result<Vec<u8>, AllocError> {
     let mut text = call.text(alloc, model)?;
     if let Some(reply) = call.reply {
         add(&mut text, " answered ")?;
@@ -92,7 +92,11 @@ fn add_values(
 }
 
 /// Returns why an answer is wrong in an interleaving, and names the interleaving.
-fn wrong_text(alloc: Global, model: &Source, wrong: &WrongIn<'_>) -> Result<Vec<u8>, AllocError> {
+fn wrong_text(
+    alloc: Global,
+    model: &Source,
+    wrong: &WrongAnswer<'_>,
+) -> Result<Vec<u8>, AllocError> {
     let mut text = falsity_text(alloc, model, &wrong.falsity)?;
     if !wrong.word.is_empty() {
         add(&mut text, ", as by ")?;
@@ -110,7 +114,7 @@ fn answer_row(
     line: usize,
 ) -> Result<Vec<Cell>, AllocError> {
     let model = scene.model;
-    let left = answered(alloc, model, &answer.call)?;
+    let left = answer_text(alloc, model, &answer.call)?;
     let post = postcondition_text(alloc, scene, &answer.call)?;
     let mut row = Vec::new(alloc);
     row.push(Cell::styled(Style::Wrong, left))?;

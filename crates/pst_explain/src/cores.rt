@@ -5,7 +5,7 @@ ghost use Rattle.pst_case.specs.Recorded.{recorded};
 ghost use Rattle.pst_judge.specs.Verdict.{first_broken};
 ghost use Rattle.pst_reasons.specs.Reasons.{IsUnexplained};
 
-use crate::allowing::{WrongIn, allowed_of, wrong_without};
+use crate::allowing::{WrongAnswer, allowed_answers, wrong_without};
 use pst_case::History;
 use pst_eval::Callbacks;
 use pst_reasons::{AllowedValues, core};
@@ -23,7 +23,7 @@ pub struct CoreAnswer<'a> {
     pub has_one_reply: bool,
     /// Why it is wrong in the first interleaving in which the rest of the core is right, if it has no single reply or
     /// no allowed reply is known.
-    pub wrong: Option<WrongIn<'a>>,
+    pub wrong: Option<WrongAnswer<'a>>,
 }
 
 /// The answers of an item that cannot all be right, while without any one of them the others can. There are none if the
@@ -88,7 +88,7 @@ fn answer_of<'a, C: Callbacks>(
     requires matches { matches (C.model callbacks.now) scene.now.run.now.shaped.case history.now ≡ true }
     requires answered { first_broken 1 (recorded history.now) ≡ None }
 {
-    let allowed = allowed_of(callbacks, alloc, scene, history, core, &call)?;
+    let allowed = allowed_answers(callbacks, alloc, scene, history, core, &call)?;
     let mut answer = CoreAnswer {
         call,
         allowed,
@@ -103,7 +103,7 @@ fn answer_of<'a, C: Callbacks>(
 }
 
 /// A core of the item, with what the model allows in place of each answer.
-pub fn core_of<'a, C: Callbacks>(
+pub fn find_core<'a, C: Callbacks>(
     callbacks: &C,
     alloc: Global,
     scene: &Scene<'a>,

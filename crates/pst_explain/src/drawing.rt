@@ -11,14 +11,19 @@ const STYLE: &str =
     "  node [shape=box, fontname=monospace];\n  edge [fontname=monospace];\n  fontname=monospace;\n";
 
 /// Whether a command may come next at position `number`, and the search has not expanded it.
-fn is_left(scene: &Scene<'_>, search: &Search<'_>, number: usize, position: &Position) -> bool {
+fn is_unexpanded(
+    scene: &Scene<'_>,
+    search: &Search<'_>,
+    number: usize,
+    position: &Position,
+) -> bool {
     position.level() < scene.all.len() && !search.is_tried(number)
 }
 
 /// Whether the search stopped before its end.
-fn is_part(scene: &Scene<'_>, search: &Search<'_>) -> bool {
+fn is_cut_short(scene: &Scene<'_>, search: &Search<'_>) -> bool {
     for (number, position) in search.positions.iter().enumerate() {
-        if is_left(scene, search, number, position) {
+        if is_unexpanded(scene, search, number, position) {
             return true;
         }
     }
@@ -34,7 +39,7 @@ fn add_title(
     title: &str,
 ) -> Result<(), AllocError> {
     let mut text = text_of(alloc, title)?;
-    if is_part(scene, search) {
+    if is_cut_short(scene, search) {
         add(
             &mut text,
             "\nnot all: what follows the dashed positions is left out",
@@ -59,7 +64,7 @@ fn add_position(
     add_name(out, "p", number)?;
     add(out, " [")?;
     add_label(out, alloc, state.as_slice())?;
-    if is_left(scene, search, number, position) {
+    if is_unexpanded(scene, search, number, position) {
         add(out, ", style=dashed")?;
     }
     add(out, "];\n")
@@ -179,7 +184,7 @@ fn add_positions(
 }
 
 /// The search as Graphviz text, under a title.
-pub fn drawn(
+pub fn graph_text(
     alloc: Global,
     scene: &Scene<'_>,
     search: &Search<'_>,

@@ -6,7 +6,7 @@ ghost use Rattle.pst_judge.specs.Verdict.{IsVerdict};
 ghost use Rattle.pst_judge.specs.declared.verdicts.Verdict.TheVariants as verdict;
 
 use crate::breaking::{BrokenReply, broken_reply};
-use crate::cores::{Core, core_of};
+use crate::cores::{Core, find_core};
 use crate::failures::{Failure, failure_at, failure_in};
 use crate::places::TreePlace;
 use crate::walks::{Walk, explaining_walk, furthest_walk};
@@ -85,7 +85,7 @@ pub struct Explanation<'a> {
 }
 
 /// Returns the first fault of an item that no interleaving explains, and a core.
-fn faulted<'a, C: Callbacks>(
+fn fault_reason<'a, C: Callbacks>(
     callbacks: &C,
     alloc: Global,
     scene: &Scene<'a>,
@@ -105,12 +105,12 @@ fn faulted<'a, C: Callbacks>(
         }
     }
     let failure = failure_in(alloc, scene, word.as_slice(), place)?;
-    let core = core_of(callbacks, alloc, scene, history)?;
+    let core = find_core(callbacks, alloc, scene, history)?;
     Ok(Reason::Faulted { failure, core })
 }
 
 /// Returns a core of an item that no interleaving explains, and the interleaving that gets furthest.
-fn unexplained<'a, C: Callbacks>(
+fn unexplained_reason<'a, C: Callbacks>(
     callbacks: &C,
     alloc: Global,
     scene: &Scene<'a>,
@@ -123,7 +123,7 @@ fn unexplained<'a, C: Callbacks>(
     requires verdict { IsVerdict (C.model callbacks.now) scene.now.run.now.shaped.case history.now
         (verdict.Unexplained far) }
 {
-    let core = core_of(callbacks, alloc, scene, history)?;
+    let core = find_core(callbacks, alloc, scene, history)?;
     let furthest = furthest_walk(callbacks, alloc, scene, history, far)?;
     Ok(Reason::Unexplained {
         far,
@@ -133,7 +133,7 @@ fn unexplained<'a, C: Callbacks>(
 }
 
 /// Returns the reason of the verdict on a history.
-fn of_verdict<'a, C: Callbacks>(
+fn verdict_reason<'a, C: Callbacks>(
     callbacks: &C,
     alloc: Global,
     scene: &Scene<'a>,
@@ -151,14 +151,18 @@ fn of_verdict<'a, C: Callbacks>(
             let walk = explaining_walk(callbacks, alloc, scene, history, word.as_slice())?;
             Ok(Reason::Explained(walk))
         }
-        Verdict::Faulted(place) => faulted(callbacks, alloc, scene, history, *place),
-        Verdict::Unexplained(far) => unexplained(callbacks, alloc, scene, history, *far),
+        Verdict::Faulted(place) => fault_reason(callbacks, alloc, scene, history, *place),
+        Verdict::Unexplained(far) => unexplained_reason(callbacks, alloc, scene, history, *far),
         Verdict::Broken(number) => Ok(Reason::Broken(broken_reply(scene, *number))),
     }
 }
 
 /// Returns the reason why a case is not valid.
-fn of_invalid<'a>(alloc: Global, scene: &Scene<'a>, why: &Why) -> Result<Reason<'a>, AllocError> {
+fn invalid_reason<'a>(
+    alloc: Global,
+    scene: &Scene<'a>,
+    why: &Why,
+) -> Result<Reason<'a>, AllocError> {
     match why {
         Why::PreFalse { command, merge } => {
             let Some(call) = call_numbered(scene.all.as_slice(), *command) else {
@@ -195,11 +199,11 @@ pub fn explain_item<'a, C: Callbacks>(
     let scene = scene_of(alloc, typed, run)?;
     let reason = match judged {
         Judged::Verdict(verdict) => match &run.history {
-            Some(history) => of_verdict(callbacks, alloc, &scene, history, verdict)?,
+            Some(history) => verdict_reason(callbacks, alloc, &scene, history, verdict)?,
             None => Reason::Nothing,
         },
         Judged::Valid => Reason::Nothing,
-        Judged::Invalid(why) => of_invalid(alloc, &scene, why)?,
+        Judged::Invalid(why) => invalid_reason(alloc, &scene, why)?,
     };
     Ok(Explanation {
         number,

@@ -1,6 +1,6 @@
 //! Callbacks that fault, and preconditions that are false.
 
-use crate::walks::{Walk, empty_walk, stopped_after, walk_along};
+use crate::walks::{Walk, blocked_after, empty_walk, walk_along};
 use pst_case::Reply;
 use pst_eval::{Callback, Env, FaultPlace};
 use pst_model::{Expr, calls_of, opening_of};
@@ -49,7 +49,7 @@ pub struct Failure<'a> {
 }
 
 /// Returns the value of `name`, the inner one if it has several.
-fn value_of<'a>(bindings: &'a [Binding], name: &[u8]) -> Option<&'a Value> {
+fn bound_value<'a>(bindings: &'a [Binding], name: &[u8]) -> Option<&'a Value> {
     for binding in bindings {
         if binding.name.as_slice() == name {
             return Some(&binding.value);
@@ -67,7 +67,7 @@ fn with_values<'a>(
     let mut names = Vec::new(alloc);
     let words = words_of(alloc, expr)?;
     for word in &words {
-        if let Some(value) = value_of(bindings, word.as_slice()) {
+        if let Some(value) = bound_value(bindings, word.as_slice()) {
             names.push(Binding {
                 name: Items::from_slice(alloc, word.as_slice())?,
                 value: value.copy(alloc)?,
@@ -109,7 +109,10 @@ fn expression_in<'a>(
 }
 
 /// Returns the expression of the initial state.
-fn of_init<'a>(alloc: Global, scene: &Scene<'a>) -> Result<Option<Expression<'a>>, AllocError> {
+fn init_expression<'a>(
+    alloc: Global,
+    scene: &Scene<'a>,
+) -> Result<Option<Expression<'a>>, AllocError> {
     match opening_of(scene.model.items.as_slice()) {
         Some(expr) => expression_in(alloc, scene, expr, &Env::Frame(&[], &[])),
         None => Ok(None),
@@ -117,7 +120,7 @@ fn of_init<'a>(alloc: Global, scene: &Scene<'a>) -> Result<Option<Expression<'a>
 }
 
 /// Returns the expression of the calls to pick from in `state`.
-fn of_command<'a>(
+fn command_expression<'a>(
     alloc: Global,
     scene: &Scene<'a>,
     state: &Value,
@@ -132,7 +135,7 @@ fn of_command<'a>(
 }
 
 /// Returns the expression of a callback of a command on `state`, the state before it.
-fn of_callback<'a>(
+fn callback_expression<'a>(
     alloc: Global,
     scene: &Scene<'a>,
     callback: Callback,
@@ -180,8 +183,8 @@ pub fn failure_at<'a>(
     let mut walk = walk_along(alloc, scene, word, before, states)?;
     let mut expression = None;
     if let Some(state) = states.get(before.len()) {
-        expression = of_callback(alloc, scene, callback, &call, state)?;
-        walk.stopped = stopped_after(alloc, scene, before, state)?;
+        expression = callback_expression(alloc, scene, callback, &call, state)?;
+        walk.stopped = blocked_after(alloc, scene, before, state)?;
     }
     Ok(Failure {
         callback,
@@ -207,7 +210,7 @@ pub fn failure_in<'a>(
         callback: Callback::Init,
         call: None,
         fault,
-        expression: of_init(alloc, scene)?,
+        expression: init_expression(alloc, scene)?,
         walk: empty_walk(alloc, word)?,
     })
 }
@@ -222,7 +225,7 @@ pub fn script_failure<'a>(
     let states = states_along(alloc, scene, calls)?;
     let states = states.as_slice();
     let expression = match states.get(calls.len()) {
-        Some(state) => of_command(alloc, scene, state)?,
+        Some(state) => command_expression(alloc, scene, state)?,
         None => None,
     };
     Ok(Failure {

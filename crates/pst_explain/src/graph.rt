@@ -2,7 +2,7 @@
 ghost use Rattle.std.specs.Prelude.{◌≡◌};
 ghost use Rattle.pst_judge.specs.Judgement.{HistoryMatches, IsJudgement};
 
-use crate::drawing::drawn;
+use crate::drawing::graph_text;
 use crate::path::shown_calls;
 use crate::search::{search_of, shown_path};
 use pst_case::Run;
@@ -52,5 +52,5 @@ pub fn graph_item<C: Callbacks>(
     let verdict = verdict.as_str();
     let rest = if is_path { PATH_ALONE } else { "" };
     let title = format!(in alloc; "{number} {verdict}{rest}")?;
-    drawn(alloc, &scene, &search, title.as_str())
+    graph_text(alloc, &scene, &search, title.as_str())
 }

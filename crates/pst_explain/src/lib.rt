@@ -30,7 +30,7 @@ mod text;
 mod walk_text;
 mod walks;
 
-pub use allowing::WrongIn;
+pub use allowing::WrongAnswer;
 pub use breaking::{BrokenReply, broken_text};
 pub use cores::{Core, CoreAnswer};
 pub use explanation::{Explanation, Reason, explain_item};
@@ -41,4 +41,4 @@ pub use position::Position;
 pub use scripts::explain_script;
 pub use search::{Move, Search, Target, whole_search};
 pub use text::{colored_text, explanation_text, reason_text};
-pub use walks::{Step, Stopped, Walk};
+pub use walks::{BlockedCall, Step, Walk};

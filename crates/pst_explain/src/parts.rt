@@ -17,7 +17,7 @@ fn is_marked(marked: &[u32], number: u32) -> bool {
 }
 
 /// The cell of a command: a mark or a space, its place, its spelling and its reply.
-fn cell(
+fn command_cell(
     alloc: Global,
     scene: &Scene<'_>,
     marked: &[u32],
@@ -44,7 +44,7 @@ fn add_part(
     calls: &[Call<'_>],
 ) -> Result<(), AllocError> {
     for call in calls {
-        let cell = cell(alloc, scene, marked, call)?;
+        let cell = command_cell(alloc, scene, marked, call)?;
         page.add_styled_line(alloc, 3, cell.style, cell.text.as_slice())?;
     }
     Ok(())
@@ -60,7 +60,7 @@ fn branch_row(
     let mut row = Vec::new(alloc);
     for branch in &scene.calls.branches {
         match branch.get(index) {
-            Some(call) => row.push(cell(alloc, scene, marked, call)?)?,
+            Some(call) => row.push(command_cell(alloc, scene, marked, call)?)?,
             None => row.push(Cell::plain(Vec::new(alloc)))?,
         }
     }
@@ -68,7 +68,7 @@ fn branch_row(
 }
 
 /// Returns how many commands the longest branch has.
-fn longest(scene: &Scene<'_>) -> usize {
+fn longest_branch(scene: &Scene<'_>) -> usize {
     let mut most = 0usize;
     for branch in &scene.calls.branches {
         most = most.max(branch.len());
@@ -84,7 +84,7 @@ fn add_branches(
     marked: &[u32],
 ) -> Result<(), AllocError> {
     let mut table = Table::new(alloc)?;
-    for index in 0..longest(scene) {
+    for index in 0..longest_branch(scene) {
         table.add_row(branch_row(alloc, scene, marked, index)?)?;
     }
     if table.is_wide_enough(page, 3, LEAST_COLUMN) {

@@ -40,7 +40,7 @@ fn before_fault<'a>(
 
 /// The commands of a verdict's interleaving: of the one that explains or, as far as their postconditions are true, of
 /// the first that faults or of the one that gets furthest.
-fn of_verdict<'a, C: Callbacks>(
+fn verdict_calls<'a, C: Callbacks>(
     callbacks: &C,
     alloc: Global,
     scene: &Scene<'a>,
@@ -67,7 +67,7 @@ fn of_verdict<'a, C: Callbacks>(
 }
 
 /// The commands of the interleaving in which a case is not valid, up to the failure.
-fn of_invalid<'a>(
+fn invalid_calls<'a>(
     alloc: Global,
     scene: &Scene<'a>,
     why: &Why,
@@ -95,10 +95,10 @@ pub fn shown_calls<'a, C: Callbacks>(
 {
     match judged {
         Judged::Verdict(verdict) => match &scene.run.history {
-            Some(history) => of_verdict(callbacks, alloc, scene, history, verdict),
+            Some(history) => verdict_calls(callbacks, alloc, scene, history, verdict),
             None => Ok(Vec::new(alloc)),
         },
         Judged::Valid => Ok(Vec::new(alloc)),
-        Judged::Invalid(why) => of_invalid(alloc, scene, why),
+        Judged::Invalid(why) => invalid_calls(alloc, scene, why),
     }
 }

@@ -43,7 +43,7 @@ impl Position {
     }
 
     /// Whether the two positions are equal.
-    pub fn is(&self, other: &Position) -> bool {
+    pub fn equals(&self, other: &Position) -> bool {
         self.counts.as_slice() == other.counts.as_slice() && self.state == other.state
     }
 
@@ -62,7 +62,7 @@ impl Position {
     }
 
     /// The position after the next command of `part`, which leads to `state`.
-    pub fn behind(
+    pub fn after_call(
         &self,
         alloc: Global,
         scene: &Scene<'_>,

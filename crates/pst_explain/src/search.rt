@@ -42,7 +42,7 @@ pub struct Search<'a> {
 /// The index of the position in `positions`.
 fn number_of(positions: &[Position], wanted: &Position) -> Option<usize> {
     for (number, position) in positions.iter().enumerate() {
-        if position.is(wanted) {
+        if position.equals(wanted) {
             return Some(number);
         }
     }
@@ -84,7 +84,7 @@ impl<'a> Search<'a> {
     ) -> Result<(), AllocError> {
         let target = match outcome_of(alloc, scene, &position.state, &call)? {
             Outcome::Leads(state) => {
-                let next = position.behind(alloc, scene, call.part, state)?;
+                let next = position.after_call(alloc, scene, call.part, state)?;
                 Target::Position(self.place(next)?)
             }
             Outcome::Refused(why) => Target::DeadEnd(why),
@@ -94,7 +94,7 @@ impl<'a> Search<'a> {
     }
 
     /// Expands position `from`: tries each command that may come next there.
-    fn go_on(&mut self, alloc: Global, scene: &Scene<'a>, from: usize) -> Result<(), AllocError> {
+    fn expand(&mut self, alloc: Global, scene: &Scene<'a>, from: usize) -> Result<(), AllocError> {
         let Some(position) = self.positions.get(from) else {
             return Ok(());
         };
@@ -107,21 +107,21 @@ impl<'a> Search<'a> {
     }
 
     /// Expands the positions along the commands, and notes their moves.
-    fn go_along(
+    fn expand_along(
         &mut self,
         alloc: Global,
         scene: &Scene<'a>,
         calls: &[Call<'_>],
     ) -> Result<(), AllocError> {
         let mut at = 0usize;
-        self.go_on(alloc, scene, at)?;
+        self.expand(alloc, scene, at)?;
         for call in calls {
             let Some((number, next)) = step_of(self.moves.as_slice(), at, call.number) else {
                 return Ok(());
             };
             self.shown.push(number)?;
             at = next;
-            self.go_on(alloc, scene, at)?;
+            self.expand(alloc, scene, at)?;
         }
         Ok(())
     }
@@ -132,7 +132,7 @@ impl<'a> Search<'a> {
     }
 
     /// Expands each position until there are more than `most`, and returns whether there are at most `most`.
-    fn go_on_within(
+    fn expand_within(
         &mut self,
         alloc: Global,
         scene: &Scene<'a>,
@@ -143,17 +143,17 @@ impl<'a> Search<'a> {
                 return Ok(false);
             }
             if !self.is_tried(number) {
-                self.go_on(alloc, scene, number)?;
+                self.expand(alloc, scene, number)?;
             }
         }
         Ok(self.positions.len() <= most)
     }
 
     /// Expands those of the first `MOST_POSITIONS` positions that have no moves yet.
-    fn go_on_from_rest(&mut self, alloc: Global, scene: &Scene<'a>) -> Result<(), AllocError> {
+    fn expand_rest(&mut self, alloc: Global, scene: &Scene<'a>) -> Result<(), AllocError> {
         for number in 0..MOST_POSITIONS {
             if !self.is_tried(number) {
-                self.go_on(alloc, scene, number)?;
+                self.expand(alloc, scene, number)?;
             }
         }
         Ok(())
@@ -161,7 +161,7 @@ impl<'a> Search<'a> {
 }
 
 /// The search of an item along the commands of the displayed interleaving.
-fn begun<'a>(
+fn search_along<'a>(
     alloc: Global,
     scene: &Scene<'a>,
     shown: &[Call<'_>],
@@ -176,7 +176,7 @@ fn begun<'a>(
     };
     let first = Position::first(alloc, scene, state)?;
     search.positions.push(first)?;
-    search.go_along(alloc, scene, shown)?;
+    search.expand_along(alloc, scene, shown)?;
     Ok(search)
 }
 
@@ -234,7 +234,7 @@ pub fn shown_path<'a>(
     scene: &Scene<'a>,
     shown: &[Call<'_>],
 ) -> Result<Search<'a>, AllocError> {
-    let search = begun(alloc, scene, shown)?;
+    let search = search_along(alloc, scene, shown)?;
     let kept = shown_positions(alloc, &search)?;
     let mut path = Search {
         positions: Vec::new(alloc),
@@ -264,8 +264,8 @@ pub fn search_of<'a>(
     scene: &Scene<'a>,
     shown: &[Call<'_>],
 ) -> Result<Search<'a>, AllocError> {
-    let mut search = begun(alloc, scene, shown)?;
-    search.go_on_from_rest(alloc, scene)?;
+    let mut search = search_along(alloc, scene, shown)?;
+    search.expand_rest(alloc, scene)?;
     Ok(search)
 }
 
@@ -277,8 +277,8 @@ pub fn whole_search<'a>(
     shown: &[Call<'_>],
     most: usize,
 ) -> Result<Option<Search<'a>>, AllocError> {
-    let mut search = begun(alloc, scene, shown)?;
-    if search.go_on_within(alloc, scene, most)? {
+    let mut search = search_along(alloc, scene, shown)?;
+    if search.expand_within(alloc, scene, most)? {
         Ok(Some(search))
     } else {
         Ok(None)

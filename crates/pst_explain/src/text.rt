@@ -5,7 +5,7 @@ use crate::core_text::add_core;
 use crate::explanation::{Explanation, Reason};
 use crate::failure_text::add_failure;
 use crate::parts::add_parts;
-use crate::walk_text::{add_explained, add_states, add_stopped};
+use crate::walk_text::{add_blocked, add_explained, add_states};
 use crate::walks::Walk;
 use pst_judge::{Judged, Verdict};
 use pst_model::Source;
@@ -84,7 +84,7 @@ fn add_furthest(
     let sentence = far_sentence(alloc, far, walk.word.as_slice())?;
     page.add_sentence(alloc, 2, sentence.as_slice())?;
     add_states(page, alloc, model, walk)?;
-    add_stopped(page, alloc, model, walk.stopped.as_slice())
+    add_blocked(page, alloc, model, walk.stopped.as_slice())
 }
 
 /// Adds which reply is not a value, and the run.

@@ -1,6 +1,6 @@
 //! The text of interleavings.
 
-use crate::walks::{Stopped, Walk};
+use crate::walks::{BlockedCall, Walk};
 use pst_model::Source;
 use pst_scene::{Call, Page, PreAnswer, Style, Table, add, add_value, dead_end_text, joined, two};
 use pst_value::Value;
@@ -94,11 +94,11 @@ pub fn add_explained(
 }
 
 /// Adds each command that cannot come next, with its reply and the reason.
-pub fn add_stopped(
+pub fn add_blocked(
     page: &mut Page,
     alloc: Global,
     model: &Source,
-    stopped: &[Stopped<'_>],
+    stopped: &[BlockedCall<'_>],
 ) -> Result<(), AllocError> {
     page.add_sentence(
         alloc,

@@ -27,7 +27,7 @@ pub struct Step<'a> {
 
 /// A command that cannot come next.
 #[derive(Drop)]
-pub struct Stopped<'a> {
+pub struct BlockedCall<'a> {
     pub call: Call<'a>,
     pub why: DeadEnd<'a>,
 }
@@ -42,7 +42,7 @@ pub struct Walk<'a> {
     /// The commands in their order.
     pub steps: Vec<Step<'a>>,
     /// Each command that may come after the last step and cannot.
-    pub stopped: Vec<Stopped<'a>>,
+    pub stopped: Vec<BlockedCall<'a>>,
 }
 
 impl<'a> Walk<'a> {
@@ -105,18 +105,18 @@ fn word_of(alloc: Global, calls: &[Call<'_>]) -> Result<Vec<usize>, AllocError> 
 }
 
 /// Returns each command that comes next in its part after `calls` but cannot on `state`, the state after them.
-pub fn stopped_after<'a>(
+pub fn blocked_after<'a>(
     alloc: Global,
     scene: &Scene<'a>,
     calls: &[Call<'_>],
     state: &Value,
-) -> Result<Vec<Stopped<'a>>, AllocError> {
+) -> Result<Vec<BlockedCall<'a>>, AllocError> {
     let word = word_of(alloc, calls)?;
     let next = next_calls(alloc, &scene.calls, word.as_slice(), calls.len())?;
     let mut stopped = Vec::new(alloc);
     for call in &next {
         if let Outcome::Refused(why) = outcome_of(alloc, scene, state, call)? {
-            stopped.push(Stopped { call: *call, why })?;
+            stopped.push(BlockedCall { call: *call, why })?;
         }
     }
     Ok(stopped)
@@ -162,16 +162,16 @@ pub fn explaining_walk<'a, C: Callbacks>(
 }
 
 /// Returns each of the commands `next`, with the reason why its postcondition is not true on `state`.
-fn all_stopped<'a>(
+fn blocked_calls<'a>(
     alloc: Global,
     scene: &Scene<'a>,
     next: &[Call<'a>],
     state: &Value,
-) -> Result<Vec<Stopped<'a>>, AllocError> {
+) -> Result<Vec<BlockedCall<'a>>, AllocError> {
     let mut stopped = Vec::new(alloc);
     for call in next {
         let why = DeadEnd::PostFails(falsity_of(alloc, scene, call, state)?);
-        stopped.push(Stopped { call: *call, why })?;
+        stopped.push(BlockedCall { call: *call, why })?;
     }
     Ok(stopped)
 }
@@ -200,7 +200,7 @@ pub fn furthest_walk<'a, C: Callbacks>(
     )?;
     let next = next_calls(alloc, &scene.calls, word.as_slice(), far)?;
     let stopped = match walk.last_state() {
-        Some(state) => all_stopped(alloc, scene, next.as_slice(), state)?,
+        Some(state) => blocked_calls(alloc, scene, next.as_slice(), state)?,
         None => Vec::new(alloc),
     };
     walk.stopped = stopped;

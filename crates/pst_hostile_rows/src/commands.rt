@@ -4,7 +4,7 @@ ghost use Rattle.std.specs.Prelude.{◌≡◌, false};
 use crate::short::Short;
 use pst_campaign::Unwatched;
 use pst_cli::{
-    Chosen, Explaining, ExplanationForm, Status, campaign_text, check_text, explain_text,
+    Chosen, ExplainOptions, ExplanationForm, Status, campaign_text, check_text, explain_text,
     judge_text, list_text, run_text,
 };
 use pst_samples::Stuck;
@@ -111,7 +111,7 @@ pub fn answer_of<R: Threads + Wait + Sync>(
         Command::List => list_text(alloc, input, &mut short),
         Command::Judge => judge_text(rt, alloc, input, &mut short),
         Command::Explain => {
-            let asked = Explaining {
+            let asked = ExplainOptions {
                 files: &[],
                 chosen: Chosen::All,
                 most: usize::MAX,

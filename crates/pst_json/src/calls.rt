@@ -9,7 +9,7 @@ use pst_scene::{Call, Scene, operation};
 use std::alloc::{AllocError, Global};
 
 /// Writes the place of a call, as `L2`.
-pub fn put_id(
+pub fn put_call_id(
     writer: &mut Writer<Global>,
     alloc: Global,
     call: &Call<'_>,
@@ -26,7 +26,7 @@ pub fn put_call_member(
     call: &Call<'_>,
 ) -> Result<(), AllocError> {
     writer.key("call")?;
-    put_id(writer, alloc, call)
+    put_call_id(writer, alloc, call)
 }
 
 /// Writes a reply.
@@ -66,7 +66,7 @@ fn put_call(
 ) -> Result<(), AllocError> {
     writer.begin_object()?;
     writer.key("id")?;
-    put_id(writer, alloc, call)?;
+    put_call_id(writer, alloc, call)?;
     put_number_member(writer, "number", call.number as usize)?;
     writer.key("part")?;
     put_bytes(writer, alloc, &[call.part.letter()])?;

@@ -6,7 +6,7 @@ use crate::values::{put_state_member, put_value};
 use crate::walks::put_word_member;
 use crate::writing::put_bool_member;
 use json::Writer;
-use pst_explain::{Core, CoreAnswer, WrongIn};
+use pst_explain::{Core, CoreAnswer, WrongAnswer};
 use pst_model::Source;
 use std::alloc::{AllocError, Global};
 
@@ -15,7 +15,7 @@ fn put_wrong(
     writer: &mut Writer<Global>,
     alloc: Global,
     model: &Source,
-    wrong: &WrongIn<'_>,
+    wrong: &WrongAnswer<'_>,
 ) -> Result<(), AllocError> {
     writer.key("why")?;
     writer.begin_object()?;

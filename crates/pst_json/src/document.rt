@@ -4,7 +4,7 @@ ghost use Rattle.pst_json.specs.Page.{IsPageText};
 
 use crate::ascii::add_byte;
 use crate::models::put_model;
-use crate::writing::written;
+use crate::writing::into_ascii;
 use json::Writer;
 use pst_model::Source;
 use pst_sources::SourceFile;
@@ -76,7 +76,7 @@ fn first_line(
     put_model(&mut writer, alloc, model)?;
     writer.key("items")?;
     writer.begin_array()?;
-    let mut start = written(alloc, writer)?;
+    let mut start = into_ascii(alloc, writer)?;
     add_byte(&mut start, b'\n')?;
     Ok(start)
 }

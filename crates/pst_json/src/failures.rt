@@ -1,6 +1,6 @@
 //! Callbacks that fail, and replies that are not values.
 
-use crate::calls::{put_call_member, put_id};
+use crate::calls::{put_call_id, put_call_member};
 use crate::writing::{put_bytes, put_expression_member, put_spelling, put_text_member, put_type};
 use json::Writer;
 use pst_explain::{BrokenReply, Evaluated, FailingPart, Failure};
@@ -52,7 +52,7 @@ fn put_callback(
 ) -> Result<(), AllocError> {
     writer.key("call")?;
     match &failure.call {
-        Some(call) => put_id(writer, alloc, call)?,
+        Some(call) => put_call_id(writer, alloc, call)?,
         None => writer.null()?,
     }
     put_text_member(writer, "callback", failure.callback.name())?;

@@ -1,7 +1,7 @@
 //! Searches of items.
 
 use crate::calls::put_call_member;
-use crate::reasons::put_why;
+use crate::reasons::put_dead_end;
 use crate::values::put_state_member;
 use crate::writing::{put_bool_member, put_number_member};
 use json::Writer;
@@ -15,7 +15,7 @@ const MOST_POSITIONS: usize = 150;
 
 /// Returns how many interleavings there are of `together` commands and `more` commands of one further branch, if the
 /// first `together` commands have `orders` interleavings.
-fn with_branch(orders: u64, together: u64, more: usize) -> u64 {
+fn with_branch_interleaved(orders: u64, together: u64, more: usize) -> u64 {
     let mut orders = orders;
     for count in 1..=more as u64 {
         let choices = orders.saturating_mul(together.saturating_add(count));
@@ -25,11 +25,11 @@ fn with_branch(orders: u64, together: u64, more: usize) -> u64 {
 }
 
 /// Returns how many interleavings the branches have.
-fn orders_of(scene: &Scene<'_>) -> u64 {
+fn count_interleavings(scene: &Scene<'_>) -> u64 {
     let mut orders = 1;
     let mut together: u64 = 0;
     for branch in &scene.calls.branches {
-        orders = with_branch(orders, together, branch.len());
+        orders = with_branch_interleaved(orders, together, branch.len());
         together = together.saturating_add(branch.len() as u64);
     }
     orders
@@ -109,7 +109,7 @@ fn put_move(
                 put_bool_member(writer, "on", true)?;
             }
         }
-        Target::DeadEnd(why) => put_why(writer, alloc, model, why)?,
+        Target::DeadEnd(why) => put_dead_end(writer, alloc, model, why)?,
     }
     writer.end_object()
 }
@@ -149,7 +149,7 @@ pub fn put_search(
     writer.key("search")?;
     writer.begin_object()?;
     writer.key("orders")?;
-    writer.u64(orders_of(&explanation.scene))?;
+    writer.u64(count_interleavings(&explanation.scene))?;
     if let Some(search) = &search {
         put_number_member(writer, "positions", search.positions.len())?;
         put_number_member(writer, "moves", search.moves.len())?;

@@ -7,7 +7,7 @@ use crate::cores::put_core;
 use crate::failures::{put_broken, put_failure};
 use crate::graphs::put_search;
 use crate::walks::put_walk;
-use crate::writing::{put_number_member, put_text_member, written};
+use crate::writing::{into_ascii, put_number_member, put_text_member};
 use json::Writer;
 use pst_explain::{Explanation, Reason, TreePlace};
 use pst_judge::{Judged, Verdict, Why};
@@ -81,7 +81,7 @@ fn put_reason(
 
 /// Returns the explanation of an item as a JSON object, without a line end. `trial` is the number of its trial, if it is a
 /// failure of a campaign.
-fn object_of(
+fn item_object(
     alloc: Global,
     explanation: &Explanation<'_>,
     trial: Option<usize>,
@@ -97,14 +97,14 @@ fn object_of(
     put_reason(&mut writer, alloc, explanation)?;
     put_search(&mut writer, alloc, explanation)?;
     writer.end_object()?;
-    written(alloc, writer)
+    into_ascii(alloc, writer)
 }
 
 /// Returns the explanation of an item as a JSON object, without a line end.
 pub fn item_json(alloc: Global, explanation: &Explanation<'_>) -> Result<Vec<u8>, AllocError>
     ensures { IfOk result (λ text. IsPageText text.items) }
 {
-    object_of(alloc, explanation, None)
+    item_object(alloc, explanation, None)
 }
 
 /// Returns the explanation of the failure of a trial, from 0, as `item_json` gives it, with the number of the trial.
@@ -115,5 +115,5 @@ pub fn trial_json(
 ) -> Result<Vec<u8>, AllocError>
     ensures { IfOk result (λ text. IsPageText text.items) }
 {
-    object_of(alloc, explanation, Some(trial))
+    item_object(alloc, explanation, Some(trial))
 }

@@ -54,7 +54,7 @@ pub fn put_falsity(
 }
 
 /// Writes the member `why`: why a call cannot come next.
-pub fn put_why(
+pub fn put_dead_end(
     writer: &mut Writer<Global>,
     alloc: Global,
     model: &Source,

@@ -1,11 +1,11 @@
 //! Interleavings.
 
 use crate::calls::put_call_member;
-use crate::reasons::put_why;
+use crate::reasons::put_dead_end;
 use crate::values::put_state_member;
 use crate::writing::{put_bytes, put_text_member};
 use json::Writer;
-use pst_explain::{Explanation, Reason, Step, Stopped, Walk};
+use pst_explain::{BlockedCall, Explanation, Reason, Step, Walk};
 use pst_model::Source;
 use pst_scene::{PreAnswer, add_word};
 use std::alloc::{AllocError, Global};
@@ -42,15 +42,15 @@ fn put_step(
 }
 
 /// Writes a call that cannot come next, and why.
-fn put_stopped(
+fn put_blocked(
     writer: &mut Writer<Global>,
     alloc: Global,
     model: &Source,
-    stopped: &Stopped<'_>,
+    stopped: &BlockedCall<'_>,
 ) -> Result<(), AllocError> {
     writer.begin_object()?;
     put_call_member(writer, alloc, &stopped.call)?;
-    put_why(writer, alloc, model, &stopped.why)?;
+    put_dead_end(writer, alloc, model, &stopped.why)?;
     writer.end_object()
 }
 
@@ -69,12 +69,12 @@ fn put_next(
     writer: &mut Writer<Global>,
     alloc: Global,
     model: &Source,
-    all: &[Stopped<'_>],
+    all: &[BlockedCall<'_>],
 ) -> Result<(), AllocError> {
     writer.key("next")?;
     writer.begin_array()?;
     for stopped in all {
-        put_stopped(writer, alloc, model, stopped)?;
+        put_blocked(writer, alloc, model, stopped)?;
     }
     writer.end_array()
 }

@@ -2,7 +2,7 @@
 ghost use Rattle.std.specs.Prelude.{IfOk};
 ghost use Rattle.pst_json.specs.Page.{IsPageText};
 
-use crate::ascii::ascii;
+use crate::ascii::escape_non_ascii;
 use json::Writer;
 use pst_model::Expr;
 use pst_print::ty_form;
@@ -14,7 +14,7 @@ use std::alloc::{AllocError, Global};
 pub const MOST_BYTES: usize = 4000;
 
 /// Returns the bytes as a text. If they are not UTF-8, each byte becomes the character with its number.
-fn text_of(alloc: Global, bytes: &[u8]) -> Result<String, AllocError> {
+fn decode_text(alloc: Global, bytes: &[u8]) -> Result<String, AllocError> {
     if let Ok(text) = std::str::from_utf8(bytes) {
         return String::from_str(alloc, text);
     }
@@ -26,12 +26,12 @@ fn text_of(alloc: Global, bytes: &[u8]) -> Result<String, AllocError> {
 }
 
 /// Returns the written JSON, in ASCII.
-pub fn written(alloc: Global, writer: Writer<Global>) -> Result<Vec<u8>, AllocError>
+pub fn into_ascii(alloc: Global, writer: Writer<Global>) -> Result<Vec<u8>, AllocError>
     ensures { IfOk result (λ text. IsPageText text.items) }
 {
     let json = writer.into_inner();
-    let json = text_of(alloc, json.as_slice())?;
-    ascii(alloc, json.as_str())
+    let json = decode_text(alloc, json.as_slice())?;
+    escape_non_ascii(alloc, json.as_str())
 }
 
 /// Writes a text that is spelled in bytes.
@@ -40,7 +40,7 @@ pub fn put_bytes(
     alloc: Global,
     bytes: &[u8],
 ) -> Result<(), AllocError> {
-    let text = text_of(alloc, bytes)?;
+    let text = decode_text(alloc, bytes)?;
     writer.string(text.as_str())
 }
 

@@ -1,7 +1,7 @@
 //! Problems of the arguments of commands.
 
-use crate::command::{behind_head, head_word};
-use crate::ill::Ill;
+use crate::command::{after_head, head_word};
+use crate::ill::ValueFault;
 use crate::values::{CaseSearch, Wanted, problem_in};
 use pst_model::Op;
 use pst_problems::{FoundProblem, Problem, Signature, counted, operation, with_note, wrong};
@@ -27,12 +27,12 @@ fn argument_problem(
     form: &Form,
     op: &Op,
 ) -> FoundProblem {
-    let found = behind_head(form).len();
+    let found = after_head(form).len();
     let params = op.params.as_slice();
     if found != params.len() {
         return other_count(alloc, path, op, found);
     }
-    let other = Some(Ill::Argument);
+    let other = Some(ValueFault::Argument);
     problem_in(alloc, search, path, form, Wanted::Call(params), other)
 }
 

@@ -7,7 +7,7 @@ use std::fmt::Display;
 
 /// What is wrong with bytes, and where.
 #[derive(Drop)]
-pub struct Wrong {
+pub struct ByteFault {
     pub span: Span,
     pub what: String,
     pub notes: Vec<String>,
@@ -21,10 +21,10 @@ fn one_byte(place: usize) -> Span {
     }
 }
 
-impl Wrong {
+impl ByteFault {
     /// A fault without notes.
-    fn new<D: Display + Drop>(alloc: Global, span: Span, what: D) -> Result<Wrong, AllocError> {
-        Ok(Wrong {
+    fn new<D: Display + Drop>(alloc: Global, span: Span, what: D) -> Result<ByteFault, AllocError> {
+        Ok(ByteFault {
             span,
             what: format!(in alloc; "{what}")?,
             notes: Vec::new(alloc),
@@ -32,7 +32,7 @@ impl Wrong {
     }
 
     /// The fault with one more note.
-    fn with<D: Display + Drop>(self, alloc: Global, note: D) -> Result<Wrong, AllocError> {
+    fn with<D: Display + Drop>(self, alloc: Global, note: D) -> Result<ByteFault, AllocError> {
         let mut wrong = self;
         wrong.add(format!(in alloc; "{note}")?)?;
         Ok(wrong)
@@ -51,8 +51,8 @@ fn begun_in(
     input: &Input<'_>,
     open: Span,
     next: Span,
-    wrong: Wrong,
-) -> Result<Wrong, AllocError> {
+    wrong: ByteFault,
+) -> Result<ByteFault, AllocError> {
     let line = input.line_at(alloc, next.start, open.start)?;
     let line = line.as_str();
     wrong.with(
@@ -62,15 +62,15 @@ fn begun_in(
 }
 
 /// The fault of a missing `)`, at the item that is probably not closed.
-fn missing(alloc: Global, input: &Input<'_>, place: usize) -> Result<Wrong, AllocError> {
+fn missing_close(alloc: Global, input: &Input<'_>, place: usize) -> Result<ByteFault, AllocError> {
     let Some(open) = open_item(input.bytes) else {
         let what = "a `)` is missing: this `(` is not closed";
-        return Wrong::new(alloc, one_byte(place), what);
+        return ByteFault::new(alloc, one_byte(place), what);
     };
     let line = input.line_at(alloc, place, open.item.start)?;
     let line = line.as_str();
     let what = "a `)` is missing, probably in the item that begins here";
-    let wrong = Wrong::new(alloc, open.item, what)?;
+    let wrong = ByteFault::new(alloc, open.item, what)?;
     let wrong = match open.next {
         Some(next) => begun_in(alloc, input, open.item, next, wrong)?,
         None => wrong,
@@ -94,59 +94,64 @@ fn foreign_char(
     place: usize,
     letter: char,
     width: usize,
-) -> Result<Wrong, AllocError> {
+) -> Result<ByteFault, AllocError> {
     let span = Span {
         start: place,
         end: place.saturating_add(width),
     };
     if letter == '\u{feff}' && input.part_at(span).span.start == 0 {
         let what = "the file begins with a byte order mark: save it without one";
-        return Wrong::new(alloc, span, what);
+        return ByteFault::new(alloc, span, what);
     }
     if letter.is_control() {
         let code = letter as u32;
         let what = format_args!("the control character {code} is not allowed here");
-        return Wrong::new(alloc, span, what)?.with(alloc, ASCII);
+        return ByteFault::new(alloc, span, what)?.with(alloc, ASCII);
     }
     let what = format_args!("`{letter}` is not ASCII");
-    Wrong::new(alloc, span, what)?.with(alloc, ASCII)
+    ByteFault::new(alloc, span, what)?.with(alloc, ASCII)
 }
 
 /// The fault of a character that may not be at `place`, or of a byte that belongs to no character.
-fn bad_char(alloc: Global, input: &Input<'_>, place: usize, byte: u8) -> Result<Wrong, AllocError> {
+fn bad_char(
+    alloc: Global,
+    input: &Input<'_>,
+    place: usize,
+    byte: u8,
+) -> Result<ByteFault, AllocError> {
     match char_at(input.bytes, place) {
         Some((letter, _)) if b' ' <= byte && byte <= b'~' => {
             let what = format_args!("`\\{letter}` is not an escape");
-            Wrong::new(alloc, one_byte(place), what)?.with(alloc, ESCAPES)
+            ByteFault::new(alloc, one_byte(place), what)?.with(alloc, ESCAPES)
         }
         Some((letter, width)) => foreign_char(alloc, input, place, letter, width),
         None => {
             let what = format_args!(
                 "the byte {byte} is neither ASCII nor part of a UTF-8 character"
             );
-            Wrong::new(alloc, one_byte(place), what)?.with(alloc, ASCII)
+            ByteFault::new(alloc, one_byte(place), what)?.with(alloc, ASCII)
         }
     }
 }
 
 /// The fault of a byte that may not be at `place`.
-fn bad_byte(alloc: Global, input: &Input<'_>, place: usize) -> Result<Wrong, AllocError> {
+fn bad_byte(alloc: Global, input: &Input<'_>, place: usize) -> Result<ByteFault, AllocError> {
     let span = one_byte(place);
     match input.bytes.get(place) {
         Some(b'\n') | Some(b'\r') | Some(b'\t') => {
-            Wrong::new(alloc, span, "a text does not end on its line")?.with(
+            ByteFault::new(alloc, span, "a text does not end on its line")?.with(
                 alloc,
                 "hint: a `\"` is missing, or the text has a tab or a line end in it",
             )
         }
         Some(byte) => bad_char(alloc, input, place, *byte),
-        None => Wrong::new(alloc, span, "the file ends here"),
+        None => ByteFault::new(alloc, span, "the file ends here"),
     }
 }
 
 /// The fault of a `)` that closes nothing, with the place where the item before it was closed.
-fn stray_close(alloc: Global, input: &Input<'_>, place: usize) -> Result<Wrong, AllocError> {
-    let wrong = Wrong::new(alloc, one_byte(place), "this `)` closes nothing")?;
+fn stray_close(alloc: Global, input: &Input<'_>, place: usize) -> Result<ByteFault, AllocError> {
+    let wrong = ByteFault::new(alloc, one_byte(place), "this `)` closes nothing")?;
     let Some(item) = closed_item(input.bytes, place) else {
         return wrong.with(alloc, "hint: nothing is open here");
     };
@@ -162,25 +167,29 @@ fn stray_close(alloc: Global, input: &Input<'_>, place: usize) -> Result<Wrong, 
 }
 
 /// What is wrong with bytes that are no file of trees.
-pub fn unread(alloc: Global, input: &Input<'_>, refused: SexprFault) -> Result<Wrong, AllocError> {
+pub fn byte_fault(
+    alloc: Global,
+    input: &Input<'_>,
+    refused: SexprFault,
+) -> Result<ByteFault, AllocError> {
     let span = one_byte(refused.place);
     match refused.kind {
         FaultKind::BadByte => bad_byte(alloc, input, refused.place),
         FaultKind::UnclosedText => {
-            Wrong::new(alloc, span, "the text that begins here is not closed")
+            ByteFault::new(alloc, span, "the text that begins here is not closed")
         }
-        FaultKind::UnclosedNode => missing(alloc, input, refused.place),
+        FaultKind::UnclosedNode => missing_close(alloc, input, refused.place),
         FaultKind::StrayClose => stray_close(alloc, input, refused.place),
-        FaultKind::TooDeep => Wrong::new(
+        FaultKind::TooDeep => ByteFault::new(
             alloc,
             span,
             format_args!("brackets are nested more than {MAX_LEVELS} deep"),
         ),
-        FaultKind::TooLarge => Wrong::new(
+        FaultKind::TooLarge => ByteFault::new(
             alloc,
             span,
             format_args!("the input has more than {MAX_BYTES} bytes"),
         ),
-        FaultKind::NoMemory => Wrong::new(alloc, span, "an allocation failed"),
+        FaultKind::NoMemory => ByteFault::new(alloc, span, "an allocation failed"),
     }
 }

@@ -94,7 +94,7 @@ pub fn trees_in(form: &Form) -> &[Form] {
 }
 
 /// The trees after the head of a tree.
-pub fn behind_head(form: &Form) -> &[Form] {
+pub fn after_head(form: &Form) -> &[Form] {
     match trees_in(form).split_first() {
         Some((_, trees)) => trees,
         None => &[],
@@ -109,7 +109,7 @@ pub fn headed_part(head: Head, form: &Form, place: usize) -> Part<'_> {
         is_branch: head.is_branch,
         place,
         branch: None,
-        commands: behind_head(form),
+        commands: after_head(form),
     }
 }
 
@@ -158,7 +158,7 @@ fn add_parts<'a>(
     place: usize,
 ) -> Result<(), AllocError> {
     if is_headed(tree, "branches") {
-        return add_branches(parts, behind_head(tree), place);
+        return add_branches(parts, after_head(tree), place);
     }
     match part_head(head_word(tree)) {
         Some(head) => parts.extend_from_slice(&[headed_part(head, tree, place)]),
@@ -167,7 +167,7 @@ fn add_parts<'a>(
 }
 
 /// The parts of a case, in the order of the numbers of their commands.
-pub fn commands_of<'a>(alloc: Global, form: &'a Form) -> Result<Vec<Part<'a>>, AllocError> {
+pub fn parts_of_case<'a>(alloc: Global, form: &'a Form) -> Result<Vec<Part<'a>>, AllocError> {
     let mut parts = Vec::new(alloc);
     for (place, tree) in trees_in(form).iter().enumerate() {
         add_parts(&mut parts, tree, place)?;
@@ -214,7 +214,7 @@ fn path_to(alloc: Global, command: &Command<'_>) -> Result<Vec<usize>, AllocErro
 }
 
 /// Command `command`, counted from 1, with the path to it within its item.
-pub fn located<'a>(
+pub fn command_with_path<'a>(
     alloc: Global,
     parts: &[Part<'a>],
     command: usize,
@@ -226,7 +226,7 @@ pub fn located<'a>(
 }
 
 /// The number of the command that the variable `word` names.
-pub fn variable(word: &str) -> Option<usize> {
+pub fn variable_number(word: &str) -> Option<usize> {
     match word.strip_prefix("$") {
         Some(digits) => digits.parse::<usize>().ok(),
         None => None,

@@ -1,6 +1,6 @@
 //! The entries of a map in an argument or a reply.
 
-use crate::ill::Ill;
+use crate::ill::ValueFault;
 use pst_sexpr::{Form, integer_of, node_of};
 use pst_value::{KeyTy, text_less};
 use std::alloc::AllocError;
@@ -33,17 +33,21 @@ fn comes_before(form: &Form, other: &Form) -> bool {
 }
 
 /// The fault of `key`, if it has one. `wanted` is the type that keys have to have, and `before` is the key before it.
-fn ill_key<'a>(key: &'a Form, wanted: Option<KeyTy>, before: Option<&'a Form>) -> Option<Ill<'a>> {
+fn ill_key<'a>(
+    key: &'a Form,
+    wanted: Option<KeyTy>,
+    before: Option<&'a Form>,
+) -> Option<ValueFault<'a>> {
     let Some(kind) = kind_of(key) else {
-        return Some(Ill::Tree {
+        return Some(ValueFault::Tree {
             before: "",
             form: key,
             after: " is not a key of a map",
         });
     };
     match (wanted, before) {
-        (Some(wanted), _) if kind != wanted => Some(Ill::OtherKey(key, wanted)),
-        (_, Some(before)) if !comes_before(before, key) => Some(Ill::Falls(key, before)),
+        (Some(wanted), _) if kind != wanted => Some(ValueFault::OtherKey(key, wanted)),
+        (_, Some(before)) if !comes_before(before, key) => Some(ValueFault::Falls(key, before)),
         _ => None,
     }
 }
@@ -57,8 +61,8 @@ fn key_of(entry: &Form) -> Option<&Form> {
 }
 
 /// The fault of a tree in a map that is no entry.
-fn no_entry(form: &Form) -> Ill<'_> {
-    Ill::Tree {
+fn no_entry(form: &Form) -> ValueFault<'_> {
+    ValueFault::Tree {
         before: "an entry of a map is `(KEY VALUE)`, found ",
         form,
         after: "",
@@ -69,8 +73,8 @@ fn no_entry(form: &Form) -> Ill<'_> {
 fn found_at<'a>(
     path: &mut Vec<usize>,
     numbers: &[usize],
-    ill: Ill<'a>,
-) -> Result<Option<Ill<'a>>, AllocError> {
+    ill: ValueFault<'a>,
+) -> Result<Option<ValueFault<'a>>, AllocError> {
     path.extend_from_slice(numbers)?;
     Ok(Some(ill))
 }
@@ -81,7 +85,7 @@ pub fn ill_entry<'a>(
     path: &mut Vec<usize>,
     trees: &'a [Form],
     wanted: Option<KeyTy>,
-) -> Result<Option<Ill<'a>>, AllocError> {
+) -> Result<Option<ValueFault<'a>>, AllocError> {
     let mut wanted = wanted;
     let mut before = None;
     for (number, entry) in trees.iter().enumerate() {

@@ -8,7 +8,7 @@ use std::alloc::Global;
 
 /// A fault of a command or a reply.
 #[derive(Clone, Copy, Drop)]
-pub enum Ill<'a> {
+pub enum ValueFault<'a> {
     /// A tree, which the message shows between these texts.
     Tree {
         before: &'static str,
@@ -67,30 +67,34 @@ fn other_branch(alloc: Global, path: &[usize], number: usize) -> FoundProblem {
 }
 
 /// The problem of the fault `ill`, if there is one, at the tree that `path` leads to.
-pub fn ill_problem(alloc: Global, path: &[usize], ill: Option<Ill<'_>>) -> FoundProblem {
+pub fn value_fault_problem(
+    alloc: Global,
+    path: &[usize],
+    ill: Option<ValueFault<'_>>,
+) -> FoundProblem {
     let Some(ill) = ill else {
         return Ok(None);
     };
     match ill {
-        Ill::Tree {
+        ValueFault::Tree {
             before,
             form,
             after,
         } => wrong_tree(alloc, path, before, form, after),
-        Ill::OtherType(form, wanted) => {
+        ValueFault::OtherType(form, wanted) => {
             let wanted = TypeText(wanted);
             let before = format_args!("expected {wanted}, found ");
             wrong_tree(alloc, path, before, form, "")
         }
-        Ill::OtherKey(form, wanted) => {
+        ValueFault::OtherKey(form, wanted) => {
             let wanted = key_word(wanted);
             let before = format_args!("expected a key of type {wanted}, found ");
             wrong_tree(alloc, path, before, form, "")
         }
-        Ill::Falls(key, before) => falls(alloc, path, key, before),
-        Ill::Later { number, command } => later(alloc, path, number, command),
-        Ill::OtherBranch(number) => other_branch(alloc, path, number),
-        Ill::Argument => wrong(
+        ValueFault::Falls(key, before) => falls(alloc, path, key, before),
+        ValueFault::Later { number, command } => later(alloc, path, number, command),
+        ValueFault::OtherBranch(number) => other_branch(alloc, path, number),
+        ValueFault::Argument => wrong(
             alloc,
             path,
             "an argument has another type, or is not a value",

@@ -17,6 +17,6 @@ mod shape;
 mod shown;
 mod values;
 
-pub use command::{Part, commands_of, located, place_of};
+pub use command::{Part, command_with_path, parts_of_case, place_of};
 pub use message::{Asked, errors_of, message_of};
 pub use runs::run_problem;

@@ -1,6 +1,6 @@
 //! The messages on refused inputs.
 
-use crate::bytes::{Wrong, unread};
+use crate::bytes::{ByteFault, byte_fault};
 use crate::runs::run_problem;
 use pst_model::Typed;
 use pst_problems::{MOST_PROBLEMS, Problem, form_problems};
@@ -45,13 +45,13 @@ fn notice_of(alloc: Global, span: Span, problem: Problem) -> Notice {
 }
 
 /// The error on the tree of the input that has the problem `problem`.
-fn of_problem(alloc: Global, input: &Input<'_>, problem: Problem) -> Notice {
+fn problem_notice(alloc: Global, input: &Input<'_>, problem: Problem) -> Notice {
     let span = span_of(input.bytes, problem.path.as_slice());
     notice_of(alloc, span, problem)
 }
 
 /// The errors on the problems of a model, at most twenty.
-fn of_problems(
+fn problem_notices(
     alloc: Global,
     input: &Input<'_>,
     problems: Vec<Problem>,
@@ -59,7 +59,7 @@ fn of_problems(
     let mut notices = Notices::none(alloc);
     for problem in problems {
         if notices.all.len() < MOST_PROBLEMS {
-            notices.all.push(of_problem(alloc, input, problem))?;
+            notices.all.push(problem_notice(alloc, input, problem))?;
         } else if notices.more.is_empty() {
             notices
                 .more
@@ -204,7 +204,7 @@ fn of_items(
     match asked {
         Asked::Model => Ok(Notices::none(alloc)),
         Asked::FirstItem => match of_first_item(alloc, &file.typed, trees)? {
-            Some(problem) => Notices::one(alloc, of_problem(alloc, input, problem)),
+            Some(problem) => Notices::one(alloc, problem_notice(alloc, input, problem)),
             None => Ok(Notices::none(alloc)),
         },
         Asked::EachItem => of_each_item(alloc, input, &file.typed, trees, MOST_PROBLEMS),
@@ -218,7 +218,7 @@ pub fn errors_of(alloc: Global, input: &Input<'_>, asked: Asked) -> Result<Notic
     match load(alloc, input.bytes)? {
         Ok(file) => of_items(alloc, input, &file, asked),
         Err(Refusal::Unread(refused)) => {
-            let Wrong { span, what, notes } = unread(alloc, input, refused)?;
+            let ByteFault { span, what, notes } = byte_fault(alloc, input, refused)?;
             let lines = String::new(alloc);
             let notice = Notice {
                 span,
@@ -231,7 +231,7 @@ pub fn errors_of(alloc: Global, input: &Input<'_>, asked: Asked) -> Result<Notic
         }
         Err(refusal) => {
             let problems = of_model(alloc, input, &refusal)?;
-            of_problems(alloc, input, problems)
+            problem_notices(alloc, input, problems)
         }
     }
 }

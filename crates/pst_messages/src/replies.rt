@@ -1,7 +1,7 @@
 //! The replies of a run.
 
-use crate::command::{Part, behind_head, is_headed, place_of, trees_in};
-use crate::ill::{Ill, ill_problem};
+use crate::command::{Part, after_head, is_headed, place_of, trees_in};
+use crate::ill::{ValueFault, value_fault_problem};
 use crate::values::{CaseSearch, Wanted, problem_in};
 use pst_problems::{FoundProblem, Problem, counted, noted, with_note, wrong};
 use pst_sexpr::{Form, node_of};
@@ -20,7 +20,7 @@ struct Reply<'a> {
 fn lists_of(form: &Form) -> Option<(usize, &[Form])> {
     for (place, part) in trees_in(form).iter().enumerate() {
         if is_headed(part, "replies") {
-            return Some((place, behind_head(part)));
+            return Some((place, after_head(part)));
         }
     }
     None
@@ -116,13 +116,13 @@ fn reply_problem(
     path: &[usize],
     form: &Form,
 ) -> FoundProblem {
-    let other = Some(Ill::Tree {
+    let other = Some(ValueFault::Tree {
         before: "",
         form,
         after: " is not a reply",
     });
     if node_of(form).is_none() {
-        return ill_problem(alloc, path, other);
+        return value_fault_problem(alloc, path, other);
     }
     problem_in(alloc, search, path, form, Wanted::Any, other)
 }

@@ -1,7 +1,7 @@
 //! Refused cases and runs.
 
 use crate::arguments::bad_argument;
-use crate::command::{Command, Part, command_at, commands_of, head_word};
+use crate::command::{Command, Part, command_at, head_word, parts_of_case};
 use crate::replies::{bad_reply, no_fit};
 use crate::shape::bad_form;
 use crate::values::{CaseSearch, Sought, Wanted, problem_in};
@@ -123,7 +123,7 @@ fn fault_problem(
 }
 
 /// The problem of an item about which only the fault is known.
-fn refused(alloc: Global, fault: RunFault) -> FoundProblem {
+fn unlocated_problem(alloc: Global, fault: RunFault) -> FoundProblem {
     let kind = fault.kind.name();
     wrong(
         alloc,
@@ -139,7 +139,7 @@ pub fn run_problem(
     form: &Form,
     fault: RunFault,
 ) -> Result<Option<Problem>, AllocError> {
-    let parts = commands_of(alloc, form)?;
+    let parts = parts_of_case(alloc, form)?;
     let search = CaseSearch {
         source,
         parts: parts.as_slice(),
@@ -147,6 +147,6 @@ pub fn run_problem(
     };
     match fault_problem(alloc, &search, form, fault)? {
         Some(found) => Ok(Some(found)),
-        None => refused(alloc, fault),
+        None => unlocated_problem(alloc, fault),
     }
 }

@@ -1,8 +1,10 @@
 //! The first fault in an argument or a reply.
 
-use crate::command::{Part, behind_head, command_at, is_headed, place_of, result_of, variable};
+use crate::command::{
+    Part, after_head, command_at, is_headed, place_of, result_of, variable_number,
+};
 use crate::entries::{ill_entry, is_truth};
-use crate::ill::{Ill, ill_problem};
+use crate::ill::{ValueFault, value_fault_problem};
 use pst_model::{Param, Source};
 use pst_problems::{FoundProblem, Problem, TypeText, in_single_quotes, short_text, with_note};
 use pst_sexpr::{Form, is_integer};
@@ -54,7 +56,7 @@ enum Types<'a> {
 
 /// Whether `word` is a variable that names a command whose result has the type `wanted`.
 fn names_result(search: &CaseSearch<'_>, word: &str, wanted: &Ty) -> bool {
-    let Some(command) = variable(word) else {
+    let Some(command) = variable_number(word) else {
         return false;
     };
     match result_of(search.source, search.parts, command) {
@@ -84,10 +86,10 @@ fn is_plain(form: &Form) -> bool {
 }
 
 /// The fault of a tree that does not spell what is wanted.
-fn unfit<'a>(form: &'a Form, wanted: Wanted<'a>) -> Ill<'a> {
+fn unfit<'a>(form: &'a Form, wanted: Wanted<'a>) -> ValueFault<'a> {
     match wanted {
-        Wanted::Type(ty) => Ill::OtherType(form, ty),
-        Wanted::Any | Wanted::Call(_) => Ill::Tree {
+        Wanted::Type(ty) => ValueFault::OtherType(form, ty),
+        Wanted::Any | Wanted::Call(_) => ValueFault::Tree {
             before: "",
             form,
             after: " is not a value",
@@ -96,7 +98,11 @@ fn unfit<'a>(form: &'a Form, wanted: Wanted<'a>) -> Ill<'a> {
 }
 
 /// The fault of a tree that is no node and has to spell a value, if it has one.
-fn ill_value<'a>(search: &CaseSearch<'_>, form: &'a Form, wanted: Wanted<'a>) -> Option<Ill<'a>> {
+fn ill_value<'a>(
+    search: &CaseSearch<'_>,
+    form: &'a Form,
+    wanted: Wanted<'a>,
+) -> Option<ValueFault<'a>> {
     match wanted {
         Wanted::Type(ty) if is_of(search, form, ty) => None,
         Wanted::Any if is_plain(form) => None,
@@ -117,23 +123,27 @@ fn are_apart(parts: &[Part<'_>], number: usize, command: usize) -> bool {
 }
 
 /// The number of the command that a tree names, if it is a variable.
-fn named(form: &Form) -> Option<usize> {
+fn variable_in(form: &Form) -> Option<usize> {
     match form {
-        Form::Word(word) => variable(word.as_str()),
+        Form::Word(word) => variable_number(word.as_str()),
         Form::Text(_) | Form::Node(_) => None,
     }
 }
 
 /// The fault of a tree that is no node, if it has one that the search looks for.
-fn ill_leaf<'a>(search: &CaseSearch<'_>, form: &'a Form, wanted: Wanted<'a>) -> Option<Ill<'a>> {
+fn ill_leaf<'a>(
+    search: &CaseSearch<'_>,
+    form: &'a Form,
+    wanted: Wanted<'a>,
+) -> Option<ValueFault<'a>> {
     let parts = search.parts;
-    match (search.sought, named(form)) {
+    match (search.sought, variable_in(form)) {
         (Sought::Value, _) => ill_value(search, form, wanted),
         (Sought::Later(command), Some(number)) if number == 0 || number >= command => {
-            Some(Ill::Later { number, command })
+            Some(ValueFault::Later { number, command })
         }
         (Sought::OtherBranch(command), Some(number)) if are_apart(parts, number, command) => {
-            Some(Ill::OtherBranch(number))
+            Some(ValueFault::OtherBranch(number))
         }
         _ => None,
     }
@@ -156,7 +166,7 @@ fn types_of_any<'a>(search: &CaseSearch<'_>, form: &Form) -> Option<Types<'a>> {
 /// What the parts of a node have to spell if the node has to spell a value of the type `ty`. `None` if it spells none.
 fn types_of<'a>(form: &Form, ty: &'a Ty) -> Option<Types<'a>> {
     match ty {
-        Ty::Tuple(items) if items.len() == behind_head(form).len() && is_headed(form, "tuple") => {
+        Ty::Tuple(items) if items.len() == after_head(form).len() && is_headed(form, "tuple") => {
             Some(Types::Items(items.as_slice()))
         }
         Ty::List(item) if is_headed(form, "list") => { Some(Types::Same(Wanted::Type(item.get()))) }
@@ -200,7 +210,7 @@ fn first_ill<'a>(
     path: &mut Vec<usize>,
     form: &'a Form,
     wanted: Wanted<'a>,
-) -> Result<Option<Ill<'a>>, AllocError> {
+) -> Result<Option<ValueFault<'a>>, AllocError> {
     match form {
         Form::Node(parts) => match types_in(search, form, wanted) {
             Some(types) => first_in_node(search, path, parts.as_slice(), types),
@@ -217,7 +227,7 @@ fn first_in_node<'a>(
     path: &mut Vec<usize>,
     parts: &'a [Form],
     types: Types<'a>,
-) -> Result<Option<Ill<'a>>, AllocError> {
+) -> Result<Option<ValueFault<'a>>, AllocError> {
     if let Types::Entries(keys, _) = types {
         if let Some(ill) = ill_entry(path, parts, keys)? {
             return Ok(Some(ill));
@@ -233,7 +243,7 @@ fn first_in<'a>(
     path: &mut Vec<usize>,
     parts: &'a [Form],
     types: Types<'a>,
-) -> Result<Option<Ill<'a>>, AllocError> {
+) -> Result<Option<ValueFault<'a>>, AllocError> {
     for (number, part) in parts.iter().enumerate() {
         if number > 0 {
             path.push(number)?;
@@ -255,7 +265,7 @@ fn first_in_part<'a>(
     part: &'a Form,
     types: Types<'a>,
     number: usize,
-) -> Result<Option<Ill<'a>>, AllocError> {
+) -> Result<Option<ValueFault<'a>>, AllocError> {
     match (types, part) {
         (Types::Entries(_, wanted), Form::Node(entry)) => {
             first_in(search, path, entry.as_slice(), Types::Same(wanted))
@@ -297,7 +307,7 @@ fn with_type_note(
     form: &Form,
     wanted: &Ty,
 ) -> FoundProblem {
-    if let Some(number) = named(form) {
+    if let Some(number) = variable_in(form) {
         return with_result(alloc, search, found, number);
     }
     match (form, wanted) {
@@ -326,13 +336,15 @@ pub fn problem_in(
     path: &[usize],
     form: &Form,
     wanted: Wanted<'_>,
-    other: Option<Ill<'_>>,
+    other: Option<ValueFault<'_>>,
 ) -> FoundProblem {
     let mut path = Vec::from_slice(alloc, path)?;
     let ill = first_ill(search, &mut path, form, wanted)?.or(other);
-    let found = ill_problem(alloc, path.as_slice(), ill)?;
+    let found = value_fault_problem(alloc, path.as_slice(), ill)?;
     match ill {
-        Some(Ill::OtherType(form, wanted)) => { with_type_note(alloc, search, found, form, wanted) }
+        Some(ValueFault::OtherType(form, wanted)) => {
+            with_type_note(alloc, search, found, form, wanted)
+        }
         _ => Ok(found),
     }
 }

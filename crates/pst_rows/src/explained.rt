@@ -3,7 +3,7 @@
 //! `counter.runs`.
 
 use crate::requests::Request;
-use pst_cli::{Chosen, Explaining, ExplanationForm, Status, explain_text, graph_text};
+use pst_cli::{Chosen, ExplainOptions, ExplanationForm, Status, explain_text, graph_text};
 use pst_sexpr::Out;
 use pst_sources::{SourceFile, joined};
 use std::alloc::{AllocError, Global};
@@ -41,7 +41,7 @@ fn explained<R: Threads + Sync>(
 ) -> Result<String, AllocError> {
     let input = joined(alloc, files)?;
     let mut out = Out::new(Vec::new(alloc));
-    let asked = Explaining {
+    let asked = ExplainOptions {
         files,
         chosen,
         most: usize::MAX,

@@ -1,6 +1,6 @@
 //! Applications of functions and calls of operations.
 
-use crate::diagnose::Leaf;
+use crate::diagnose::BlamedPart;
 use crate::operands::wanted_type;
 use crate::trees::tree_in;
 use pst_model::{Fun, Item, Param};
@@ -27,7 +27,7 @@ fn function<'a>(items: &'a [Item], name: &str) -> Option<&'a Fun> {
 
 /// Whether argument `argument` has the type of parameter `parameter`, both counted from 0.
 fn fits(
-    leaf: &Leaf<'_>,
+    leaf: &BlamedPart<'_>,
     params: &[Param],
     argument: usize,
     parameter: usize,
@@ -39,7 +39,11 @@ fn fits(
 }
 
 /// The number of the first argument, from `from` on, that has another type than its parameter.
-fn first_ill(leaf: &Leaf<'_>, params: &[Param], from: usize) -> Result<Option<usize>, AllocError> {
+fn first_ill(
+    leaf: &BlamedPart<'_>,
+    params: &[Param],
+    from: usize,
+) -> Result<Option<usize>, AllocError> {
     for place in from..params.len() {
         if !fits(leaf, params, place, place)? {
             return Ok(Some(place));
@@ -50,7 +54,7 @@ fn first_ill(leaf: &Leaf<'_>, params: &[Param], from: usize) -> Result<Option<us
 
 /// Whether exactly two arguments do not fit, and both would fit if they were swapped. `first` is the number of the
 /// first of them.
-fn are_swapped(leaf: &Leaf<'_>, params: &[Param], first: usize) -> Result<bool, AllocError> {
+fn are_swapped(leaf: &BlamedPart<'_>, params: &[Param], first: usize) -> Result<bool, AllocError> {
     let Some(second) = first_ill(leaf, params, first.saturating_add(1))? else {
         return Ok(false);
     };
@@ -76,7 +80,7 @@ fn with_signature(
 /// the tree.
 fn ill_argument(
     alloc: Global,
-    leaf: &Leaf<'_>,
+    leaf: &BlamedPart<'_>,
     declared: &Signature<'_>,
     place: usize,
     part: usize,
@@ -99,7 +103,7 @@ fn ill_argument(
 /// order.
 fn ill_order(
     alloc: Global,
-    leaf: &Leaf<'_>,
+    leaf: &BlamedPart<'_>,
     declared: &Signature<'_>,
     place: usize,
     part: usize,
@@ -113,7 +117,11 @@ fn ill_order(
 }
 
 /// The problem of arguments whose number is not that of the parameters.
-fn wrong_argument_count(alloc: Global, leaf: &Leaf<'_>, declared: &Signature<'_>) -> FoundProblem {
+fn wrong_argument_count(
+    alloc: Global,
+    leaf: &BlamedPart<'_>,
+    declared: &Signature<'_>,
+) -> FoundProblem {
     let name = declared.name;
     let takes = counted(declared.params.len(), "argument");
     let found = leaf.kinds.len();
@@ -127,9 +135,9 @@ fn wrong_argument_count(alloc: Global, leaf: &Leaf<'_>, declared: &Signature<'_>
 
 /// The problem of arguments that do not fit the parameters, if one does not. `first` is the number of the first
 /// argument in the tree.
-fn arguments(
+fn arguments_problem(
     alloc: Global,
-    leaf: &Leaf<'_>,
+    leaf: &BlamedPart<'_>,
     declared: &Signature<'_>,
     first: usize,
 ) -> FoundProblem {
@@ -145,7 +153,7 @@ fn arguments(
 /// The problem of the unknown name `name` at part `part` of the tree, with the known operations or functions.
 fn unknown_at(
     alloc: Global,
-    leaf: &Leaf<'_>,
+    leaf: &BlamedPart<'_>,
     part: usize,
     name: &str,
     are_operations: bool,
@@ -161,7 +169,7 @@ fn unknown_at(
 }
 
 /// The problem of a call of an operation, if it has one.
-pub fn called(alloc: Global, leaf: &Leaf<'_>) -> FoundProblem {
+pub fn call_problem(alloc: Global, leaf: &BlamedPart<'_>) -> FoundProblem {
     let Some(name) = word_of(tree_in(leaf.form, 1)) else {
         return Ok(None);
     };
@@ -173,7 +181,7 @@ pub fn called(alloc: Global, leaf: &Leaf<'_>) -> FoundProblem {
                 params: op.params.as_slice(),
                 gives: &op.result,
             };
-            arguments(alloc, leaf, &declared, 2)
+            arguments_problem(alloc, leaf, &declared, 2)
         }
         None => unknown_at(alloc, leaf, 1, name, true),
     }
@@ -182,7 +190,7 @@ pub fn called(alloc: Global, leaf: &Leaf<'_>) -> FoundProblem {
 /// The problem of a function that no item declares, with a note.
 fn no_function_noted<N: Display + Drop>(
     alloc: Global,
-    leaf: &Leaf<'_>,
+    leaf: &BlamedPart<'_>,
     name: &str,
     note: N,
 ) -> FoundProblem {
@@ -197,7 +205,7 @@ fn no_function_noted<N: Display + Drop>(
 
 /// The problem of a function that no item declares, with the known name that is probably meant, or with the known
 /// functions.
-fn no_function_near(alloc: Global, leaf: &Leaf<'_>, name: &str) -> FoundProblem {
+fn no_function_near(alloc: Global, leaf: &BlamedPart<'_>, name: &str) -> FoundProblem {
     match nearest_head(alloc, leaf.has_maps, name)? {
         Some(hint) => no_function_noted(alloc, leaf, name, hint),
         None => unknown_at(alloc, leaf, 0, name, false),
@@ -205,7 +213,7 @@ fn no_function_near(alloc: Global, leaf: &Leaf<'_>, name: &str) -> FoundProblem 
 }
 
 /// The problem of a function that no item declares.
-fn no_function(alloc: Global, leaf: &Leaf<'_>, name: &str) -> FoundProblem {
+fn no_function(alloc: Global, leaf: &BlamedPart<'_>, name: &str) -> FoundProblem {
     if let Some(hint) = in_place_of(name) {
         return no_function_noted(alloc, leaf, name, format_args!("hint: {hint}"));
     }
@@ -225,7 +233,7 @@ fn no_function(alloc: Global, leaf: &Leaf<'_>, name: &str) -> FoundProblem {
 }
 
 /// The problem of a declared function that may not be applied here, if it may not.
-fn not_here(alloc: Global, leaf: &Leaf<'_>, fun: &Fun) -> FoundProblem {
+fn later_function_problem(alloc: Global, leaf: &BlamedPart<'_>, fun: &Fun) -> FoundProblem {
     let name = fun.name.as_str();
     if function(leaf.context.earlier, name).is_none() {
         return noted_at(
@@ -249,7 +257,7 @@ fn not_here(alloc: Global, leaf: &Leaf<'_>, fun: &Fun) -> FoundProblem {
 }
 
 /// The problem of an application of a function, if it has one.
-pub fn applied(alloc: Global, leaf: &Leaf<'_>, name: &str) -> FoundProblem {
+pub fn application_problem(alloc: Global, leaf: &BlamedPart<'_>, name: &str) -> FoundProblem {
     let Some(fun) = function(leaf.context.items, name) else {
         return no_function(alloc, leaf, name);
     };
@@ -258,8 +266,8 @@ pub fn applied(alloc: Global, leaf: &Leaf<'_>, name: &str) -> FoundProblem {
         params: fun.params.as_slice(),
         gives: &fun.result,
     };
-    match not_here(alloc, leaf, fun)? {
+    match later_function_problem(alloc, leaf, fun)? {
         Some(found) => Ok(Some(found)),
-        None => arguments(alloc, leaf, &declared, 1),
+        None => arguments_problem(alloc, leaf, &declared, 1),
     }
 }

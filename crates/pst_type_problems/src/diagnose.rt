@@ -1,6 +1,6 @@
 //! What is wrong with the part of an expression that is to blame, by the types of its parts.
 
-use crate::applied::{applied, called};
+use crate::applied::{application_problem, call_problem};
 use crate::operands::{
     ill_first, wanted_list, wanted_map, wanted_sequence, wanted_tuple, wanted_type,
     with_reference_hint, with_references_hint,
@@ -21,7 +21,7 @@ use std::fmt::Display;
 /// The part that is to blame: what it may name, the part, its tree, the path to it, the kinds of its parts, the names
 /// that it sees, and what the whole expression is called.
 #[derive(Drop)]
-pub struct Leaf<'a> {
+pub struct BlamedPart<'a> {
     pub context: &'a Context<'a>,
     pub expr: &'a Expr,
     pub form: &'a Form,
@@ -34,7 +34,7 @@ pub struct Leaf<'a> {
 }
 
 /// The problem `found`, with the names that the part sees.
-fn with_names(alloc: Global, leaf: &Leaf<'_>, found: Option<Problem>) -> FoundProblem {
+fn with_names(alloc: Global, leaf: &BlamedPart<'_>, found: Option<Problem>) -> FoundProblem {
     if leaf.names.is_empty() {
         let called = leaf.called;
         return with_note(alloc, found, format_args!("{called} sees no names"));
@@ -53,7 +53,7 @@ fn callback_hint(name: &str) -> Option<&'static str> {
 }
 
 /// The problem of the name `name`, which nothing has here. A note lists the names that the part sees.
-fn no_meaning(alloc: Global, leaf: &Leaf<'_>, name: &str) -> FoundProblem {
+fn no_meaning(alloc: Global, leaf: &BlamedPart<'_>, name: &str) -> FoundProblem {
     let called = leaf.called;
     let what = format_args!("{called}: nothing has the name `{name}` here");
     let found = wrong(alloc, leaf.path, what)?;
@@ -63,7 +63,7 @@ fn no_meaning(alloc: Global, leaf: &Leaf<'_>, name: &str) -> FoundProblem {
 /// The problem of the name `name`, which nothing has here, with a hint.
 fn unknown_noted<N: Display + Drop>(
     alloc: Global,
-    leaf: &Leaf<'_>,
+    leaf: &BlamedPart<'_>,
     name: &str,
     hint: N,
 ) -> FoundProblem {
@@ -71,7 +71,7 @@ fn unknown_noted<N: Display + Drop>(
 }
 
 /// The problem of the name `name`, which nothing has here, with a hint if there is one.
-fn unknown(alloc: Global, leaf: &Leaf<'_>, name: &str) -> FoundProblem {
+fn unknown_name_problem(alloc: Global, leaf: &BlamedPart<'_>, name: &str) -> FoundProblem {
     if let Some(hint) = callback_hint(name) {
         return unknown_noted(alloc, leaf, name, hint);
     }
@@ -82,7 +82,7 @@ fn unknown(alloc: Global, leaf: &Leaf<'_>, name: &str) -> FoundProblem {
 }
 
 /// The problem of the first part that has another type than `wanted`.
-fn each_of(alloc: Global, leaf: &Leaf<'_>, head: &str, wanted: &Ty) -> FoundProblem {
+fn each_of(alloc: Global, leaf: &BlamedPart<'_>, head: &str, wanted: &Ty) -> FoundProblem {
     let wanted = Kind::of(alloc, wanted)?;
     for (place, kind) in leaf.kinds.iter().enumerate() {
         if !kind.same(alloc, &wanted)? {
@@ -94,7 +94,7 @@ fn each_of(alloc: Global, leaf: &Leaf<'_>, head: &str, wanted: &Ty) -> FoundProb
 }
 
 /// The problem of an `if`, if it has one.
-fn choice(alloc: Global, leaf: &Leaf<'_>) -> FoundProblem {
+fn if_problem(alloc: Global, leaf: &BlamedPart<'_>) -> FoundProblem {
     let [test, yes, no] = leaf.kinds else {
         return Ok(None);
     };
@@ -106,7 +106,13 @@ fn choice(alloc: Global, leaf: &Leaf<'_>) -> FoundProblem {
 }
 
 /// The problem of a comparison by order, if it has one.
-fn order(alloc: Global, leaf: &Leaf<'_>, head: &str, first: &Kind, second: &Kind) -> FoundProblem {
+fn order_problem(
+    alloc: Global,
+    leaf: &BlamedPart<'_>,
+    head: &str,
+    first: &Kind,
+    second: &Kind,
+) -> FoundProblem {
     match first.form(alloc)? {
         KindForm::Int | KindForm::Text => {
             wanted_type(alloc, leaf, format_args!("`{head}`"), 2, first, second)
@@ -121,7 +127,12 @@ fn order(alloc: Global, leaf: &Leaf<'_>, head: &str, first: &Kind, second: &Kind
 }
 
 /// The problem of a comparison by `=`, if it has one.
-fn equality(alloc: Global, leaf: &Leaf<'_>, first: &Kind, second: &Kind) -> FoundProblem {
+fn equality_problem(
+    alloc: Global,
+    leaf: &BlamedPart<'_>,
+    first: &Kind,
+    second: &Kind,
+) -> FoundProblem {
     if let Some(found) = wanted_type(
         alloc,
         leaf,
@@ -145,7 +156,7 @@ fn equality(alloc: Global, leaf: &Leaf<'_>, first: &Kind, second: &Kind) -> Foun
 }
 
 /// The problem of a `same`, if it has one.
-fn sameness(alloc: Global, leaf: &Leaf<'_>, first: &Kind, second: &Kind) -> FoundProblem {
+fn same_problem(alloc: Global, leaf: &BlamedPart<'_>, first: &Kind, second: &Kind) -> FoundProblem {
     match first.form(alloc)? {
         KindForm::Ref(_) => wanted_type(
             alloc,
@@ -160,7 +171,7 @@ fn sameness(alloc: Global, leaf: &Leaf<'_>, first: &Kind, second: &Kind) -> Foun
 }
 
 /// The problem of an `nth`, if it has one.
-fn place_in_list(alloc: Global, leaf: &Leaf<'_>, list: &Kind, place: &Kind) -> FoundProblem {
+fn nth_problem(alloc: Global, leaf: &BlamedPart<'_>, list: &Kind, place: &Kind) -> FoundProblem {
     match (list.form(alloc)?, place.form(alloc)?) {
         (KindForm::List(_), _) => {
             let int = Kind::of(alloc, &Ty::Int)?;
@@ -177,7 +188,7 @@ fn place_in_list(alloc: Global, leaf: &Leaf<'_>, list: &Kind, place: &Kind) -> F
 }
 
 /// The problem of a `deref`, if it has one.
-fn dereference(alloc: Global, leaf: &Leaf<'_>) -> FoundProblem {
+fn deref_problem(alloc: Global, leaf: &BlamedPart<'_>) -> FoundProblem {
     if !leaf.context.is_post {
         return noted(
             alloc,
@@ -193,7 +204,7 @@ fn dereference(alloc: Global, leaf: &Leaf<'_>) -> FoundProblem {
 }
 
 /// The problem of a `len` or a `++`, if it has one.
-fn sequence(alloc: Global, leaf: &Leaf<'_>, head: &str) -> FoundProblem {
+fn sequence_problem(alloc: Global, leaf: &BlamedPart<'_>, head: &str) -> FoundProblem {
     let Some(first) = leaf.kinds.first() else {
         return Ok(None);
     };
@@ -213,7 +224,7 @@ fn sequence(alloc: Global, leaf: &Leaf<'_>, head: &str) -> FoundProblem {
 }
 
 /// The problem of an `at`, if it has one.
-fn place_in_tuple(alloc: Global, leaf: &Leaf<'_>) -> FoundProblem {
+fn at_problem(alloc: Global, leaf: &BlamedPart<'_>) -> FoundProblem {
     let Some(found) = leaf.kinds.first() else {
         return Ok(None);
     };
@@ -236,7 +247,7 @@ fn key_type(keys: KeyTy) -> Ty {
 }
 
 /// The problem of a key of another type than the keys of the map, if it has one.
-fn ill_key(alloc: Global, leaf: &Leaf<'_>, keys: KeyTy) -> FoundProblem {
+fn ill_key(alloc: Global, leaf: &BlamedPart<'_>, keys: KeyTy) -> FoundProblem {
     let Some(found) = leaf.kinds.get(1) else {
         return Ok(None);
     };
@@ -247,7 +258,7 @@ fn ill_key(alloc: Global, leaf: &Leaf<'_>, keys: KeyTy) -> FoundProblem {
 }
 
 /// The problem of a key or a value of another type than those of the map, if there is one.
-fn ill_entry(alloc: Global, leaf: &Leaf<'_>, keys: KeyTy, value: &Kind) -> FoundProblem {
+fn ill_entry(alloc: Global, leaf: &BlamedPart<'_>, keys: KeyTy, value: &Kind) -> FoundProblem {
     if let Some(found) = ill_key(alloc, leaf, keys)? {
         return Ok(Some(found));
     }
@@ -258,7 +269,7 @@ fn ill_entry(alloc: Global, leaf: &Leaf<'_>, keys: KeyTy, value: &Kind) -> Found
 }
 
 /// The problem of a form of maps, if it has one.
-fn of_map(alloc: Global, leaf: &Leaf<'_>, head: &str) -> FoundProblem {
+fn map_problem(alloc: Global, leaf: &BlamedPart<'_>, head: &str) -> FoundProblem {
     let Some(map) = leaf.kinds.first() else {
         return Ok(None);
     };
@@ -271,7 +282,7 @@ fn of_map(alloc: Global, leaf: &Leaf<'_>, head: &str) -> FoundProblem {
 /// The problem of an item of a list that has the type `found` instead of `wanted`. `part` is its number in the tree.
 fn ill_item(
     alloc: Global,
-    leaf: &Leaf<'_>,
+    leaf: &BlamedPart<'_>,
     part: usize,
     wanted: &Ty,
     found: &Kind,
@@ -284,7 +295,7 @@ fn ill_item(
 }
 
 /// The problem of the first item of a list that has another type, if there is one.
-fn of_list(alloc: Global, leaf: &Leaf<'_>) -> FoundProblem {
+fn list_problem(alloc: Global, leaf: &BlamedPart<'_>) -> FoundProblem {
     let Expr::List(wanted, _) = leaf.expr else {
         return Ok(None);
     };
@@ -308,7 +319,7 @@ fn fits_clause(alloc: Global, clause: &Form, found: &Kind) -> Result<bool, Alloc
 /// The problem of clause `place`, which has another type.
 fn ill_clause(
     alloc: Global,
-    leaf: &Leaf<'_>,
+    leaf: &BlamedPart<'_>,
     clause: &Form,
     place: usize,
     found: &Kind,
@@ -325,7 +336,7 @@ fn ill_clause(
 }
 
 /// The problem of the first clause of a comprehension that has another type, if there is one.
-fn of_for(alloc: Global, leaf: &Leaf<'_>) -> FoundProblem {
+fn for_problem(alloc: Global, leaf: &BlamedPart<'_>) -> FoundProblem {
     for (place, clause) in clauses_of(leaf.form).iter().enumerate() {
         let Some(found) = leaf.kinds.get(place) else {
             return Ok(None);
@@ -338,7 +349,7 @@ fn of_for(alloc: Global, leaf: &Leaf<'_>) -> FoundProblem {
 }
 
 /// The problem of a fold over no list, or with a body of another type than its first value.
-fn of_fold(alloc: Global, leaf: &Leaf<'_>) -> FoundProblem {
+fn fold_problem(alloc: Global, leaf: &BlamedPart<'_>) -> FoundProblem {
     match leaf.kinds {
         [_, first, body] => wanted_type(
             alloc,
@@ -354,56 +365,56 @@ fn of_fold(alloc: Global, leaf: &Leaf<'_>) -> FoundProblem {
 }
 
 /// What is wrong with an operator of two parts, by its head.
-fn of_two(alloc: Global, leaf: &Leaf<'_>, head: &str) -> FoundProblem {
+fn of_two(alloc: Global, leaf: &BlamedPart<'_>, head: &str) -> FoundProblem {
     let [first, second] = leaf.kinds else {
         return Ok(None);
     };
     match head {
-        "<" | "<=" => order(alloc, leaf, head, first, second),
-        "=" => equality(alloc, leaf, first, second),
-        "same" => sameness(alloc, leaf, first, second),
-        "nth" => place_in_list(alloc, leaf, first, second),
+        "<" | "<=" => order_problem(alloc, leaf, head, first, second),
+        "=" => equality_problem(alloc, leaf, first, second),
+        "same" => same_problem(alloc, leaf, first, second),
+        "nth" => nth_problem(alloc, leaf, first, second),
         _ => Ok(None),
     }
 }
 
 /// What is wrong with an operator, by its head.
-fn of_operator(alloc: Global, leaf: &Leaf<'_>, head: &str) -> FoundProblem {
+fn of_operator(alloc: Global, leaf: &BlamedPart<'_>, head: &str) -> FoundProblem {
     match head {
         "and" | "or" | "not" => each_of(alloc, leaf, head, &Ty::Bool),
         "+" | "-" | "*" | "div" | "rem" | "range" => each_of(alloc, leaf, head, &Ty::Int),
-        "len" | "++" => sequence(alloc, leaf, head),
+        "len" | "++" => sequence_problem(alloc, leaf, head),
         _ => of_two(alloc, leaf, head),
     }
 }
 
 /// What is wrong with a form of expressions, by its head.
-fn of_form(alloc: Global, leaf: &Leaf<'_>, head: &str) -> FoundProblem {
+fn of_form(alloc: Global, leaf: &BlamedPart<'_>, head: &str) -> FoundProblem {
     match head {
-        "if" => choice(alloc, leaf),
-        "deref" => dereference(alloc, leaf),
-        "at" => place_in_tuple(alloc, leaf),
-        "list" => of_list(alloc, leaf),
-        "for" => of_for(alloc, leaf),
-        "fold" => of_fold(alloc, leaf),
-        "call" => called(alloc, leaf),
-        _ if leaf.has_maps && is_of_maps(head) => of_map(alloc, leaf, head),
+        "if" => if_problem(alloc, leaf),
+        "deref" => deref_problem(alloc, leaf),
+        "at" => at_problem(alloc, leaf),
+        "list" => list_problem(alloc, leaf),
+        "for" => for_problem(alloc, leaf),
+        "fold" => fold_problem(alloc, leaf),
+        "call" => call_problem(alloc, leaf),
+        _ if leaf.has_maps && is_of_maps(head) => map_problem(alloc, leaf, head),
         _ => of_operator(alloc, leaf, head),
     }
 }
 
 /// What is wrong with a form of expressions, or else with the application of a function, by the head.
-fn of_head(alloc: Global, leaf: &Leaf<'_>, head: &str) -> FoundProblem {
+fn of_head(alloc: Global, leaf: &BlamedPart<'_>, head: &str) -> FoundProblem {
     match of_form(alloc, leaf, head)? {
         Some(found) => Ok(Some(found)),
-        None => applied(alloc, leaf, head),
+        None => application_problem(alloc, leaf, head),
     }
 }
 
 /// What is wrong with the part that is to blame.
-pub fn diagnose(alloc: Global, leaf: &Leaf<'_>) -> FoundProblem {
+pub fn diagnose(alloc: Global, leaf: &BlamedPart<'_>) -> FoundProblem {
     if let Some(word) = word_of(leaf.form) {
-        return unknown(alloc, leaf, word.as_str());
+        return unknown_name_problem(alloc, leaf, word.as_str());
     }
     match of_head(alloc, leaf, head_word(leaf.form))? {
         Some(found) => Ok(Some(found)),

@@ -1,6 +1,6 @@
 //! Parts of another type than their form takes.
 
-use crate::diagnose::Leaf;
+use crate::diagnose::BlamedPart;
 use crate::spelling::{spelled, spelled_as_value};
 use pst_problems::{FoundProblem, Problem, below, noted, with_note, wrong, wrong_at};
 use pst_typing::{Kind, KindForm};
@@ -77,7 +77,7 @@ pub fn other_type<D: Display + Drop>(
 /// The problem of part `part` of a tree, if its type `found` is another than `wanted`.
 pub fn wanted_type<D: Display + Drop>(
     alloc: Global,
-    leaf: &Leaf<'_>,
+    leaf: &BlamedPart<'_>,
     what: D,
     part: usize,
     wanted: &Kind,
@@ -93,7 +93,7 @@ pub fn wanted_type<D: Display + Drop>(
 /// The problem of the first part, which has another kind than its form takes.
 pub fn ill_first<D: Display + Drop>(
     alloc: Global,
-    leaf: &Leaf<'_>,
+    leaf: &BlamedPart<'_>,
     what: D,
     found: &Kind,
 ) -> FoundProblem {
@@ -103,7 +103,7 @@ pub fn ill_first<D: Display + Drop>(
 }
 
 /// The problem of the first part of `at`, which is no tuple.
-pub fn wanted_tuple(alloc: Global, leaf: &Leaf<'_>, found: &Kind) -> FoundProblem {
+pub fn wanted_tuple(alloc: Global, leaf: &BlamedPart<'_>, found: &Kind) -> FoundProblem {
     let refused = ill_first(alloc, leaf, "`at` takes a tuple", found)?;
     match found.form(alloc)? {
         KindForm::List(_) => with_note(
@@ -116,7 +116,12 @@ pub fn wanted_tuple(alloc: Global, leaf: &Leaf<'_>, found: &Kind) -> FoundProble
 }
 
 /// The problem of a form that takes a text or a list, and whose first part is neither.
-pub fn wanted_sequence(alloc: Global, leaf: &Leaf<'_>, head: &str, found: &Kind) -> FoundProblem {
+pub fn wanted_sequence(
+    alloc: Global,
+    leaf: &BlamedPart<'_>,
+    head: &str,
+    found: &Kind,
+) -> FoundProblem {
     let refused = ill_first(
         alloc,
         leaf,
@@ -146,7 +151,7 @@ pub fn wanted_list(
 }
 
 /// The problem of a form of maps whose first part is no map.
-pub fn wanted_map(alloc: Global, leaf: &Leaf<'_>, head: &str, found: &Kind) -> FoundProblem {
+pub fn wanted_map(alloc: Global, leaf: &BlamedPart<'_>, head: &str, found: &Kind) -> FoundProblem {
     let is_second = match leaf.kinds.get(1) {
         Some(second) => matches!(second.form(alloc)?, KindForm::Map(_, _)),
         None => false,

@@ -1,6 +1,6 @@
 //! Models that are not well typed.
 
-use crate::diagnose::{Leaf, diagnose};
+use crate::diagnose::{BlamedPart, diagnose};
 use crate::operands::other_type;
 use crate::trees::{enter_part, head_word, tree_in};
 use crate::walk::{names_in, part_at};
@@ -25,7 +25,7 @@ pub struct Site<'a> {
 /// The place of an item: the items of its model, the type of the state, the tree of the item, and its number in the
 /// tree of the model.
 #[derive(Clone, Copy, Drop)]
-pub struct Here<'a> {
+pub struct ItemSite<'a> {
     pub items: &'a [Item],
     pub state: &'a Kind,
     pub form: &'a Form,
@@ -49,7 +49,7 @@ fn enter_parts<'a>(
 }
 
 /// The problem of a part that is to blame.
-fn blamed(
+fn blame_problem(
     expr: &Expr,
     context: &Context<'_>,
     scope: &Scope<'_>,
@@ -61,7 +61,7 @@ fn blamed(
     let form = enter_parts(&mut path, site.form, blame.path.as_slice())?;
     let mut names = names_in(alloc, scope)?;
     let expr = part_at(alloc, &mut names, expr, blame.path.as_slice())?;
-    let leaf = Leaf {
+    let leaf = BlamedPart {
         context,
         expr,
         form,
@@ -75,7 +75,7 @@ fn blamed(
 }
 
 /// The problem of an expression of the kind `found`, if it has to have another kind.
-fn of_kind(alloc: Global, site: &Site<'_>, found: &Kind) -> FoundProblem {
+fn wanted_type_problem(alloc: Global, site: &Site<'_>, found: &Kind) -> FoundProblem {
     if found.same(alloc, site.wanted)? {
         return Ok(None);
     }
@@ -91,10 +91,10 @@ fn tell_expression(
     site: &Site<'_>,
 ) -> Result<(), AllocError> {
     match find(expr, context, scope)? {
-        Found::Kind(kind) => tell(problems, of_kind(context.alloc, site, &kind)?),
+        Found::Kind(kind) => tell(problems, wanted_type_problem(context.alloc, site, &kind)?),
         Found::Blamed(blames) => {
             for blame in blames.as_slice() {
-                tell(problems, blamed(expr, context, scope, site, blame)?)?;
+                tell(problems, blame_problem(expr, context, scope, site, blame)?)?;
             }
             Ok(())
         }
@@ -139,7 +139,7 @@ fn tell_callback(
     context: &Context<'_>,
     scope: &Scope<'_>,
     wanted: &Kind,
-    here: Here<'_>,
+    here: ItemSite<'_>,
 ) -> Result<(), AllocError> {
     let Some((place, body)) = callback(here.form, word) else {
         return Ok(());
@@ -159,7 +159,7 @@ fn tell_pre(
     problems: &mut Vec<Problem>,
     alloc: Global,
     op: &Op,
-    here: Here<'_>,
+    here: ItemSite<'_>,
 ) -> Result<(), AllocError> {
     let truth = Kind::of(alloc, &Ty::Bool)?;
     let context = context_of(alloc, here.items, false);
@@ -173,7 +173,7 @@ fn tell_next(
     problems: &mut Vec<Problem>,
     alloc: Global,
     op: &Op,
-    here: Here<'_>,
+    here: ItemSite<'_>,
 ) -> Result<(), AllocError> {
     let named = Kind::of(alloc, &op.result)?.reference(alloc)?;
     let context = context_of(alloc, here.items, false);
@@ -190,7 +190,7 @@ fn tell_post(
     problems: &mut Vec<Problem>,
     alloc: Global,
     op: &Op,
-    here: Here<'_>,
+    here: ItemSite<'_>,
 ) -> Result<(), AllocError> {
     let truth = Kind::of(alloc, &Ty::Bool)?;
     let value = Kind::of(alloc, &op.result)?;
@@ -202,7 +202,7 @@ fn tell_post(
 }
 
 /// What is wrong with the types that an operation declares.
-fn of_declared(alloc: Global, op: &Op, number: usize) -> FoundProblem {
+fn declared_type_problem(alloc: Global, op: &Op, number: usize) -> FoundProblem {
     for (place, param) in op.params.as_slice().iter().enumerate() {
         if holds_call(&param.ty) {
             let what = "the parameter of an operation cannot hold a `call`";
@@ -225,9 +225,9 @@ fn tell_operation(
     problems: &mut Vec<Problem>,
     alloc: Global,
     op: &Op,
-    here: Here<'_>,
+    here: ItemSite<'_>,
 ) -> Result<(), AllocError> {
-    tell(problems, of_declared(alloc, op, here.number)?)?;
+    tell(problems, declared_type_problem(alloc, op, here.number)?)?;
     tell_pre(problems, alloc, op, here)?;
     tell_next(problems, alloc, op, here)?;
     tell_post(problems, alloc, op, here)
@@ -238,7 +238,7 @@ fn tell_function(
     problems: &mut Vec<Problem>,
     alloc: Global,
     fun: &Fun,
-    here: Here<'_>,
+    here: ItemSite<'_>,
 ) -> Result<(), AllocError> {
     let number = here.number;
     let result = Kind::of(alloc, &fun.result)?;
@@ -264,7 +264,7 @@ fn tell_init(
     problems: &mut Vec<Problem>,
     alloc: Global,
     expr: &Expr,
-    here: Here<'_>,
+    here: ItemSite<'_>,
 ) -> Result<(), AllocError> {
     let context = context_of(alloc, here.items, false);
     let scope = Scope::Parameters(&[]);
@@ -283,7 +283,7 @@ fn tell_command(
     problems: &mut Vec<Problem>,
     alloc: Global,
     expr: &Expr,
-    here: Here<'_>,
+    here: ItemSite<'_>,
 ) -> Result<(), AllocError> {
     let calls = Kind::of(alloc, &Ty::Call)?.list(alloc)?;
     let context = context_of(alloc, here.items, false);
@@ -300,7 +300,7 @@ fn tell_command(
 }
 
 /// What is wrong with the type of the state.
-fn of_state(alloc: Global, state: &Ty, here: Here<'_>) -> FoundProblem {
+fn state_type_problem(alloc: Global, state: &Ty, here: ItemSite<'_>) -> FoundProblem {
     if holds_call(state) {
         wrong(
             alloc,
@@ -317,14 +317,14 @@ fn tell_item(
     problems: &mut Vec<Problem>,
     alloc: Global,
     item: &Item,
-    here: Here<'_>,
+    here: ItemSite<'_>,
 ) -> Result<(), AllocError> {
     match item {
         Item::Fun(fun) => tell_function(problems, alloc, fun, here),
         Item::Op(op) => tell_operation(problems, alloc, op, here),
         Item::Init(expr) => tell_init(problems, alloc, expr, here),
         Item::Command(expr) => tell_command(problems, alloc, expr, here),
-        Item::State(state) => tell(problems, of_state(alloc, state, here)?),
+        Item::State(state) => tell(problems, state_type_problem(alloc, state, here)?),
     }
 }
 
@@ -347,7 +347,7 @@ pub fn type_problems(
         let place = index.saturating_add(2);
         let is_first = index.saturating_add(1) == number;
         if index.saturating_add(1) >= number && problems.len() <= MOST_PROBLEMS {
-            let here = Here {
+            let here = ItemSite {
                 items,
                 state: &state,
                 form: tree_in(model, place),

@@ -2,7 +2,7 @@
 
 use pst_explain::broken_text;
 use pst_judge::{Judged, Verdict};
-use pst_messages::{commands_of, place_of};
+use pst_messages::{parts_of_case, place_of};
 use pst_model::Typed;
 use pst_rejudge::Answer;
 use pst_runs::read_runs;
@@ -65,7 +65,7 @@ fn path_of(
     item: usize,
     command: usize,
 ) -> Result<Vec<usize>, AllocError> {
-    let parts = commands_of(alloc, form)?;
+    let parts = parts_of_case(alloc, form)?;
     let trees = node_of(form).unwrap_or(&[]);
     let replies = trees.iter().position(|tree| is_replies(tree));
     match (replies, place_of(parts.as_slice(), command)) {

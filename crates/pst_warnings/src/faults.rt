@@ -85,7 +85,7 @@ fn count_text(alloc: Global, scripts: &Scripts) -> Result<String, AllocError> {
 }
 
 /// The warning that scripts fault, with the explanation of the first of them, if there is one.
-pub fn on_faults(
+pub fn fault_warnings(
     alloc: Global,
     input: &Input<'_>,
     typed: &Typed,

@@ -1,6 +1,6 @@
 //! The places of the commands of an item.
 
-use pst_messages::{Part, commands_of, located, place_of};
+use pst_messages::{Part, command_with_path, parts_of_case, place_of};
 use pst_problems::short_text;
 use pst_sexpr::Form;
 use std::alloc::{AllocError, Global};
@@ -70,11 +70,11 @@ pub fn spot_of(
     item: usize,
     command: usize,
 ) -> Result<Option<Spot>, AllocError> {
-    let parts = commands_of(alloc, form)?;
+    let parts = parts_of_case(alloc, form)?;
     let Some(place) = place_in(parts.as_slice(), command) else {
         return Ok(None);
     };
-    let Some((steps, call)) = located(alloc, parts.as_slice(), command)? else {
+    let Some((steps, call)) = command_with_path(alloc, parts.as_slice(), command)? else {
         return Ok(None);
     };
     let path = path_of(alloc, item, steps.as_slice())?;

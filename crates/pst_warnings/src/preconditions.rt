@@ -4,7 +4,7 @@ ghost use Rattle.pst_runs.specs.Lawful.{AreLawful, IsLawful};
 
 use crate::failing::{FailingCommand, calls_marked, conditional, first_failing};
 use crate::places::{Spot, spot_of};
-use crate::spelling::shown;
+use crate::spelling::short_value;
 use crate::warning::warning;
 use pst_case::Run;
 use pst_eval::Callbacks;
@@ -37,7 +37,7 @@ struct FoundItems {
 }
 
 /// The warning on a command of item `item`, counted from 1, of the input.
-fn on_command(
+fn precondition_warning(
     alloc: Global,
     subject: &Subject<'_>,
     trees: &[Tree],
@@ -48,13 +48,13 @@ fn on_command(
         return Ok(String::new(alloc));
     };
     match spot_of(alloc, tree.form(), item, failing.command)? {
-        Some(spot) => at_spot(alloc, subject, item, &spot, &failing.state),
+        Some(spot) => spot_warning(alloc, subject, item, &spot, &failing.state),
         None => Ok(String::new(alloc)),
     }
 }
 
 /// The warning on the command at `spot`, with the state before it.
-fn at_spot(
+fn spot_warning(
     alloc: Global,
     subject: &Subject<'_>,
     item: usize,
@@ -63,7 +63,7 @@ fn at_spot(
 ) -> Result<String, AllocError> {
     let place = spot.place;
     let call = spot.call.as_str();
-    let state = shown(alloc, subject.source, state)?;
+    let state = short_value(alloc, subject.source, state)?;
     let warning = warning(
         alloc,
         &subject.input,
@@ -104,7 +104,7 @@ fn add_run<C: Callbacks>(
 }
 
 /// The interleaving that explains a recorded run, if one does.
-fn word_of(judged: &Judged) -> Option<&[usize]> {
+fn explaining_interleaving(judged: &Judged) -> Option<&[usize]> {
     match judged {
         Judged::Verdict(Verdict::Explained(word)) => Some(word.as_slice()),
         _ => None,
@@ -120,7 +120,7 @@ fn text_of(
 ) -> Result<Option<String>, AllocError> {
     let mut text = String::new(alloc);
     for (item, failing) in found.first.as_slice() {
-        let warning = on_command(alloc, subject, trees, *item, failing)?;
+        let warning = precondition_warning(alloc, subject, trees, *item, failing)?;
         text.push_str(warning.as_str())?;
     }
     if found.count > MOST {
@@ -155,7 +155,7 @@ fn add_runs<C: Callbacks>(
         let Some((judged, others)) = left.split_first() else {
             return Ok(());
         };
-        if let Some(word) = word_of(judged) {
+        if let Some(word) = explaining_interleaving(judged) {
             add_run(found, callbacks, alloc, subject, item, run, word)?;
         }
         item = item.saturating_add(1);
@@ -213,7 +213,7 @@ fn add_answer<C: Callbacks>(
     let Some(tree) = trees.get(item) else {
         return Ok(());
     };
-    if word_of(judged).is_none() {
+    if explaining_interleaving(judged).is_none() {
         return Ok(());
     }
     match read_runs(alloc, typed, slice::from_ref(tree)) {

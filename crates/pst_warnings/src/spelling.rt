@@ -113,7 +113,7 @@ fn write_map<W: fmt::Write>(
 }
 
 /// A value as items spell it: all of it, or its first 60 bytes and `...`.
-pub fn shown(alloc: Global, model: &Source, value: &Value) -> Result<String, AllocError> {
+pub fn short_value(alloc: Global, model: &Source, value: &Value) -> Result<String, AllocError> {
     let value = SpelledValue { model, value };
     let whole = format!(in alloc; "{value}")?;
     match whole.as_str().get(..MOST) {

@@ -1,6 +1,6 @@
 //! The warnings on an input.
 
-use crate::faults::on_faults;
+use crate::faults::fault_warnings;
 use crate::scripts::{COMMANDS, SCRIPTS, generated_scripts};
 use pst_compile::{Compiled, compile};
 use pst_model::Item;
@@ -68,7 +68,7 @@ fn never_called(
 }
 
 /// The warnings on the operations that no script calls. `called` says for each whether one does.
-fn on_operations(
+fn uncalled_warnings(
     alloc: Global,
     input: &Input<'_>,
     items: &[Item],
@@ -89,7 +89,7 @@ fn on_operations(
 
 /// The warnings on generated scripts of a model. If not all scripts are generated, there are no warnings on operations
 /// that none of them calls.
-fn on_scripts(
+fn script_warnings(
     alloc: Global,
     input: &Input<'_>,
     compiled: &Compiled,
@@ -98,7 +98,7 @@ fn on_scripts(
     let items = typed.source().items.as_slice();
     let scripts = generated_scripts(alloc, compiled)?;
     if scripts.faulty > 0 {
-        return on_faults(alloc, input, typed, scripts);
+        return fault_warnings(alloc, input, typed, scripts);
     }
     let mut warnings = Vec::new(alloc);
     if scripts.is_cut {
@@ -106,7 +106,7 @@ fn on_scripts(
     }
     let called = scripts.called.as_slice();
     if called.iter().any(|is_called| *is_called) {
-        return on_operations(alloc, input, items, called);
+        return uncalled_warnings(alloc, input, items, called);
     }
     warnings.push(none_offered(alloc, input, items)?)?;
     Ok(warnings)
@@ -160,7 +160,7 @@ pub fn warnings_in(alloc: Global, input: &Input<'_>) -> Result<Notices, AllocErr
     let Ok(compiled) = compile(alloc, typed) else {
         return Err(AllocError);
     };
-    let mut all = on_scripts(alloc, input, &compiled)?;
+    let mut all = script_warnings(alloc, input, &compiled)?;
     add_on_trees(alloc, input, trees.as_slice(), &mut all)?;
     Ok(Notices {
         all,

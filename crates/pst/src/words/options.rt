@@ -9,19 +9,19 @@ use std::alloc::{AllocError, Global};
 const MOST_REPEATS: u64 = 1_000_000;
 
 /// The file of a model.
-pub fn file<'a>(alloc: Global) -> Arg<'a> {
+pub fn file_argument<'a>(alloc: Global) -> Arg<'a> {
     Arg::new(alloc, "FILE").help("The model; standard input if there is no FILE, or for `-`")
 }
 
 /// The files of a model and its items.
-pub fn files<'a>(alloc: Global) -> Arg<'a> {
+pub fn files_argument<'a>(alloc: Global) -> Arg<'a> {
     Arg::new(alloc, "FILE").num_args(0..).help(
         "The model and then the items, in one file or several; standard input if there is no FILE, or for `-`",
     )
 }
 
 /// The argument that names a system.
-fn system<'a>(alloc: Global) -> Result<Arg<'a>, AllocError> {
+fn system_argument<'a>(alloc: Global) -> Result<Arg<'a>, AllocError> {
     Arg::new(alloc, "SYSTEM")
         .help(
             "A sample system (counter, racy, stuck, registry, queue or meet), or clients whose pipes are in a folder (clients:FOLDER, shared:FOLDER)",
@@ -30,7 +30,7 @@ fn system<'a>(alloc: Global) -> Result<Arg<'a>, AllocError> {
 }
 
 /// The option of the launcher that names a client.
-fn client<'a>(alloc: Global) -> Arg<'a> {
+fn client_option<'a>(alloc: Global) -> Arg<'a> {
     Arg::new(alloc, "client")
         .long("client")
         .value_name("COMMAND")
@@ -40,7 +40,7 @@ fn client<'a>(alloc: Global) -> Arg<'a> {
 }
 
 /// The option of the launcher that starts a client once for each worker.
-fn shared<'a>(alloc: Global) -> Result<Arg<'a>, AllocError> {
+fn shared_option<'a>(alloc: Global) -> Result<Arg<'a>, AllocError> {
     Arg::new(alloc, "shared")
         .long("shared")
         .action(ArgAction::SetTrue)
@@ -51,13 +51,13 @@ fn shared<'a>(alloc: Global) -> Result<Arg<'a>, AllocError> {
 /// Adds the arguments that choose what is tested: a system, or a client with its options.
 pub fn with_client<'a>(alloc: Global, command: Command<'a>) -> Result<Command<'a>, AllocError> {
     command
-        .arg(system(alloc)?)?
-        .arg(client(alloc))?
-        .arg(shared(alloc)?)
+        .arg(system_argument(alloc)?)?
+        .arg(client_option(alloc))?
+        .arg(shared_option(alloc)?)
 }
 
 /// The option of the launcher that says for how many branches of `run` a client is started.
-pub fn branches<'a>(alloc: Global) -> Result<Arg<'a>, AllocError> {
+pub fn branches_option<'a>(alloc: Global) -> Result<Arg<'a>, AllocError> {
     Arg::new(alloc, "branches")
         .long("branches")
         .value_name("N")
@@ -95,7 +95,7 @@ pub fn is_json(words: &ArgMatches<'_>) -> bool {
 }
 
 /// The option that judges the items after a refused one.
-pub fn keep_going<'a>(alloc: Global) -> Arg<'a> {
+pub fn keep_going_option<'a>(alloc: Global) -> Arg<'a> {
     Arg::new(alloc, "keep-going")
         .short('k')
         .long("keep-going")
@@ -104,7 +104,7 @@ pub fn keep_going<'a>(alloc: Global) -> Arg<'a> {
 }
 
 /// The option that shows each message.
-pub fn all_messages<'a>(alloc: Global) -> Arg<'a> {
+pub fn all_messages_option<'a>(alloc: Global) -> Arg<'a> {
     Arg::new(alloc, "all-messages")
         .long("all-messages")
         .action(ArgAction::SetTrue)
@@ -114,7 +114,7 @@ pub fn all_messages<'a>(alloc: Global) -> Arg<'a> {
 }
 
 /// The option that judges the lines of standard input.
-pub fn stream<'a>(alloc: Global) -> Result<Arg<'a>, AllocError> {
+pub fn stream_option<'a>(alloc: Global) -> Result<Arg<'a>, AllocError> {
     Arg::new(alloc, "stream")
         .long("stream")
         .action(ArgAction::SetTrue)
@@ -126,7 +126,7 @@ pub fn stream<'a>(alloc: Global) -> Result<Arg<'a>, AllocError> {
 }
 
 /// The option that leaves out the items that are explained or valid.
-pub fn failures<'a>(alloc: Global) -> Arg<'a> {
+pub fn failures_option<'a>(alloc: Global) -> Arg<'a> {
     Arg::new(alloc, "failures")
         .long("failures")
         .action(ArgAction::SetTrue)
@@ -134,7 +134,7 @@ pub fn failures<'a>(alloc: Global) -> Arg<'a> {
 }
 
 /// The option that drives each case several times.
-pub fn repeats<'a>(alloc: Global) -> Arg<'a> {
+pub fn repeats_option<'a>(alloc: Global) -> Arg<'a> {
     Arg::new(alloc, "repeats")
         .long("repeats")
         .value_name("N")
@@ -144,7 +144,7 @@ pub fn repeats<'a>(alloc: Global) -> Arg<'a> {
 }
 
 /// The option that ends a campaign after some failures.
-pub fn max_failures<'a>(alloc: Global) -> Arg<'a> {
+pub fn max_failures_option<'a>(alloc: Global) -> Arg<'a> {
     Arg::new(alloc, "max-failures")
         .long("max-failures")
         .value_name("N")
@@ -154,7 +154,7 @@ pub fn max_failures<'a>(alloc: Global) -> Arg<'a> {
 }
 
 /// The option that ends a campaign when a file appears.
-pub fn stop_file<'a>(alloc: Global) -> Arg<'a> {
+pub fn stop_file_option<'a>(alloc: Global) -> Arg<'a> {
     Arg::new(alloc, "stop-file")
         .long("stop-file")
         .value_name("FILE")
@@ -162,7 +162,7 @@ pub fn stop_file<'a>(alloc: Global) -> Arg<'a> {
 }
 
 /// The option that saves failures.
-pub fn save<'a>(alloc: Global) -> Arg<'a> {
+pub fn save_option<'a>(alloc: Global) -> Arg<'a> {
     Arg::new(alloc, "save")
         .long("save")
         .value_name("FOLDER")
@@ -170,7 +170,7 @@ pub fn save<'a>(alloc: Global) -> Arg<'a> {
 }
 
 /// The option that names a file for the output.
-pub fn output<'a>(alloc: Global) -> Arg<'a> {
+pub fn output_option<'a>(alloc: Global) -> Arg<'a> {
     Arg::new(alloc, "output")
         .short('o')
         .long("output")
@@ -179,7 +179,7 @@ pub fn output<'a>(alloc: Global) -> Arg<'a> {
 }
 
 /// The option that keeps standard error empty.
-pub fn quiet<'a>(alloc: Global) -> Arg<'a> {
+pub fn quiet_option<'a>(alloc: Global) -> Arg<'a> {
     Arg::new(alloc, "quiet")
         .short('q')
         .long("quiet")

@@ -1,7 +1,7 @@
 //! Campaigns that end before all their trials have run.
 
 use crate::trials::plans::plan_of;
-use pst_campaign::{EarlyEnd, campaign_until};
+use pst_campaign::{EarlyStop, campaign_until};
 use pst_ledger::Entry;
 use pst_samples::Stuck;
 use pst_system::BoxedSystem;
@@ -18,7 +18,7 @@ use std::thread::Threads;
 fn counts<R: Threads + Wait + Sync>(
     rt: &R,
     alloc: Global,
-    ending: &EarlyEnd,
+    ending: &EarlyStop,
 ) -> Option<(usize, usize)> {
     let settings = Settings {
         trials: 20,
@@ -45,14 +45,14 @@ fn counts<R: Threads + Wait + Sync>(
 
 #[test]
 fn a_campaign_ends_with_its_third_failure(rt: HostRuntime) -> Result<(), Fail> {
-    let ending = EarlyEnd::new(Some(3), None);
+    let ending = EarlyStop::new(Some(3), None);
     assert_eq!(rt; counts(&rt, rt.alloc(), &ending), Some((3, 17)));
     Ok(())
 }
 
 #[test]
 fn a_campaign_without_a_limit_runs_all_trials(rt: HostRuntime) -> Result<(), Fail> {
-    let ending = EarlyEnd::new(None, None);
+    let ending = EarlyStop::new(None, None);
     assert_eq!(rt; counts(&rt, rt.alloc(), &ending), Some((20, 0)));
     Ok(())
 }
@@ -60,7 +60,7 @@ fn a_campaign_without_a_limit_runs_all_trials(rt: HostRuntime) -> Result<(), Fai
 /// The counts of a campaign that is interrupted before its first trial.
 fn interrupted_counts<R: Threads + Wait + Sync>(rt: &R, alloc: Global) -> Option<(usize, usize)> {
     let interrupted = Arc::new(alloc, AtomicBool::new(true)).ok()?;
-    counts(rt, alloc, &EarlyEnd::new(None, Some(interrupted)))
+    counts(rt, alloc, &EarlyStop::new(None, Some(interrupted)))
 }
 
 #[test]

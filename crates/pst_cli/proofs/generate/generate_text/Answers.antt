@@ -20,13 +20,13 @@ pub returns-in-Err-Unread : goal.returns-in-Err-Unread
 returns-in-Err-Unread g c =
     let all : (c.args.first + c.args.count) - c.args.first ≡ c.args.count = omega arith in
     unread_prints c.args.form c.args.input.now c.args.settings c.args.first c.args.count _ _ (rw c.in-Ok-Ok.field-0-is at c.in-Ok-Ok.ensures) _
-    (rw (all, c.in-Ok-new.ensures.plan, c.in-Err-Unread.field-0-is) at c.in-Err-Unread.ensures) c.send_memory-in-Err-Unread.ensures
+    (rw (all, c.in-Ok-new.ensures.plan, c.in-Err-Unread.field-0-is) at c.in-Err-Unread.ensures) c.send_out_of_memory-in-Err-Unread.ensures
 
 pub returns-in-Err-NoMemory : goal.returns-in-Err-NoMemory
 returns-in-Err-NoMemory g c =
     let all : (c.args.first + c.args.count) - c.args.first ≡ c.args.count = omega arith in
     no_memory_prints c.args.form c.args.input.now c.args.settings c.args.first c.args.count _ _ (rw c.in-Ok-Ok.field-0-is at c.in-Ok-Ok.ensures) _
-    (rw (all, c.in-Ok-new.ensures.plan, c.in-Err-NoMemory.field-0-is) at c.in-Err-NoMemory.ensures) c.send_memory-in-Err-NoMemory.ensures
+    (rw (all, c.in-Ok-new.ensures.plan, c.in-Err-NoMemory.field-0-is) at c.in-Err-NoMemory.ensures) c.send_out_of_memory-in-Err-NoMemory.ensures
 
 pub returns : goal.returns
 returns g c =

@@ -1,5 +1,5 @@
 use Rattle.pst_cli.proofs.Printing.{prints}
-use Rattle.pst_cli.proofs.campaign.campaign_noting.Goals as goal
+use Rattle.pst_cli.proofs.campaign.campaign_with_notes.Goals as goal
 
 pub returns-in-Ok : goal.returns-in-Ok
 returns-in-Ok g c =
