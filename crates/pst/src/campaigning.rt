@@ -9,7 +9,7 @@ use crate::saving::Saving;
 use crate::watching::BothWatchers;
 use crate::{least, words};
 use clap::ArgMatches;
-use pst_campaign::{EarlyStop, StopCondition};
+use pst_campaign::EarlyStop;
 use pst_cli::{
     Absence, CampaignNotes, MEMORY_OBJECT, Status, campaign_with_notes, check_json, refuse_text,
 };
@@ -23,30 +23,37 @@ use std::rt::Files;
 use std::sync::Wait;
 use std::thread::Threads;
 
-/// Runs a campaign. If standard error is a terminal, a line on it displays the progress.
-fn run_with_progress<
-    W: Sink,
-    K: StopCondition + Sync,
-    R: Threads + Wait + Sync + Eprint + Copy + Drop + Send + 'static,
->(
+/// How a campaign is run, and what is written of it.
+#[derive(Clone, Copy, Drop)]
+struct How<'a> {
+    ending: &'a EarlyStop,
+    /// Whether standard error is a terminal.
+    is_terminal: bool,
+    is_json: bool,
+    is_quiet: bool,
+    page: CampaignPage<'a>,
+    input: &'a [u8],
+}
+
+/// Runs a campaign. If standard error is a terminal, a line on it displays the progress, unless the arguments forbid it.
+fn run_with_progress<W: Sink, R: Threads + Wait + Sync + Eprint + Copy + Drop + Send + 'static>(
     rt: &R,
     alloc: Global,
     settings: Settings,
     systems: Vec<BoxedSystem>,
-    watch: &K,
-    is_terminal: bool,
-    input: &[u8],
+    how: How<'_>,
     notes: &mut CampaignNotes,
     out: &mut W,
 ) -> Status
     requires ranges { AreInRange settings }
     requires stands { W.broken out.old ≡ false }
 {
-    if is_terminal {
+    let (ending, input) = (how.ending, how.input);
+    if how.is_terminal && !how.is_quiet {
         if let Ok(display) = ProgressDisplay::begin(rt, alloc, settings.trials as u64) {
             let both = BothWatchers {
                 first: display.progress(),
-                second: watch,
+                second: ending,
             };
             let status = campaign_with_notes(
                 rt, alloc, input, settings, systems, &both, notes, out,
@@ -55,53 +62,21 @@ fn run_with_progress<
             return status;
         }
     }
-    campaign_with_notes(rt, alloc, input, settings, systems, watch, notes, out)
+    campaign_with_notes(rt, alloc, input, settings, systems, ending, notes, out)
 }
 
-/// Runs a campaign and writes its report once it is complete. Then it writes explanations of the least failure and of
-/// the first trial without a case to standard error.
-fn run_and_explain<
-    W: Sink,
-    K: StopCondition + Sync,
-    R: Threads + Wait + Sync + Eprint + Files + Copy + Drop + Send + 'static,
->(
-    rt: &R,
-    alloc: Global,
-    settings: Settings,
-    systems: Vec<BoxedSystem>,
-    watch: &K,
-    is_terminal: bool,
-    page: CampaignPage<'_>,
-    input: &[u8],
-    notes: &mut CampaignNotes,
-    out: &mut W,
-) -> Status
-    requires ranges { AreInRange settings }
-    requires stands { W.broken out.old ≡ false }
+/// Writes the report of a campaign. `Err`: it is not written, and the status is the one that the program ends with.
+fn write_report<W: Sink>(report: &[u8], status: Status, out: &mut W) -> Result<Status, Status>
+    requires { W.broken out.old ≡ false }
 {
-    let mut report = Out::new(Vec::new(alloc));
-    let status = run_with_progress(
-        rt,
-        alloc,
-        settings,
-        systems,
-        watch,
-        is_terminal,
-        input,
-        notes,
-        &mut report,
-    );
-    let report = report.into_inner();
     // A report has lines: there are none only if an allocation of the buffer failed.
     if report.is_empty() {
-        return refuse_text(Absence::NoMemory, out);
+        return Err(refuse_text(Absence::NoMemory, out));
     }
-    if put_all(report.as_slice(), out).is_err() {
-        return Status::Lost;
+    match put_all(report, out) {
+        Ok(()) => Ok(status),
+        Err(_) => Err(Status::Lost),
     }
-    let status = status.or_worse(page.write(rt, alloc, input, notes));
-    least::explain_least_failure(rt, alloc, settings, input, notes);
-    status
 }
 
 /// Writes the JSON object of a campaign, or that of the refusal of its model or of a failed allocation.
@@ -133,119 +108,43 @@ fn write_object<W: Sink>(
     }
 }
 
-/// Runs a campaign and writes its report as a JSON object. Then it writes explanations to standard error, unless
-/// `is_quiet`.
-fn run_for_json<
+/// Runs a campaign and writes its report once it is complete. Unless the arguments forbid it, explanations of the least
+/// failure and of the first trial without a case follow on standard error.
+fn run_with_messages<
     W: Sink,
-    K: StopCondition + Sync,
     R: Threads + Wait + Sync + Eprint + Files + Copy + Drop + Send + 'static,
 >(
     rt: &R,
     alloc: Global,
     settings: Settings,
     systems: Vec<BoxedSystem>,
-    watch: &K,
-    is_terminal: bool,
-    is_quiet: bool,
-    page: CampaignPage<'_>,
-    input: &[u8],
+    how: How<'_>,
     notes: &mut CampaignNotes,
     out: &mut W,
 ) -> Status
     requires ranges { AreInRange settings }
     requires stands { W.broken out.old ≡ false }
 {
-    let mut text = Out::new(Vec::new(alloc));
-    let status = run_with_progress(
-        rt,
-        alloc,
-        settings,
-        systems,
-        watch,
-        is_terminal && !is_quiet,
-        input,
-        notes,
-        &mut text,
-    );
-    let status = write_object(alloc, status, input, notes.report.as_ref(), out);
+    let (page, input) = (how.page, how.input);
+    if how.is_quiet && !how.is_json {
+        let status = run_with_progress(rt, alloc, settings, systems, how, notes, out);
+        return status.or_worse(page.write(rt, alloc, input, notes));
+    }
+    let mut report = Out::new(Vec::new(alloc));
+    let status = run_with_progress(rt, alloc, settings, systems, how, notes, &mut report);
+    let status = if how.is_json {
+        write_object(alloc, status, input, notes.report.as_ref(), out)
+    } else {
+        match write_report(report.into_inner().as_slice(), status, out) {
+            Ok(status) => status,
+            Err(status) => return status,
+        }
+    };
     let status = status.or_worse(page.write(rt, alloc, input, notes));
-    if !is_quiet {
+    if !how.is_quiet {
         least::explain_least_failure(rt, alloc, settings, input, notes);
     }
     status
-}
-
-/// Runs a campaign and writes its report, and nothing to standard error.
-fn run_quietly<W: Sink, K: StopCondition + Sync, R: Threads + Wait + Sync + Eprint + Files>(
-    rt: &R,
-    alloc: Global,
-    settings: Settings,
-    systems: Vec<BoxedSystem>,
-    watch: &K,
-    page: CampaignPage<'_>,
-    input: &[u8],
-    notes: &mut CampaignNotes,
-    out: &mut W,
-) -> Status
-    requires ranges { AreInRange settings }
-    requires stands { W.broken out.old ≡ false }
-{
-    let status = campaign_with_notes(rt, alloc, input, settings, systems, watch, notes, out);
-    status.or_worse(page.write(rt, alloc, input, notes))
-}
-
-/// Runs a campaign with `watch`, and writes messages to standard error unless the arguments forbid it.
-fn run_with_messages<
-    W: Sink,
-    K: StopCondition + Sync,
-    R: Threads + Wait + Sync + Eprint + Files + Copy + Drop + Send + 'static,
->(
-    rt: &R,
-    alloc: Global,
-    words: &ArgMatches<'_>,
-    settings: Settings,
-    systems: Vec<BoxedSystem>,
-    watch: &K,
-    is_terminal: bool,
-    page: CampaignPage<'_>,
-    input: &[u8],
-    notes: &mut CampaignNotes,
-    out: &mut W,
-) -> Status
-    requires ranges { AreInRange settings }
-    requires stands { W.broken out.old ≡ false }
-{
-    let is_quiet = words.get_flag("quiet");
-    if words::is_json(words) {
-        return run_for_json(
-            rt,
-            alloc,
-            settings,
-            systems,
-            watch,
-            is_terminal,
-            is_quiet,
-            page,
-            input,
-            notes,
-            out,
-        );
-    }
-    if is_quiet {
-        return run_quietly(rt, alloc, settings, systems, watch, page, input, notes, out);
-    }
-    run_and_explain(
-        rt,
-        alloc,
-        settings,
-        systems,
-        watch,
-        is_terminal,
-        page,
-        input,
-        notes,
-        out,
-    )
 }
 
 /// Saves the failures of a campaign that has ended, if they were kept.
@@ -267,36 +166,18 @@ fn run_and_save<
     R: Threads + Wait + Sync + Eprint + Files + AllocGlobal + Copy + Drop + Send + 'static,
 >(
     rt: &R,
-    words: &ArgMatches<'_>,
     settings: Settings,
     systems: Vec<BoxedSystem>,
     saving: &Saving<'_>,
-    ending: &EarlyStop,
-    is_terminal: bool,
-    input: Input<'_>,
+    how: How<'_>,
     out: &mut W,
 ) -> Status
     requires ranges { AreInRange settings }
     requires stands { W.broken out.old ≡ false }
 {
-    let alloc = rt.alloc();
-    let page = CampaignPage::from_arguments(words, input);
-    let Input { files: _, bytes } = input;
-    let mut notes = CampaignNotes::keeping(page.is_written(), true);
-    let status = run_with_messages(
-        rt,
-        alloc,
-        words,
-        settings,
-        systems,
-        ending,
-        is_terminal,
-        page,
-        bytes,
-        &mut notes,
-        out,
-    );
-    status.or_worse(save_failures(rt, saving, &notes, words.get_flag("quiet")))
+    let mut notes = CampaignNotes::keeping(how.page.is_written(), true);
+    let status = run_with_messages(rt, rt.alloc(), settings, systems, how, &mut notes, out);
+    status.or_worse(save_failures(rt, saving, &notes, how.is_quiet))
 }
 
 /// Runs a campaign with a worker for each of the systems, if there are some, and saves its failures if the arguments say
@@ -323,36 +204,21 @@ pub fn campaign<
     let Some(settings) = words::settings(words) else {
         return Status::Refused;
     };
+    let Input { files: _, bytes } = input;
+    let how = How {
+        ending,
+        is_terminal,
+        is_json: words::is_json(words),
+        is_quiet: words.get_flag("quiet"),
+        page: CampaignPage::from_arguments(words, input),
+        input: bytes,
+    };
     if let Some(folder) = words.get_str("save") {
         return match Saving::begin(rt, words, folder, settings.seed, name) {
-            Ok(saving) => run_and_save(
-                rt,
-                words,
-                settings,
-                systems,
-                &saving,
-                ending,
-                is_terminal,
-                input,
-                out,
-            ),
+            Ok(saving) => run_and_save(rt, settings, systems, &saving, how, out),
             Err(status) => status,
         };
     }
-    let page = CampaignPage::from_arguments(words, input);
-    let Input { files: _, bytes } = input;
-    let mut notes = CampaignNotes::keeping(page.is_written(), false);
-    run_with_messages(
-        rt,
-        rt.alloc(),
-        words,
-        settings,
-        systems,
-        ending,
-        is_terminal,
-        page,
-        bytes,
-        &mut notes,
-        out,
-    )
+    let mut notes = CampaignNotes::keeping(how.page.is_written(), false);
+    run_with_messages(rt, rt.alloc(), settings, systems, how, &mut notes, out)
 }

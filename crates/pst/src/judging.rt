@@ -221,14 +221,8 @@ pub fn judge<W: Sink, R: Threads + Wait + Sync + Eprint + Copy + Drop + Send + '
         count_and_warn(rt, alloc, files, bytes, counts, answered);
         return status;
     }
-    let (status, judged) = judge_file_counting(
-        rt,
-        alloc,
-        bytes,
-        shown(words),
-        telling.steps(),
-        &mut lines,
-    );
+    let (shown, steps) = (shown(words), telling.steps());
+    let (status, judged) = judge_file_counting(rt, alloc, bytes, shown, steps, &mut lines);
     telling.end(rt);
     let status = write_lines(words, lines, status, out);
     if let Some(judged) = &judged {

@@ -1,7 +1,7 @@
 //! The commands of the program, and the output of each for an input.
 ghost use Rattle.std.specs.Prelude.{◌≡◌, false};
 
-use crate::short::Short;
+use crate::memory::trials::settings_of;
 use pst_campaign::Unwatched;
 use pst_cli::{
     Chosen, ExplainOptions, ExplanationForm, Status, campaign_text, check_text, explain_text,
@@ -9,7 +9,7 @@ use pst_cli::{
 };
 use pst_samples::Stuck;
 use pst_system::BoxedSystem;
-use pst_trial::Settings;
+use pst_tests::short::Short;
 use std::alloc::{AllocError, Global};
 use std::sync::Wait;
 use std::thread::Threads;
@@ -69,13 +69,7 @@ fn write_campaign<R: Threads + Wait + Sync>(
 ) -> Result<Status, AllocError>
     requires { short.old.failed ≡ false }
 {
-    let settings = Settings {
-        seed: 7,
-        trials: 3,
-        commands: 1,
-        repeats: 1,
-        ..Settings::default()
-    };
+    let settings = settings_of(3);
     if !settings.are_in_range() {
         return Err(AllocError);
     }

@@ -2,12 +2,13 @@
 
 use crate::commands::{Answer, spoken};
 use crate::models::TYPES;
-use crate::short::Short;
-use crate::systems::{Liar, NoGet, Odd, Resets};
+use crate::odd::Odd;
 use pst_campaign::Unwatched;
 use pst_cli::{campaign_text, run_text};
 use pst_system::BoxedSystem;
+use pst_tests::short::Short;
 use pst_tests::support::{COUNTER, ONE};
+use pst_tests::systems::{Liar, NoGet, Resets};
 use pst_trial::Settings;
 use std::io;
 use std::sync::Wait;

@@ -17,8 +17,6 @@ mod memory;
 mod models;
 mod odd;
 mod reports;
-mod short;
-mod systems;
 mod values;
 
 use std::env::Env;

@@ -4,7 +4,7 @@
 mod judging;
 mod reading;
 mod refused;
-mod trials;
+pub mod trials;
 
 use refused::Refused;
 use std::alloc::Global;

@@ -1,5 +1,6 @@
 //! Answers that no call should return.
 
+use pst_system::{CallFault, RealCall, System};
 use pst_value::{Boxed, Items, Key, Text, Value};
 use std::alloc::{AllocError, Global};
 
@@ -156,4 +157,42 @@ pub fn odd_value(alloc: Global, name: &str) -> Result<Option<Value>, AllocError>
         _ => return odd_list(alloc, name),
     };
     Ok(Some(value))
+}
+
+/// A system that answers the value named by a call's argument, and refuses a call that names no value.
+#[derive(Drop)]
+pub struct Odd {
+    alloc: Global,
+}
+
+impl Odd {
+    /// Returns a system that allocates its answers with `alloc`.
+    pub fn new(alloc: Global) -> Odd {
+        Odd { alloc }
+    }
+}
+
+impl System for Odd {
+    ghost use Rattle.std.specs.Prelude.{⊤};
+
+    ghost answers = { λ _ _ _. ⊤ };
+
+    ghost fails = { λ _ _ _. ⊤ };
+
+    ghost reset_fails = { λ _ _. ⊥ };
+
+    fn reset(&mut self) -> Result<(), CallFault> {
+        Ok(())
+    }
+
+    fn call(&self, call: &RealCall) -> Result<Value, CallFault> {
+        let [Value::Text(name)] = call.args.as_slice() else {
+            return Err(CallFault::Refused);
+        };
+        match odd_value(self.alloc, name.as_str()) {
+            Ok(Some(value)) => Ok(value),
+            Ok(None) => Err(CallFault::Refused),
+            Err(_) => Err(CallFault::NoMemory),
+        }
+    }
 }

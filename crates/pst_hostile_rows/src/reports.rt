@@ -2,15 +2,14 @@
 ghost use Rattle.std.specs.Prelude.{◌≡◌, length};
 ghost use Rattle.pst_report.specs.InOrder.{AreOf};
 
-use crate::short::Short;
+use crate::memory::trials::plan_of;
 use pst_campaign::{Unwatched, campaign};
 use pst_ledger::Closed;
 use pst_report::{ReportFault, report};
 use pst_samples::Stuck;
 use pst_system::BoxedSystem;
-use pst_tests::support::ONE;
-use pst_trial::{Plan, Record, Settings};
-use pst_typing::load;
+use pst_tests::short::Short;
+use pst_trial::{Plan, Record};
 use std::alloc::{AllocError, Global};
 use std::io;
 use std::sync::{Arc, Wait};
@@ -51,35 +50,14 @@ fn missed_by<R: Threads + Wait + Sync>(
     }
 }
 
-/// Runs a campaign with `settings` on the system `stuck`, and returns the `misses` of its report.
-fn missed<R: Threads + Wait + Sync>(
-    rt: &R,
-    alloc: Global,
-    settings: Settings,
-) -> Result<(usize, usize), AllocError> {
-    if !settings.are_in_range() {
-        return Err(AllocError);
-    }
-    let Ok(file) = load(alloc, ONE.as_bytes())? else {
-        return Err(AllocError);
-    };
-    let Ok(plan) = Plan::new(alloc, file.typed, settings) else {
-        return Err(AllocError);
+/// Prints how many proper prefixes of a report are missed, as `misses` counts them.
+pub fn print_report<R: Threads + Wait + Sync + Print + AllocGlobal>(rt: &R) -> io::Result<()> {
+    let alloc = rt.alloc();
+    let Ok(plan) = plan_of(alloc, 20) else {
+        return println!(rt; "report: no plan");
     };
     let mut systems: Vec<BoxedSystem> = Vec::new(alloc);
     systems.push(Box::new(alloc, Stuck)?)?;
-    missed_by(rt, alloc, Arc::new(alloc, plan)?, systems)
-}
-
-/// Prints how many proper prefixes of a report are missed, as `misses` counts them.
-pub fn print_report<R: Threads + Wait + Sync + Print + AllocGlobal>(rt: &R) -> io::Result<()> {
-    let settings = Settings {
-        seed: 7,
-        trials: 20,
-        commands: 1,
-        repeats: 1,
-        ..Settings::default()
-    };
-    let (misses, length) = missed(rt, rt.alloc(), settings)?;
+    let (misses, length) = missed_by(rt, alloc, plan, systems)?;
     println!(rt; "report: {misses} beginnings missed of {length}")
 }

@@ -53,6 +53,13 @@ fn put_operation(
     }
 }
 
+/// Begins an object with the member `key`, and the array that is its value.
+fn begin_listed(writer: &mut Writer<Global>, key: &str) -> Result<(), AllocError> {
+    writer.begin_object()?;
+    writer.key(key)?;
+    writer.begin_array()
+}
+
 /// Writes a value as JSON.
 #[cycle(value)]
 fn put_json(writer: &mut Writer<Global>, model: &Source, value: &Value) -> Result<(), AllocError> {
@@ -65,22 +72,14 @@ fn put_json(writer: &mut Writer<Global>, model: &Source, value: &Value) -> Resul
             put_items(writer, model, items.as_slice())
         }
         Value::Tuple(parts) => {
-            writer.begin_object()?;
-            writer.key("tuple")?;
-            writer.begin_array()?;
+            begin_listed(writer, "tuple")?;
             put_items(writer, model, parts.as_slice())?;
             writer.end_object()
         }
         Value::Map(keys, values) => {
-            writer.begin_object()?;
-            writer.key("map")?;
-            writer.begin_array()?;
-            put_entries(
-                writer,
-                model,
-                keys.get().as_slice(),
-                values.get().as_slice(),
-            )?;
+            begin_listed(writer, "map")?;
+            let (keys, values) = (keys.get().as_slice(), values.get().as_slice());
+            put_entries(writer, model, keys, values)?;
             writer.end_object()
         }
         Value::Var(number) => put_variable(writer, *number),
@@ -92,9 +91,7 @@ fn put_json(writer: &mut Writer<Global>, model: &Source, value: &Value) -> Resul
             writer.end_object()
         }
         Value::Call(operation, args) => {
-            writer.begin_object()?;
-            writer.key("call")?;
-            writer.begin_array()?;
+            begin_listed(writer, "call")?;
             put_operation(writer, model, *operation)?;
             put_items(writer, model, args.as_slice())?;
             writer.end_object()

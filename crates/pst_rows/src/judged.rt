@@ -8,27 +8,15 @@ use pst_warnings::{warnings_on_answers, warnings_on_runs};
 use std::alloc::{AllocError, Global};
 use std::thread::Threads;
 
-/// The warnings, or `no warnings`.
-fn or_none(alloc: Global, warnings: Option<String>) -> Result<String, AllocError> {
-    match warnings {
-        Some(warnings) => Ok(warnings),
-        None => String::from_str(alloc, "no warnings\n"),
-    }
-}
+/// The warnings on judged items; `None`: the items are not judged.
+type Warnings = Result<Option<Option<String>>, AllocError>;
 
-/// The warnings on the judged items of the files.
-pub fn warnings_on_runs_answer<R: Threads + Sync>(
-    rt: &R,
-    alloc: Global,
-    request: &Request<'_>,
-) -> Result<String, AllocError> {
-    let files = request.files.as_slice();
-    let text = joined(alloc, files)?;
-    let bytes = text.as_slice();
-    let input = Input { files, bytes };
+/// The warnings on the items, up to the first refused one.
+fn on_runs<R: Threads + Sync>(rt: &R, alloc: Global, input: Input<'_>) -> Warnings {
+    let Input { files: _, bytes } = input;
     let (_, judged) = judge_file(rt, alloc, bytes, Shown::All, &mut Out::new(Vec::new(alloc)));
     let Some(judged) = judged else {
-        return String::from_str(alloc, "not judged\n");
+        return Ok(None);
     };
     let compiled = &judged.compiled;
     let warnings = warnings_on_runs(
@@ -39,28 +27,16 @@ pub fn warnings_on_runs_answer<R: Threads + Sync>(
         judged.runs.as_slice(),
         judged.judged.as_slice(),
     )?;
-    or_none(alloc, warnings)
+    Ok(Some(warnings))
 }
 
-/// The warnings on the judged items of the files of which some are refused.
-pub fn warnings_on_answers_answer<R: Threads + Sync>(
-    rt: &R,
-    alloc: Global,
-    request: &Request<'_>,
-) -> Result<String, AllocError> {
-    let files = request.files.as_slice();
-    let text = joined(alloc, files)?;
-    let bytes = text.as_slice();
-    let input = Input { files, bytes };
-    let (_, answered) = judge_file_keeping_on(
-        rt,
-        alloc,
-        bytes,
-        Shown::All,
-        &mut Out::new(Vec::new(alloc)),
-    );
+/// The warnings on the items, of which some are refused.
+fn on_answers<R: Threads + Sync>(rt: &R, alloc: Global, input: Input<'_>) -> Warnings {
+    let Input { files: _, bytes } = input;
+    let mut out = Out::new(Vec::new(alloc));
+    let (_, answered) = judge_file_keeping_on(rt, alloc, bytes, Shown::All, &mut out);
     let Some(answered) = answered else {
-        return String::from_str(alloc, "not judged\n");
+        return Ok(None);
     };
     let compiled = &answered.file.compiled;
     let warnings = warnings_on_answers(
@@ -71,5 +47,28 @@ pub fn warnings_on_answers_answer<R: Threads + Sync>(
         answered.file.trees.as_slice(),
         answered.answers.as_slice(),
     )?;
-    or_none(alloc, warnings)
+    Ok(Some(warnings))
+}
+
+/// The warnings on the judged items of the files, of which some may be refused if `keeps_on`.
+pub fn warnings_answer<R: Threads + Sync>(
+    rt: &R,
+    alloc: Global,
+    request: &Request<'_>,
+    keeps_on: bool,
+) -> Result<String, AllocError> {
+    let files = request.files.as_slice();
+    let text = joined(alloc, files)?;
+    let bytes = text.as_slice();
+    let input = Input { files, bytes };
+    let warnings = if keeps_on {
+        on_answers(rt, alloc, input)?
+    } else {
+        on_runs(rt, alloc, input)?
+    };
+    match warnings {
+        Some(Some(warnings)) => Ok(warnings),
+        Some(None) => String::from_str(alloc, "no warnings\n"),
+        None => String::from_str(alloc, "not judged\n"),
+    }
 }

@@ -15,11 +15,11 @@ mod merges;
 mod parts;
 #[cfg(test)]
 mod renumbered;
-#[cfg(test)]
-mod short;
+pub mod short;
 #[cfg(test)]
 mod shrunk;
 pub mod support;
+pub mod systems;
 #[cfg(test)]
 mod trees;
 #[cfg(test)]

@@ -273,22 +273,29 @@ fn answers_of_small_branches(rt: HostRuntime) -> Result<(), Fail> {
     Ok(())
 }
 
-/// Whether `some` finds nothing in at most `most` steps if the event of the command `last` is false, and
-/// `every` holds in as few if all events are true. The lamp counts its steps as the searches do.
+/// Whether `some` finds nothing after `far` commands, in at most `most` steps, if the event of the command `last` is
+/// false or, with `asks_last`, what runs after the branches is; and `every` holds in as few if all of it is true. The
+/// lamp counts its steps as the searches do.
 fn is_counted(
     alloc: Global,
     lengths: &[usize],
     last: (usize, usize),
+    asks_last: bool,
+    far: usize,
     most: usize,
 ) -> Result<bool, AllocError>
     requires { sum lengths.now + 1 < 2 ^ 32 }
 {
-    let dark = Lamp::new([NONE, NONE, last, NONE], false);
+    let dark = Lamp::new([NONE, NONE, last, NONE], asks_last);
     let (nothing, tried) = some(alloc, &dark, lengths, &false)?;
-    let lit = Lamp::new([NONE, NONE, NONE, NONE], false);
-    let (all, seen) = every(alloc, &lit, lengths, &false)?;
+    let lit = Lamp::new([NONE, NONE, NONE, NONE], asks_last);
+    let (all, seen) = every(alloc, &lit, lengths, &asks_last)?;
+    let is_far = match nothing {
+        SomeAnswer::Nothing { far: reached, .. } => reached == far,
+        _ => false,
+    };
     Ok(
-        matches!(nothing, SomeAnswer::Nothing { far: 15, .. })
+        is_far
             && matches!(all, EveryAnswer::All)
             && tried <= most
             && seen <= most
@@ -301,36 +308,17 @@ fn is_counted(
 #[test]
 fn steps_are_counted(rt: HostRuntime) -> Result<(), Fail> {
     let alloc = rt.alloc();
-    assert!(rt; is_counted(alloc, &[8, 8], (1, 7), 162)?);
-    assert!(rt; is_counted(alloc, &[4, 4, 4, 4], (3, 3), 2500)?);
+    assert!(rt; is_counted(alloc, &[8, 8], (1, 7), false, 15, 162)?);
+    assert!(rt; is_counted(alloc, &[4, 4, 4, 4], (3, 3), false, 15, 2500)?);
     Ok(())
-}
-
-/// Whether `some` finds nothing in at most `most` steps if what runs after the branches is false, and `every`
-/// holds in as few if it is true. The searches count that step as the lamp does.
-fn is_counted_to_the_end(alloc: Global, lengths: &[usize], most: usize) -> Result<bool, AllocError>
-    requires { sum lengths.now + 1 < 2 ^ 32 }
-{
-    let dark = Lamp::new([NONE, NONE, NONE, NONE], true);
-    let (nothing, tried) = some(alloc, &dark, lengths, &false)?;
-    let lit = Lamp::new([NONE, NONE, NONE, NONE], true);
-    let (all, seen) = every(alloc, &lit, lengths, &true)?;
-    Ok(
-        matches!(nothing, SomeAnswer::Nothing { far: 16, .. })
-            && matches!(all, EveryAnswer::All)
-            && tried <= most
-            && seen <= most
-            && tried == dark.steps_made.get()
-            && seen == lit.steps_made.get(),
-    )
 }
 
 // The same branches. All their events are true, and one more runs after them.
 #[test]
 fn steps_after_the_branches_are_counted(rt: HostRuntime) -> Result<(), Fail> {
     let alloc = rt.alloc();
-    assert!(rt; is_counted_to_the_end(alloc, &[8, 8], 163)?);
-    assert!(rt; is_counted_to_the_end(alloc, &[4, 4, 4, 4], 2501)?);
+    assert!(rt; is_counted(alloc, &[8, 8], NONE, true, 16, 163)?);
+    assert!(rt; is_counted(alloc, &[4, 4, 4, 4], NONE, true, 16, 2501)?);
     Ok(())
 }
 

@@ -2,7 +2,7 @@
 ghost use Rattle.std.specs.Prelude.{◌≡◌};
 
 use crate::echo::Echo;
-use crate::hostile::{Liar, NoGet, Odd, ThreeFlags, TwoFlags};
+use crate::hostile::{Flags, Odd};
 use pst_case::{Case, History, Run, shape};
 use pst_driver::{DriveFault, run};
 use pst_eval::Plain;
@@ -12,6 +12,7 @@ use pst_runs::read_runs;
 use pst_sexpr::read;
 use pst_system::BoxedSystem;
 use pst_tests::support::{COUNTER, MEETING, SAYING, typed_of};
+use pst_tests::systems::{Liar, NoGet};
 use std::alloc::Global;
 use std::sync::Wait;
 use std::test::Fail;
@@ -83,7 +84,7 @@ pub fn is_driven_so<R: Threads + Wait>(
 #[test]
 fn meet_needs_two_threads(rt: HostRuntime) -> Result<(), Fail> {
     let alloc = rt.alloc();
-    let mut flags: BoxedSystem = Box::new(alloc, TwoFlags::new(10_000_000))?;
+    let mut flags: BoxedSystem = Box::new(alloc, Flags::new(true, 10_000_000))?;
     let item = "(run (prefix) (left (meet 1)) (right (meet 2)) (replies () (true) (true)))";
     assert!(rt; is_driven_so(&rt, alloc, MEETING, item, &mut flags) == Some(true));
     Ok(())
@@ -92,7 +93,7 @@ fn meet_needs_two_threads(rt: HostRuntime) -> Result<(), Fail> {
 #[test]
 fn three_meet_on_three_threads(rt: HostRuntime) -> Result<(), Fail> {
     let alloc = rt.alloc();
-    let mut flags: BoxedSystem = Box::new(alloc, ThreeFlags::new())?;
+    let mut flags: BoxedSystem = Box::new(alloc, Flags::new(false, 10_000_000))?;
     let item =
         "(run (prefix) (branches ((meet 1)) ((meet 2)) ((meet 3))) (replies () (true) (true) (true)))";
     assert!(rt; is_driven_so(&rt, alloc, MEETING, item, &mut flags) == Some(true));
@@ -102,7 +103,7 @@ fn three_meet_on_three_threads(rt: HostRuntime) -> Result<(), Fail> {
 #[test]
 fn one_thread_never_meets(rt: HostRuntime) -> Result<(), Fail> {
     let alloc = rt.alloc();
-    let mut flags: BoxedSystem = Box::new(alloc, TwoFlags::new(1_000))?;
+    let mut flags: BoxedSystem = Box::new(alloc, Flags::new(true, 1_000))?;
     let item = "(run (prefix (meet 1)) (left) (right) (replies (false) () ()))";
     assert!(rt; is_driven_so(&rt, alloc, MEETING, item, &mut flags) == Some(true));
     Ok(())

@@ -1,10 +1,11 @@
 //! Systems that are overheard.
 
 use crate::driving::is_driven_so;
-use crate::hostile::{Liar, NoGet, Odd};
+use crate::hostile::Odd;
 use pst_driver::{MOST_KEPT, Misfits, Overheard, misfits_text};
 use pst_system::BoxedSystem;
 use pst_tests::support::{COUNTER, SAYING};
+use pst_tests::systems::{Liar, NoGet};
 use pst_typing::load;
 use std::alloc::{AllocError, Global};
 use std::sync::Arc;

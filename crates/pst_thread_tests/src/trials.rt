@@ -3,6 +3,5 @@
 mod early;
 mod ended;
 mod plans;
-mod resets;
 mod shrinking;
 mod working;

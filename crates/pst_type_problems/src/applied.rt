@@ -10,7 +10,7 @@ use pst_problems::{
 };
 use pst_sexpr::word_of;
 use pst_typing::Kind;
-use std::alloc::{AllocError, Global};
+use std::alloc::AllocError;
 use std::fmt::Display;
 
 /// The function `name`.
@@ -33,7 +33,7 @@ fn fits(
     parameter: usize,
 ) -> Result<bool, AllocError> {
     match (leaf.kinds.get(argument), params.get(parameter)) {
-        (Some(kind), Some(param)) => kind.is(leaf.context.alloc, &param.ty),
+        (Some(kind), Some(param)) => kind.is(leaf.alloc, &param.ty),
         _ => Ok(false),
     }
 }
@@ -69,17 +69,16 @@ fn are_swapped(leaf: &BlamedPart<'_>, params: &[Param], first: usize) -> Result<
 
 /// The problem `refused`, with the declaration.
 fn with_signature(
-    alloc: Global,
+    leaf: &BlamedPart<'_>,
     refused: Option<Problem>,
     declared: &Signature<'_>,
 ) -> FoundProblem {
-    with_note(alloc, refused, format_args!("declared: {declared}"))
+    with_note(leaf.alloc, refused, format_args!("declared: {declared}"))
 }
 
 /// The problem of argument `place`, counted from 0, which has another type than its parameter. `part` is its number in
 /// the tree.
 fn ill_argument(
-    alloc: Global,
     leaf: &BlamedPart<'_>,
     declared: &Signature<'_>,
     place: usize,
@@ -91,76 +90,69 @@ fn ill_argument(
     let Some(found) = leaf.kinds.get(place) else {
         return Ok(None);
     };
-    let wanted = Kind::of(alloc, &param.ty)?;
+    let wanted = Kind::of(leaf.alloc, &param.ty)?;
     let called = param.name.as_str();
     let name = declared.name;
     let what = format_args!("the parameter {called} of `{name}`");
-    let refused = wanted_type(alloc, leaf, what, part, &wanted, found)?;
-    with_signature(alloc, refused, declared)
+    let refused = wanted_type(leaf, what, part, &wanted, found)?;
+    with_signature(leaf, refused, declared)
 }
 
 /// The problem of argument `place`, as [`ill_argument`] returns it, with a hint if two arguments would fit in the other
 /// order.
 fn ill_order(
-    alloc: Global,
     leaf: &BlamedPart<'_>,
     declared: &Signature<'_>,
     place: usize,
     part: usize,
 ) -> FoundProblem {
-    let refused = ill_argument(alloc, leaf, declared, place, part)?;
+    let refused = ill_argument(leaf, declared, place, part)?;
     if are_swapped(leaf, declared.params, place)? {
         let hint = "hint: in the other order the two arguments fit";
-        return with_note(alloc, refused, hint);
+        return with_note(leaf.alloc, refused, hint);
     }
     Ok(refused)
 }
 
 /// The problem of arguments whose number is not that of the parameters.
-fn wrong_argument_count(
-    alloc: Global,
-    leaf: &BlamedPart<'_>,
-    declared: &Signature<'_>,
-) -> FoundProblem {
+fn wrong_argument_count(leaf: &BlamedPart<'_>, declared: &Signature<'_>) -> FoundProblem {
     let name = declared.name;
     let takes = counted(declared.params.len(), "argument");
     let found = leaf.kinds.len();
     let refused = wrong(
-        alloc,
+        leaf.alloc,
         leaf.path,
         format_args!("`{name}` takes {takes}, here it has {found}"),
     )?;
-    with_signature(alloc, refused, declared)
+    with_signature(leaf, refused, declared)
 }
 
 /// The problem of arguments that do not fit the parameters, if one does not. `first` is the number of the first
 /// argument in the tree.
 fn arguments_problem(
-    alloc: Global,
     leaf: &BlamedPart<'_>,
     declared: &Signature<'_>,
     first: usize,
 ) -> FoundProblem {
     if leaf.kinds.len() != declared.params.len() {
-        return wrong_argument_count(alloc, leaf, declared);
+        return wrong_argument_count(leaf, declared);
     }
     match first_ill(leaf, declared.params, 0)? {
-        Some(place) => ill_order(alloc, leaf, declared, place, first.saturating_add(place)),
+        Some(place) => ill_order(leaf, declared, place, first.saturating_add(place)),
         None => Ok(None),
     }
 }
 
 /// The problem of the unknown name `name` at part `part` of the tree, with the known operations or functions.
 fn unknown_at(
-    alloc: Global,
     leaf: &BlamedPart<'_>,
     part: usize,
     name: &str,
     are_operations: bool,
 ) -> FoundProblem {
-    let path = below(leaf.path, alloc, part)?;
+    let path = below(leaf.path, leaf.alloc, part)?;
     unknown_among(
-        alloc,
+        leaf.alloc,
         leaf.context.items,
         path.as_slice(),
         name,
@@ -169,7 +161,7 @@ fn unknown_at(
 }
 
 /// The problem of a call of an operation, if it has one.
-pub fn call_problem(alloc: Global, leaf: &BlamedPart<'_>) -> FoundProblem {
+pub fn call_problem(leaf: &BlamedPart<'_>) -> FoundProblem {
     let Some(name) = word_of(tree_in(leaf.form, 1)) else {
         return Ok(None);
     };
@@ -181,21 +173,20 @@ pub fn call_problem(alloc: Global, leaf: &BlamedPart<'_>) -> FoundProblem {
                 params: op.params.as_slice(),
                 gives: &op.result,
             };
-            arguments_problem(alloc, leaf, &declared, 2)
+            arguments_problem(leaf, &declared, 2)
         }
-        None => unknown_at(alloc, leaf, 1, name, true),
+        None => unknown_at(leaf, 1, name, true),
     }
 }
 
 /// The problem of a function that no item declares, with a note.
 fn no_function_noted<N: Display + Drop>(
-    alloc: Global,
     leaf: &BlamedPart<'_>,
     name: &str,
     note: N,
 ) -> FoundProblem {
     noted_at(
-        alloc,
+        leaf.alloc,
         leaf.path,
         0,
         format_args!("no function has the name `{name}`"),
@@ -205,39 +196,38 @@ fn no_function_noted<N: Display + Drop>(
 
 /// The problem of a function that no item declares, with the known name that is probably meant, or with the known
 /// functions.
-fn no_function_near(alloc: Global, leaf: &BlamedPart<'_>, name: &str) -> FoundProblem {
-    match nearest_head(alloc, leaf.has_maps, name)? {
-        Some(hint) => no_function_noted(alloc, leaf, name, hint),
-        None => unknown_at(alloc, leaf, 0, name, false),
+fn no_function_near(leaf: &BlamedPart<'_>, name: &str) -> FoundProblem {
+    match nearest_head(leaf.alloc, leaf.has_maps, name)? {
+        Some(hint) => no_function_noted(leaf, name, hint),
+        None => unknown_at(leaf, 0, name, false),
     }
 }
 
 /// The problem of a function that no item declares.
-fn no_function(alloc: Global, leaf: &BlamedPart<'_>, name: &str) -> FoundProblem {
+fn no_function(leaf: &BlamedPart<'_>, name: &str) -> FoundProblem {
     if let Some(hint) = in_place_of(name) {
-        return no_function_noted(alloc, leaf, name, format_args!("hint: {hint}"));
+        return no_function_noted(leaf, name, format_args!("hint: {hint}"));
     }
     if is_of_maps(name) {
         let hint = "hint: a model with maps begins with `(model2 NAME ..)`";
-        return no_function_noted(alloc, leaf, name, hint);
+        return no_function_noted(leaf, name, hint);
     }
     if operation(leaf.context.items, name).is_some() {
         return no_function_noted(
-            alloc,
             leaf,
             name,
             format_args!("hint: `{name}` is an operation: a call of it is `(call {name} ..)`"),
         );
     }
-    no_function_near(alloc, leaf, name)
+    no_function_near(leaf, name)
 }
 
 /// The problem of a declared function that may not be applied here, if it may not.
-fn later_function_problem(alloc: Global, leaf: &BlamedPart<'_>, fun: &Fun) -> FoundProblem {
+fn later_function_problem(leaf: &BlamedPart<'_>, fun: &Fun) -> FoundProblem {
     let name = fun.name.as_str();
     if function(leaf.context.earlier, name).is_none() {
         return noted_at(
-            alloc,
+            leaf.alloc,
             leaf.path,
             0,
             format_args!("the function `{name}` is not declared before this item"),
@@ -246,7 +236,7 @@ fn later_function_problem(alloc: Global, leaf: &BlamedPart<'_>, fun: &Fun) -> Fo
     }
     if fun.is_post && !leaf.context.is_post {
         return noted_at(
-            alloc,
+            leaf.alloc,
             leaf.path,
             0,
             format_args!("the postfun `{name}` can only be applied in post and in postfuns"),
@@ -257,17 +247,17 @@ fn later_function_problem(alloc: Global, leaf: &BlamedPart<'_>, fun: &Fun) -> Fo
 }
 
 /// The problem of an application of a function, if it has one.
-pub fn application_problem(alloc: Global, leaf: &BlamedPart<'_>, name: &str) -> FoundProblem {
+pub fn application_problem(leaf: &BlamedPart<'_>, name: &str) -> FoundProblem {
     let Some(fun) = function(leaf.context.items, name) else {
-        return no_function(alloc, leaf, name);
+        return no_function(leaf, name);
     };
     let declared = Signature {
         name,
         params: fun.params.as_slice(),
         gives: &fun.result,
     };
-    match later_function_problem(alloc, leaf, fun)? {
+    match later_function_problem(leaf, fun)? {
         Some(found) => Ok(Some(found)),
-        None => arguments_problem(alloc, leaf, &declared, 1),
+        None => arguments_problem(leaf, &declared, 1),
     }
 }

@@ -6,6 +6,7 @@
 
 mod applied;
 mod diagnose;
+mod lists;
 mod operands;
 mod spelling;
 mod trees;

@@ -76,38 +76,37 @@ pub fn other_type<D: Display + Drop>(
 
 /// The problem of part `part` of a tree, if its type `found` is another than `wanted`.
 pub fn wanted_type<D: Display + Drop>(
-    alloc: Global,
     leaf: &BlamedPart<'_>,
     what: D,
     part: usize,
     wanted: &Kind,
     found: &Kind,
 ) -> FoundProblem {
-    if wanted.same(alloc, found)? {
+    if wanted.same(leaf.alloc, found)? {
         return Ok(None);
     }
-    let path = below(leaf.path, alloc, part)?;
-    other_type(alloc, path.as_slice(), what, wanted, found)
+    let path = below(leaf.path, leaf.alloc, part)?;
+    other_type(leaf.alloc, path.as_slice(), what, wanted, found)
 }
 
 /// The problem of the first part, which has another kind than its form takes.
-pub fn ill_first<D: Display + Drop>(
-    alloc: Global,
-    leaf: &BlamedPart<'_>,
-    what: D,
-    found: &Kind,
-) -> FoundProblem {
-    let has = spelled(alloc, found)?;
-    let refused = wrong_at(alloc, leaf.path, 1, format_args!("{what}, found {has}"))?;
-    with_reference_hint(alloc, refused, found)
+pub fn ill_first<D: Display + Drop>(leaf: &BlamedPart<'_>, what: D, found: &Kind) -> FoundProblem {
+    let has = spelled(leaf.alloc, found)?;
+    let refused = wrong_at(
+        leaf.alloc,
+        leaf.path,
+        1,
+        format_args!("{what}, found {has}"),
+    )?;
+    with_reference_hint(leaf.alloc, refused, found)
 }
 
 /// The problem of the first part of `at`, which is no tuple.
-pub fn wanted_tuple(alloc: Global, leaf: &BlamedPart<'_>, found: &Kind) -> FoundProblem {
-    let refused = ill_first(alloc, leaf, "`at` takes a tuple", found)?;
-    match found.form(alloc)? {
+pub fn wanted_tuple(leaf: &BlamedPart<'_>, found: &Kind) -> FoundProblem {
+    let refused = ill_first(leaf, "`at` takes a tuple", found)?;
+    match found.form(leaf.alloc)? {
         KindForm::List(_) => with_note(
-            alloc,
+            leaf.alloc,
             refused,
             "hint: for a list write `(nth LIST PLACE)`, counted from 0",
         ),
@@ -116,19 +115,9 @@ pub fn wanted_tuple(alloc: Global, leaf: &BlamedPart<'_>, found: &Kind) -> Found
 }
 
 /// The problem of a form that takes a text or a list, and whose first part is neither.
-pub fn wanted_sequence(
-    alloc: Global,
-    leaf: &BlamedPart<'_>,
-    head: &str,
-    found: &Kind,
-) -> FoundProblem {
-    let refused = ill_first(
-        alloc,
-        leaf,
-        format_args!("`{head}` takes a text or a list"),
-        found,
-    )?;
-    with_keys_hint(alloc, refused, found)
+pub fn wanted_sequence(leaf: &BlamedPart<'_>, head: &str, found: &Kind) -> FoundProblem {
+    let refused = ill_first(leaf, format_args!("`{head}` takes a text or a list"), found)?;
+    with_keys_hint(leaf.alloc, refused, found)
 }
 
 /// The problem of part `part` of the tree that `path` leads to, which is no list.
@@ -151,17 +140,17 @@ pub fn wanted_list(
 }
 
 /// The problem of a form of maps whose first part is no map.
-pub fn wanted_map(alloc: Global, leaf: &BlamedPart<'_>, head: &str, found: &Kind) -> FoundProblem {
+pub fn wanted_map(leaf: &BlamedPart<'_>, head: &str, found: &Kind) -> FoundProblem {
     let is_second = match leaf.kinds.get(1) {
-        Some(second) => matches!(second.form(alloc)?, KindForm::Map(_, _)),
+        Some(second) => matches!(second.form(leaf.alloc)?, KindForm::Map(_, _)),
         None => false,
     };
     if !is_second {
-        return ill_first(alloc, leaf, format_args!("`{head}`: expected a map"), found);
+        return ill_first(leaf, format_args!("`{head}`: expected a map"), found);
     }
-    let found = spelled(alloc, found)?;
+    let found = spelled(leaf.alloc, found)?;
     noted(
-        alloc,
+        leaf.alloc,
         leaf.path,
         format_args!("`{head}` takes the map first, found {found}"),
         "hint: in the other order the two may fit",

@@ -26,6 +26,7 @@ pub struct Site<'a> {
 /// tree of the model.
 #[derive(Clone, Copy, Drop)]
 pub struct ItemSite<'a> {
+    pub alloc: Global,
     pub items: &'a [Item],
     pub state: &'a Kind,
     pub form: &'a Form,
@@ -62,6 +63,7 @@ fn blame_problem(
     let mut names = names_in(alloc, scope)?;
     let expr = part_at(alloc, &mut names, expr, blame.path.as_slice())?;
     let leaf = BlamedPart {
+        alloc,
         context,
         expr,
         form,
@@ -71,7 +73,7 @@ fn blame_problem(
         called: site.called,
         has_maps: site.has_maps,
     };
-    diagnose(alloc, &leaf)
+    diagnose(&leaf)
 }
 
 /// The problem of an expression of the kind `found`, if it has to have another kind.
@@ -102,11 +104,11 @@ fn tell_expression(
 }
 
 /// The context of an expression that sees all items.
-fn context_of(alloc: Global, items: &[Item], is_post: bool) -> Context<'_> {
+fn context_of(here: ItemSite<'_>, is_post: bool) -> Context<'_> {
     Context {
-        alloc,
-        items,
-        earlier: items,
+        alloc: here.alloc,
+        items: here.items,
+        earlier: here.items,
         is_post,
     }
 }
@@ -155,28 +157,18 @@ fn tell_callback(
 }
 
 /// Adds what is wrong with the callback `pre`, which sees the state.
-fn tell_pre(
-    problems: &mut Vec<Problem>,
-    alloc: Global,
-    op: &Op,
-    here: ItemSite<'_>,
-) -> Result<(), AllocError> {
-    let truth = Kind::of(alloc, &Ty::Bool)?;
-    let context = context_of(alloc, here.items, false);
+fn tell_pre(problems: &mut Vec<Problem>, op: &Op, here: ItemSite<'_>) -> Result<(), AllocError> {
+    let truth = Kind::of(here.alloc, &Ty::Bool)?;
+    let context = context_of(here, false);
     let params = Scope::Parameters(op.params.as_slice());
     let scope = Scope::With(b"s".as_slice(), here.state, &params);
     tell_callback(problems, &op.pre, "pre", &context, &scope, &truth, here)
 }
 
 /// Adds what is wrong with the callback `next`, which sees the state and a reference to the result.
-fn tell_next(
-    problems: &mut Vec<Problem>,
-    alloc: Global,
-    op: &Op,
-    here: ItemSite<'_>,
-) -> Result<(), AllocError> {
-    let named = Kind::of(alloc, &op.result)?.reference(alloc)?;
-    let context = context_of(alloc, here.items, false);
+fn tell_next(problems: &mut Vec<Problem>, op: &Op, here: ItemSite<'_>) -> Result<(), AllocError> {
+    let named = Kind::of(here.alloc, &op.result)?.reference(here.alloc)?;
+    let context = context_of(here, false);
     let params = Scope::Parameters(op.params.as_slice());
     let seen = Scope::With(b"s".as_slice(), here.state, &params);
     let scope = Scope::With(b"r".as_slice(), &named, &seen);
@@ -186,15 +178,10 @@ fn tell_next(
 }
 
 /// Adds what is wrong with the callback `post`, which sees the state and the result.
-fn tell_post(
-    problems: &mut Vec<Problem>,
-    alloc: Global,
-    op: &Op,
-    here: ItemSite<'_>,
-) -> Result<(), AllocError> {
-    let truth = Kind::of(alloc, &Ty::Bool)?;
-    let value = Kind::of(alloc, &op.result)?;
-    let context = context_of(alloc, here.items, true);
+fn tell_post(problems: &mut Vec<Problem>, op: &Op, here: ItemSite<'_>) -> Result<(), AllocError> {
+    let truth = Kind::of(here.alloc, &Ty::Bool)?;
+    let value = Kind::of(here.alloc, &op.result)?;
+    let context = context_of(here, true);
     let params = Scope::Parameters(op.params.as_slice());
     let seen = Scope::With(b"s".as_slice(), here.state, &params);
     let scope = Scope::With(b"r".as_slice(), &value, &seen);
@@ -202,7 +189,8 @@ fn tell_post(
 }
 
 /// What is wrong with the types that an operation declares.
-fn declared_type_problem(alloc: Global, op: &Op, number: usize) -> FoundProblem {
+fn declared_type_problem(op: &Op, here: ItemSite<'_>) -> FoundProblem {
+    let (alloc, number) = (here.alloc, here.number);
     for (place, param) in op.params.as_slice().iter().enumerate() {
         if holds_call(&param.ty) {
             let what = "the parameter of an operation cannot hold a `call`";
@@ -223,24 +211,22 @@ fn declared_type_problem(alloc: Global, op: &Op, number: usize) -> FoundProblem 
 /// Adds what is wrong with an operation: the types that it declares, and each of its callbacks.
 fn tell_operation(
     problems: &mut Vec<Problem>,
-    alloc: Global,
     op: &Op,
     here: ItemSite<'_>,
 ) -> Result<(), AllocError> {
-    tell(problems, declared_type_problem(alloc, op, here.number)?)?;
-    tell_pre(problems, alloc, op, here)?;
-    tell_next(problems, alloc, op, here)?;
-    tell_post(problems, alloc, op, here)
+    tell(problems, declared_type_problem(op, here)?)?;
+    tell_pre(problems, op, here)?;
+    tell_next(problems, op, here)?;
+    tell_post(problems, op, here)
 }
 
 /// Adds what is wrong with a function.
 fn tell_function(
     problems: &mut Vec<Problem>,
-    alloc: Global,
     fun: &Fun,
     here: ItemSite<'_>,
 ) -> Result<(), AllocError> {
-    let number = here.number;
+    let (alloc, number) = (here.alloc, here.number);
     let result = Kind::of(alloc, &fun.result)?;
     let context = Context {
         alloc,
@@ -259,54 +245,52 @@ fn tell_function(
     tell_expression(problems, &fun.body, &context, &scope, &site)
 }
 
-/// Adds what is wrong with the initial state.
-fn tell_init(
+/// Adds what is wrong with the expression of the item `called`, which is not in an operation or a function.
+fn tell_body(
     problems: &mut Vec<Problem>,
-    alloc: Global,
     expr: &Expr,
+    called: &str,
+    scope: &Scope<'_>,
+    wanted: &Kind,
     here: ItemSite<'_>,
 ) -> Result<(), AllocError> {
-    let context = context_of(alloc, here.items, false);
-    let scope = Scope::Parameters(&[]);
     let site = Site {
         form: tree_in(here.form, 1),
         path: &[0, here.number, 1],
-        called: "init",
-        wanted: here.state,
+        called,
+        wanted,
         has_maps: here.has_maps,
     };
-    tell_expression(problems, expr, &context, &scope, &site)
+    tell_expression(problems, expr, &context_of(here, false), scope, &site)
+}
+
+/// Adds what is wrong with the initial state.
+fn tell_init(
+    problems: &mut Vec<Problem>,
+    expr: &Expr,
+    here: ItemSite<'_>,
+) -> Result<(), AllocError> {
+    let none = Scope::Parameters(&[]);
+    tell_body(problems, expr, "init", &none, here.state, here)
 }
 
 /// Adds what is wrong with the item `command`, which sees the state.
 fn tell_command(
     problems: &mut Vec<Problem>,
-    alloc: Global,
     expr: &Expr,
     here: ItemSite<'_>,
 ) -> Result<(), AllocError> {
-    let calls = Kind::of(alloc, &Ty::Call)?.list(alloc)?;
-    let context = context_of(alloc, here.items, false);
+    let calls = Kind::of(here.alloc, &Ty::Call)?.list(here.alloc)?;
     let none = Scope::Parameters(&[]);
     let scope = Scope::With(b"s".as_slice(), here.state, &none);
-    let site = Site {
-        form: tree_in(here.form, 1),
-        path: &[0, here.number, 1],
-        called: "command",
-        wanted: &calls,
-        has_maps: here.has_maps,
-    };
-    tell_expression(problems, expr, &context, &scope, &site)
+    tell_body(problems, expr, "command", &scope, &calls, here)
 }
 
 /// What is wrong with the type of the state.
-fn state_type_problem(alloc: Global, state: &Ty, here: ItemSite<'_>) -> FoundProblem {
+fn state_type_problem(state: &Ty, here: ItemSite<'_>) -> FoundProblem {
     if holds_call(state) {
-        wrong(
-            alloc,
-            &[0, here.number, 1],
-            "the state cannot hold a `call`",
-        )
+        let what = "the state cannot hold a `call`";
+        wrong(here.alloc, &[0, here.number, 1], what)
     } else {
         Ok(None)
     }
@@ -315,16 +299,15 @@ fn state_type_problem(alloc: Global, state: &Ty, here: ItemSite<'_>) -> FoundPro
 /// Adds what is wrong with an item.
 fn tell_item(
     problems: &mut Vec<Problem>,
-    alloc: Global,
     item: &Item,
     here: ItemSite<'_>,
 ) -> Result<(), AllocError> {
     match item {
-        Item::Fun(fun) => tell_function(problems, alloc, fun, here),
-        Item::Op(op) => tell_operation(problems, alloc, op, here),
-        Item::Init(expr) => tell_init(problems, alloc, expr, here),
-        Item::Command(expr) => tell_command(problems, alloc, expr, here),
-        Item::State(state) => tell(problems, state_type_problem(alloc, state, here)?),
+        Item::Fun(fun) => tell_function(problems, fun, here),
+        Item::Op(op) => tell_operation(problems, op, here),
+        Item::Init(expr) => tell_init(problems, expr, here),
+        Item::Command(expr) => tell_command(problems, expr, here),
+        Item::State(state) => tell(problems, state_type_problem(state, here)?),
     }
 }
 
@@ -348,13 +331,14 @@ pub fn type_problems(
         let is_first = index.saturating_add(1) == number;
         if index.saturating_add(1) >= number && problems.len() <= MOST_PROBLEMS {
             let here = ItemSite {
+                alloc,
                 items,
                 state: &state,
                 form: tree_in(model, place),
                 number: place,
                 has_maps: source.has_maps,
             };
-            tell_item(&mut problems, alloc, item, here)?;
+            tell_item(&mut problems, item, here)?;
         }
         if is_first && problems.is_empty() {
             tell(

@@ -59,6 +59,27 @@ fn part_of_for<'a>(
     Ok(body)
 }
 
+/// Part `part` of an expression whose parts see no further names.
+fn plain_part(expr: &Expr, part: usize) -> &Expr {
+    match (expr, part) {
+        (Expr::If(first, _, _) | Expr::Put(first, _, _), 0) => first.get(),
+        (Expr::If(_, second, _) | Expr::Put(_, second, _), 1) => second.get(),
+        (Expr::If(_, _, third) | Expr::Put(_, _, third), _) => third.get(),
+        (Expr::And(first, _) | Expr::Or(first, _) | Expr::Binary(_, first, _), 0) => first.get(),
+        (Expr::And(_, second) | Expr::Or(_, second) | Expr::Binary(_, _, second), _) =>
+            second.get(),
+        (Expr::Unary(_, operand) | Expr::At(operand, _), _) => operand.get(),
+        (
+            Expr::Tuple(exprs)
+            | Expr::List(_, exprs)
+            | Expr::Call(_, exprs)
+            | Expr::Apply(_, exprs),
+            _,
+        ) => one_of(expr, exprs, part),
+        _ => expr,
+    }
+}
+
 /// Part `part` of an expression. Adds the names that the part sees.
 fn part_of<'a>(
     alloc: Global,
@@ -82,24 +103,7 @@ fn part_of<'a>(
         (Expr::For(clauses, body), _) => {
             part_of_for(alloc, names, clauses.as_slice(), body.get(), part)
         }
-        (Expr::If(first, _, _) | Expr::Put(first, _, _), 0) => Ok(first.get()),
-        (Expr::If(_, second, _) | Expr::Put(_, second, _), 1) => Ok(second.get()),
-        (Expr::If(_, _, third) | Expr::Put(_, _, third), _) => Ok(third.get()),
-        (Expr::And(first, _) | Expr::Or(first, _) | Expr::Binary(_, first, _), 0) => {
-            Ok(first.get())
-        }
-        (Expr::And(_, second) | Expr::Or(_, second) | Expr::Binary(_, _, second), _) => {
-            Ok(second.get())
-        }
-        (Expr::Unary(_, operand) | Expr::At(operand, _), _) => Ok(operand.get()),
-        (
-            Expr::Tuple(exprs)
-            | Expr::List(_, exprs)
-            | Expr::Call(_, exprs)
-            | Expr::Apply(_, exprs),
-            _,
-        ) => Ok(one_of(expr, exprs, part)),
-        _ => Ok(expr),
+        _ => Ok(plain_part(expr, part)),
     }
 }
 

@@ -17,15 +17,20 @@ use std::alloc::{AllocError, Global};
 use std::sync::{Arc, Wait};
 use std::thread::Threads;
 
-/// The plan of three trials of one command, each of whose cases is driven once.
-fn plan_of(alloc: Global) -> Result<Arc<Plan>, Refused> {
-    let settings = Settings {
+/// The settings of trials of one command, each of whose cases is driven once.
+pub fn settings_of(trials: u32) -> Settings {
+    Settings {
         seed: 7,
-        trials: 3,
+        trials,
         commands: 1,
         repeats: 1,
         ..Settings::default()
-    };
+    }
+}
+
+/// The plan of trials with [`settings_of`].
+pub fn plan_of(alloc: Global, trials: u32) -> Result<Arc<Plan>, Refused> {
+    let settings = settings_of(trials);
     if !settings.are_in_range() {
         return Err(Refused::Otherwise("settings out of range"));
     }
@@ -60,7 +65,7 @@ fn record_of<R: Threads + Wait>(
 
 /// Runs `trial` and returns the record of the first trial.
 pub fn trial_answer<R: Threads + Wait>(rt: &R, alloc: Global) -> Result<String, Refused> {
-    let record = record_of(rt, alloc, &plan_of(alloc)?)?;
+    let record = record_of(rt, alloc, &plan_of(alloc, 3)?)?;
     Ok(record_text(alloc, &record)?)
 }
 
@@ -106,7 +111,7 @@ fn report_by<R: Threads + Wait + Sync>(
 pub fn report_answer<R: Threads + Wait + Sync>(rt: &R, alloc: Global) -> Result<String, Refused> {
     let mut systems: Vec<BoxedSystem> = Vec::new(alloc);
     systems.push(Box::new(alloc, Stuck)?)?;
-    report_by(rt, alloc, plan_of(alloc)?, systems)
+    report_by(rt, alloc, plan_of(alloc, 3)?, systems)
 }
 
 /// Returns the record of a trial, or why it was lost.
@@ -153,5 +158,5 @@ pub fn campaign_answer<R: Threads + Wait + Sync>(
     for _ in 0..workers {
         systems.push(Box::new(alloc, Stuck)?)?;
     }
-    entries_by(rt, alloc, plan_of(alloc)?, systems)
+    entries_by(rt, alloc, plan_of(alloc, 3)?, systems)
 }

@@ -1,11 +1,11 @@
 //! Trials that pass, that generate no case, and that a reset ends.
 
 use crate::trials::plans::{one_command, plan_of, record_of};
-use crate::trials::resets::Resets;
 use pst_eval::Callback;
 use pst_samples::Counter;
 use pst_system::BoxedSystem;
 use pst_tests::support::{COUNTER, ONE, TOP};
+use pst_tests::systems::Resets;
 use pst_trial::{Record, Settings, TrialFault, TrialOutcome, trial};
 use std::alloc::Global;
 use std::sync::Wait;

@@ -3,12 +3,12 @@ ghost use Rattle.std.specs.Prelude.{◌≡◌, None};
 ghost use Rattle.std.specs.Arc.{arc_value};
 
 use crate::trials::plans::plan_of;
-use crate::trials::resets::Resets;
 use pst_campaign::work;
 use pst_ledger::{Cause, Closed, Entry, Ledger};
 use pst_samples::Stuck;
 use pst_system::BoxedSystem;
 use pst_tests::support::ONE;
+use pst_tests::systems::Resets;
 use pst_trial::{Plan, Record, Settings, may_share_records, trial};
 use std::alloc::Global;
 use std::sync::{Arc, Wait};

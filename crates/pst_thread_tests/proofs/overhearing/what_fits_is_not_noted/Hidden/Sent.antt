@@ -1,8 +1,8 @@
 -- The system in a box may be sent to threads, and shared by them.
 use denote.Param.Sent.{Sends, Syncs}
 use Rattle.pst_thread_tests.proofs.overhearing.what_fits_is_not_noted.OwnLists as own
-use Rattle.pst_thread_tests.proofs.hostile.NoGet.TheSendSync as no_get_crosses
-use Rattle.pst_thread_tests.specs.contracts.hostile.NoGet as no_get
+use Rattle.pst_tests.proofs.systems.NoGet.TheSendSync as no_get_crosses
+use Rattle.pst_tests.specs.contracts.systems.NoGet as no_get
 use Rattle.pst_driver.proofs.Sent.{boxed_send, boxed_sync}
 
 pub sends-part-1-1 : Sends own.part-1-1

@@ -1,9 +1,7 @@
-//! Systems that give wrong answers.
+//! Systems that give wrong answers, or refuse.
 
-use crate::odd::odd_value;
 use pst_system::{CallFault, RealCall, System};
 use pst_value::Value;
-use std::alloc::Global;
 use std::sync::atomic::{AtomicI64, Ordering};
 
 /// A system that answers `true` to every call.
@@ -98,43 +96,5 @@ impl System for Resets {
 
     fn call(&self, _call: &RealCall) -> Result<Value, CallFault> {
         Ok(Value::Int(0))
-    }
-}
-
-/// A system that answers the value named by a call's argument, and refuses a call that names no value.
-#[derive(Drop)]
-pub struct Odd {
-    alloc: Global,
-}
-
-impl Odd {
-    /// Returns a system that allocates its answers with `alloc`.
-    pub fn new(alloc: Global) -> Odd {
-        Odd { alloc }
-    }
-}
-
-impl System for Odd {
-    ghost use Rattle.std.specs.Prelude.{⊤};
-
-    ghost answers = { λ _ _ _. ⊤ };
-
-    ghost fails = { λ _ _ _. ⊤ };
-
-    ghost reset_fails = { λ _ _. ⊥ };
-
-    fn reset(&mut self) -> Result<(), CallFault> {
-        Ok(())
-    }
-
-    fn call(&self, call: &RealCall) -> Result<Value, CallFault> {
-        let [Value::Text(name)] = call.args.as_slice() else {
-            return Err(CallFault::Refused);
-        };
-        match odd_value(self.alloc, name.as_str()) {
-            Ok(Some(value)) => Ok(value),
-            Ok(None) => Err(CallFault::Refused),
-            Err(_) => Err(CallFault::NoMemory),
-        }
     }
 }

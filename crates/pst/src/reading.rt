@@ -1,0 +1,86 @@
+//! The reading of the input, and what is refused before it.
+
+use crate::input::Reading;
+use crate::terminal::Terminals;
+use crate::{formatting, input, json_items, outputs, page, refused, streaming, systems};
+use clap::ArgMatches;
+use pst_cli::{Status, refuse_text};
+use pst_sexpr::Out;
+use pst_sources::SourceFile;
+use std::io;
+use std::rt::Runtime;
+
+/// Returns whether the arguments forbid messages on standard error.
+pub fn is_quiet(matches: &ArgMatches<'_>) -> bool {
+    match matches.subcommand() {
+        Some((_, words)) => words.get_flag("quiet"),
+        None => false,
+    }
+}
+
+/// Returns the name of the output file in the arguments, if there is one.
+pub fn output_name<'a>(matches: &ArgMatches<'a>) -> Option<&'a str> {
+    let (_, words) = matches.subcommand()?;
+    words.get_str("output")
+}
+
+/// Returns the file names in the arguments.
+fn names<'a>(matches: &'a ArgMatches<'_>) -> &'a [&'a str] {
+    match matches.subcommand() {
+        Some((_, words)) => words.get_strs("FILE").unwrap_or(&[]),
+        None => &[],
+    }
+}
+
+/// Refuses an unknown system, a stream whose model is not in a file, and output to a file of the input. The error is the
+/// status that the program ends with.
+fn refuse_arguments<R: Runtime + AllocGlobal>(
+    rt: &R,
+    matches: &ArgMatches<'_>,
+) -> Result<(), Status> {
+    let mut out = Out::new(io::writer(rt));
+    let is_quiet = is_quiet(matches);
+    let inputs = names(matches);
+    if let Some(name) = systems::unknown_system(matches) {
+        return Err(systems::refuse_system(rt, name, inputs, is_quiet, &mut out));
+    }
+    if streaming::is_stream(matches) && !streaming::leaves_input(inputs) {
+        return Err(streaming::refuse_stream(rt, is_quiet, &mut out));
+    }
+    outputs::refuse_input(rt, inputs, "-o", output_name(matches), is_quiet)?;
+    outputs::refuse_input(rt, inputs, "--html", page::file_name(matches), is_quiet)
+}
+
+/// Reads the files that the arguments name, with a tree in place of each JSON item.
+fn files_of<'a, R: Runtime + AllocGlobal>(
+    rt: &R,
+    matches: &'a ArgMatches<'_>,
+    reading: Reading,
+) -> Result<Vec<SourceFile<'a>>, Status> {
+    let files = match input::read_files(rt, names(matches), reading) {
+        Ok(files) => files,
+        Err(why) => return Err(refuse_text(why, &mut Out::new(io::writer(rt)))),
+    };
+    match json_items::as_trees(rt.alloc(), files) {
+        Ok(files) => Ok(files),
+        Err(_) => Err(refused::report_out_of_memory(rt)),
+    }
+}
+
+/// Reads the files that the arguments name. If that fails, or the arguments are refused, or files are only laid out, the
+/// error is the status that the program ends with.
+pub fn read<'a, R: Runtime + AllocGlobal>(
+    rt: &R,
+    matches: &'a ArgMatches<'_>,
+    terminals: Terminals,
+) -> Result<Vec<SourceFile<'a>>, Status> {
+    refuse_arguments(rt, matches)?;
+    let reading = Reading {
+        is_quiet: is_quiet(matches),
+        is_terminal: terminals.input,
+    };
+    if let Some(("fmt", words)) = matches.subcommand() {
+        return Err(formatting::lay_out(rt, words, reading));
+    }
+    files_of(rt, matches, reading)
+}

@@ -1,0 +1,173 @@
+//! The run of a subcommand on its input: its output, and messages on standard error.
+
+ghost use Rattle.std.specs.Prelude.{◌≡◌, false};
+
+use crate::campaigning::campaign;
+use crate::driving::drive;
+use crate::judging::judge;
+use crate::reading::{is_quiet, output_name};
+use crate::systems::Unmade;
+use crate::terminal::Terminals;
+use crate::{converting, explaining, generating, noticed, refused, streaming, summary, warned};
+use clap::ArgMatches;
+use pst_campaign::EarlyStop;
+use pst_cli::{Absence, Counts, Status, check_json, check_text, list_text, refuse_text};
+use pst_driver::Misfits;
+use pst_sexpr::{Out, Sink};
+use pst_sources::Input;
+use pst_system::BoxedSystem;
+use std::io;
+use std::io::Write;
+use std::rt::{Files, Runtime};
+use std::sync::Wait;
+use std::thread::Threads;
+use std::time::Clock;
+
+/// What a subcommand works on.
+#[derive(Clone, Copy, Drop)]
+pub struct Work<'a, 'm> {
+    /// The arguments of the program.
+    pub matches: &'a ArgMatches<'m>,
+    /// The list of answers of a wrong type, if it is kept. The threads that drive cases share it.
+    pub misfits: Option<&'a Misfits>,
+    /// When a campaign ends before all its trials have run. The threads that drive cases share it.
+    pub ending: &'a EarlyStop,
+    /// Which of the standard files are terminals.
+    pub terminals: Terminals,
+}
+
+/// The systems that the arguments name.
+pub type Systems = Result<Vec<BoxedSystem>, Unmade>;
+
+/// Runs cases or trials on the systems, or refuses if they were not made.
+fn with_systems<
+    W: Sink,
+    R: Threads + Wait + Sync + Eprint + Files + Clock + AllocGlobal + Copy + Drop + Send + 'static,
+>(
+    rt: &R,
+    work: Work<'_, '_>,
+    word: &str,
+    words: &ArgMatches<'_>,
+    input: Input<'_>,
+    systems: Systems,
+    counts: &mut Counts,
+    out: &mut W,
+) -> Status
+    requires { W.broken out.old ≡ false }
+{
+    let name = words.get_str("SYSTEM").unwrap_or("");
+    let is_terminal = work.terminals.errors;
+    let systems = match systems {
+        Ok(systems) => systems,
+        Err(Unmade::NoMemory) => return refuse_text(Absence::NoMemory, out),
+        Err(Unmade::NoSystem) => return refuse_text(Absence::NoSystem(name), out),
+    };
+    if word != "run" {
+        let ending = work.ending;
+        return campaign(rt, words, name, systems, ending, is_terminal, input, out);
+    }
+    let (alloc, misfits) = (rt.alloc(), work.misfits);
+    let Input { files: _, bytes } = input;
+    drive(
+        rt,
+        alloc,
+        words,
+        name,
+        systems,
+        misfits,
+        is_terminal,
+        bytes,
+        counts,
+        out,
+    )
+}
+
+/// Runs the subcommand, writes its output to `out`, and counts the results of its items.
+fn answer<W: Sink, R: Runtime + Threads + Wait + Sync + AllocGlobal + Copy + Drop + Send + 'static>(
+    rt: &R,
+    work: Work<'_, '_>,
+    input: Input<'_>,
+    systems: Systems,
+    counts: &mut Counts,
+    out: &mut W,
+) -> Status
+    requires { W.broken out.old ≡ false }
+{
+    let Some((word, words)) = work.matches.subcommand() else {
+        return Status::Refused;
+    };
+    let (alloc, terminals) = (rt.alloc(), work.terminals);
+    let Input { files: _, bytes } = input;
+    match word {
+        "check" if noticed::writes_notices(word, words) => {
+            let notices = noticed::notice_lines(alloc, words, &input);
+            check_json(alloc, bytes, notices.as_slice(), out)
+        }
+        "check" => check_text(alloc, bytes, out),
+        "list" => list_text(alloc, bytes, out),
+        "generate" => generating::generate(rt, words, bytes, out),
+        "convert" => converting::convert(alloc, words, bytes, out),
+        "judge" if words.get_flag("stream") => {
+            streaming::judge_standard_input(rt, words, terminals, bytes, counts, out)
+        }
+        "judge" => judge(rt, alloc, words, terminals.errors, input, counts, out),
+        "explain" => explaining::explain(rt, words, terminals, input, out),
+        _ => with_systems(rt, work, word, words, input, systems, counts, out),
+    }
+}
+
+/// Writes messages on refusals, and warnings on a model that `check` accepts, to standard error, unless the arguments
+/// forbid it.
+fn say<R: Eprint + AllocGlobal>(rt: &R, work: Work<'_, '_>, input: Input<'_>, status: Status) {
+    let Some((word, words)) = work.matches.subcommand() else {
+        return;
+    };
+    if words.get_flag("quiet") || noticed::writes_notices(word, words) {
+        return;
+    }
+    let Input { files, bytes } = input;
+    match status {
+        Status::Refused => refused::report_refusals(rt, word, words, files, bytes),
+        Status::Accepted if word == "check" => warned::report_warnings(rt, files, bytes),
+        _ => {}
+    }
+}
+
+/// Runs the subcommand with its output to `writer`. Unless the arguments forbid it, standard error has a message on
+/// each refusal, and warnings on a model that `check` accepts and after the lines of `judge`. Its last line sums up the
+/// items of `judge` and `run`.
+fn run_to<
+    W: Write + Drop,
+    R: Runtime + AllocGlobal + Threads + Wait + Sync + Copy + Drop + Send + 'static,
+>(rt: &R, work: Work<'_, '_>, input: Input<'_>, systems: Systems, writer: W) -> Status {
+    let mut out = Out::new(writer);
+    let mut counts = Counts::new();
+    let status = answer(rt, work, input, systems, &mut counts, &mut out);
+    say(rt, work, input, status);
+    if !is_quiet(work.matches) {
+        summary::report_counts(rt, &counts);
+    }
+    status
+}
+
+/// Runs the subcommand with its output to the file that the arguments name, or to standard output.
+pub fn run<R: Runtime + AllocGlobal + Threads + Wait + Sync + Copy + Drop + Send + 'static>(
+    rt: &R,
+    work: Work<'_, '_>,
+    input: Input<'_>,
+    systems: Systems,
+) -> Status {
+    let Some(name) = output_name(work.matches) else {
+        return run_to(rt, work, input, systems, io::writer(rt));
+    };
+    match std::fs::create(rt, name) {
+        Ok(file) => {
+            let terminals = work.terminals.with_output_in_a_file();
+            run_to(rt, Work { terminals, ..work }, input, systems, file)
+        }
+        Err(error) => {
+            let _ = eprintln!(rt; "pst: cannot write {name}: {error}");
+            Status::Lost
+        }
+    }
+}

@@ -1,0 +1,101 @@
+//! What is wrong with places in lists, with lists, comprehensions and folds.
+
+use crate::diagnose::BlamedPart;
+use crate::operands::{wanted_list, wanted_type, with_reference_hint, with_references_hint};
+use crate::spelling::spelled;
+use crate::trees::{clauses_of, goes_over_list};
+use pst_model::Expr;
+use pst_problems::{FoundProblem, TypeText, noted, wrong_at};
+use pst_sexpr::Form;
+use pst_typing::{Kind, KindForm};
+use pst_value::Ty;
+use std::alloc::AllocError;
+
+/// The problem of an `nth`, if it has one.
+pub fn place_in_list(leaf: &BlamedPart<'_>, list: &Kind, place: &Kind) -> FoundProblem {
+    match (list.form(leaf.alloc)?, place.form(leaf.alloc)?) {
+        (KindForm::List(_), _) => {
+            let int = Kind::of(leaf.alloc, &Ty::Int)?;
+            wanted_type(leaf, "`nth`", 2, &int, place)
+        }
+        (KindForm::Int, KindForm::List(_)) => noted(
+            leaf.alloc,
+            leaf.path,
+            "`nth` takes a list and a place, found int and a list",
+            "hint: in the other order the two fit: `(nth LIST PLACE)`",
+        ),
+        _ => wanted_list(leaf.alloc, leaf.path, "`nth`", 1, list),
+    }
+}
+
+/// The problem of an item of a list that has the type `found` instead of `wanted`. `part` is its number in the tree.
+fn ill_item(leaf: &BlamedPart<'_>, part: usize, wanted: &Ty, found: &Kind) -> FoundProblem {
+    let wants = TypeText(wanted);
+    let has = spelled(leaf.alloc, found)?;
+    let what = format_args!("an item of the list: expected {wants}, found {has}");
+    let refused = wrong_at(leaf.alloc, leaf.path, part, what)?;
+    with_references_hint(leaf.alloc, refused, &Kind::of(leaf.alloc, wanted)?, found)
+}
+
+/// The problem of the first item of a list that has another type, if there is one.
+pub fn of_list(leaf: &BlamedPart<'_>) -> FoundProblem {
+    let Expr::List(wanted, _) = leaf.expr else {
+        return Ok(None);
+    };
+    for (place, found) in leaf.kinds.iter().enumerate() {
+        if !found.is(leaf.alloc, wanted)? {
+            return ill_item(leaf, place.saturating_add(2), wanted, found);
+        }
+    }
+    Ok(None)
+}
+
+/// Whether a type is the one that the expression of a clause has to have.
+fn fits_clause(leaf: &BlamedPart<'_>, clause: &Form, found: &Kind) -> Result<bool, AllocError> {
+    match found.form(leaf.alloc)? {
+        KindForm::List(_) => Ok(goes_over_list(clause)),
+        KindForm::Bool => Ok(!goes_over_list(clause)),
+        _ => Ok(false),
+    }
+}
+
+/// The problem of clause `place`, which has another type.
+fn ill_clause(leaf: &BlamedPart<'_>, clause: &Form, place: usize, found: &Kind) -> FoundProblem {
+    let mut path = Vec::from_slice(leaf.alloc, leaf.path)?;
+    path.extend_from_slice(&[1, place])?;
+    if goes_over_list(clause) {
+        return wanted_list(leaf.alloc, path.as_slice(), "`in`", 2, found);
+    }
+    let has = spelled(leaf.alloc, found)?;
+    let what = format_args!("`when`: expected bool, found {has}");
+    let refused = wrong_at(leaf.alloc, path.as_slice(), 1, what)?;
+    with_reference_hint(leaf.alloc, refused, found)
+}
+
+/// The problem of the first clause of a comprehension that has another type, if there is one.
+pub fn of_for(leaf: &BlamedPart<'_>) -> FoundProblem {
+    for (place, clause) in clauses_of(leaf.form).iter().enumerate() {
+        let Some(found) = leaf.kinds.get(place) else {
+            return Ok(None);
+        };
+        if !fits_clause(leaf, clause, found)? {
+            return ill_clause(leaf, clause, place, found);
+        }
+    }
+    Ok(None)
+}
+
+/// The problem of a fold over no list, or with a body of another type than its first value.
+pub fn of_fold(leaf: &BlamedPart<'_>) -> FoundProblem {
+    match leaf.kinds {
+        [_, first, body] => wanted_type(
+            leaf,
+            "the body of the fold has the type of its first value",
+            5,
+            first,
+            body,
+        ),
+        [list, ..] => wanted_list(leaf.alloc, leaf.path, "`fold`", 2, list),
+        [] => Ok(None),
+    }
+}
