@@ -4,6 +4,7 @@ ghost use Rattle.pst_case.specs.Matches.{matches};
 ghost use Rattle.pst_case.specs.Recorded.{recorded};
 ghost use Rattle.pst_judge.specs.Verdict.{first_broken};
 
+use crate::bounded::Bounded;
 use pst_case::{History, Reply};
 use pst_eval::{Callbacks, Env};
 use pst_reasons::{AllowedValues, Candidates, allowed, merge_beyond, without};
@@ -28,7 +29,8 @@ pub struct WrongAnswer<'a> {
 
 /// Proposes, for an interleaving, the reply that the postcondition of a command requires there.
 #[derive(Drop)]
-struct RequiredReply<'s, 'a> {
+struct RequiredReply<'s, 'a, C> {
+    callbacks: &'s Bounded<'s, C>,
     scene: &'s Scene<'a>,
     call: &'s Call<'a>,
 }
@@ -60,8 +62,9 @@ fn reply_on(
     }
 }
 
-impl<'s, 'a> Candidates for RequiredReply<'s, 'a> {
+impl<'s, 'a, C: Callbacks> Candidates for RequiredReply<'s, 'a, C> {
     fn candidate(&self, alloc: Global, word: &[usize]) -> Result<Option<Value>, AllocError> {
+        self.callbacks.take_calls(self.scene.all.len())?;
         match state_before(alloc, self.scene, word, self.call)? {
             Some(state) => reply_on(alloc, self.scene, self.call, &state),
             None => Ok(None),
@@ -89,18 +92,19 @@ fn wrong_by<'a>(
 }
 
 /// Returns why the postcondition of a command is not true in the lexicographically first interleaving in which the rest
-/// of the core is right and it is not, if there is one.
+/// of the core is right and it is not, if there is one. `AllocError` too if `callbacks` have no steps left.
 pub fn wrong_without<'a, C: Callbacks>(
-    callbacks: &C,
+    callbacks: &Bounded<'_, C>,
     alloc: Global,
     scene: &Scene<'a>,
     history: &History,
     core: &[u32],
     call: &Call<'_>,
 ) -> Result<Option<WrongAnswer<'a>>, AllocError>
-    requires model { scene.now.model.now ≡ C.model callbacks.now }
-    requires shaped { scene.now.run.now.shaped.model ≡ C.model callbacks.now }
-    requires matches { matches (C.model callbacks.now) scene.now.run.now.shaped.case history.now ≡ true }
+    requires model { scene.now.model.now ≡ C.model callbacks.now.callbacks.now }
+    requires shaped { scene.now.run.now.shaped.model ≡ C.model callbacks.now.callbacks.now }
+    requires matches { matches (C.model callbacks.now.callbacks.now) scene.now.run.now.shaped.case history.now
+        ≡ true }
     requires answered { first_broken 1 (recorded history.now) ≡ None }
 {
     let number = call.number;
@@ -117,6 +121,7 @@ pub fn wrong_without<'a, C: Callbacks>(
         number,
         &[],
     )?;
+    callbacks.take_calls(scene.all.len())?;
     match merge {
         Some(word) => wrong_by(alloc, scene, call, word),
         None => Ok(None),
@@ -125,23 +130,29 @@ pub fn wrong_without<'a, C: Callbacks>(
 
 /// Returns what the model allows in place of the answer of a command of a core, in the interleavings in which the rest
 /// of the core is right. It evaluates the postcondition by recursion: the deepest valid model takes some tens of MiB of
-/// stack.
+/// stack. `AllocError` too if `callbacks` have no steps left.
 pub fn allowed_answers<C: Callbacks>(
-    callbacks: &C,
+    callbacks: &Bounded<'_, C>,
     alloc: Global,
     scene: &Scene<'_>,
     history: &History,
     core: &[u32],
     call: &Call<'_>,
 ) -> Result<AllowedValues, AllocError>
-    requires model { scene.now.model.now ≡ C.model callbacks.now }
-    requires shaped { scene.now.run.now.shaped.model ≡ C.model callbacks.now }
-    requires matches { matches (C.model callbacks.now) scene.now.run.now.shaped.case history.now ≡ true }
+    requires model { scene.now.model.now ≡ C.model callbacks.now.callbacks.now }
+    requires shaped { scene.now.run.now.shaped.model ≡ C.model callbacks.now.callbacks.now }
+    requires matches { matches (C.model callbacks.now.callbacks.now) scene.now.run.now.shaped.case history.now
+        ≡ true }
     requires answered { first_broken 1 (recorded history.now) ≡ None }
 {
-    let wanted = RequiredReply { scene, call };
+    let wanted = RequiredReply {
+        callbacks,
+        scene,
+        call,
+    };
     let shaped = &scene.run.shaped;
-    allowed(
+    callbacks.set_further_calls(1);
+    let found = allowed(
         callbacks,
         alloc,
         scene.model,
@@ -151,5 +162,7 @@ pub fn allowed_answers<C: Callbacks>(
         call.number,
         &wanted,
         MOST,
-    )
+    )?;
+    callbacks.set_further_calls(0);
+    Ok(found)
 }

@@ -129,6 +129,13 @@ fn answer_row(
     Ok(row)
 }
 
+/// What an explanation says in place of a core, if its search takes too many steps.
+const NO_CORE: &str =
+    "The answers that cannot all be right are left out: their search takes too many steps.";
+
+/// What an explanation says after a core, if the search of its allowed answers takes too many steps.
+const CUT: &str = "Some allowed answers are left out: their search takes too many steps.";
+
 /// The sentence before the commands of a core.
 fn opening_sentence(count: usize) -> &'static str {
     match count {
@@ -139,7 +146,7 @@ fn opening_sentence(count: usize) -> &'static str {
 }
 
 /// Adds a core, and the run with the commands of the core marked.
-pub fn add_core(
+fn add_found_core(
     page: &mut Page,
     alloc: Global,
     scene: &Scene<'_>,
@@ -152,6 +159,9 @@ pub fn add_core(
         table.add_row(answer_row(alloc, scene, answer, line)?)?;
     }
     table.write_or_stack(page, alloc, 4)?;
+    if core.is_cut {
+        page.add_sentence(alloc, 2, CUT.as_bytes())?;
+    }
     if core.answers.is_empty() {
         page.add_sentence(alloc, 2, b"The run:")?;
     } else {
@@ -162,4 +172,21 @@ pub fn add_core(
     }
     let numbers = core.numbers(alloc)?;
     add_parts(page, alloc, scene, numbers.as_slice())
+}
+
+/// Adds a core, and the run with the commands of the core marked. `None` if the search of the core takes too many steps.
+pub fn add_core(
+    page: &mut Page,
+    alloc: Global,
+    scene: &Scene<'_>,
+    core: Option<&Core<'_>>,
+) -> Result<(), AllocError> {
+    match core {
+        Some(core) => add_found_core(page, alloc, scene, core),
+        None => {
+            page.add_sentence(alloc, 2, NO_CORE.as_bytes())?;
+            page.add_sentence(alloc, 2, b"The run:")?;
+            add_parts(page, alloc, scene, &[])
+        }
+    }
 }

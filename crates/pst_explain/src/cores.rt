@@ -6,10 +6,12 @@ ghost use Rattle.pst_judge.specs.Verdict.{first_broken};
 ghost use Rattle.pst_reasons.specs.Reasons.{IsUnexplained};
 
 use crate::allowing::{WrongAnswer, allowed_answers, wrong_without};
+use crate::bounded::Bounded;
 use pst_case::History;
 use pst_eval::Callbacks;
 use pst_reasons::{AllowedValues, core};
 use pst_scene::{Call, CasePart, Scene, call_numbered, operation, wants_one_reply};
+use pst_value::Items;
 use std::alloc::{AllocError, Global};
 
 /// An answer of a core.
@@ -31,6 +33,9 @@ pub struct CoreAnswer<'a> {
 #[derive(Drop)]
 pub struct Core<'a> {
     pub answers: Vec<CoreAnswer<'a>>,
+    /// Whether what the model allows in place of some answers was not searched to the end, because that takes too many
+    /// steps.
+    pub is_cut: bool,
 }
 
 impl<'a> CoreAnswer<'a> {
@@ -74,46 +79,87 @@ fn has_one_reply(alloc: Global, scene: &Scene<'_>, call: &Call<'_>) -> Result<bo
     }
 }
 
-/// The answer of a command of a core.
+/// Searches what the model allows in place of an answer of a core, and why it is wrong if the explanation has to say so.
+/// `AllocError` too if `callbacks` have no steps left.
+fn search_answer<'a, C: Callbacks>(
+    callbacks: &Bounded<'_, C>,
+    alloc: Global,
+    scene: &Scene<'a>,
+    history: &History,
+    core: &[u32],
+    answer: &mut CoreAnswer<'a>,
+) -> Result<(), AllocError>
+    requires model { scene.now.model.now ≡ C.model callbacks.now.callbacks.now }
+    requires shaped { scene.now.run.now.shaped.model ≡ C.model callbacks.now.callbacks.now }
+    requires matches { matches (C.model callbacks.now.callbacks.now) scene.now.run.now.shaped.case history.now
+        ≡ true }
+    requires answered { first_broken 1 (recorded history.now) ≡ None }
+{
+    let call = answer.call;
+    let allowed = allowed_answers(callbacks, alloc, scene, history, core, &call)?;
+    answer.allowed = allowed;
+    if answer.asks_why() {
+        let wrong = wrong_without(callbacks, alloc, scene, history, core, &call)?;
+        answer.wrong = wrong;
+    }
+    Ok(())
+}
+
+/// Returns the answer of a command of a core, of which nothing is known yet.
+fn unknown_answer<'a>(
+    alloc: Global,
+    scene: &Scene<'a>,
+    call: Call<'a>,
+) -> Result<CoreAnswer<'a>, AllocError> {
+    Ok(CoreAnswer {
+        call,
+        allowed: AllowedValues {
+            values: Items::new(alloc),
+            all: false,
+        },
+        has_one_reply: has_one_reply(alloc, scene, &call)?,
+        wrong: None,
+    })
+}
+
+/// Returns the answer of a command of a core. If `callbacks` have no steps left, what the model allows is unknown.
 fn answer_of<'a, C: Callbacks>(
-    callbacks: &C,
+    callbacks: &Bounded<'_, C>,
     alloc: Global,
     scene: &Scene<'a>,
     history: &History,
     core: &[u32],
     call: Call<'a>,
 ) -> Result<CoreAnswer<'a>, AllocError>
-    requires model { scene.now.model.now ≡ C.model callbacks.now }
-    requires shaped { scene.now.run.now.shaped.model ≡ C.model callbacks.now }
-    requires matches { matches (C.model callbacks.now) scene.now.run.now.shaped.case history.now ≡ true }
+    requires model { scene.now.model.now ≡ C.model callbacks.now.callbacks.now }
+    requires shaped { scene.now.run.now.shaped.model ≡ C.model callbacks.now.callbacks.now }
+    requires matches { matches (C.model callbacks.now.callbacks.now) scene.now.run.now.shaped.case history.now
+        ≡ true }
     requires answered { first_broken 1 (recorded history.now) ≡ None }
 {
-    let allowed = allowed_answers(callbacks, alloc, scene, history, core, &call)?;
-    let mut answer = CoreAnswer {
-        call,
-        allowed,
-        has_one_reply: has_one_reply(alloc, scene, &call)?,
-        wrong: None,
-    };
-    if answer.asks_why() {
-        let wrong = wrong_without(callbacks, alloc, scene, history, core, &call)?;
-        answer.wrong = wrong;
+    let mut answer = unknown_answer(alloc, scene, call)?;
+    if !callbacks.has_run_out() {
+        let searched = search_answer(callbacks, alloc, scene, history, core, &mut answer);
+        let _found = callbacks.if_within(searched)?;
     }
     Ok(answer)
 }
 
-/// A core of the item, with what the model allows in place of each answer.
+/// Returns a core of the item, with what the model allows in place of each answer as far as the steps of `callbacks` last.
+/// `AllocError` too if they do not last for the core.
 pub fn find_core<'a, C: Callbacks>(
-    callbacks: &C,
+    callbacks: &Bounded<'_, C>,
     alloc: Global,
     scene: &Scene<'a>,
     history: &History,
 ) -> Result<Core<'a>, AllocError>
-    requires model { scene.now.model.now ≡ C.model callbacks.now }
-    requires shaped { scene.now.run.now.shaped.model ≡ C.model callbacks.now }
-    requires matches { matches (C.model callbacks.now) scene.now.run.now.shaped.case history.now ≡ true }
+    requires model { scene.now.model.now ≡ C.model callbacks.now.callbacks.now }
+    requires shaped { scene.now.run.now.shaped.model ≡ C.model callbacks.now.callbacks.now }
+    requires matches { matches (C.model callbacks.now.callbacks.now) scene.now.run.now.shaped.case history.now
+        ≡ true }
     requires answered { first_broken 1 (recorded history.now) ≡ None }
-    requires unexplained { IsUnexplained (C.model callbacks.now) scene.now.run.now.shaped.case history.now }
+    requires unexplained { IsUnexplained (C.model callbacks.now.callbacks.now) scene.now.run.now.shaped.case
+        history.now }
 {
     let numbers = core(callbacks, alloc, &scene.run.shaped, history)?;
     let numbers = numbers.as_slice();
@@ -123,5 +169,8 @@ pub fn find_core<'a, C: Callbacks>(
             answers.push(answer_of(callbacks, alloc, scene, history, numbers, call)?)?;
         }
     }
-    Ok(Core { answers })
+    Ok(Core {
+        answers,
+        is_cut: callbacks.has_run_out(),
+    })
 }

@@ -1,13 +1,16 @@
 //! The explanation of an item.
-ghost use Rattle.std.specs.Prelude.{◌≡◌, true};
+ghost use Rattle.std.specs.Prelude.{◌≡◌, true, None};
 ghost use Rattle.pst_case.specs.Matches.{matches};
+ghost use Rattle.pst_case.specs.Recorded.{recorded};
 ghost use Rattle.pst_judge.specs.Judgement.{HistoryMatches, IsJudgement};
-ghost use Rattle.pst_judge.specs.Verdict.{IsVerdict};
+ghost use Rattle.pst_judge.specs.Verdict.{IsVerdict, first_broken};
 ghost use Rattle.pst_judge.specs.declared.verdicts.Verdict.TheVariants as verdict;
+ghost use Rattle.pst_reasons.specs.Reasons.{IsUnexplained};
 
+use crate::bounded::Bounded;
 use crate::breaking::{BrokenReply, broken_reply};
 use crate::cores::{Core, find_core};
-use crate::failures::{Failure, failure_at, failure_in};
+use crate::failures::{Failure, failure_anywhere, failure_at, failure_in};
 use crate::places::TreePlace;
 use crate::walks::{Walk, explaining_walk, furthest_walk};
 use pst_case::{History, Run};
@@ -16,6 +19,9 @@ use pst_judge::{Judged, Verdict, Why, verdict_with_interleaving};
 use pst_model::Typed;
 use pst_scene::{CasePart, Scene, call_numbered, scene_of};
 use std::alloc::{AllocError, Global};
+
+/// The steps that the searches for the explanation of an item may take, as `Bounded` counts them.
+pub const MOST_STEPS: u64 = 5_000_000;
 
 /// The reason of the judgement of an item.
 #[derive(Drop)]
@@ -26,14 +32,16 @@ pub enum Reason<'a> {
     Unexplained {
         /// How many commands are right before a wrong one, in the interleaving that gets furthest.
         far: usize,
-        core: Core<'a>,
-        /// The interleaving that gets furthest.
-        furthest: Walk<'a>,
+        /// `None` if its search takes too many steps.
+        core: Option<Core<'a>>,
+        /// The interleaving that gets furthest; `None` if its search takes too many steps.
+        furthest: Option<Walk<'a>>,
     },
     /// No interleaving explains it, and a callback faults in one.
     Faulted {
         failure: Failure<'a>,
-        core: Core<'a>,
+        /// `None` if its search takes too many steps.
+        core: Option<Core<'a>>,
     },
     /// A reply is not a value.
     Broken(BrokenReply<'a>),
@@ -44,11 +52,22 @@ pub enum Reason<'a> {
 }
 
 impl<'a> Reason<'a> {
-    /// The answers that cannot all be right, if no interleaving explains the item.
+    /// The answers that cannot all be right, if no interleaving explains the item and they are known.
     pub fn core(&self) -> Option<&Core<'a>> {
         match self {
-            Reason::Unexplained { core, .. } | Reason::Faulted { core, .. } => Some(core),
+            Reason::Unexplained { core, .. } | Reason::Faulted { core, .. } => core.as_ref(),
             _ => None,
+        }
+    }
+
+    /// Whether a part of the explanation is left out, because its search takes too many steps.
+    pub fn is_cut(&self) -> bool {
+        match self {
+            Reason::Unexplained { core, .. } | Reason::Faulted { core, .. } => match core {
+                Some(core) => core.is_cut || self.walk().is_none(),
+                None => true,
+            },
+            _ => false,
         }
     }
 
@@ -60,12 +79,12 @@ impl<'a> Reason<'a> {
         }
     }
 
-    /// The interleaving of the verdict, if there is one.
+    /// The interleaving of the verdict, if there is one and it is known.
     pub fn walk(&self) -> Option<&Walk<'a>> {
         match self {
             Reason::Explained(walk) => Some(walk),
-            Reason::Unexplained { furthest, .. } => Some(furthest),
-            Reason::Faulted { failure, .. } | Reason::Invalid(failure) => Some(&failure.walk),
+            Reason::Unexplained { furthest, .. } => furthest.as_ref(),
+            Reason::Faulted { failure, .. } | Reason::Invalid(failure) => failure.walk.as_ref(),
             _ => None,
         }
     }
@@ -84,18 +103,41 @@ pub struct Explanation<'a> {
     pub reason: Reason<'a>,
 }
 
-/// Returns the first fault of an item that no interleaving explains, and a core.
-fn fault_reason<'a, C: Callbacks>(
-    callbacks: &C,
+/// Returns a core, unless the steps of `callbacks` do not last for it.
+fn core_within<'a, C: Callbacks>(
+    callbacks: &Bounded<'_, C>,
+    alloc: Global,
+    scene: &Scene<'a>,
+    history: &History,
+) -> Result<Option<Core<'a>>, AllocError>
+    requires model { scene.now.model.now ≡ C.model callbacks.now.callbacks.now }
+    requires shaped { scene.now.run.now.shaped.model ≡ C.model callbacks.now.callbacks.now }
+    requires matches { matches (C.model callbacks.now.callbacks.now) scene.now.run.now.shaped.case history.now
+        ≡ true }
+    requires answered { first_broken 1 (recorded history.now) ≡ None }
+    requires unexplained { IsUnexplained (C.model callbacks.now.callbacks.now) scene.now.run.now.shaped.case
+        history.now }
+{
+    if callbacks.has_run_out() {
+        return Ok(None);
+    }
+    callbacks.if_within(find_core(callbacks, alloc, scene, history))
+}
+
+/// Returns the fault at `place` in the lexicographically first interleaving that has it. `AllocError` too if
+/// `callbacks` have no steps left.
+fn first_fault<'a, C: Callbacks>(
+    callbacks: &Bounded<'_, C>,
     alloc: Global,
     scene: &Scene<'a>,
     history: &History,
     place: FaultPlace,
-) -> Result<Reason<'a>, AllocError>
-    requires model { scene.now.model.now ≡ C.model callbacks.now }
-    requires shaped { scene.now.run.now.shaped.model ≡ C.model callbacks.now }
-    requires matches { matches (C.model callbacks.now) scene.now.run.now.shaped.case history.now ≡ true }
-    requires verdict { IsVerdict (C.model callbacks.now) scene.now.run.now.shaped.case history.now
+) -> Result<Failure<'a>, AllocError>
+    requires model { scene.now.model.now ≡ C.model callbacks.now.callbacks.now }
+    requires shaped { scene.now.run.now.shaped.model ≡ C.model callbacks.now.callbacks.now }
+    requires matches { matches (C.model callbacks.now.callbacks.now) scene.now.run.now.shaped.case history.now
+        ≡ true }
+    requires verdict { IsVerdict (C.model callbacks.now.callbacks.now) scene.now.run.now.shaped.case history.now
         (verdict.Faulted place) }
 {
     let (_, mut word) = verdict_with_interleaving(callbacks, alloc, &scene.run.shaped, history)?;
@@ -104,27 +146,50 @@ fn fault_reason<'a, C: Callbacks>(
             word.push(branch)?;
         }
     }
-    let failure = failure_in(alloc, scene, word.as_slice(), place)?;
-    let core = find_core(callbacks, alloc, scene, history)?;
+    failure_in(alloc, scene, word.as_slice(), place)
+}
+
+/// Returns the first fault of an item that no interleaving explains, and a core.
+fn fault_reason<'a, C: Callbacks>(
+    callbacks: &Bounded<'_, C>,
+    alloc: Global,
+    scene: &Scene<'a>,
+    history: &History,
+    place: FaultPlace,
+) -> Result<Reason<'a>, AllocError>
+    requires model { scene.now.model.now ≡ C.model callbacks.now.callbacks.now }
+    requires shaped { scene.now.run.now.shaped.model ≡ C.model callbacks.now.callbacks.now }
+    requires matches { matches (C.model callbacks.now.callbacks.now) scene.now.run.now.shaped.case history.now
+        ≡ true }
+    requires verdict { IsVerdict (C.model callbacks.now.callbacks.now) scene.now.run.now.shaped.case history.now
+        (verdict.Faulted place) }
+{
+    let found = first_fault(callbacks, alloc, scene, history, place);
+    let failure = match callbacks.if_within(found)? {
+        Some(failure) => failure,
+        None => failure_anywhere(alloc, scene, place)?,
+    };
+    let core = core_within(callbacks, alloc, scene, history)?;
     Ok(Reason::Faulted { failure, core })
 }
 
 /// Returns a core of an item that no interleaving explains, and the interleaving that gets furthest.
 fn unexplained_reason<'a, C: Callbacks>(
-    callbacks: &C,
+    callbacks: &Bounded<'_, C>,
     alloc: Global,
     scene: &Scene<'a>,
     history: &History,
     far: usize,
 ) -> Result<Reason<'a>, AllocError>
-    requires model { scene.now.model.now ≡ C.model callbacks.now }
-    requires shaped { scene.now.run.now.shaped.model ≡ C.model callbacks.now }
-    requires matches { matches (C.model callbacks.now) scene.now.run.now.shaped.case history.now ≡ true }
-    requires verdict { IsVerdict (C.model callbacks.now) scene.now.run.now.shaped.case history.now
+    requires model { scene.now.model.now ≡ C.model callbacks.now.callbacks.now }
+    requires shaped { scene.now.run.now.shaped.model ≡ C.model callbacks.now.callbacks.now }
+    requires matches { matches (C.model callbacks.now.callbacks.now) scene.now.run.now.shaped.case history.now
+        ≡ true }
+    requires verdict { IsVerdict (C.model callbacks.now.callbacks.now) scene.now.run.now.shaped.case history.now
         (verdict.Unexplained far) }
 {
-    let core = find_core(callbacks, alloc, scene, history)?;
-    let furthest = furthest_walk(callbacks, alloc, scene, history, far)?;
+    let furthest = callbacks.if_within(furthest_walk(callbacks, alloc, scene, history, far))?;
+    let core = core_within(callbacks, alloc, scene, history)?;
     Ok(Reason::Unexplained {
         far,
         core,
@@ -146,13 +211,14 @@ fn verdict_reason<'a, C: Callbacks>(
     requires verdict { IsVerdict (C.model callbacks.now) scene.now.run.now.shaped.case history.now
         verdict.now }
 {
+    let bounded = Bounded::new(callbacks, MOST_STEPS);
     match verdict {
         Verdict::Explained(word) => {
             let walk = explaining_walk(callbacks, alloc, scene, history, word.as_slice())?;
             Ok(Reason::Explained(walk))
         }
-        Verdict::Faulted(place) => fault_reason(callbacks, alloc, scene, history, *place),
-        Verdict::Unexplained(far) => unexplained_reason(callbacks, alloc, scene, history, *far),
+        Verdict::Faulted(place) => fault_reason(&bounded, alloc, scene, history, *place),
+        Verdict::Unexplained(far) => unexplained_reason(&bounded, alloc, scene, history, *far),
         Verdict::Broken(number) => Ok(Reason::Broken(broken_reply(scene, *number))),
     }
 }
@@ -181,7 +247,7 @@ fn invalid_reason<'a>(
 }
 
 /// Explains an item of a model: `judged` is its judgement, `number` its number, and `place` where it begins in the
-/// input.
+/// input. The searches take at most 5,000,000 steps of callbacks together. What they do not find in these is left out.
 pub fn explain_item<'a, C: Callbacks>(
     callbacks: &C,
     alloc: Global,

@@ -11,6 +11,9 @@ use pst_scene::{
 use pst_value::Fault;
 use std::alloc::{AllocError, Global};
 
+/// What an explanation says in place of the states before a failure, if their search takes too many steps.
+const NO_WALK: &str = "The states before it are left out: their search takes too many steps.";
+
 /// Adds an expression, and the names in it with their values.
 fn add_evaluated(
     page: &mut Page,
@@ -87,6 +90,27 @@ fn is_whole(scene: &Scene<'_>, word: &[usize]) -> bool {
     word.len() == count
 }
 
+/// Adds the interleaving in which a callback of a command of a branch faults.
+fn add_where(
+    text: &mut Vec<u8>,
+    scene: &Scene<'_>,
+    failure: &Failure<'_>,
+) -> Result<(), AllocError> {
+    let Some(walk) = &failure.walk else {
+        return add(text, " in some interleaving");
+    };
+    let word = walk.word.as_slice();
+    add(
+        text,
+        if is_whole(scene, word) {
+            " in the interleaving "
+        } else {
+            " in an interleaving that begins with "
+        },
+    )?;
+    add_word(text, word)
+}
+
 /// Returns a sentence that says which callback of a command faults, and in which interleaving.
 fn call_sentence(
     alloc: Global,
@@ -95,7 +119,6 @@ fn call_sentence(
     call: &Call<'_>,
     fault: Fault,
 ) -> Result<Vec<u8>, AllocError> {
-    let word = failure.walk.word.as_slice();
     let mut text = text_of(alloc, "The callback ")?;
     add(&mut text, failure.callback.name())?;
     add(&mut text, " of ")?;
@@ -103,15 +126,7 @@ fn call_sentence(
     add(&mut text, " faults with ")?;
     add(&mut text, fault.name())?;
     if call.part != CasePart::Prefix {
-        add(
-            &mut text,
-            if is_whole(scene, word) {
-                " in the interleaving "
-            } else {
-                " in an interleaving that begins with "
-            },
-        )?;
-        add_word(&mut text, word)?;
+        add_where(&mut text, scene, failure)?;
     }
     add(&mut text, ":")?;
     Ok(text)
@@ -138,7 +153,9 @@ fn false_sentence(
     failure: &Failure<'_>,
 ) -> Result<Vec<u8>, AllocError> {
     let mut text = text_of(alloc, "In the interleaving ")?;
-    add_word(&mut text, failure.walk.word.as_slice())?;
+    if let Some(walk) = &failure.walk {
+        add_word(&mut text, walk.word.as_slice())?;
+    }
     add(&mut text, " the precondition of ")?;
     if let Some(call) = &failure.call {
         let command = call.text(alloc, model)?;
@@ -176,6 +193,9 @@ pub fn add_failure(
     if failure.callback == Callback::Init {
         return Ok(());
     }
+    let Some(walk) = &failure.walk else {
+        return page.add_sentence(alloc, 2, NO_WALK.as_bytes());
+    };
     page.add_sentence(alloc, 2, b"The states before it:")?;
-    add_states(page, alloc, scene.model, &failure.walk)
+    add_states(page, alloc, scene.model, walk)
 }

@@ -44,8 +44,8 @@ pub struct Failure<'a> {
     pub fault: Option<Fault>,
     /// Its expression. `None` if the model has none, or there is no state before the command.
     pub expression: Option<Expression<'a>>,
-    /// The interleaving up to there.
-    pub walk: Walk<'a>,
+    /// The interleaving up to there; `None` if its search takes too many steps.
+    pub walk: Option<Walk<'a>>,
 }
 
 /// Returns the value of `name`, the inner one if it has several.
@@ -191,7 +191,7 @@ pub fn failure_at<'a>(
         call: Some(call),
         fault,
         expression,
-        walk,
+        walk: Some(walk),
     })
 }
 
@@ -211,7 +211,44 @@ pub fn failure_in<'a>(
         call: None,
         fault,
         expression: init_expression(alloc, scene)?,
-        walk: empty_walk(alloc, word)?,
+        walk: Some(empty_walk(alloc, word)?),
+    })
+}
+
+/// Returns the expression of a callback of a command, without any value.
+fn bare_expression<'a>(
+    alloc: Global,
+    scene: &Scene<'a>,
+    callback: Callback,
+    call: &Call<'_>,
+) -> Option<Expression<'a>> {
+    let operation = operation(scene, call)?;
+    let expr = match callback {
+        Callback::Init | Callback::Command => return None,
+        Callback::Pre => &operation.pre,
+        Callback::Next => &operation.next,
+        Callback::Post => &operation.post,
+    };
+    let names = Vec::new(alloc);
+    let whole = Evaluated { expr, names };
+    Some(Expression { whole, part: None })
+}
+
+/// Returns the failure at `place` in an interleaving that is not known.
+pub fn failure_anywhere<'a>(
+    alloc: Global,
+    scene: &Scene<'a>,
+    place: FaultPlace,
+) -> Result<Failure<'a>, AllocError> {
+    let Some(call) = call_numbered(scene.all.as_slice(), place.command) else {
+        return failure_in(alloc, scene, &[], place);
+    };
+    Ok(Failure {
+        callback: place.callback,
+        call: Some(call),
+        fault: Some(place.fault),
+        expression: bare_expression(alloc, scene, place.callback, &call),
+        walk: None,
     })
 }
 
@@ -233,6 +270,6 @@ pub fn script_failure<'a>(
         call: None,
         fault: Some(fault),
         expression,
-        walk: walk_along(alloc, scene, &[], calls, states)?,
+        walk: Some(walk_along(alloc, scene, &[], calls, states)?),
     })
 }

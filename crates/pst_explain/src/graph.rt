@@ -2,7 +2,9 @@
 ghost use Rattle.std.specs.Prelude.{◌≡◌};
 ghost use Rattle.pst_judge.specs.Judgement.{HistoryMatches, IsJudgement};
 
+use crate::bounded::Bounded;
 use crate::drawing::graph_text;
+use crate::explanation::MOST_STEPS;
 use crate::path::shown_calls;
 use crate::search::{search_of, shown_path};
 use pst_case::Run;
@@ -15,6 +17,19 @@ use std::alloc::{AllocError, Global};
 /// The addition to the title if the graph shows only the interleaving of the verdict.
 const PATH_ALONE: &str = "\nthe interleaving and its dead ends; --all draws the whole search";
 
+/// The addition to the title if the interleaving of the verdict is not known.
+const NO_PATH: &str =
+    "\nthe interleaving of the verdict is left out: its search takes too many steps";
+
+/// The addition to the title. `is_path`: the graph shows only the interleaving of the verdict. `is_shown`: this
+/// interleaving is known.
+fn addition(is_path: bool, is_shown: bool) -> &'static str {
+    if is_path {
+        return PATH_ALONE;
+    }
+    if is_shown { "" } else { NO_PATH }
+}
+
 /// Whether an interleaving explains the run.
 fn is_explained(judged: &Judged) -> bool {
     matches!(judged, Judged::Verdict(Verdict::Explained(_)))
@@ -26,7 +41,8 @@ fn is_explained(judged: &Judged) -> bool {
 /// equally many commands are side by side. An edge is a command with its answer. A command that cannot come next leads,
 /// in red, to a dead end with the reason. The edges of the interleaving of the verdict are bold. For an explained run,
 /// draws only these and the dead ends beside them, unless `all` is true. The search expands the first 300 positions,
-/// and all along the bold edges; positions that it leaves are dashed, and the title says so.
+/// and all along the bold edges; positions that it leaves are dashed, and the title says so. If the search for the
+/// interleaving takes more than 5,000,000 steps of callbacks, no edge is bold, and the title says so.
 pub fn graph_item<C: Callbacks>(
     callbacks: &C,
     alloc: Global,
@@ -41,7 +57,10 @@ pub fn graph_item<C: Callbacks>(
     requires judged { IsJudgement (C.model callbacks.now) run.now judged.now }
 {
     let scene = scene_of(alloc, typed, run)?;
-    let shown = shown_calls(callbacks, alloc, &scene, judged)?;
+    let bounded = Bounded::new(callbacks, MOST_STEPS);
+    let shown = bounded.if_within(shown_calls(&bounded, alloc, &scene, judged))?;
+    let is_shown = shown.is_some();
+    let shown = shown.unwrap_or(Vec::new(alloc));
     let is_path = is_explained(judged) && !all;
     let search = if is_path {
         shown_path(alloc, &scene, shown.as_slice())?
@@ -50,7 +69,7 @@ pub fn graph_item<C: Callbacks>(
     };
     let verdict = judged.text(alloc)?;
     let verdict = verdict.as_str();
-    let rest = if is_path { PATH_ALONE } else { "" };
+    let rest = addition(is_path, is_shown);
     let title = format!(in alloc; "{number} {verdict}{rest}")?;
     graph_text(alloc, &scene, &search, title.as_str())
 }

@@ -10,6 +10,7 @@
 #![tactic(auto)]
 
 mod allowing;
+mod bounded;
 mod breaking;
 mod core_text;
 mod cores;
@@ -31,6 +32,7 @@ mod walk_text;
 mod walks;
 
 pub use allowing::WrongAnswer;
+pub use bounded::Bounded;
 pub use breaking::{BrokenReply, broken_text};
 pub use cores::{Core, CoreAnswer};
 pub use explanation::{Explanation, Reason, explain_item};

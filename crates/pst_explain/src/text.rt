@@ -73,14 +73,21 @@ fn far_sentence(alloc: Global, far: usize, word: &[usize]) -> Result<Vec<u8>, Al
     Ok(text)
 }
 
-/// Adds the interleaving that gets furthest, and why no command can come next.
+/// What an explanation says in place of the interleaving that gets furthest, if its search takes too many steps.
+const NO_FURTHEST: &str =
+    "The interleaving that gets furthest is left out: its search takes too many steps.";
+
+/// Adds the interleaving that gets furthest, and why no command can come next. `None` if its search takes too many steps.
 fn add_furthest(
     page: &mut Page,
     alloc: Global,
     model: &Source,
     far: usize,
-    walk: &Walk<'_>,
+    walk: Option<&Walk<'_>>,
 ) -> Result<(), AllocError> {
+    let Some(walk) = walk else {
+        return page.add_sentence(alloc, 2, NO_FURTHEST.as_bytes());
+    };
     let sentence = far_sentence(alloc, far, walk.word.as_slice())?;
     page.add_sentence(alloc, 2, sentence.as_slice())?;
     add_states(page, alloc, model, walk)?;
@@ -116,12 +123,12 @@ fn add_reason(
             core,
             furthest,
         } => {
-            add_core(page, alloc, scene, core)?;
-            add_furthest(page, alloc, scene.model, *far, furthest)
+            add_core(page, alloc, scene, core.as_ref())?;
+            add_furthest(page, alloc, scene.model, *far, furthest.as_ref())
         }
         Reason::Faulted { failure, core } => {
             add_failure(page, alloc, scene, failure)?;
-            add_core(page, alloc, scene, core)
+            add_core(page, alloc, scene, core.as_ref())
         }
         Reason::Broken(broken) => add_broken(page, alloc, scene, broken),
         Reason::Invalid(failure) => add_failure(page, alloc, scene, failure),

@@ -56,6 +56,27 @@ fn put_head(
     put_calls(writer, alloc, &explanation.scene)
 }
 
+/// Writes the member `left_out`: the members that are not whole, because their search takes too many steps.
+fn put_left_out(writer: &mut Writer<Global>, reason: &Reason<'_>) -> Result<(), AllocError> {
+    if !reason.is_cut() {
+        return Ok(());
+    }
+    writer.key("left_out")?;
+    writer.begin_array()?;
+    match reason.core() {
+        Some(core) => {
+            if core.is_cut {
+                writer.string("allowed")?;
+            }
+        }
+        None => writer.string("core")?,
+    }
+    if reason.walk().is_none() {
+        writer.string("walk")?;
+    }
+    writer.end_array()
+}
+
 /// Writes the reason of the judgement.
 fn put_reason(
     writer: &mut Writer<Global>,
@@ -76,7 +97,7 @@ fn put_reason(
     if let Reason::Broken(broken) = reason {
         put_broken(writer, alloc, broken)?;
     }
-    Ok(())
+    put_left_out(writer, reason)
 }
 
 /// Returns the explanation of an item as a JSON object, without a line end. `trial` is the number of its trial, if it is a

@@ -1,0 +1,207 @@
+//! The callbacks of a model with a limit on their steps.
+ghost use Rattle.std.specs.Prelude.{◌≡◌};
+
+use pst_eval::Callbacks;
+use pst_value::{Fault, Value};
+use std::alloc::{AllocError, Global};
+use std::cell::Cell;
+
+/// The result of a callback: a value and the turns left, or a fault.
+type Answer = Result<Result<(Value, u32), Fault>, AllocError>;
+
+/// The turns that a callback starts with.
+const MAX_TURNS: u32 = 1_000_000;
+
+/// A call takes one more step for each group of this number of values in the state.
+const VALUES_IN_A_STEP: u64 = 16;
+
+/// Callbacks with a limit on their steps. A call of a callback takes one step, one more for each of its turns, and one
+/// more for every 16 values in the last state. If no steps are left, a call returns `AllocError`, which ends what calls
+/// it, and `has_run_out` is true from then on.
+#[derive(Drop)]
+pub struct Bounded<'a, C> {
+    callbacks: &'a C,
+    steps_left: Cell<u64>,
+    /// The steps that each call takes for the size of the last state.
+    steps_of_state: Cell<u64>,
+    /// The most steps of a call so far.
+    most_of_a_call: Cell<u64>,
+    /// How many times `most_of_a_call` a call of `next` takes on top.
+    further_calls: Cell<u64>,
+    has_run_out: Cell<bool>,
+}
+
+/// The steps of a call that ended. Of the faults, only `Turns` says how many turns were taken.
+fn steps_of(ended: &Result<(Value, u32), Fault>) -> u64 {
+    let turns = match ended {
+        Ok((_, left)) => MAX_TURNS.saturating_sub(*left),
+        Err(Fault::Turns) => MAX_TURNS,
+        Err(_) => 0,
+    };
+    u64::from(turns).saturating_add(1)
+}
+
+/// How many values are in a value, itself among them. Eight bytes of a text count as one, and keys do not count.
+#[cycle(size)]
+fn size_of(value: &Value) -> u64 {
+    let inner = match value {
+        Value::Tuple(parts) => sum_of_sizes(parts.as_slice()),
+        Value::List(parts) => sum_of_sizes(parts.as_slice()),
+        Value::Map(_, values) => sum_of_sizes(values.get().as_slice()),
+        Value::Ref(_, value) => size_of(value.get()),
+        Value::Text(text) => (text.as_bytes().len() / 8) as u64,
+        _ => 0,
+    };
+    inner.saturating_add(1)
+}
+
+/// How many values are in `values`, themselves among them.
+#[cycle(size)]
+fn sum_of_sizes(values: &[Value]) -> u64 {
+    let mut sum: u64 = 0;
+    for value in values {
+        sum = sum.saturating_add(size_of(value));
+    }
+    sum
+}
+
+impl<'a, C: Callbacks> Bounded<'a, C> {
+    /// The callbacks `callbacks`, which may take `steps` steps.
+    pub fn new(callbacks: &'a C, steps: u64) -> Bounded<'a, C>
+        ensures { result.callbacks.now ≡ callbacks.now }
+    {
+        Bounded {
+            callbacks,
+            steps_left: Cell::new(steps),
+            steps_of_state: Cell::new(0),
+            most_of_a_call: Cell::new(0),
+            further_calls: Cell::new(0),
+            has_run_out: Cell::new(false),
+        }
+    }
+
+    /// How many steps are left.
+    pub fn steps_left(&self) -> u64 {
+        self.steps_left.get()
+    }
+
+    /// Whether a call had no steps left.
+    pub fn has_run_out(&self) -> bool {
+        self.has_run_out.get()
+    }
+
+    /// Begins a call. Returns `AllocError` if no steps are left.
+    pub fn begin(&self) -> Result<(), AllocError> {
+        if self.steps_left.get() == 0 {
+            self.has_run_out.set(true);
+            return Err(AllocError);
+        }
+        Ok(())
+    }
+
+    /// Takes `steps` steps, or those that are left.
+    fn take(&self, steps: u64) {
+        let left = self.steps_left.get();
+        self.steps_left.set(left.saturating_sub(steps));
+    }
+
+    /// Takes the steps of `calls` callbacks that something else evaluates: for each the most of a call so far. Returns
+    /// `AllocError` if no steps are left.
+    pub fn take_calls(&self, calls: usize) -> Result<(), AllocError> {
+        self.begin()?;
+        let steps = self.most_of_a_call.get().saturating_mul(calls as u64);
+        self.take(steps);
+        Ok(())
+    }
+
+    /// From now on a call of `next` takes the steps of `calls` further callbacks, which something else evaluates.
+    pub fn set_further_calls(&self, calls: u64) {
+        self.further_calls.set(calls);
+    }
+
+    /// Takes the steps of a call that ended.
+    fn end(&self, ended: &Result<(Value, u32), Fault>) {
+        let steps = steps_of(ended).saturating_add(self.steps_of_state.get());
+        if steps > self.most_of_a_call.get() {
+            self.most_of_a_call.set(steps);
+        }
+        self.take(steps);
+    }
+
+    /// Takes the steps of a call that ended, and whose value, if it does not fault, is a state.
+    fn end_with_state(&self, ended: &Result<(Value, u32), Fault>) {
+        if let Ok((state, _)) = ended {
+            self.steps_of_state.set(size_of(state) / VALUES_IN_A_STEP);
+        }
+        self.end(ended);
+        let further = self.further_calls.get();
+        self.take(further.saturating_mul(self.most_of_a_call.get()));
+    }
+
+    /// The result of a search on these callbacks, or `None` if the search ended because no steps were left.
+    pub fn if_within<T>(&self, found: Result<T, AllocError>) -> Result<Option<T>, AllocError> {
+        match found {
+            Ok(found) => Ok(Some(found)),
+            Err(AllocError) => {
+                if self.has_run_out() {
+                    Ok(None)
+                } else {
+                    Err(AllocError)
+                }
+            }
+        }
+    }
+}
+
+impl<'a, C: Callbacks> Callbacks for Bounded<'a, C> {
+    ghost model = { λ b. C.model b.callbacks.now };
+
+    fn init(&self, alloc: Global) -> Answer {
+        self.begin()?;
+        let answer = self.callbacks.init(alloc)?;
+        self.end_with_state(&answer);
+        Ok(answer)
+    }
+
+    fn command(&self, alloc: Global, state: &Value) -> Answer {
+        self.begin()?;
+        let answer = self.callbacks.command(alloc, state)?;
+        self.end(&answer);
+        Ok(answer)
+    }
+
+    fn pre(&self, alloc: Global, op: u32, state: &Value, arguments: &[Value]) -> Answer {
+        self.begin()?;
+        let answer = self.callbacks.pre(alloc, op, state, arguments)?;
+        self.end(&answer);
+        Ok(answer)
+    }
+
+    fn next(
+        &self,
+        alloc: Global,
+        op: u32,
+        state: &Value,
+        arguments: &[Value],
+        r: &Value,
+    ) -> Answer {
+        self.begin()?;
+        let answer = self.callbacks.next(alloc, op, state, arguments, r)?;
+        self.end_with_state(&answer);
+        Ok(answer)
+    }
+
+    fn post(
+        &self,
+        alloc: Global,
+        op: u32,
+        state: &Value,
+        arguments: &[Value],
+        r: &Value,
+    ) -> Answer {
+        self.begin()?;
+        let answer = self.callbacks.post(alloc, op, state, arguments, r)?;
+        self.end(&answer);
+        Ok(answer)
+    }
+}
