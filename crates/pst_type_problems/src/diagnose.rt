@@ -1,7 +1,7 @@
 //! What is wrong with the part of an expression that is to blame, by the types of its parts.
 
 use crate::applied::{application_problem, call_problem};
-use crate::lists::{of_fold, of_for, of_list, place_in_list};
+use crate::lists::{fold_problem, for_problem, list_problem, nth_problem};
 use crate::operands::{ill_first, wanted_map, wanted_sequence, wanted_tuple, wanted_type};
 use crate::spelling::spelled;
 use crate::trees::head_word;

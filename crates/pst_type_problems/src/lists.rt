@@ -12,7 +12,7 @@ use pst_value::Ty;
 use std::alloc::AllocError;
 
 /// The problem of an `nth`, if it has one.
-pub fn place_in_list(leaf: &BlamedPart<'_>, list: &Kind, place: &Kind) -> FoundProblem {
+pub fn nth_problem(leaf: &BlamedPart<'_>, list: &Kind, place: &Kind) -> FoundProblem {
     match (list.form(leaf.alloc)?, place.form(leaf.alloc)?) {
         (KindForm::List(_), _) => {
             let int = Kind::of(leaf.alloc, &Ty::Int)?;
@@ -38,7 +38,7 @@ fn ill_item(leaf: &BlamedPart<'_>, part: usize, wanted: &Ty, found: &Kind) -> Fo
 }
 
 /// The problem of the first item of a list that has another type, if there is one.
-pub fn of_list(leaf: &BlamedPart<'_>) -> FoundProblem {
+pub fn list_problem(leaf: &BlamedPart<'_>) -> FoundProblem {
     let Expr::List(wanted, _) = leaf.expr else {
         return Ok(None);
     };
@@ -73,7 +73,7 @@ fn ill_clause(leaf: &BlamedPart<'_>, clause: &Form, place: usize, found: &Kind) 
 }
 
 /// The problem of the first clause of a comprehension that has another type, if there is one.
-pub fn of_for(leaf: &BlamedPart<'_>) -> FoundProblem {
+pub fn for_problem(leaf: &BlamedPart<'_>) -> FoundProblem {
     for (place, clause) in clauses_of(leaf.form).iter().enumerate() {
         let Some(found) = leaf.kinds.get(place) else {
             return Ok(None);
@@ -86,7 +86,7 @@ pub fn of_for(leaf: &BlamedPart<'_>) -> FoundProblem {
 }
 
 /// The problem of a fold over no list, or with a body of another type than its first value.
-pub fn of_fold(leaf: &BlamedPart<'_>) -> FoundProblem {
+pub fn fold_problem(leaf: &BlamedPart<'_>) -> FoundProblem {
     match leaf.kinds {
         [_, first, body] => wanted_type(
             leaf,
