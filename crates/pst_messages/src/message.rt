@@ -9,7 +9,7 @@ use pst_sexpr::{Tree, read};
 use pst_sources::{
     Input, Notice, Notices, SourceFile, Span, first_item, span_in, span_of, text_of, tree_at,
 };
-use pst_syntax::{SyntaxFault, read_model};
+use pst_syntax::read_model;
 use pst_type_problems::type_problems;
 use pst_typing::{ModelFile, Refusal, items_of, load};
 use std::alloc::{AllocError, Global};
@@ -93,9 +93,8 @@ fn of_form(
     alloc: Global,
     input: &Input<'_>,
     trees: &[Tree],
-    fault: SyntaxFault,
 ) -> Result<Vec<Problem>, AllocError> {
-    let problems = form_problems(alloc, trees, fault)?;
+    let problems = form_problems(alloc, trees)?;
     let Some(name) = file_of_model(input) else {
         return Ok(problems);
     };
@@ -117,7 +116,7 @@ fn of_model(
         return Ok(Vec::new(alloc));
     };
     match refusal {
-        Refusal::NoModel(fault) => of_form(alloc, input, trees.as_slice(), *fault),
+        Refusal::NoModel(_) => of_form(alloc, input, trees.as_slice()),
         Refusal::IllTyped(number) => match (read_model(alloc, trees.as_slice()), trees.first()) {
             (Ok(model), Some(tree)) => type_problems(alloc, model.source(), tree.form(), *number),
             _ => Ok(Vec::new(alloc)),

@@ -1,17 +1,17 @@
-//! Trees as expressions.
+//! What messages say of refused expressions.
 
-use crate::forms::{HeadedForm, expression, in_place_of, is_head, nearest_head, type_form};
+use crate::forms::{HeadedForm, expression, in_place_of, nearest_head, type_form};
 use crate::found_problem::{
-    FoundProblem, foreign, is_name, noted, noted_at, with_quotes_hint, wrong, wrong_at,
+    FoundProblem, foreign, no_name, no_operation, noted, noted_at, with_quotes_hint, wrong,
+    wrong_at,
 };
 use crate::problem::below;
-use crate::roles::{Role, Tasks};
 use crate::tree::head_of;
 use crate::writing::counted;
-use pst_sexpr::{Form, integer_of, is_integer, node_of, word_of};
-use pst_syntax::{MAX_NAME, MAX_PARTS};
+use pst_sexpr::{Form, is_integer, word_of};
+use pst_syntax::{FaultKind, MAX_PARTS};
 use pst_value::{LIMIT, Text};
-use std::alloc::{AllocError, Global};
+use std::alloc::Global;
 use std::fmt;
 
 /// Whether a word is `true`, `false`, the state or the result.
@@ -53,8 +53,8 @@ fn heads_expression(has_maps: bool, form: &Form) -> bool {
     }
 }
 
-/// The problem of a word that is no integer as an expression, if it has one.
-fn name_expression(alloc: Global, has_maps: bool, path: &[usize], word: &Text) -> FoundProblem {
+/// The problem of a word that is no expression.
+fn no_word(alloc: Global, has_maps: bool, path: &[usize], word: &Text) -> FoundProblem {
     let name = word.as_str();
     if let Some(form) = expression(has_maps, name) {
         let written = form.written;
@@ -64,31 +64,9 @@ fn name_expression(alloc: Global, has_maps: bool, path: &[usize], word: &Text) -
             format_args!("`{name}` is a form, not a value: `{written}`"),
         );
     }
-    if is_name(word) && !is_head(has_maps, name) && word.len() <= MAX_NAME {
-        return Ok(None);
-    }
     let what = format_args!("`{name}` is neither an integer nor a name");
     let found = foreign(alloc, path, name, what)?;
     with_quotes_hint(alloc, found, name)
-}
-
-/// The problem of a word as an expression, if it has one.
-fn word_expression(alloc: Global, has_maps: bool, path: &[usize], word: &Text) -> FoundProblem {
-    let name = word.as_str();
-    if is_value(name) {
-        return Ok(None);
-    }
-    if is_integer(word) {
-        if integer_of(word).is_some() {
-            return Ok(None);
-        }
-        return wrong(
-            alloc,
-            path,
-            format_args!("`{name}` does not fit in 64 bits"),
-        );
-    }
-    name_expression(alloc, has_maps, path, word)
 }
 
 /// How a form is written, or what to write in the place of one with `parts` parts.
@@ -164,197 +142,136 @@ fn value_head(alloc: Global, path: &[usize], word: &Text, parts: usize) -> Found
     wrong_at(alloc, path, 0, what)
 }
 
-/// The role of the tree that is bound as a name beside `name`.
-fn beside(name: &Form) -> Role<'_> {
-    match word_of(name) {
-        Some(other) => Role::Beside(other),
-        None => Role::Bound,
-    }
-}
-
-/// What part `number`, counted from 0, of a form with the head `word` has to be. `None` if the part is not judged by
-/// itself.
-fn part_role<'a>(word: &str, number: usize, parts: &'a [Form], room: usize) -> Option<Role<'a>> {
-    match (word, number) {
-        ("let" | "fold", 0) => Some(Role::Bound),
-        ("fold", 2) => parts.first().map(|name| beside(name)),
-        ("list", 0) => Some(Role::ItemType),
-        ("call", 0) => Some(Role::Operation),
-        ("map", 1) => Some(Role::Type(16)),
-        ("map" | "for", 0) | ("at", 1) => None,
-        _ => Some(Role::Expression(room)),
-    }
-}
-
-/// Adds the clauses of a comprehension, to be judged.
-fn add_clauses<'a>(
-    tasks: &mut Tasks<'a>,
-    path: &[usize],
-    clauses: &'a [Form],
-    room: usize,
-) -> Result<(), AllocError> {
-    let at = below(path, tasks.alloc(), 1)?;
-    tasks.add_all(at.as_slice(), 0, clauses, Role::Clause(room))
-}
-
-/// Adds the parts of a form of expressions, to be judged.
-fn add_parts<'a>(
-    tasks: &mut Tasks<'a>,
-    path: &[usize],
-    word: &str,
-    parts: &'a [Form],
-    room: usize,
-) -> Result<(), AllocError> {
-    if word == "for" {
-        let clauses = parts.first().and_then(|clauses| node_of(clauses));
-        add_clauses(tasks, path, clauses.unwrap_or(&[]), room)?;
-    }
-    for (number, part) in parts.iter().enumerate() {
-        if let Some(role) = part_role(word, number, parts, room) {
-            tasks.add(path, number.saturating_add(1), part, role)?;
-        }
-    }
-    Ok(())
-}
-
-/// The problem of the parts of a form that are not judged by themselves, if they have one: places, keys, clauses, and
-/// the number of items of a tuple.
-pub fn small_parts(alloc: Global, path: &[usize], word: &str, parts: &[Form]) -> FoundProblem {
-    match (word, parts) {
-        ("at", [_, place]) => place_part(alloc, path, place),
-        ("map", [keys, _]) => keys_part(alloc, path, keys),
-        ("for", [clauses, _]) => clauses_part(alloc, path, clauses),
-        ("tuple", items) => {
-            let number = items.len();
-            if number <= MAX_PARTS {
-                return Ok(None);
-            }
-            wrong(
-                alloc,
-                path,
-                format_args!("the tuple has {number} items, at most {MAX_PARTS}"),
-            )
-        }
-        _ => Ok(None),
-    }
-}
-
-/// The problem of `place` as the place of an item of a tuple, if it has one.
-fn place_part(alloc: Global, path: &[usize], place: &Form) -> FoundProblem {
+/// The problem of `place`, which is no place of an item of a tuple. `path` leads to it.
+pub fn no_place(alloc: Global, path: &[usize], place: &Form) -> FoundProblem {
     let what = "the place of a tuple's item is an integer, from 1";
     match word_of(place) {
-        Some(word) if is_integer(word) => match integer_of(word) {
-            Some(number) if number > 0 => Ok(None),
-            _ => wrong_at(alloc, path, 2, what),
-        },
+        Some(word) if is_integer(word) => wrong(alloc, path, what),
         _ => {
             let hint = "hint: for a list write `(nth LIST PLACE)`, counted from 0";
-            noted_at(alloc, path, 2, what, hint)
+            noted(alloc, path, what, hint)
         }
     }
 }
 
-/// The problem of `keys` as the type of the keys of a map, if it has one.
-fn keys_part(alloc: Global, path: &[usize], keys: &Form) -> FoundProblem {
-    let word = match word_of(keys) {
-        Some(word) => word.as_str(),
-        None => "",
-    };
-    match word {
-        "int" | "bool" | "text" => Ok(None),
-        _ => wrong_at(
-            alloc,
-            path,
-            1,
-            "the keys of a map are `int`, `bool` or `text`",
-        ),
-    }
+/// The problem of a tree that is no type of the keys of a map. `path` leads to it.
+pub fn no_keys(alloc: Global, path: &[usize]) -> FoundProblem {
+    wrong(alloc, path, "the keys of a map are `int`, `bool` or `text`")
 }
 
-/// The problem of the number of clauses of a comprehension, if it has one.
-fn clauses_part(alloc: Global, path: &[usize], clauses: &Form) -> FoundProblem {
-    let forms = node_of(clauses).unwrap_or(&[]);
-    let number = forms.len();
-    if number == 0 {
-        return noted_at(
-            alloc,
-            path,
-            1,
-            "expected the clauses here, in brackets of their own",
-            "it is written `(for ((in x LIST) (when TEST)) BODY)`",
-        );
-    }
-    if number <= MAX_PARTS {
-        return Ok(None);
-    }
-    wrong_at(
+/// The problem of a tree that is no list of clauses. `path` leads to it.
+fn no_clauses(alloc: Global, path: &[usize]) -> FoundProblem {
+    noted(
         alloc,
         path,
-        1,
-        format_args!("the comprehension has {number} clauses, at most {MAX_PARTS}"),
+        "expected the clauses here, in brackets of their own",
+        "it is written `(for ((in x LIST) (when TEST)) BODY)`",
     )
 }
 
-/// Judges a node as an expression, and adds its parts, to be judged.
-fn node_expression<'a>(
-    tasks: &mut Tasks<'a>,
+/// The problem of a form with the head `word` and the right number of parts, one of which is not what it has
+/// to be. `path` leads to the form.
+fn no_part(alloc: Global, path: &[usize], word: &str, parts: &[Form]) -> FoundProblem {
+    match (word, parts) {
+        ("at", [_, place]) => no_place(alloc, below(path, alloc, 2)?.as_slice(), place),
+        ("map", _) => no_keys(alloc, below(path, alloc, 1)?.as_slice()),
+        ("for", _) => no_clauses(alloc, below(path, alloc, 1)?.as_slice()),
+        ("call", _) => no_operation(alloc, below(path, alloc, 1)?.as_slice()),
+        ("fold", [Form::Word(_), ..]) => no_name(alloc, below(path, alloc, 3)?.as_slice()),
+        _ => no_name(alloc, below(path, alloc, 1)?.as_slice()),
+    }
+}
+
+/// The problem of a node with the head `word` and the parts `parts` after it, which is no expression.
+fn no_node(
+    alloc: Global,
     has_maps: bool,
     path: &[usize],
-    parts: &'a [Form],
-    room: usize,
+    word: &Text,
+    parts: &[Form],
 ) -> FoundProblem {
-    let alloc = tasks.alloc();
+    let head = word.as_str();
+    match expression(has_maps, head) {
+        Some(form) if parts.len() < form.least || parts.len() > form.most => {
+            arity(alloc, path, form, parts.len())
+        }
+        Some(_) => no_part(alloc, path, head, parts),
+        None if is_value(head) || is_integer(word) => value_head(alloc, path, word, parts.len()),
+        None => no_head(alloc, has_maps, path, word),
+    }
+}
+
+/// The problem of a tree that is no expression.
+fn no_expression(alloc: Global, has_maps: bool, path: &[usize], form: &Form) -> FoundProblem {
+    let parts = match form {
+        Form::Word(word) => return no_word(alloc, has_maps, path, word),
+        Form::Text(_) => &[],
+        Form::Node(parts) => parts.as_slice(),
+    };
     let Some((first, parts)) = parts.split_first() else {
         return wrong(alloc, path, "`()` is not an expression");
     };
-    let Some(word) = word_of(first) else {
-        return wrong(alloc, path, "an expression in brackets begins with a word");
-    };
-    if let Some(form) = expression(has_maps, word.as_str()) {
-        if parts.len() < form.least || parts.len() > form.most {
-            return arity(alloc, path, form, parts.len());
-        }
-        if let Some(found) = small_parts(alloc, path, word.as_str(), parts)? {
-            return Ok(Some(found));
-        }
-        add_parts(tasks, path, word.as_str(), parts, room)?;
-        return Ok(None);
+    match word_of(first) {
+        Some(word) => no_node(alloc, has_maps, path, word, parts),
+        None => wrong(alloc, path, "an expression in brackets begins with a word"),
     }
-    if is_value(word.as_str()) || is_integer(word) {
-        return value_head(alloc, path, word, parts.len());
-    }
-    if !is_name(word) || is_head(has_maps, word.as_str()) || word.len() > MAX_NAME {
-        return no_head(alloc, has_maps, path, word);
-    }
-    tasks.add_all(path, 1, parts, Role::Expression(room))?;
-    Ok(None)
 }
 
-/// Judges a tree as an expression, and adds its parts, to be judged.
-pub fn as_expression<'a>(
-    tasks: &mut Tasks<'a>,
-    has_maps: bool,
-    path: &[usize],
-    form: &'a Form,
-    room: usize,
-) -> FoundProblem {
-    let alloc = tasks.alloc();
-    if room == 0 {
-        return wrong(alloc, path, "expressions are nested more than 64 deep");
+/// The problem of a comprehension or a tuple with too many parts. `path` leads to it.
+fn many_parts(alloc: Global, path: &[usize], parts: &[Form]) -> FoundProblem {
+    match parts {
+        [Form::Word(word), Form::Node(clauses), _] if word.as_str() == "for" => {
+            let number = clauses.len();
+            let what = format_args!("the comprehension has {number} clauses, at most {MAX_PARTS}");
+            wrong_at(alloc, path, 1, what)
+        }
+        _ => many_items(alloc, path, parts),
     }
+}
+
+/// The problem of a tuple, or of the type of tuples, with too many items. `parts` are its parts, its head
+/// among them.
+pub fn many_items(alloc: Global, path: &[usize], parts: &[Form]) -> FoundProblem {
+    let number = parts.len().saturating_sub(1);
+    let what = format_args!("the tuple has {number} items, at most {MAX_PARTS}");
+    wrong(alloc, path, what)
+}
+
+/// The problem of an expression that passes a limit, apart from that of its depth.
+fn large_expression(alloc: Global, path: &[usize], form: &Form) -> FoundProblem {
     match form {
-        Form::Word(word) => word_expression(alloc, has_maps, path, word),
-        Form::Text(words) => {
-            let length = words.len();
-            if length <= LIMIT {
-                return Ok(None);
-            }
+        Form::Word(word) => {
+            let name = word.as_str();
             wrong(
                 alloc,
                 path,
-                format_args!("the text has {length} bytes, at most {LIMIT}"),
+                format_args!("`{name}` does not fit in 64 bits"),
             )
         }
-        Form::Node(parts) => node_expression(tasks, has_maps, path, parts.as_slice(), room - 1),
+        Form::Text(text) => {
+            let length = text.len();
+            let what = format_args!("the text has {length} bytes, at most {LIMIT}");
+            wrong(alloc, path, what)
+        }
+        Form::Node(parts) => many_parts(alloc, path, parts.as_slice()),
     }
+}
+
+/// The problem of an expression with the fault `kind`.
+pub fn of_expression(
+    alloc: Global,
+    has_maps: bool,
+    path: &[usize],
+    form: &Form,
+    kind: FaultKind,
+) -> FoundProblem {
+    match kind {
+        FaultKind::OverLimit => large_expression(alloc, path, form),
+        _ => no_expression(alloc, has_maps, path, form),
+    }
+}
+
+/// The problem of an expression that stands too deep.
+pub fn deep_expression(alloc: Global, path: &[usize]) -> FoundProblem {
+    wrong(alloc, path, "expressions are nested more than 64 deep")
 }

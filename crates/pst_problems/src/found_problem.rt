@@ -1,9 +1,8 @@
-//! The result of a check of a tree, and the checks of names.
+//! What is wrong with a tree, if something is, and what messages say of refused names.
 
-use crate::forms::{in_place_of, is_head};
+use crate::forms::in_place_of;
 use crate::problem::{Problem, below};
-use pst_sexpr::{Form, word_of};
-use pst_syntax::MAX_NAME;
+use pst_syntax::{MAX_NAME, is_name};
 use pst_value::Text;
 use std::alloc::{AllocError, Global};
 use std::fmt::Display;
@@ -104,15 +103,6 @@ fn is_in_names(byte: u8) -> bool {
     byte.is_ascii_alphanumeric() || byte == b'_' || byte == b'-'
 }
 
-/// Whether a word is a lower-case letter and then letters, digits, `_` and `-`.
-pub fn is_name(word: &Text) -> bool {
-    let bytes = word.as_bytes();
-    match bytes.first() {
-        Some(first) => first.is_ascii_lowercase() && bytes.iter().all(|byte| is_in_names(*byte)),
-        None => false,
-    }
-}
-
 /// Whether a word would be a name if its first letter were lower-case.
 pub fn is_capitalized(word: &str) -> bool {
     let bytes = word.as_bytes();
@@ -125,22 +115,17 @@ pub fn is_capitalized(word: &str) -> bool {
 /// The hint on a word that is no name because it begins with a capital letter.
 pub const CAPITAL: &str = "hint: names begin with a lower-case letter";
 
-/// What `name` already means, if it may not be declared.
-fn taken(has_maps: bool, name: &str) -> Option<&'static str> {
-    if name == "s" {
-        return Some("the state");
+/// What a name that may not be declared means.
+fn meaning(name: &str) -> &'static str {
+    match name {
+        "s" => "the state",
+        "r" => "the result",
+        _ => "a word of the language",
     }
-    if name == "r" {
-        return Some("the result");
-    }
-    if name == "true" || name == "false" || is_head(has_maps, name) {
-        return Some("a word of the language");
-    }
-    None
 }
 
-/// The problem of `word` as a declared name, if it has one.
-pub fn declared(alloc: Global, has_maps: bool, path: &[usize], word: &Text) -> FoundProblem {
+/// The problem of `word` where it is declared and is no valid name there.
+pub fn bad_name(alloc: Global, path: &[usize], word: &Text) -> FoundProblem {
     let name = word.as_str();
     if is_capitalized(name) {
         return noted(alloc, path, format_args!("`{name}` is not a name"), CAPITAL);
@@ -153,49 +138,24 @@ pub fn declared(alloc: Global, has_maps: bool, path: &[usize], word: &Text) -> F
             "a name is a lower-case letter, then letters, digits, `_` and `-`",
         );
     }
-    match taken(has_maps, name) {
-        Some(what) => wrong(
-            alloc,
-            path,
-            format_args!("`{name}` is {what}; choose another name"),
-        ),
-        None => too_long(alloc, path, word),
-    }
+    let meaning = meaning(name);
+    let what = format_args!("`{name}` is {meaning}; choose another name");
+    wrong(alloc, path, what)
 }
 
-/// The problem of the name `word`, if it has too many bytes.
-pub fn too_long(alloc: Global, path: &[usize], word: &Text) -> FoundProblem {
+/// The problem of a name with too many bytes.
+pub fn long_name(alloc: Global, path: &[usize], word: &Text) -> FoundProblem {
     let length = word.len();
-    if length <= MAX_NAME {
-        return Ok(None);
-    }
-    wrong(
-        alloc,
-        path,
-        format_args!("the name has {length} bytes, at most {MAX_NAME}"),
-    )
+    let what = format_args!("the name has {length} bytes, at most {MAX_NAME}");
+    wrong(alloc, path, what)
 }
 
-/// The problem of `form` as a bound name, if it has one. The name may not be `other`.
-pub fn bound(
-    alloc: Global,
-    has_maps: bool,
-    path: &[usize],
-    form: &Form,
-    other: Option<&Text>,
-) -> FoundProblem {
-    let Some(word) = word_of(form) else {
-        return wrong(alloc, path, "expected a name here");
-    };
-    if let Some(other) = other {
-        if other.as_str() == word.as_str() {
-            let name = word.as_str();
-            return wrong(
-                alloc,
-                path,
-                format_args!("`{name}` is bound twice; choose another name"),
-            );
-        }
-    }
-    declared(alloc, has_maps, path, word)
+/// The problem of a tree that is no word where a name is declared.
+pub fn no_name(alloc: Global, path: &[usize]) -> FoundProblem {
+    wrong(alloc, path, "expected a name here")
+}
+
+/// The problem of a tree that is no name where an operation is named.
+pub fn no_operation(alloc: Global, path: &[usize]) -> FoundProblem {
+    wrong(alloc, path, "expected the name of an operation here")
 }

@@ -9,39 +9,29 @@ pub struct ItemForm {
     pub least: usize,
     /// How it is written.
     pub written: &'static str,
-    /// The other head whose items may not have the names of these items, or this head. `None` for items without a
-    /// name, of which a model has one.
-    pub sharing_names: Option<&'static str>,
 }
 
 macro_rules! item {
-    ($head:expr, $least:expr, $written:expr, $sharing_names:expr) => {
+    ($head:expr, $least:expr, $written:expr) => {
         ItemForm {
             head: $head,
             least: $least,
             written: $written,
-            sharing_names: $sharing_names,
         }
     };
 }
 
 /// The forms of items.
 pub const ITEM_FORMS: [ItemForm; 6] = [
-    item!("state", 1, "(state TYPE)", None),
-    item!("init", 1, "(init E)", None),
-    item!("command", 1, "(command E)", None),
-    item!("fun", 4, "(fun NAME ((p T) ..) TYPE BODY)", Some("postfun")),
-    item!(
-        "postfun",
-        4,
-        "(postfun NAME ((p T) ..) TYPE BODY)",
-        Some("fun")
-    ),
+    item!("state", 1, "(state TYPE)"),
+    item!("init", 1, "(init E)"),
+    item!("command", 1, "(command E)"),
+    item!("fun", 4, "(fun NAME ((p T) ..) TYPE BODY)"),
+    item!("postfun", 4, "(postfun NAME ((p T) ..) TYPE BODY)"),
     item!(
         "op",
         3,
-        "(op NAME ((p T) ..) TYPE (pre E) (next E) (post E))",
-        Some("op")
+        "(op NAME ((p T) ..) TYPE (pre E) (next E) (post E))"
     ),
 ];
 

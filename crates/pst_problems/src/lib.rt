@@ -1,31 +1,47 @@
-//! Problems of a refused input, as messages report them: where they are, what is wrong, and notes. `form_problems` finds
-//! those of a model that is refused for its form.
+//! Problems of a refused input, as messages report them: where they are, what is wrong, and notes.
 //!
-//! The messages are tested, not proved: the proofs only say that the code terminates and does nothing unsafe.
+//! `faults_of` finds the faults of a model text, each with the path to the refused part and with what that
+//! part has to be. Its contract says that it returns the faults of the definition, in their order, and `laws`
+//! says that the reader refuses the text for the first of them. `form_problems` words them. The words are
+//! tested, not proved: the proofs only say that the code terminates and does nothing unsafe.
+//!
 //! `AllocError` means that an allocation failed.
 #![tactic(auto)]
 
+mod callback_faults;
+mod expression_faults;
 mod expressions;
+mod fault;
 mod forms;
 mod found_problem;
+mod item_faults;
 mod item_forms;
 mod items;
+pub mod laws;
+mod model_faults;
 mod names;
 mod operations;
+mod param_faults;
+mod part_faults;
 mod problem;
-mod roles;
+mod seen_items;
 mod syntax;
+mod telling;
 mod tree;
-mod walk;
+mod type_faults;
+mod types;
+mod whole_faults;
 mod writing;
 
+pub use fault::{FormFault, Role};
 pub use forms::{
     HeadedForm, expression, in_place_of, is_head, is_of_maps, nearest_head, type_form,
 };
 pub use found_problem::{
-    CAPITAL, FoundProblem, bound, declared, foreign, in_single_quotes, is_capitalized, is_name,
-    noted, noted_at, tell, too_long, with_note, wrong, wrong_at,
+    CAPITAL, FoundProblem, foreign, in_single_quotes, is_capitalized, noted, noted_at, tell,
+    with_note, wrong, wrong_at,
 };
+pub use model_faults::faults_of;
 pub use names::{DidYouMean, NearestName, add, nearest};
 pub use operations::{operation, unknown_among};
 pub use problem::{MOST_PROBLEMS, Problem, below};

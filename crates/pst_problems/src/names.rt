@@ -5,7 +5,8 @@ use std::alloc::{AllocError, Global};
 use std::fmt;
 use strsim::levenshtein;
 
-/// The nearest to a name among the candidates so far: at most two edits away, and fewer than the name has bytes.
+/// The nearest to a name among the candidates so far: at most two edits away, and fewer than the name has
+/// bytes.
 #[derive(Clone, Copy, Drop)]
 pub struct NearestName<'a> {
     /// The number of edits that is too great.
@@ -50,7 +51,8 @@ impl<'a> NearestName<'a> {
     }
 }
 
-/// The known name that is nearest to `name`, as a hint: at most two edits away, and fewer than `name` has bytes.
+/// The known name that is nearest to `name`, as a hint: at most two edits away, and fewer than `name` has
+/// bytes.
 pub fn nearest<'a>(
     alloc: Global,
     known: &'a Items<Text>,

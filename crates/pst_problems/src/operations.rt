@@ -36,8 +36,8 @@ fn names_of(
     Ok(names)
 }
 
-/// The problem of the name `name`, which no operation, or no function, has. Its note is the known name that is probably
-/// meant, else a hint on a capital letter, else the known names, if there are some.
+/// The problem of the name `name`, which no operation, or no function, has. Its note is the known name that
+/// is probably meant, else a hint on a capital letter, else the known names, if there are some.
 pub fn unknown_among(
     alloc: Global,
     items: &[Item],

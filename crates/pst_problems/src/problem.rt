@@ -1,5 +1,8 @@
 //! What is wrong, and where.
 
+ghost use Rattle.std.specs.Prelude.{◌≡◌, IfOk};
+ghost use Rattle.pst_problems.specs.Placed.{below};
+
 use std::alloc::{AllocError, Global};
 use std::fmt::Display;
 
@@ -46,7 +49,9 @@ impl Problem {
 }
 
 /// `path` with one more number at its end.
-pub fn below(path: &[usize], alloc: Global, number: usize) -> Result<Vec<usize>, AllocError> {
+pub fn below(path: &[usize], alloc: Global, number: usize) -> Result<Vec<usize>, AllocError>
+    ensures { IfOk result (λ longer. longer.items ≡ below path.now number) }
+{
     let mut longer = Vec::from_slice(alloc, path)?;
     longer.push(number)?;
     Ok(longer)

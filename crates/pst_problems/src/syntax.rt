@@ -1,35 +1,29 @@
 //! Models that are refused for their form.
 
+use crate::expressions::{deep_expression, no_place, of_expression};
+use crate::fault::{FormFault, Role};
 use crate::found_problem::{
-    FoundProblem, declared, is_name, noted, noted_at, tell, too_long, wrong,
+    FoundProblem, bad_name, long_name, no_name, no_operation, noted, noted_at, tell, wrong,
 };
-use crate::items::item_problems;
+use crate::items::{
+    lacking_callbacks, many_parameters, no_clause, no_parameter, of_callback, of_item,
+};
+use crate::model_faults::faults_of;
 use crate::names::{DidYouMean, NearestName, add};
 use crate::problem::{MOST_PROBLEMS, Problem};
-use crate::tree::head_of;
+use crate::tree::{has_head, head_of, part_at};
+use crate::types::{deep_type, of_item_type, of_type};
 use crate::writing::Listed;
 use pst_sexpr::{Form, Tree, node_of, word_of};
-use pst_syntax::{FaultKind, MAX_TREES, SyntaxFault};
+use pst_syntax::{FaultKind, MAX_TREES};
 use pst_value::Items;
 use std::alloc::{AllocError, Global};
-
-/// Whether the language of a model has maps, by its tree.
-pub fn has_maps(model: &Form) -> bool {
-    match head_of(model) {
-        Some(head) => head.as_str() == "model2",
-        None => false,
-    }
-}
 
 /// The problem of a model that lacks items.
 fn lacking(alloc: Global, items: &[Form]) -> FoundProblem {
     let mut names = Items::new(alloc);
     for word in ["state", "init", "command"] {
-        let stands = items.iter().any(|item| match head_of(item) {
-            Some(head) => head.as_str() == word,
-            None => false,
-        });
-        if !stands {
+        if !items.iter().any(|item| has_head(item, word)) {
             add(alloc, &mut names, word)?;
         }
     }
@@ -99,25 +93,11 @@ fn no_model(alloc: Global, form: &Form) -> FoundProblem {
     }
 }
 
-/// What is wrong with the name of a model, if something is.
-fn of_name(alloc: Global, name: Option<&Form>) -> FoundProblem {
-    match name {
-        Some(Form::Word(word)) if is_name(word) => too_long(alloc, &[0, 1], word),
-        Some(Form::Word(word)) => declared(alloc, false, &[0, 1], word),
-        _ => Ok(None),
-    }
-}
-
-/// What is wrong with a model outside of its items.
+/// The problem of a model with the fault `kind`, which is none of its parts.
 fn of_model(alloc: Global, form: &Form, kind: FaultKind) -> FoundProblem {
-    let parts = node_of(form).unwrap_or(&[]);
-    let items = parts.get(2..).unwrap_or(&[]);
     match kind {
-        FaultKind::Missing => lacking(alloc, items),
-        FaultKind::BadName | FaultKind::OverLimit => {
-            if let Some(found) = of_name(alloc, parts.get(1))? {
-                return Ok(Some(found));
-            }
+        FaultKind::Missing => lacking(alloc, node_of(form).unwrap_or(&[])),
+        FaultKind::OverLimit => {
             let what = format_args!("the model has more than {MAX_TREES} trees");
             wrong(alloc, &[0], what)
         }
@@ -125,45 +105,108 @@ fn of_model(alloc: Global, form: &Form, kind: FaultKind) -> FoundProblem {
     }
 }
 
-/// The problems of the item of `fault` and of the items after it.
-fn of_items(alloc: Global, model: &Form, fault: SyntaxFault) -> Result<Vec<Problem>, AllocError> {
-    let mut problems = Vec::new(alloc);
-    let parts = node_of(model).unwrap_or(&[]);
-    let first = fault.item.saturating_add(1);
-    for place in first..parts.len() {
-        let before = parts.get(2..place).unwrap_or(&[]);
-        let mut found = item_problems(alloc, has_maps(model), &[0, place], &parts[place], before)?;
-        if place == first && found.is_empty() {
-            let kind = fault.kind.name();
-            let what = format_args!("the item is refused: {kind}");
-            tell(&mut problems, wrong(alloc, &[0, place], what)?)?;
+/// The problem of a declared name with the fault `kind`.
+fn of_name(
+    alloc: Global,
+    path: &[usize],
+    form: &Form,
+    role: Role,
+    kind: FaultKind,
+) -> FoundProblem {
+    let Some(word) = word_of(form) else {
+        return no_name(alloc, path);
+    };
+    let name = word.as_str();
+    match (kind, role) {
+        (FaultKind::BadName, _) => bad_name(alloc, path, word),
+        (FaultKind::OverLimit, _) => long_name(alloc, path, word),
+        (_, Role::ParameterName) => {
+            let what = format_args!("two parameters have the name `{name}`");
+            wrong(alloc, path, what)
         }
-        problems.append(&mut found)?;
-        if problems.len() > MOST_PROBLEMS {
+        (_, Role::ItemName) => {
+            let what = format_args!("an earlier item declares `{name}`");
+            wrong(alloc, path, what)
+        }
+        _ => {
+            let what = format_args!("`{name}` is bound twice; choose another name");
+            wrong(alloc, path, what)
+        }
+    }
+}
+
+/// The problem of `fault`, whose part is `form`.
+fn of_fault(alloc: Global, model: &Form, form: &Form, fault: &FormFault) -> FoundProblem {
+    let FormFault { kind, role, .. } = *fault;
+    let path = fault.path.as_slice();
+    let has_maps = has_head(model, "model2");
+    match role {
+        Role::Model => of_model(alloc, form, kind),
+        Role::Item => of_item(alloc, path, form, kind),
+        Role::Parameters => many_parameters(alloc, path, form),
+        Role::Parameter => no_parameter(alloc, path, form),
+        Role::Callbacks => lacking_callbacks(alloc, path, form),
+        Role::Callback => of_callback(alloc, path, form, kind),
+        Role::Type => of_type(alloc, has_maps, path, form, kind),
+        Role::ItemType => of_item_type(alloc, has_maps, model, path, form, kind),
+        Role::DeepType => deep_type(alloc, path),
+        Role::Expression => of_expression(alloc, has_maps, path, form, kind),
+        Role::DeepExpression => deep_expression(alloc, path),
+        Role::Clause => no_clause(alloc, path),
+        Role::Place => no_place(alloc, path, form),
+        Role::Operation => no_operation(alloc, path),
+        Role::ModelName | Role::ItemName | Role::ParameterName | Role::Name => {
+            of_name(alloc, path, form, role, kind)
+        }
+    }
+}
+
+/// Whether something is missing that the faults before may account for, since they are in the same tree.
+fn may_follow(fault: &FormFault, before: &[FormFault]) -> bool {
+    let path = fault.path.as_slice();
+    let is_in = |other: &FormFault| other.path.as_slice().get(..path.len()) == Some(path);
+    fault.kind == FaultKind::Missing && before.iter().any(is_in)
+}
+
+/// Adds `problem`, unless it is the last one once more.
+fn add_problem(problems: &mut Vec<Problem>, problem: Problem) -> Result<(), AllocError> {
+    if let Some(last) = problems.last() {
+        if last.path.as_slice() == problem.path.as_slice() && last.what == problem.what {
+            return Ok(());
+        }
+    }
+    problems.push(problem)?;
+    Ok(())
+}
+
+/// The problems of a model that is refused for its form: one for each fault, in their order. What is missing
+/// is left out where another fault may account for it, and a model with too many trees has no other problem.
+pub fn form_problems(alloc: Global, trees: &[Tree]) -> Result<Vec<Problem>, AllocError> {
+    let mut problems = Vec::new(alloc);
+    let Some(tree) = trees.first() else {
+        tell(
+            &mut problems,
+            noted(alloc, &[], "the file has no model", MODEL)?,
+        )?;
+        return Ok(problems);
+    };
+    let model = tree.form();
+    let faults = faults_of(alloc, trees, MOST_PROBLEMS.saturating_add(1))?;
+    for (number, fault) in faults.as_slice().iter().enumerate() {
+        let before = faults.as_slice().get(..number).unwrap_or(&[]);
+        let path = fault.path.as_slice().get(1..).unwrap_or(&[]);
+        let Some(form) = part_at(model, path) else {
+            continue;
+        };
+        if may_follow(fault, before) {
+            continue;
+        }
+        if let Some(problem) = of_fault(alloc, model, form, fault)? {
+            add_problem(&mut problems, problem)?;
+        }
+        if fault.role == Role::Model {
             break;
         }
     }
     Ok(problems)
-}
-
-/// The problems of a model that is refused for its form. The problem that it is refused for comes first. Further
-/// problems are independent of the others.
-pub fn form_problems(
-    alloc: Global,
-    trees: &[Tree],
-    fault: SyntaxFault,
-) -> Result<Vec<Problem>, AllocError> {
-    let Some(tree) = trees.first() else {
-        let mut problems = Vec::new(alloc);
-        let problem = noted(alloc, &[], "the file has no model", MODEL)?;
-        tell(&mut problems, problem)?;
-        return Ok(problems);
-    };
-    let model = tree.form();
-    if fault.item == 0 {
-        let mut problems = Vec::new(alloc);
-        tell(&mut problems, of_model(alloc, model, fault.kind)?)?;
-        return Ok(problems);
-    }
-    of_items(alloc, model, fault)
 }

@@ -1,0 +1,144 @@
+//! The faults of callbacks, with their places.
+
+ghost use Rattle.std.specs.Prelude.{◌≡◌, [], ◌&&◌, OnOk};
+ghost use Rattle.std.specs.List.{list_any};
+ghost use Rattle.pst_problems.specs.Kept.{keep};
+ghost use Rattle.pst_problems.specs.Placed.{below, known_at};
+ghost use Rattle.pst_problems.specs.PlacedModel as spec;
+ghost use Rattle.pst_problems.specs.SeenShapes.{callbacks_in, holds};
+ghost use Rattle.pst_problems.specs.declared.fault.Role.TheVariants as role;
+ghost use Rattle.pst_syntax.specs.ModelFaults as faults;
+ghost use Rattle.pst_syntax.specs.ShownItems.{shown_callback, shown_callback_option};
+
+use crate::fault::{FormFault, Role};
+use crate::problem::below;
+use crate::telling::{Walk, tell, unless};
+use crate::whole_faults::once;
+use pst_sexpr::Form;
+use pst_syntax::{CallbackShape, FaultKind, callback_shape};
+use pst_value::Items;
+use std::alloc::AllocError;
+
+fn has_pre(seen: &[Option<CallbackShape<'_>>]) -> bool
+    ensures { result ≡ list_any (λ shape. holds faults.is_pre (shown_callback_option shape)) seen.now }
+{
+    seen.iter()
+        .any(|shape| matches!(shape, Some(CallbackShape::Pre(_))))
+}
+
+fn has_next(seen: &[Option<CallbackShape<'_>>]) -> bool
+    ensures { result ≡ list_any (λ shape. holds faults.is_next (shown_callback_option shape)) seen.now }
+{
+    seen.iter()
+        .any(|shape| matches!(shape, Some(CallbackShape::Next(_))))
+}
+
+fn has_post(seen: &[Option<CallbackShape<'_>>]) -> bool
+    ensures { result ≡ list_any (λ shape. holds faults.is_post (shown_callback_option shape)) seen.now }
+{
+    seen.iter()
+        .any(|shape| matches!(shape, Some(CallbackShape::Post(_))))
+}
+
+/// Whether no callback is missing.
+fn has_all(seen: &[Option<CallbackShape<'_>>]) -> bool
+    ensures { result ≡ (list_any (λ shape. holds faults.is_pre (shown_callback_option shape)) seen.now
+        && list_any (λ shape. holds faults.is_next (shown_callback_option shape)) seen.now
+        && list_any (λ shape. holds faults.is_post (shown_callback_option shape)) seen.now) }
+{
+    has_pre(seen) && has_next(seen) && has_post(seen)
+}
+
+/// Adds the faults of a callback at `path` behind the callbacks `seen`.
+#[tactic(auto, using(crate::proofs::Keeping::keeping, crate::proofs::Seen::seen))]
+fn callback(
+    walk: Walk,
+    faults: &mut Items<FormFault>,
+    seen: &[Option<CallbackShape<'_>>],
+    path: &[usize],
+    shape: &CallbackShape<'_>,
+) -> Result<(), AllocError>
+    ensures { OnOk result (faults.new ≡ keep walk.limit faults.old
+        (spec.callback_faults_at walk.has_maps (callbacks_in seen.now) path.now
+        (shown_callback shape.now))) }
+{
+    match shape {
+        CallbackShape::Pre(body) => {
+            once(walk, faults, Role::Callback, path, has_pre(seen), body)?;
+            Ok(())
+        }
+        CallbackShape::Next(body) => {
+            once(walk, faults, Role::Callback, path, has_next(seen), body)?;
+            Ok(())
+        }
+        CallbackShape::Post(body) => {
+            once(walk, faults, Role::Callback, path, has_post(seen), body)?;
+            Ok(())
+        }
+    }
+}
+
+/// Adds the faults of the callback that is part `number` of the tree at `path`, behind the callbacks `seen`.
+#[tactic(auto, using(crate::proofs::Keeping::keeping))]
+fn known_callback(
+    walk: Walk,
+    faults: &mut Items<FormFault>,
+    seen: &[Option<CallbackShape<'_>>],
+    path: &[usize],
+    number: usize,
+    shape: &Option<CallbackShape<'_>>,
+) -> Result<(), AllocError>
+    ensures { OnOk result (faults.new ≡ keep walk.limit faults.old
+        (known_at (below path.now number) role.Callback (shown_callback_option shape.now)
+        (spec.callback_faults_at walk.has_maps (callbacks_in seen.now) (below path.now number)))) }
+{
+    let at = below(path, walk.alloc, number)?;
+    match shape {
+        Some(shape) => {
+            callback(walk, faults, seen, at.as_slice(), shape)?;
+            Ok(())
+        }
+        None => {
+            tell(
+                walk,
+                faults,
+                at.as_slice(),
+                Role::Callback,
+                FaultKind::UnknownForm,
+            )?;
+            Ok(())
+        }
+    }
+}
+
+/// Adds the faults of the callbacks of an operation, which are the parts from 4 on of the tree at `path`.
+#[tactic(auto, using(crate::proofs::Keeping::keeping))]
+pub fn callbacks(
+    walk: Walk,
+    faults: &mut Items<FormFault>,
+    path: &[usize],
+    forms: &[Form],
+) -> Result<(), AllocError>
+    ensures { OnOk result (faults.new ≡ keep walk.limit faults.old
+        (spec.callbacks_faults_at walk.has_maps [] path.now 4 forms.now)) }
+{
+    let mut seen = Items::new(walk.alloc);
+    let mut number = 4;
+    for form in forms {
+        let shape = callback_shape(form);
+        known_callback(walk, faults, seen.as_slice(), path, number, &shape)?;
+        seen.push(shape)?;
+        number += 1;
+    }
+    let seen = seen.as_slice();
+    let are_there = has_all(seen);
+    unless(
+        walk,
+        faults,
+        path,
+        Role::Callbacks,
+        are_there,
+        FaultKind::Missing,
+    )?;
+    Ok(())
+}

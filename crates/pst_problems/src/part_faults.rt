@@ -1,0 +1,118 @@
+//! The faults of the parts of expressions that are no expressions, with their places.
+
+ghost use Rattle.std.specs.Prelude.{◌≡◌, ◌∷◌, [], OnOk};
+ghost use Rattle.pst_problems.specs.Kept.{keep};
+ghost use Rattle.pst_problems.specs.Placed as spec;
+ghost use Rattle.pst_problems.specs.Placed.{all_at, none_at, part_at, spots_from};
+ghost use Rattle.pst_problems.specs.declared.fault.Role.TheVariants as role;
+ghost use Rattle.pst_syntax.specs.Faults.{Declared, OfType, Operation, Place, fits};
+ghost use Rattle.pst_syntax.specs.Names.{is_free};
+ghost use Rattle.pst_syntax.specs.Shown.{shown};
+
+use crate::fault::{FormFault, Role};
+use crate::problem::below;
+use crate::telling::{Walk, tell_name, unless};
+use crate::type_faults::ty_part;
+use pst_sexpr::{Form, value_of};
+use pst_syntax::{FaultKind, MAX_PARTS, MAX_TY_LEVELS, Shape, is_free, is_used_operation};
+use pst_value::{Items, LIMIT, Text};
+use std::alloc::AllocError;
+
+/// Whether an expression keeps to the limits besides that of its depth.
+pub fn fits(shape: &Shape<'_>) -> bool
+    ensures { result ≡ fits (shown shape.now) }
+{
+    match shape {
+        Shape::Integer(word) => value_of(word).is_some(),
+        Shape::Quoted(text) => text.len() <= LIMIT,
+        Shape::Tuple(items) => items.len() <= MAX_PARTS,
+        Shape::For(clauses, _) => clauses.len() <= MAX_PARTS,
+        _ => true,
+    }
+}
+
+/// Adds the faults of a bound name that is part `number` of the tree at `path`.
+pub fn bound(
+    walk: Walk,
+    faults: &mut Items<FormFault>,
+    path: &[usize],
+    number: usize,
+    is_taken: bool,
+    word: &Text,
+) -> Result<(), AllocError>
+    ensures { OnOk result (faults.new ≡ keep walk.limit faults.old
+        (part_at none_at none_at none_at (spec.below path.now number) role.Name
+        (Declared (is_free walk.has_maps word.now) is_taken word.now))) }
+{
+    let path = below(path, walk.alloc, number)?;
+    let is_lawful = is_free(walk.has_maps, word);
+    tell_name(
+        walk,
+        faults,
+        path.as_slice(),
+        Role::Name,
+        is_lawful,
+        is_taken,
+        word,
+    )
+}
+
+/// Adds the fault of the place of an item of a tuple, which is part 2 of the tree at `path`.
+#[tactic(auto, using(crate::proofs::Keeping::keeping))]
+pub fn place(
+    walk: Walk,
+    faults: &mut Items<FormFault>,
+    path: &[usize],
+    word: &Text,
+) -> Result<(), AllocError>
+    ensures { OnOk result (faults.new ≡ keep walk.limit faults.old
+        (part_at none_at none_at none_at (spec.below path.now 2) role.Place (Place word.now))) }
+{
+    let path = below(path, walk.alloc, 2)?;
+    let holds = value_of(word).is_some();
+    unless(
+        walk,
+        faults,
+        path.as_slice(),
+        Role::Place,
+        holds,
+        FaultKind::OverLimit,
+    )
+}
+
+/// Adds the fault of the name of an operation, which is part 1 of the tree at `path`.
+pub fn operation(
+    walk: Walk,
+    faults: &mut Items<FormFault>,
+    path: &[usize],
+    word: &Text,
+) -> Result<(), AllocError>
+    ensures { OnOk result (faults.new ≡ keep walk.limit faults.old
+        (part_at none_at none_at none_at (spec.below path.now 1) role.Operation (Operation word.now))) }
+{
+    let path = below(path, walk.alloc, 1)?;
+    let holds = is_used_operation(word);
+    unless(
+        walk,
+        faults,
+        path.as_slice(),
+        Role::Operation,
+        holds,
+        FaultKind::UnknownForm,
+    )
+}
+
+/// Adds the faults of an empty map.
+#[tactic(auto, using(crate::proofs::Keeping::keeping))]
+pub fn map_of(
+    walk: Walk,
+    faults: &mut Items<FormFault>,
+    path: &[usize],
+    value: &Form,
+) -> Result<(), AllocError>
+    ensures { (e : spec.At) → OnOk result (faults.new ≡ keep walk.limit faults.old
+        (all_at (spec.spot_in walk.has_maps e) (spots_from path.now 2 (OfType value.now ∷ [])))) }
+{
+    ty_part(walk, faults, Role::Type, path, 2, value, MAX_TY_LEVELS)?;
+    Ok(())
+}

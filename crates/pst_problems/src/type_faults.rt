@@ -1,0 +1,142 @@
+//! The faults of types, with their places.
+
+ghost use Rattle.std.specs.Prelude.{◌≡◌, ◌∷◌, [], ◌≤◌, OnOk, map};
+ghost use Rattle.pst_problems.specs.Kept.{keep};
+ghost use Rattle.pst_problems.specs.Placed as spec;
+ghost use Rattle.pst_problems.specs.Placed.{all_at, none_at, spots_from, ty_faults_at};
+ghost use Rattle.pst_syntax.specs.Faults.{OfType, ty_fits};
+ghost use Rattle.pst_syntax.specs.Shown.{shown_ty};
+
+use crate::fault::{FormFault, Role};
+use crate::problem::below;
+use crate::telling::{Walk, tell, unless};
+use pst_sexpr::Form;
+use pst_syntax::{FaultKind, MAX_PARTS, TyShape, ty_shape};
+use pst_value::Items;
+use std::alloc::AllocError;
+
+/// Whether a type keeps to the limits besides that of its depth.
+fn ty_fits(shape: &TyShape<'_>) -> bool
+    ensures { result ≡ ty_fits (shown_ty shape.now) }
+{
+    match shape {
+        TyShape::Tuple(types) => types.len() <= MAX_PARTS,
+        _ => true,
+    }
+}
+
+/// Adds the faults of a type with `room` levels of room.
+#[cycle(ty)]
+#[tactic(auto, using(crate::proofs::Keeping::keeping, crate::proofs::Levels::ty_levels))]
+pub fn ty(
+    walk: Walk,
+    faults: &mut Items<FormFault>,
+    role: Role,
+    path: &[usize],
+    form: &Form,
+    room: usize,
+) -> Result<(), AllocError>
+    ensures { OnOk result (faults.new ≡ keep walk.limit faults.old
+        (ty_faults_at walk.has_maps room role path.now form.now)) }
+{
+    let Some(shape) = ty_shape(walk.has_maps, form) else {
+        return tell(walk, faults, path, role, FaultKind::UnknownForm);
+    };
+    if room == 0 {
+        return tell(walk, faults, path, Role::DeepType, FaultKind::OverLimit);
+    }
+    unless(
+        walk,
+        faults,
+        path,
+        role,
+        ty_fits(&shape),
+        FaultKind::OverLimit,
+    )?;
+    ty_parts(walk, faults, role, path, &shape, room - 1)?;
+    Ok(())
+}
+
+#[cycle(ty)]
+#[tactic(auto, using(crate::proofs::Keeping::keeping))]
+fn ty_parts(
+    walk: Walk,
+    faults: &mut Items<FormFault>,
+    role: Role,
+    path: &[usize],
+    shape: &TyShape<'_>,
+    room: usize,
+) -> Result<(), AllocError>
+    ensures { OnOk result (faults.new ≡ keep walk.limit faults.old
+        (all_at (spec.spot_at none_at (λ inner. ty_faults_at walk.has_maps room role) none_at)
+        (spec.ty_spots path.now (shown_ty shape.now)))) }
+{
+    match shape {
+        TyShape::Int | TyShape::Bool | TyShape::Text | TyShape::Call => Ok(()),
+        TyShape::Tuple(types) => tys(walk, faults, role, path, types, room),
+        TyShape::List(item) => inner_ty(walk, faults, role, path, 1, item, room),
+        TyShape::Map(_, value) => inner_ty(walk, faults, role, path, 2, value, room),
+        TyShape::Ref(target) => inner_ty(walk, faults, role, path, 1, target, room),
+    }
+}
+
+/// Adds the faults of the type in the type at `path`, of which it is part `number`.
+#[cycle(ty)]
+#[tactic(auto, using(crate::proofs::Keeping::keeping))]
+fn inner_ty(
+    walk: Walk,
+    faults: &mut Items<FormFault>,
+    role: Role,
+    path: &[usize],
+    number: usize,
+    form: &Form,
+    room: usize,
+) -> Result<(), AllocError>
+    ensures { OnOk result (faults.new ≡ keep walk.limit faults.old
+        (all_at (spec.spot_at none_at (λ inner. ty_faults_at walk.has_maps room role) none_at)
+        (spots_from path.now number (OfType form.now ∷ [])))) }
+{
+    ty_part(walk, faults, role, path, number, form, room)?;
+    Ok(())
+}
+
+/// Adds the faults of a type that is part `number` of the tree at `path`.
+#[cycle(ty)]
+pub fn ty_part(
+    walk: Walk,
+    faults: &mut Items<FormFault>,
+    role: Role,
+    path: &[usize],
+    number: usize,
+    form: &Form,
+    room: usize,
+) -> Result<(), AllocError>
+    ensures { OnOk result (faults.new ≡ keep walk.limit faults.old
+        (ty_faults_at walk.has_maps room role (spec.below path.now number) form.now)) }
+{
+    let path = below(path, walk.alloc, number)?;
+    ty(walk, faults, role, path.as_slice(), form, room)
+}
+
+/// Adds the faults of types that are the parts from 1 on of the tree at `path`.
+#[cycle(ty)]
+#[tactic(auto, using(crate::proofs::Keeping::keeping))]
+fn tys(
+    walk: Walk,
+    faults: &mut Items<FormFault>,
+    role: Role,
+    path: &[usize],
+    forms: &[Form],
+    room: usize,
+) -> Result<(), AllocError>
+    ensures { OnOk result (faults.new ≡ keep walk.limit faults.old
+        (all_at (spec.spot_at none_at (λ inner. ty_faults_at walk.has_maps room role) none_at)
+        (spots_from path.now 1 (map OfType forms.now)))) }
+{
+    let mut number = 1;
+    for form in forms {
+        ty_part(walk, faults, role, path, number, form, room)?;
+        number += 1;
+    }
+    Ok(())
+}

@@ -1,0 +1,166 @@
+//! What messages say of refused types.
+
+use crate::expressions::{arity, many_items, no_keys, spells_value};
+use crate::forms::{in_place_of, is_of_maps, type_form};
+use crate::found_problem::{FoundProblem, foreign, noted, noted_at, with_note, wrong};
+use crate::names::{DidYouMean, NearestName};
+use crate::problem::below;
+use crate::tree::{has_head, part_at};
+use crate::writing::short_text;
+use pst_sexpr::{Form, node_of, word_of};
+use pst_syntax::FaultKind;
+use pst_value::Text;
+use std::alloc::{AllocError, Global};
+
+/// The head word of a node, and the trees after it.
+fn headed(form: &Form) -> Option<(&Text, &[Form])> {
+    let (first, rest) = node_of(form)?.split_first()?;
+    Some((word_of(first)?, rest))
+}
+
+/// The problem of a form of maps in a language without maps.
+fn no_maps(alloc: Global, path: &[usize]) -> FoundProblem {
+    noted(
+        alloc,
+        path,
+        "a `model` has no maps",
+        "hint: a model with maps begins with `(model2 NAME ..)`",
+    )
+}
+
+/// The problem of a node with the head `head` and the trees `rest` after it, which is no type.
+fn no_node(
+    alloc: Global,
+    has_maps: bool,
+    path: &[usize],
+    form: &Form,
+    head: &str,
+    rest: &[Form],
+) -> FoundProblem {
+    let Some(shown) = type_form(head) else {
+        return no_headed_type(alloc, path, form, head);
+    };
+    if is_of_maps(head) && !has_maps {
+        return no_maps(alloc, path);
+    }
+    if rest.len() < shown.least || rest.len() > shown.most {
+        return arity(alloc, path, shown, rest.len());
+    }
+    no_keys(alloc, below(path, alloc, 1)?.as_slice())
+}
+
+/// The problem of a tree that is no type.
+fn no_type(alloc: Global, has_maps: bool, path: &[usize], form: &Form) -> FoundProblem {
+    match (form, headed(form)) {
+        (Form::Word(word), _) => no_word(alloc, path, word.as_str()),
+        (_, Some((head, rest))) => no_node(alloc, has_maps, path, form, head.as_str(), rest),
+        _ => no_type_at_all(alloc, path, form),
+    }
+}
+
+/// The problem of a word that is no type.
+fn no_word(alloc: Global, path: &[usize], word: &str) -> FoundProblem {
+    if let Some(shown) = type_form(word) {
+        let written = shown.written;
+        return wrong(alloc, path, format_args!("the type is written `{written}`"));
+    }
+    let what = format_args!("`{word}` is not a type");
+    match near_type(alloc, word)? {
+        Some(hint) if in_place_of(word).is_none() => noted(alloc, path, what, hint),
+        _ => foreign(alloc, path, word, what),
+    }
+}
+
+/// The type that `word` probably means, as a hint.
+fn near_type(alloc: Global, word: &str) -> Result<Option<DidYouMean<'static>>, AllocError> {
+    let mut near = NearestName::to(word);
+    for name in ["int", "bool", "text"] {
+        near = near.or(alloc, name, word)?;
+    }
+    Ok(near.hint())
+}
+
+/// The problem of a node that has to be a type, and whose head heads no type.
+fn no_headed_type(alloc: Global, path: &[usize], form: &Form, head: &str) -> FoundProblem {
+    let what = format_args!("`{head}` is not a type");
+    match in_place_of(head) {
+        Some(hint) => noted_at(alloc, path, 0, what, format_args!("hint: {hint}")),
+        None => no_type_at_all(alloc, path, form),
+    }
+}
+
+/// The problem of a tree that is not even similar to a type.
+fn no_type_at_all(alloc: Global, path: &[usize], form: &Form) -> FoundProblem {
+    let shown = short_text(alloc, form)?;
+    noted(
+        alloc,
+        path,
+        format_args!("`{shown}` is not a type"),
+        "types are int, bool, text, (tuple T ..), (list T), (ref T), call, and (map K V) in model2",
+    )
+}
+
+/// The problem of a type that stands too deep.
+pub fn deep_type(alloc: Global, path: &[usize]) -> FoundProblem {
+    wrong(alloc, path, "types are nested more than 16 deep")
+}
+
+/// The problem of a type with the fault `kind`.
+pub fn of_type(
+    alloc: Global,
+    has_maps: bool,
+    path: &[usize],
+    form: &Form,
+    kind: FaultKind,
+) -> FoundProblem {
+    match kind {
+        FaultKind::OverLimit => many_items(alloc, path, node_of(form).unwrap_or(&[])),
+        _ => no_type(alloc, has_maps, path, form),
+    }
+}
+
+/// How many numbers of `path` lead to the type of the items of a list that is written out. The path leads to
+/// it, or to a type in it.
+fn item_type_length(model: &Form, path: &[usize]) -> usize {
+    let mut length: usize = 1;
+    let mut form = Some(model);
+    for number in path.get(1..).unwrap_or(&[]) {
+        length = length.saturating_add(1);
+        let is_list = form.is_some_and(|form| has_head(form, "list"));
+        if is_list && *number == 1 {
+            break;
+        }
+        form = form.and_then(|form| part_at(form, &[*number]));
+    }
+    length
+}
+
+/// The problem of a type with the fault `kind`, which is the type of the items of a list that is written out
+/// or stands in it.
+pub fn of_item_type(
+    alloc: Global,
+    has_maps: bool,
+    model: &Form,
+    path: &[usize],
+    form: &Form,
+    kind: FaultKind,
+) -> FoundProblem {
+    let hint = "hint: a list begins with the type of its items: `(list int 1 2)`";
+    let length = item_type_length(model, path);
+    let whole = path.get(..length).unwrap_or(path);
+    let ty = part_at(model, whole.get(1..).unwrap_or(&[]));
+    if ty.is_some_and(|ty| spells_value(has_maps, ty)) {
+        return noted(
+            alloc,
+            whole,
+            "`list` takes the type of its items first",
+            hint,
+        );
+    }
+    let found = of_type(alloc, has_maps, path, form, kind)?;
+    if length == path.len() {
+        with_note(alloc, found, hint)
+    } else {
+        Ok(found)
+    }
+}
