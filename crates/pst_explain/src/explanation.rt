@@ -21,7 +21,7 @@ use pst_scene::{CasePart, Scene, call_numbered, scene_of};
 use std::alloc::{AllocError, Global};
 
 /// The steps that the searches for the explanation of an item may take, as `Bounded` counts them.
-pub const MOST_STEPS: u64 = 5_000_000;
+pub const MOST_STEPS: u64 = 2_000_000;
 
 /// The reason of the judgement of an item.
 #[derive(Drop)]
@@ -247,7 +247,7 @@ fn invalid_reason<'a>(
 }
 
 /// Explains an item of a model: `judged` is its judgement, `number` its number, and `place` where it begins in the
-/// input. The searches take at most 5,000,000 steps of callbacks together. What they do not find in these is left out.
+/// input. The searches take at most 2,000,000 steps of callbacks together. What they do not find in these is left out.
 pub fn explain_item<'a, C: Callbacks>(
     callbacks: &C,
     alloc: Global,

@@ -42,7 +42,7 @@ fn is_explained(judged: &Judged) -> bool {
 /// in red, to a dead end with the reason. The edges of the interleaving of the verdict are bold. For an explained run,
 /// draws only these and the dead ends beside them, unless `all` is true. The search expands the first 300 positions,
 /// and all along the bold edges; positions that it leaves are dashed, and the title says so. If the search for the
-/// interleaving takes more than 5,000,000 steps of callbacks, no edge is bold, and the title says so.
+/// interleaving takes more than 2,000,000 steps of callbacks, no edge is bold, and the title says so.
 pub fn graph_item<C: Callbacks>(
     callbacks: &C,
     alloc: Global,

@@ -2,7 +2,7 @@
 
 use std::alloc::{AllocError, Global};
 
-/// What a byte is part of.
+/// What the bytes of a comment or a text are part of.
 #[derive(Clone, Copy, Debug, Drop, PartialEq, Eq)]
 enum Mode {
     /// Between trees or in a word.
@@ -15,14 +15,10 @@ enum Mode {
     Comment,
 }
 
-/// Returns the mode after `byte`.
+/// Returns the mode after `byte` of a text or a comment.
 fn mode_after(mode: Mode, byte: u8) -> Mode {
     match mode {
-        Mode::Plain => match byte {
-            b'"' => Mode::Quoted,
-            b';' => Mode::Comment,
-            _ => Mode::Plain,
-        },
+        Mode::Plain => Mode::Plain,
         Mode::Quoted => match byte {
             b'"' => Mode::Plain,
             b'\\' => Mode::Escaped,
@@ -43,22 +39,24 @@ pub fn first_lines(alloc: Global, bytes: &[u8]) -> Result<Vec<usize>, AllocError
     let mut line = 1usize;
     let mut open = 0usize;
     for byte in bytes {
-        if *byte == b'\n' {
+        let byte = *byte;
+        if byte == b'\n' {
             line = line.saturating_add(1);
         }
-        if mode != Mode::Plain {
-            mode = mode_after(mode, *byte);
-            continue;
-        }
-        match *byte {
-            b'(' => {
-                if open == 0 {
-                    lines.push(line)?;
+        match mode {
+            Mode::Plain => match byte {
+                b'(' => {
+                    if open == 0 {
+                        lines.push(line)?;
+                    }
+                    open = open.saturating_add(1);
                 }
-                open = open.saturating_add(1);
-            }
-            b')' => open = open.saturating_sub(1),
-            other => mode = mode_after(mode, other),
+                b')' => open = open.saturating_sub(1),
+                b'"' => mode = Mode::Quoted,
+                b';' => mode = Mode::Comment,
+                _ => {}
+            },
+            other => mode = mode_after(other, byte),
         }
     }
     Ok(lines)

@@ -16,13 +16,20 @@ pub struct TreePlace<'a> {
 }
 
 impl<'a> TreePlace<'a> {
-    /// The place in words: `line 3`, or `FILE line 3` if the input has several files.
-    pub fn text(&self, alloc: Global) -> Result<String, AllocError> {
+    /// Adds the place in words: `line 3`, or `FILE line 3` if the input has several files.
+    pub(crate) fn add_to(&self, text: &mut String) -> Result<(), AllocError> {
         let line = self.line;
         match self.file {
-            Some(name) if self.has_others => format!(in alloc; "{name} line {line}"),
-            _ => format!(in alloc; "line {line}"),
+            Some(name) if self.has_others => write!(text, "{name} line {line}"),
+            _ => write!(text, "line {line}"),
         }
+    }
+
+    /// The place in words: `line 3`, or `FILE line 3` if the input has several files.
+    pub fn text(&self, alloc: Global) -> Result<String, AllocError> {
+        let mut text = String::new(alloc);
+        self.add_to(&mut text)?;
+        Ok(text)
     }
 }
 
@@ -37,11 +44,16 @@ fn line_count(file: &SourceFile<'_>) -> usize {
     count
 }
 
-/// Returns how many lines of the text of an input are lines of each file.
+/// Returns how many lines of the text of an input are lines of each file. One file has all lines.
 fn line_counts(alloc: Global, files: &[SourceFile<'_>]) -> Result<Vec<usize>, AllocError> {
     let mut counts = Vec::new(alloc);
     for file in files {
-        counts.push(line_count(file))?;
+        let count = if files.len() == 1 {
+            usize::MAX
+        } else {
+            line_count(file)
+        };
+        counts.push(count)?;
     }
     Ok(counts)
 }

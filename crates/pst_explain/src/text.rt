@@ -26,19 +26,14 @@ fn add_heading(
     alloc: Global,
     explanation: &Explanation<'_>,
 ) -> Result<(), AllocError> {
-    let mut heading = Vec::with_capacity(alloc, page.width)?;
-    add_number(&mut heading, explanation.number)?;
-    add(&mut heading, " ")?;
-    let words = explanation.judged.text(alloc)?;
-    add(&mut heading, words.as_str())?;
-    add(&mut heading, " (")?;
+    let mut heading = String::new(alloc);
+    write!(heading, "{} {} (", explanation.number, explanation.judged)?;
     if let Some(place) = &explanation.place {
-        let place = place.text(alloc)?;
-        add(&mut heading, place.as_str())?;
+        place.add_to(&mut heading)?;
     }
-    add(&mut heading, ")")?;
+    heading.push_str(")")?;
     let style = judgement_style(explanation.judged);
-    page.add_heading(alloc, style, heading.as_slice())
+    page.add_heading(alloc, style, heading.as_bytes())
 }
 
 /// Adds that `far` events hold.
