@@ -51,7 +51,7 @@ fn on_answers<R: Threads + Sync>(rt: &R, alloc: Global, input: Input<'_>) -> War
 }
 
 /// The warnings on the judged items of the files, of which some may be refused if `keeps_on`.
-pub fn warnings_answer<R: Threads + Sync>(
+pub fn item_warnings_answer<R: Threads + Sync>(
     rt: &R,
     alloc: Global,
     request: &Request<'_>,

@@ -3,7 +3,7 @@
 use crate::campaigns::{Pool, campaign_answer};
 use crate::examples::comments_answer;
 use crate::explained::{explain_answer, graph_answer, longest_answer};
-use crate::judged::warnings_answer;
+use crate::judged::item_warnings_answer;
 use crate::messages::{beginnings_answer, message_answer, warnings_answer};
 use crate::random::random_answer;
 use pst_messages::Asked;
@@ -77,8 +77,8 @@ pub fn answer_to_request<R: Threads + Wait + Sync + AllocGlobal>(
         "messages" => message_answer(alloc, request, Asked::EachItem)?,
         "beginnings" => beginnings_answer(alloc, request)?,
         "warnings" => warnings_answer(alloc, request)?,
-        "warnings_on_runs" => warnings_answer(rt, alloc, request, false)?,
-        "warnings_on_answers" => warnings_answer(rt, alloc, request, true)?,
+        "warnings_on_runs" => item_warnings_answer(rt, alloc, request, false)?,
+        "warnings_on_answers" => item_warnings_answer(rt, alloc, request, true)?,
         "random" => random_answer(alloc, request)?,
         "campaign" => campaign_answer(rt, pool, request)?,
         _ => String::from_str(alloc, "there is no such question\n")?,
