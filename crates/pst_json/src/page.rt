@@ -7,7 +7,7 @@ pub const BEFORE_DATA: &str = r##"<!DOCTYPE html>
 <head>
 <meta charset="utf-8">
 <meta name="viewport" content="width=device-width, initial-scale=1">
-<meta http-equiv="Content-Security-Policy" content="default-src 'none'; style-src 'sha256-8xJBJ1u20C24EC8UghEJQwHQVKhzPLbm0z65qb+jgBY='; script-src 'sha256-eICjDyPkGKvHZ8VzA6rfgUzymCZ+kNkc82ZxicyptLs='; base-uri 'none'; form-action 'none'">
+<meta http-equiv="Content-Security-Policy" content="default-src 'none'; style-src 'sha256-8xJBJ1u20C24EC8UghEJQwHQVKhzPLbm0z65qb+jgBY='; script-src 'sha256-a8UoCiZCniNTBKqqlpNE0aheIuafT5tPR++gI4x54YM='; base-uri 'none'; form-action 'none'">
 <title>pst explain</title>
 <style>
 /* A color for each branch, and pairs of colors for wrong, right and doubtful. Each is doubled by a letter or a sign. */
@@ -277,6 +277,7 @@ const call = id => item.calls.find(call => call.id === id);
 const callsOf = part => item.calls.filter(call => call.part === part);
 const branches = () => [...BRANCHES.slice(0, Math.max(2, ...item.calls.map(call => BRANCHES.indexOf(call.part) + 1)))];
 const core = () => item.core || [];
+const isLeftOut = member => (item.left_out || []).includes(member);
 const blamed = id => core().find(answer => answer.call === id) || (item.broken && item.broken.call === id ? item.broken : null);
 const orderCount = () => item.search && item.search.orders;
 const command = ({op, args}, owner = item) => op + '(' + args.map(value => spell(value.text, owner)).join(', ') + ')';
@@ -341,8 +342,10 @@ const FAULTS = {DivZero: 'a division by zero', Overflow: 'a number beyond 64 bit
 const CALLBACKS = {post: 'postcondition', pre: 'precondition', next: 'next state'};
 const NO_VALUE = {failed: ' failed, and did not answer', 'not-run': ' was not called, and did not answer'};
 const faultName = outcome => FAULTS[outcome] || outcome;
+const CORE_LEFT_OUT = 'Which answers cannot all be right is left out: the search takes too many steps.';
 function blame() {
   const ids = core().map(answer => chip(answer.call)), isPair = ids.length === 2;
+  if (isLeftOut('core')) return [CORE_LEFT_OUT];
   if (ids.length === 1) return [ids, ' cannot be right, whatever the other calls answered', item.prefix ? '. The prefix alone shows it: no race is needed.' : '.'];
   return [join(ids, ', ', ' and '), isPair ? ' cannot both be right: ' : ' cannot all be right: ',
     orderCount() === 1 ? 'the model does not allow them together. '
@@ -364,7 +367,7 @@ const LEADS = {
     return ['One after another', order && [', as in ', order], ', the calls answer exactly what the model says',
       unmet.length ? ['. The precondition of ', join(unmet, ', ', ' and '), ' is not true there; a recorded run may do that.'] : '.'];
   },
-  fault: () => ['No order explains the answers, and in some ', faultPlace(), '. ', core().length > 0 ? ['Besides, ', blame()] : 'No answer is to blame.'],
+  fault: () => ['No order explains the answers, and in some ', faultPlace(), '. ', isLeftOut('core') ? CORE_LEFT_OUT : core().length > 0 ? ['Besides, ', blame()] : 'No answer is to blame.'],
   broken: () => {
     const {call: id, wanted} = item.broken, reply = call(id).reply.text;
     return [chip(id), NO_VALUE[reply] || ' answered something other than', ' a value of type ', h('code', null, wanted), ' (', reply, ').'];
@@ -483,6 +486,7 @@ const ORDERS = {explains: 'An order that explains it', furthest: 'The order that
 const track = part => h('span', {class: 'track' + ('PX'.includes(part) ? ' all' : '')}, branches().map(branch => h('i', {class: branch === part ? 'on' : null})));
 function orderTitle() {
   if (isOwnPath) return ['An order of your own', button({class: 'tool', 'data-key': 'back', onclick: () => choosePath(verdictPath(), false)}, 'back')];
+  if (isLeftOut('walk')) return 'The order that gets furthest is left out: its search takes too many steps';
   return item.walk ? ORDERS[item.walk.kind] : 'An order';
 }
 

@@ -23,7 +23,11 @@ fn one_byte(place: usize) -> Span {
 
 impl ByteFault {
     /// A fault without notes.
-    fn new<D: Display + Drop>(alloc: Global, span: Span, what: D) -> Result<ByteFault, AllocError> {
+    pub fn new<D: Display + Drop>(
+        alloc: Global,
+        span: Span,
+        what: D,
+    ) -> Result<ByteFault, AllocError> {
         Ok(ByteFault {
             span,
             what: format!(in alloc; "{what}")?,
@@ -32,7 +36,7 @@ impl ByteFault {
     }
 
     /// The fault with one more note.
-    fn with<D: Display + Drop>(self, alloc: Global, note: D) -> Result<ByteFault, AllocError> {
+    pub fn with<D: Display + Drop>(self, alloc: Global, note: D) -> Result<ByteFault, AllocError> {
         let mut wrong = self;
         wrong.add(format!(in alloc; "{note}")?)?;
         Ok(wrong)

@@ -1,6 +1,8 @@
 //! The messages on refused inputs.
 
 use crate::bytes::{ByteFault, byte_fault};
+use crate::command::head_word;
+use crate::json_input::{first_json, json_errors};
 use crate::runs::run_problem;
 use pst_model::Typed;
 use pst_problems::{MOST_PROBLEMS, Problem, form_problems};
@@ -87,23 +89,44 @@ fn file_of_model<'a>(input: &Input<'a>) -> Option<&'a str> {
     None
 }
 
-/// The problems of a model that is refused for its form. If the input begins with no model but one of its files does, a
-/// hint names that file.
-fn of_form(
+/// Whether a tree is a model.
+fn is_model(tree: &Tree) -> bool {
+    matches!(head_word(tree.form()), "model" | "model2")
+}
+
+/// Whether one of the trees is a model.
+fn has_model(trees: &[Tree]) -> bool {
+    trees.iter().any(|tree| is_model(tree))
+}
+
+/// The problems, each with the note `hint`.
+fn with_hint(
     alloc: Global,
-    input: &Input<'_>,
-    trees: &[Tree],
+    problems: Vec<Problem>,
+    hint: &str,
 ) -> Result<Vec<Problem>, AllocError> {
-    let problems = form_problems(alloc, trees)?;
-    let Some(name) = file_of_model(input) else {
-        return Ok(problems);
-    };
     let mut noted = Vec::new(alloc);
     for problem in problems {
-        let hint = format_args!("hint: `{name}` begins with a model: name this file first");
         noted.push(problem.with(alloc, hint)?)?;
     }
     Ok(noted)
+}
+
+/// The problems of a model that is refused for its form. If the input begins with no model but one of its files does, a
+/// hint names that file.
+fn of_form(alloc: Global, input: &Input<'_>, trees: &[Tree]) -> Result<Vec<Problem>, AllocError> {
+    let problems = form_problems(alloc, trees)?;
+    if let Some(name) = file_of_model(input) {
+        let hint = format!(in alloc; "hint: `{name}` begins with a model: name this file first")?;
+        return with_hint(alloc, problems, hint.as_str());
+    }
+    if trees.is_empty() && input.files.len() > 1 {
+        return with_hint(alloc, problems, "hint: the model's file comes first");
+    }
+    if matches!(first_item(input.bytes), Some("case" | "run")) && !has_model(trees) {
+        return with_hint(alloc, problems, "hint: name the model's file first");
+    }
+    Ok(problems)
 }
 
 /// The problems of a model that was read as trees.
@@ -140,11 +163,49 @@ fn of_first_item(
     }
 }
 
+/// The error on the first refused item after a model.
+fn first_notices(
+    alloc: Global,
+    input: &Input<'_>,
+    typed: &Typed,
+    trees: &[Tree],
+) -> Result<Notices, AllocError> {
+    let Some(problem) = of_first_item(alloc, typed, trees)? else {
+        return Ok(Notices::none(alloc));
+    };
+    let number = problem.path.first().copied().unwrap_or(0);
+    let notice = problem_notice(alloc, input, problem);
+    match trees.get(number) {
+        Some(tree) => Notices::one(alloc, with_file_hint(alloc, input, tree, notice)?),
+        None => Notices::one(alloc, notice),
+    }
+}
+
 /// The error on `problem`, which is a problem of the item at the span `item`.
 fn in_item(alloc: Global, input: &Input<'_>, item: Span, problem: Problem) -> Notice {
     let path = problem.path.get(1..).unwrap_or(&[]);
     let span = span_in(input.bytes, item, path);
     notice_of(alloc, span, problem)
+}
+
+/// The error `notice` on `tree`. If the tree is the model of another file than the first, a hint says so.
+fn with_file_hint(
+    alloc: Global,
+    input: &Input<'_>,
+    tree: &Tree,
+    notice: Notice,
+) -> Result<Notice, AllocError> {
+    let part = input.part_at(notice.span);
+    let Some(first) = input.files.first() else {
+        return Ok(notice);
+    };
+    if !is_model(tree) || part.number == 0 {
+        return Ok(notice);
+    }
+    let (name, first) = (part.name, first.name);
+    let mut notes = Vec::new(alloc);
+    notes.push(format!(in alloc; "hint: `{name}` has a model of its own: leave out `{first}`")?)?;
+    Ok(Notice { notes, ..notice })
 }
 
 /// Adds the line that counts the refused items without a message, if there are some.
@@ -183,7 +244,10 @@ fn of_each_item(
                 ..fault
             };
             if let Some(problem) = run_problem(alloc, typed.source(), tree.form(), fault)? {
-                notices.all.push(in_item(alloc, input, span, problem))?;
+                let notice = in_item(alloc, input, span, problem);
+                notices
+                    .all
+                    .push(with_file_hint(alloc, input, tree, notice)?)?;
             }
         }
         refused = refused.saturating_add(1);
@@ -202,18 +266,14 @@ fn of_items(
     let trees = file.trees.as_slice();
     match asked {
         Asked::Model => Ok(Notices::none(alloc)),
-        Asked::FirstItem => match of_first_item(alloc, &file.typed, trees)? {
-            Some(problem) => Notices::one(alloc, problem_notice(alloc, input, problem)),
-            None => Ok(Notices::none(alloc)),
-        },
+        Asked::FirstItem => first_notices(alloc, input, &file.typed, trees),
         Asked::EachItem => of_each_item(alloc, input, &file.typed, trees, MOST_PROBLEMS),
         Asked::AllItems => of_each_item(alloc, input, &file.typed, trees, usize::MAX),
     }
 }
 
-/// The errors of an input: for each the bytes that are wrong, what was expected and found, and hints. There are none if
-/// no part that `asked` selects is refused.
-pub fn errors_of(alloc: Global, input: &Input<'_>, asked: Asked) -> Result<Notices, AllocError> {
+/// The errors of an input without JSON items.
+pub fn tree_errors(alloc: Global, input: &Input<'_>, asked: Asked) -> Result<Notices, AllocError> {
     match load(alloc, input.bytes)? {
         Ok(file) => of_items(alloc, input, &file, asked),
         Err(Refusal::Unread(refused)) => {
@@ -232,6 +292,15 @@ pub fn errors_of(alloc: Global, input: &Input<'_>, asked: Asked) -> Result<Notic
             let problems = of_model(alloc, input, &refusal)?;
             problem_notices(alloc, input, problems)
         }
+    }
+}
+
+/// The errors of an input: for each the bytes that are wrong, what was expected and found, and hints. There are none if
+/// no part that `asked` selects is refused. Lines that begin with `{` are items as JSON.
+pub fn errors_of(alloc: Global, input: &Input<'_>, asked: Asked) -> Result<Notices, AllocError> {
+    match first_json(input.bytes) {
+        Some(place) => json_errors(alloc, input, asked, place),
+        None => tree_errors(alloc, input, asked),
     }
 }
 

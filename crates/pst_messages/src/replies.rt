@@ -17,7 +17,7 @@ struct Reply<'a> {
 }
 
 /// The number of the `(replies ..)` tree among the trees of a run, and its lists.
-fn lists_of(form: &Form) -> Option<(usize, &[Form])> {
+pub fn lists_of(form: &Form) -> Option<(usize, &[Form])> {
     for (place, part) in trees_in(form).iter().enumerate() {
         if is_headed(part, "replies") {
             return Some((place, after_head(part)));

@@ -1,12 +1,14 @@
 //! The form of cases and runs.
 
 use crate::command::{
-    Command, Head, LEFT, PREFIX, Part, RIGHT, SUFFIX, branch_part, head_word, headed_part,
-    is_headed, trees_in,
+    Command, Head, LEFT, PREFIX, Part, RIGHT, SUFFIX, after_head, branch_part, head_word,
+    headed_part, is_headed, parts_of_case, trees_in,
 };
+use crate::replies::lists_of;
 use crate::shown::wrong_tree;
 use pst_problems::{
-    DidYouMean, FoundProblem, NearestName, head_of, noted_at, with_note, wrong, wrong_at,
+    DidYouMean, FoundProblem, NearestName, counted, head_of, noted, noted_at, with_note, wrong,
+    wrong_at,
 };
 use pst_sexpr::{Form, node_of};
 use std::alloc::{AllocError, Global};
@@ -73,6 +75,14 @@ impl fmt::Display for Written {
 /// Whether one of the trees in `form` has the head `word`.
 fn has_part(form: &Form, word: &str) -> bool {
     trees_in(form).iter().any(|part| is_headed(part, word))
+}
+
+/// The number of branches of an item.
+fn branches_in(form: &Form) -> usize {
+    match trees_in(form).get(BRANCHES) {
+        Some(branches) if is_headed(branches, "branches") => after_head(branches).len(),
+        _ => 2,
+    }
 }
 
 /// The number of the tree that has all branches.
@@ -248,11 +258,65 @@ fn fault_problem(alloc: Global, item: usize, form: &Form, fault: Fault<'_>) -> F
     }
 }
 
+/// The names of the parts of an item with a list of replies each.
+#[derive(Clone, Copy, Drop)]
+struct PartNames {
+    branches: usize,
+    has_suffix: bool,
+}
+
+impl fmt::Display for PartNames {
+    fn fmt<W: fmt::Write>(&self, f: &mut fmt::Formatter<W>) -> fmt::Result {
+        let branches = self.branches;
+        let suffix = if self.has_suffix { ", suffix" } else { "" };
+        write!(f, "prefix, {branches} branches{suffix}")
+    }
+}
+
+/// The problem of a run with `lists` lists of replies for `parts` parts, which are named by `names`.
+fn list_count_problem(
+    alloc: Global,
+    item: usize,
+    lists: usize,
+    parts: usize,
+    names: PartNames,
+) -> FoundProblem {
+    let has = counted(lists, "list");
+    let what = format_args!(
+        "the replies are lists, one for each part: {parts} parts ({names}), {has}"
+    );
+    if lists.saturating_add(1) == parts {
+        return noted(
+            alloc,
+            &[item],
+            what,
+            "hint: the prefix has a list too, which may be empty",
+        );
+    }
+    wrong(alloc, &[item], what)
+}
+
+/// The problem of the replies of a run.
+fn lists_problem(alloc: Global, item: usize, form: &Form) -> FoundProblem {
+    let parts = parts_of_case(alloc, form)?;
+    let parts = parts.len();
+    let names = PartNames {
+        branches: branches_in(form),
+        has_suffix: has_part(form, "suffix"),
+    };
+    match lists_of(form) {
+        Some((_, lists)) if lists.len() != parts => {
+            list_count_problem(alloc, item, lists.len(), parts, names)
+        }
+        _ => wrong(alloc, &[item], "the replies are lists, one for each part"),
+    }
+}
+
 /// The problem of the parts of a case or a run.
 fn parts_problem(alloc: Global, item: usize, form: &Form, is_run: bool) -> FoundProblem {
     match fault_of(trees_in(form), is_run) {
         Some(fault) => fault_problem(alloc, item, form, fault),
-        None => wrong(alloc, &[item], "the replies are lists, one for each part"),
+        None => lists_problem(alloc, item, form),
     }
 }
 
@@ -289,10 +353,24 @@ fn form_problem(alloc: Global, item: usize, form: &Form) -> FoundProblem {
     }
 }
 
+/// The note on items as JSON.
+pub const JSON_ITEM: &str = "an item as JSON is one object on one line, which begins with `{`";
+
+/// Whether a tree is probably a piece of JSON.
+fn is_bracketed(form: &Form) -> bool {
+    match form {
+        Form::Word(word) => matches!(word.as_bytes().first(), Some(b'[' | b'{' | b']' | b'}')),
+        Form::Text(_) | Form::Node(_) => false,
+    }
+}
+
 /// The problem of item `item`, which has another form than a case or a run. A note shows the form that is probably
 /// meant.
 pub fn bad_form(alloc: Global, item: usize, form: &Form) -> FoundProblem {
     let found = form_problem(alloc, item, form)?;
+    if is_bracketed(form) {
+        return with_note(alloc, found, JSON_ITEM);
+    }
     let is_run = match head_meant(alloc, head_word(form))? {
         Some(DidYouMean(head)) => head == "run",
         None => false,

@@ -5,9 +5,10 @@ use crate::lists::{fold_problem, for_problem, list_problem, nth_problem};
 use crate::operands::{ill_first, wanted_map, wanted_sequence, wanted_tuple, wanted_type};
 use crate::spelling::spelled;
 use crate::trees::head_word;
-use pst_model::Expr;
+use pst_model::{Expr, Op};
 use pst_problems::{
-    FoundProblem, Listed, Problem, is_of_maps, key_word, nearest, noted, with_note, wrong, wrong_at,
+    FoundProblem, Listed, Problem, is_of_maps, key_word, nearest, noted, operation, with_note,
+    wrong, wrong_at,
 };
 use pst_sexpr::{Form, word_of};
 use pst_typing::{Context, Kind, KindForm};
@@ -41,11 +42,12 @@ fn with_names(leaf: &BlamedPart<'_>, found: Option<Problem>) -> FoundProblem {
     with_note(leaf.alloc, found, format_args!("names known here: {names}"))
 }
 
-/// A hint for a name that only callbacks see.
-fn callback_hint(name: &str) -> Option<&'static str> {
+/// A hint for a name that only callbacks see, or that other languages have.
+fn fixed_hint(name: &str) -> Option<&'static str> {
     match name {
         "s" => Some("hint: only callbacks see the state `s`: give it as a parameter"),
         "r" => Some("hint: only next and post see the result `r`"),
+        "null" => Some("hint: there is no null; an option is a list: `(list int)`"),
         _ => None,
     }
 }
@@ -63,10 +65,24 @@ fn unknown_noted<N: Display + Drop>(leaf: &BlamedPart<'_>, name: &str, hint: N) 
     with_note(leaf.alloc, no_meaning(leaf, name)?, hint)
 }
 
+/// The problem of the name of the operation `op` in the place of a call of it.
+fn named_operation(leaf: &BlamedPart<'_>, op: &Op) -> FoundProblem {
+    let name = op.name.as_str();
+    let arguments = if op.params.is_empty() { "" } else { " .." };
+    unknown_noted(
+        leaf,
+        name,
+        format_args!("hint: `{name}` is an operation: a call of it is `(call {name}{arguments})`"),
+    )
+}
+
 /// The problem of the name `name`, which nothing has here, with a hint if there is one.
 fn unknown_name_problem(leaf: &BlamedPart<'_>, name: &str) -> FoundProblem {
-    if let Some(hint) = callback_hint(name) {
+    if let Some(hint) = fixed_hint(name) {
         return unknown_noted(leaf, name, hint);
+    }
+    if let Some(op) = operation(leaf.context.items, name) {
+        return named_operation(leaf, op);
     }
     match nearest(leaf.alloc, leaf.names, name)? {
         Some(hint) => unknown_noted(leaf, name, hint),

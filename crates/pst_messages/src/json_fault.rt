@@ -1,0 +1,225 @@
+//! What is wrong with the form of a JSON item.
+
+use crate::bytes::ByteFault;
+use crate::json_places::{JsonParts, first_byte, is_array, value_at};
+use crate::shape::JSON_ITEM;
+use json::{Error, MAX_DEPTH, Reader, Scratch, Value as Json};
+use pst_problems::NearestName;
+use pst_sources::Span;
+use std::alloc::{AllocError, Global};
+
+/// A fault of a JSON item, if it has one.
+type FoundFault = Result<Option<ByteFault>, AllocError>;
+
+/// How a call is written.
+const CALL: &str = "a call is an array: `[\"OPERATION\", VALUE, ..]`";
+
+/// The note on an array of calls in the place of one call.
+const CALLS: &str = "hint: a branch is an array of calls: `[[[\"inc\"]],[[\"get\"]]]`";
+
+/// The bytes of a value, of a long one the first.
+pub fn shown(line: &[u8], value: Span) -> &str {
+    let end = value.end.min(value.start.saturating_add(40));
+    match line.get(value.start..end) {
+        Some(bytes) => str::from_utf8(bytes).unwrap_or(".."),
+        None => "",
+    }
+}
+
+/// The fault at the bytes from `start` on, with a note.
+fn noted_fault(alloc: Global, span: Span, what: &str, note: &str) -> FoundFault {
+    Ok(Some(ByteFault::new(alloc, span, what)?.with(alloc, note)?))
+}
+
+/// The fault of the value at `span`, which is not `what`.
+fn found_fault(alloc: Global, line: &[u8], span: Span, what: &str, note: &str) -> FoundFault {
+    let found = shown(line, span);
+    let fault = ByteFault::new(alloc, span, format_args!("{what}, found `{found}`"))?;
+    if note.is_empty() {
+        return Ok(Some(fault));
+    }
+    Ok(Some(fault.with(alloc, note)?))
+}
+
+/// Whether a value is an array that begins with a string, as calls do.
+fn is_call(line: &[u8], value: Span) -> bool {
+    is_array(line, value) && first_byte(line, value_at(line, value.start.saturating_add(1))) == b'"'
+}
+
+/// The fault of the first value of an array that is no call, if there is one.
+fn call_fault(alloc: Global, line: &[u8], calls: Span, note: &str) -> FoundFault {
+    let mut parts = JsonParts::of(calls);
+    for _ in calls.start..calls.end {
+        let Some(call) = parts.next(line) else {
+            return Ok(None);
+        };
+        if !is_call(line, call) {
+            let found = shown(line, call);
+            let what = format_args!("`{found}` is not a call");
+            return Ok(Some(ByteFault::new(alloc, call, what)?.with(alloc, note)?));
+        }
+    }
+    Ok(None)
+}
+
+/// The fault of the prefix or the suffix, if it has one.
+fn part_fault(alloc: Global, line: &[u8], part: Span) -> FoundFault {
+    if !is_array(line, part) {
+        return found_fault(alloc, line, part, "expected an array of calls", CALL);
+    }
+    call_fault(alloc, line, part, CALL)
+}
+
+/// The fault of a branch, if it has one.
+fn branch_fault(alloc: Global, line: &[u8], branch: Span) -> FoundFault {
+    if !is_array(line, branch) {
+        return found_fault(alloc, line, branch, "a branch is an array of calls", CALL);
+    }
+    let note = if is_call(line, branch) { CALLS } else { CALL };
+    call_fault(alloc, line, branch, note)
+}
+
+/// The fault of the branches, if they have one.
+fn branches_fault(alloc: Global, line: &[u8], branches: Span) -> FoundFault {
+    if !is_array(line, branches) {
+        return found_fault(
+            alloc,
+            line,
+            branches,
+            "expected an array of branches",
+            CALLS,
+        );
+    }
+    let mut parts = JsonParts::of(branches);
+    for _ in branches.start..branches.end {
+        let Some(branch) = parts.next(line) else {
+            return Ok(None);
+        };
+        let found = branch_fault(alloc, line, branch)?;
+        if found.is_some() {
+            return Ok(found);
+        }
+    }
+    Ok(None)
+}
+
+/// The fault of the replies, if they are no array of arrays.
+fn replies_fault(alloc: Global, line: &[u8], replies: Span) -> FoundFault {
+    let what = "the replies are arrays in an array, one for each part";
+    if !is_array(line, replies) {
+        return found_fault(alloc, line, replies, what, "");
+    }
+    let mut parts = JsonParts::of(replies);
+    for _ in replies.start..replies.end {
+        match parts.next(line) {
+            Some(list) if !is_array(line, list) => {
+                return found_fault(alloc, line, list, what, "");
+            }
+            Some(_) => {}
+            None => return Ok(None),
+        }
+    }
+    Ok(None)
+}
+
+/// The fault of the member `name`, whose key is at `key`. No item has such a member.
+fn unknown_member(alloc: Global, name: &str, key: Span) -> FoundFault {
+    let what = format_args!("unknown member `{name}`: prefix, branches, suffix, replies");
+    let fault = ByteFault::new(alloc, key, what)?;
+    let near = NearestName::to(name)
+        .or(alloc, "prefix", name)?
+        .or(alloc, "branches", name)?
+        .or(alloc, "suffix", name)?
+        .or(alloc, "replies", name)?;
+    match near.hint() {
+        Some(hint) => Ok(Some(fault.with(alloc, hint)?)),
+        None => Ok(Some(fault)),
+    }
+}
+
+/// The fault of the member `name`, if its value has one.
+fn member_fault(alloc: Global, line: &[u8], name: &str, key: Span, value: Span) -> FoundFault {
+    match name {
+        "prefix" | "suffix" => part_fault(alloc, line, value),
+        "branches" => branches_fault(alloc, line, value),
+        "replies" => replies_fault(alloc, line, value),
+        _ => unknown_member(alloc, name, key),
+    }
+}
+
+/// Whether one of the first `count` members has the name `name`.
+fn is_among(members: &[(&str, Json<'_>)], count: usize, name: &str) -> bool {
+    members.iter().take(count).any(|(other, _)| *other == name)
+}
+
+/// The fault of a member, if it has one.
+fn first_fault(alloc: Global, line: &[u8], members: &[(&str, Json<'_>)]) -> FoundFault {
+    let mut parts = JsonParts::of(value_at(line, 0));
+    for (number, (name, _)) in members.iter().enumerate() {
+        let (Some(key), Some(value)) = (parts.next(line), parts.next(line)) else {
+            return Ok(None);
+        };
+        let found = member_fault(alloc, line, name, key, value)?;
+        if found.is_some() {
+            return Ok(found);
+        }
+        if is_among(members, number, name) {
+            let what = format_args!("the member `{name}` is there twice");
+            return Ok(Some(ByteFault::new(alloc, key, what)?));
+        }
+    }
+    Ok(None)
+}
+
+/// The fault of the members of an item, if they have one.
+fn members_fault(alloc: Global, line: &[u8], members: &[(&str, Json<'_>)]) -> FoundFault {
+    let found = first_fault(alloc, line, members)?;
+    if found.is_some() || is_among(members, members.len(), "branches") {
+        return Ok(found);
+    }
+    noted_fault(
+        alloc,
+        value_at(line, 0),
+        "the member `branches` is missing",
+        CALLS,
+    )
+}
+
+/// The place in `text` from which on it is no JSON.
+fn bad_place(alloc: Global, text: &str) -> Result<usize, AllocError> {
+    let mut scratch = Scratch::new(alloc);
+    let mut reader = Reader::new(text, &mut scratch)?;
+    let _ = reader.skip_value(MAX_DEPTH);
+    Ok(reader.offset())
+}
+
+/// The fault of a line that is no JSON.
+fn no_json(alloc: Global, text: &str) -> FoundFault {
+    let place = bad_place(alloc, text)?.min(text.len());
+    let column = place.saturating_add(1);
+    let span = Span {
+        start: place,
+        end: column,
+    };
+    if place >= text.trim_end().len() {
+        let what = "no JSON: the object is not closed on its line";
+        return noted_fault(alloc, span, what, JSON_ITEM);
+    }
+    let what = format_args!("no JSON at column {column}");
+    Ok(Some(ByteFault::new(alloc, span, what)?.with(alloc, JSON_ITEM)?))
+}
+
+/// The fault of the form of the JSON item on a line, if it has one.
+pub fn json_fault(alloc: Global, line: &[u8]) -> FoundFault {
+    let Ok(text) = str::from_utf8(line) else {
+        let what = "no JSON: the line is not UTF-8";
+        return Ok(Some(ByteFault::new(alloc, value_at(line, 0), what)?));
+    };
+    let mut scratch = Scratch::new(alloc);
+    match Json::parse(alloc, text, &mut scratch) {
+        Ok(Json::Object(members)) => members_fault(alloc, line, members.as_slice()),
+        Ok(_) => Ok(None),
+        Err(Error::OutOfMemory) => Err(AllocError),
+        Err(_) => no_json(alloc, text),
+    }
+}

@@ -1,0 +1,167 @@
+//! The messages on inputs with JSON items.
+
+use crate::bytes::ByteFault;
+use crate::json_item::item_fault;
+use crate::message::{Asked, tree_errors};
+use pst_json_runs::{has_json, trees_text};
+use pst_model::{Source, Typed};
+use pst_sexpr::MAX_BYTES;
+use pst_sources::{Input, Notice, Notices, SourceFile, Span};
+use pst_typing::load;
+use std::alloc::{AllocError, Global};
+
+/// The line that begins at `place`, without its end.
+fn line_at(text: &[u8], place: usize) -> &[u8] {
+    for at in place..text.len() {
+        if text.get(at) == Some(&b'\n') {
+            return text.get(place..at).unwrap_or(&[]);
+        }
+    }
+    text.get(place..).unwrap_or(&[])
+}
+
+/// The place of the first line with a JSON item.
+pub fn first_json(text: &[u8]) -> Option<usize> {
+    let mut is_begin = true;
+    for (place, byte) in text.iter().enumerate() {
+        if is_begin && *byte == b'{' {
+            return Some(place);
+        }
+        is_begin = *byte == b'\n';
+    }
+    None
+}
+
+/// The beginnings of one line in a text with JSON items, and in the text with trees in place of them.
+#[derive(Clone, Copy, Drop)]
+struct LinePair {
+    json: usize,
+    tree: usize,
+}
+
+impl LinePair {
+    /// The first line.
+    fn first() -> LinePair {
+        LinePair { json: 0, tree: 0 }
+    }
+
+    /// The line that `place` is in, which is a place in the text with trees. It is this line or a later one.
+    fn on_to(self, json: &[u8], trees: &[u8], place: usize) -> LinePair {
+        let mut pair = self;
+        for at in self.tree..place {
+            if trees.get(at) == Some(&b'\n') {
+                let length = line_at(json, pair.json).len();
+                pair = LinePair {
+                    json: pair.json.saturating_add(length).saturating_add(1),
+                    tree: at.saturating_add(1),
+                };
+            }
+        }
+        pair
+    }
+
+    /// The place in the text with JSON items of a place in this line of the other text.
+    fn place_in_json(self, place: usize) -> usize {
+        place.saturating_sub(self.tree).saturating_add(self.json)
+    }
+}
+
+/// The error on the fault of the JSON item whose line begins at `start`.
+fn notice_of(alloc: Global, start: usize, fault: ByteFault) -> Notice {
+    let ByteFault { span, what, notes } = fault;
+    Notice {
+        span: Span {
+            start: start.saturating_add(span.start),
+            end: start.saturating_add(span.end),
+        },
+        is_warning: false,
+        what,
+        notes,
+        lines: String::new(alloc),
+    }
+}
+
+/// The error `notice`, which is about the text with trees, as an error on the text with JSON items.
+fn json_notice(
+    alloc: Global,
+    typed: &Typed,
+    json: &[u8],
+    pair: LinePair,
+    notice: Notice,
+) -> Result<Notice, AllocError> {
+    let line = line_at(json, pair.json);
+    if has_json(line) {
+        if let Some(fault) = item_fault(alloc, typed, line)? {
+            return Ok(notice_of(alloc, pair.json, fault));
+        }
+    }
+    let span = Span {
+        start: pair.place_in_json(notice.span.start),
+        end: pair.place_in_json(notice.span.end),
+    };
+    Ok(Notice { span, ..notice })
+}
+
+/// The files with a tree in place of each JSON item.
+fn tree_files<'a>(
+    alloc: Global,
+    model: &Source,
+    files: &[SourceFile<'a>],
+) -> Result<Vec<SourceFile<'a>>, AllocError> {
+    let mut all = Vec::new(alloc);
+    for file in files {
+        let bytes = trees_text(alloc, model, file.bytes.as_slice())?;
+        let name = file.name;
+        all.push(SourceFile { name, bytes })?;
+    }
+    Ok(all)
+}
+
+/// The errors of an input whose model is read.
+fn item_errors(
+    alloc: Global,
+    input: &Input<'_>,
+    typed: &Typed,
+    asked: Asked,
+) -> Result<Notices, AllocError> {
+    let files = tree_files(alloc, typed.source(), input.files)?;
+    let text = trees_text(alloc, typed.source(), input.bytes)?;
+    let trees = Input {
+        files: files.as_slice(),
+        bytes: text.as_slice(),
+    };
+    let Notices { all, more } = tree_errors(alloc, &trees, asked)?;
+    let mut notices = Notices {
+        all: Vec::new(alloc),
+        more,
+    };
+    let mut pair = LinePair::first();
+    for notice in all {
+        pair = pair.on_to(input.bytes, trees.bytes, notice.span.start);
+        notices
+            .all
+            .push(json_notice(alloc, typed, input.bytes, pair, notice)?)?;
+    }
+    Ok(notices)
+}
+
+/// The errors of an input whose first JSON item is at `place`. If the model is refused, they are those of the text
+/// before this item.
+pub fn json_errors(
+    alloc: Global,
+    input: &Input<'_>,
+    asked: Asked,
+    place: usize,
+) -> Result<Notices, AllocError> {
+    if input.bytes.len() > MAX_BYTES {
+        return tree_errors(alloc, input, asked);
+    }
+    let head = input.bytes.get(..place).unwrap_or(&[]);
+    match load(alloc, head)? {
+        Ok(file) => item_errors(alloc, input, &file.typed, asked),
+        Err(_) => {
+            let files = input.files;
+            tree_errors(alloc, &Input { files, bytes: head }, asked)
+        }
+    }
+}

@@ -1,0 +1,186 @@
+//! Refused JSON items.
+
+use crate::bytes::ByteFault;
+use crate::command::{head_word, trees_in};
+use crate::json_fault::{json_fault, shown};
+use crate::json_places::{JsonParts, first_byte, item_of, value_at};
+use crate::runs::run_problem;
+use pst_json_runs::json_tree;
+use pst_model::Typed;
+use pst_problems::Problem;
+use pst_runs::read_runs;
+use pst_sexpr::Form;
+use pst_sources::Span;
+use std::alloc::{AllocError, Global};
+use std::slice;
+
+/// What a message shows of a value that JSON does not spell.
+const NOTHING: &str = "`()`";
+
+/// The value of the member `name` of an item, or all its bytes.
+fn member(line: &[u8], name: &str) -> Span {
+    let whole = value_at(line, 0);
+    let mut parts = JsonParts::of(whole);
+    for _ in whole.start..whole.end {
+        let (Some(key), Some(value)) = (parts.next(line), parts.next(line)) else {
+            return whole;
+        };
+        let inner = line.get(key.start.saturating_add(1)..key.end.saturating_sub(1));
+        if inner == Some(name.as_bytes()) {
+            return value;
+        }
+    }
+    whole
+}
+
+/// The JSON of the part of an item whose tree has the head `head`, and how many numbers after the first of a path lead
+/// through trees without a head of their own.
+fn section(line: &[u8], head: &str) -> (Span, usize) {
+    match head {
+        "left" => (item_of(line, member(line, "branches"), 0), 1),
+        "right" => (item_of(line, member(line, "branches"), 1), 1),
+        "branches" => (member(line, head), 2),
+        _ => (member(line, head), 1),
+    }
+}
+
+/// The JSON of the tree at `path` in `tree`, the tree of the JSON item on a line. It is an array around it where trees and
+/// JSON differ in their parts.
+fn json_at(line: &[u8], tree: &Form, path: &[usize]) -> Span {
+    let Some((place, rest)) = path.split_first() else {
+        return value_at(line, 0);
+    };
+    let head = match trees_in(tree).get(*place) {
+        Some(part) => head_word(part),
+        None => "",
+    };
+    let (mut found, plain) = section(line, head);
+    for (level, number) in rest.iter().enumerate() {
+        let has_head = level == 0 || level > plain;
+        let before = if has_head { 1 } else { 0 };
+        if *number < before {
+            return found;
+        }
+        found = item_of(line, found, *number - before);
+    }
+    found
+}
+
+/// Whether a string of JSON is printable ASCII without escapes of other characters.
+fn is_printable(bytes: &[u8]) -> bool {
+    let mut is_escaped = false;
+    for byte in bytes {
+        if *byte < b' ' || *byte > b'~' || (is_escaped && !matches!(*byte, b'"' | b'\\' | b'/')) {
+            return false;
+        }
+        is_escaped = !is_escaped && *byte == b'\\';
+    }
+    true
+}
+
+/// A hint on a value that is no array and no object, if no model has such a value.
+fn hint_on(line: &[u8], value: Span) -> Option<&'static str> {
+    let bytes = line.get(value.start..value.end).unwrap_or(&[]);
+    match first_byte(line, value) {
+        b'"' if !is_printable(bytes) => Some("hint: printable ASCII only"),
+        b'-' | b'0'..=b'9' if shown(line, value).parse::<i64>().is_err() => {
+            Some("hint: integers only, from -9223372036854775808 to 9223372036854775807")
+        }
+        b'n' => Some("hint: there is no null; an option is a list: `[]` or `[1]`"),
+        b'{' => Some(
+            "hint: an object is a map, which only a `model2` has, or `{\"result\":n}` for a `ref`",
+        ),
+        _ => None,
+    }
+}
+
+/// The first value in an array that no model has, with a hint, or else the array itself without one.
+fn least_bad(line: &[u8], value: Span) -> (Span, Option<&'static str>) {
+    let mut found = (value, hint_on(line, value));
+    for at in value.start..value.end {
+        if found.1.is_some() {
+            return found;
+        }
+        let part = value_at(line, at);
+        let is_begun = at == part.start && part.start < part.end;
+        if is_begun && matches!(first_byte(line, part), b'"' | b'-' | b'0'..=b'9' | b'n') {
+            found = (part, hint_on(line, part));
+        }
+    }
+    match found.1 {
+        Some(_) => found,
+        None => (value, None),
+    }
+}
+
+/// Whether a note says how a tree is written.
+fn is_on_trees(note: &str) -> bool {
+    note.starts_with("it is written `(")
+        || note.starts_with("a call is `(")
+        || note.starts_with("a reply is an integer,")
+}
+
+/// The fault with the notes that are not on trees.
+fn with_notes(alloc: Global, fault: ByteFault, notes: &[String]) -> Result<ByteFault, AllocError> {
+    let mut fault = fault;
+    for note in notes {
+        if !is_on_trees(note.as_str()) {
+            fault = fault.with(alloc, note.as_str())?;
+        }
+    }
+    Ok(fault)
+}
+
+/// The fault at `value`, about which a message shows the value instead of `()`.
+fn value_fault(
+    alloc: Global,
+    line: &[u8],
+    value: Span,
+    before: &str,
+    after: &str,
+) -> Result<ByteFault, AllocError> {
+    let (span, hint) = least_bad(line, value);
+    let found = shown(line, value);
+    let fault = ByteFault::new(alloc, span, format_args!("{before}`{found}`{after}"))?;
+    match hint {
+        Some(hint) => fault.with(alloc, hint),
+        None => Ok(fault),
+    }
+}
+
+/// The fault that `problem`, a problem of the tree of a JSON item, is in the JSON.
+fn fault_of(
+    alloc: Global,
+    line: &[u8],
+    tree: &Form,
+    problem: &Problem,
+) -> Result<ByteFault, AllocError> {
+    let path = problem.path.as_slice().get(1..).unwrap_or(&[]);
+    let value = json_at(line, tree, path);
+    let what = problem.what.as_str();
+    let fault = match what.split_once(NOTHING) {
+        Some((before, after)) => value_fault(alloc, line, value, before, after)?,
+        None => ByteFault::new(alloc, value, what)?,
+    };
+    with_notes(alloc, fault, problem.notes.as_slice())
+}
+
+/// The fault of the JSON item on a line, if it is refused.
+pub fn item_fault(
+    alloc: Global,
+    typed: &Typed,
+    line: &[u8],
+) -> Result<Option<ByteFault>, AllocError> {
+    let found = json_fault(alloc, line)?;
+    if found.is_some() {
+        return Ok(found);
+    }
+    let tree = json_tree(alloc, typed.source(), line)?;
+    let Err(fault) = read_runs(alloc, typed, slice::from_ref(&tree)) else {
+        return Ok(None);
+    };
+    match run_problem(alloc, typed.source(), tree.form(), fault)? {
+        Some(problem) => Ok(Some(fault_of(alloc, line, tree.form(), &problem)?)),
+        None => Ok(None),
+    }
+}

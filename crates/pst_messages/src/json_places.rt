@@ -1,0 +1,161 @@
+//! Places in a line of JSON.
+//!
+//! The line is JSON. Of another line, some places come back, each of them in the line or at its end.
+
+use pst_sources::Span;
+
+/// Whether a byte is white space of JSON.
+fn is_space(byte: u8) -> bool {
+    matches!(byte, b' ' | b'\t' | b'\r' | b'\n')
+}
+
+/// The place of the first byte from `from` on that is no white space.
+fn skip_space(line: &[u8], from: usize) -> usize {
+    for at in from..line.len() {
+        match line.get(at) {
+            Some(byte) if is_space(*byte) => {}
+            _ => return at,
+        }
+    }
+    line.len()
+}
+
+/// The end of the number or the word that begins at `start`.
+fn word_end(line: &[u8], start: usize) -> usize {
+    for at in start..line.len() {
+        match line.get(at) {
+            Some(b',' | b':' | b'[' | b']' | b'{' | b'}' | b'"') => return at,
+            Some(byte) if !is_space(*byte) => {}
+            _ => return at,
+        }
+    }
+    line.len()
+}
+
+/// Where a scan of JSON is.
+#[derive(Clone, Copy, Drop)]
+struct Scan {
+    /// The number of open brackets.
+    depth: usize,
+    /// It is in a string.
+    is_string: bool,
+    /// The next byte is escaped.
+    is_escaped: bool,
+}
+
+impl Scan {
+    /// The scan after the byte `byte` of a string.
+    fn in_string(self, byte: u8) -> Scan {
+        Scan {
+            is_string: self.is_escaped || byte != b'"',
+            is_escaped: !self.is_escaped && byte == b'\\',
+            ..self
+        }
+    }
+
+    /// The scan after the byte `byte`.
+    fn after(self, byte: u8) -> Scan {
+        if self.is_string {
+            return self.in_string(byte);
+        }
+        match byte {
+            b'"' => Scan {
+                is_string: true,
+                ..self
+            },
+            b'[' | b'{' => Scan {
+                depth: self.depth.saturating_add(1),
+                ..self
+            },
+            b']' | b'}' => Scan {
+                depth: self.depth.saturating_sub(1),
+                ..self
+            },
+            _ => self,
+        }
+    }
+}
+
+/// The end of the string, the array or the object that begins at `start`.
+fn closed_end(line: &[u8], start: usize) -> usize {
+    let mut scan = Scan {
+        depth: 0,
+        is_string: false,
+        is_escaped: false,
+    };
+    for at in start..line.len() {
+        let Some(byte) = line.get(at) else {
+            return at;
+        };
+        scan = scan.after(*byte);
+        if scan.depth == 0 && !scan.is_string {
+            return at.saturating_add(1);
+        }
+    }
+    line.len()
+}
+
+/// The bytes of the first value from `from` on. They are empty if there is none before a closing bracket.
+pub fn value_at(line: &[u8], from: usize) -> Span {
+    let start = skip_space(line, from);
+    let end = match line.get(start) {
+        Some(b'"' | b'[' | b'{') => closed_end(line, start),
+        Some(_) => word_end(line, start),
+        None => start,
+    };
+    Span { start, end }
+}
+
+/// The first byte of a value, or 0.
+pub fn first_byte(line: &[u8], value: Span) -> u8 {
+    match line.get(value.start) {
+        Some(byte) => *byte,
+        None => 0,
+    }
+}
+
+/// Whether a value is an array.
+pub fn is_array(line: &[u8], value: Span) -> bool {
+    first_byte(line, value) == b'['
+}
+
+/// The values of an array, or the keys and values of an object, from a place on.
+#[derive(Clone, Copy, Drop)]
+pub struct JsonParts {
+    at: usize,
+}
+
+impl JsonParts {
+    /// All parts of an array or an object.
+    pub fn of(value: Span) -> JsonParts {
+        JsonParts {
+            at: value.start.saturating_add(1),
+        }
+    }
+
+    /// The next part, if there is one.
+    pub fn next(&mut self, line: &[u8]) -> Option<Span> {
+        let part = value_at(line, self.at);
+        if part.start >= part.end {
+            return None;
+        }
+        let end = skip_space(line, part.end);
+        self.at = match line.get(end) {
+            Some(b',' | b':') => end.saturating_add(1),
+            _ => end,
+        };
+        Some(part)
+    }
+}
+
+/// Part `number`, from 0, of an array, or else the value itself.
+pub fn item_of(line: &[u8], value: Span, number: usize) -> Span {
+    if !is_array(line, value) {
+        return value;
+    }
+    let mut parts = JsonParts::of(value);
+    for _ in 0..number {
+        let _ = parts.next(line);
+    }
+    parts.next(line).unwrap_or(value)
+}
