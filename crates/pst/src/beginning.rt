@@ -1,4 +1,5 @@
-//! The explanation of the least failure of a campaign, with a note if its first call is wrong in the initial state.
+//! The explanation of the least failure of a campaign, with a note if its first call is wrong or faults in
+//! the initial state.
 
 use crate::explained;
 use pst_case::{Case, Command, History, Reply};
@@ -12,9 +13,21 @@ const WIDTH: usize = 80;
 /// The words of an explanation of one wrong answer.
 const ONE_WRONG: &str = "This answer cannot be right";
 
-/// The note.
+/// The note on a wrong answer.
 const NOTE: &str = "  The first call is already wrong in the initial state of the model: does reset
   restore that state, and has each worker (PST_WORKER) a system of its own?
+";
+
+/// The first words of an explanation of a fault.
+const FAULT: &str = "  The callback ";
+
+/// The first words of an explanation of a postcondition that faults.
+const POST_FAULT: &str = "  The callback post of ";
+
+/// The note on a postcondition that faults.
+const FAULT_NOTE: &str =
+    "  The postcondition faults on the first call, in the initial state: mend the
+  model, so that the postcondition is true or false whatever is answered.
 ";
 
 /// Returns the command that is called before all others, and its reply: the first of the prefix, or of the only branch
@@ -63,23 +76,35 @@ fn run_of(alloc: Global, command: &Command, reply: &Reply) -> Result<(Case, Hist
     Ok((case, history))
 }
 
-/// Returns whether the first call of a run has an answer that is wrong in the initial state of the model.
-fn begins_wrong(
+/// Returns the note on an explanation of a run of one command, in the initial state of the model.
+fn note_on(text: &str) -> &'static str {
+    if text.starts_with(POST_FAULT) {
+        FAULT_NOTE
+    } else if text.contains(ONE_WRONG) && !text.starts_with(FAULT) {
+        NOTE
+    } else {
+        ""
+    }
+}
+
+/// Returns the note on the first call of a run, in the initial state of the model. It is empty if the call is
+/// right there.
+fn beginning_note(
     alloc: Global,
     input: &[u8],
     case: &Case,
     history: &History,
-) -> Result<bool, AllocError> {
+) -> Result<&'static str, AllocError> {
     let Some((command, reply)) = first_of(case, history) else {
-        return Ok(false);
+        return Ok("");
     };
     let (case, history) = run_of(alloc, command, reply)?;
     match explain_run(alloc, input, case, history, WIDTH)? {
         Some(text) => match std::str::from_utf8(text.as_slice()) {
-            Ok(text) => Ok(text.contains(ONE_WRONG)),
-            Err(_) => Ok(false),
+            Ok(text) => Ok(note_on(text)),
+            Err(_) => Ok(""),
         },
-        None => Ok(false),
+        None => Ok(""),
     }
 }
 
@@ -92,9 +117,9 @@ pub fn explain_failure<R: Eprint>(
     case: Case,
     history: History,
 ) {
-    let begins_wrong = begins_wrong(alloc, input, &case, &history);
+    let note = beginning_note(alloc, input, &case, &history);
     explained::report_unexplained(rt, alloc, "the least failure:", input, case, history);
-    if begins_wrong == Ok(true) {
-        let _ = eprint!(rt; "{NOTE}");
+    if let Ok(note) = note {
+        let _ = eprint!(rt; "{note}");
     }
 }
