@@ -1,9 +1,11 @@
 //! A line that displays the progress of a campaign, on a terminal.
 
+use crate::telling::Rate;
 use pst_campaign::Watch;
 use pst_ledger::Cause;
 use pst_trial::{Record, Shrinking, TrialOutcome};
 use std::alloc::{AllocError, Global};
+use std::fmt;
 use std::sync::atomic::{AtomicBool, AtomicU64, Ordering};
 use std::sync::{Arc, Wait};
 use std::thread::{Builder, JoinHandle, Parker, Threads};
@@ -28,6 +30,40 @@ fn has_failed(record: &Record) -> bool {
     match record.outcome() {
         TrialOutcome::Passed { .. } => false,
         TrialOutcome::Failed { .. } | TrialOutcome::GenFaulted(_) => true,
+    }
+}
+
+/// The trials that have ended at a time, in milliseconds after the beginning.
+#[derive(Clone, Copy, Drop)]
+struct EndedTrials {
+    count: u64,
+    milliseconds: u64,
+}
+
+impl EndedTrials {
+    /// Returns how many seconds `left` trials take, `milliseconds` after the beginning, at the rate up to the
+    /// last trial that ended. `None` if more time has passed since then.
+    fn seconds_left(self, left: u64, milliseconds: u64) -> Option<u64> {
+        let all = left
+            .saturating_mul(self.milliseconds)
+            .checked_div(self.count)?;
+        let since = milliseconds.saturating_sub(self.milliseconds);
+        Some(all.checked_sub(since)? / 1000)
+    }
+}
+
+/// How long a campaign will take, at the end of its line. Nothing is written if that is not known.
+#[derive(Clone, Copy, Drop)]
+struct TimeLeft {
+    seconds: Option<u64>,
+}
+
+impl fmt::Display for TimeLeft {
+    fn fmt<W: fmt::Write>(&self, f: &mut fmt::Formatter<W>) -> fmt::Result {
+        match self.seconds {
+            Some(seconds) => write!(f, ", {seconds} s left"),
+            None => Ok(()),
+        }
     }
 }
 
@@ -64,31 +100,37 @@ impl Progress {
         );
     }
 
-    /// Writes the line, `milliseconds` after the beginning. If it cannot be written, the campaign continues.
+    /// Returns how many trials have ended, also lost ones.
+    fn ended(&self) -> u64 {
+        let done = self.done.load(Ordering::SeqCst);
+        done.saturating_add(self.lost.load(Ordering::SeqCst))
+    }
+
+    /// Writes the line, `milliseconds` after the beginning, where `last` is when the last trial ended. If it
+    /// cannot be written, the campaign continues.
     ///
     /// While a trial is shrunk, the terminal cuts the line off where it would go on in a next row.
-    fn write_line<R: Eprint>(&self, rt: &R, milliseconds: u64) {
+    fn write_line<R: Eprint>(&self, rt: &R, last: EndedTrials, milliseconds: u64) {
+        if last.count == 0 {
+            return self.write_first_line(rt);
+        }
         let done = self.done.load(Ordering::SeqCst);
         let failed = self.failed.load(Ordering::SeqCst);
         let lost = self.lost.load(Ordering::SeqCst);
-        let ended = done.saturating_add(lost);
-        if ended == 0 {
-            return self.write_first_line(rt);
-        }
-        let thousands = ended.saturating_mul(1000);
-        let rate = thousands.checked_div(milliseconds).unwrap_or(0);
         let all = self.all;
-        let left = all.saturating_sub(ended).saturating_mul(milliseconds);
-        let seconds = left.checked_div(thousands).unwrap_or(0);
+        let Rate { number, unit } = Rate::of(last.count, milliseconds);
+        let left = TimeLeft {
+            seconds: last.seconds_left(all.saturating_sub(last.count), milliseconds),
+        };
         let Some((trial, driven)) = self.shrinking.current() else {
             let _ = eprint!(rt;
-                "\r\x1b[K{done} of {all} done, {failed} failed, {lost} lost, {rate} a second, {seconds} s left"
+                "\r\x1b[K{done} of {all} done, {failed} failed, {lost} lost, {number} {unit}{left}"
             );
             return;
         };
         let word = candidates_word(driven);
         let _ = eprint!(rt;
-            "\r\x1b[K\x1b[?7l{done} of {all} done, {failed} failed, {lost} lost, shrinking trial {trial}: {driven} {word}, {rate} a second, {seconds} s left\x1b[?7h"
+            "\r\x1b[K\x1b[?7l{done} of {all} done, {failed} failed, {lost} lost, shrinking trial {trial}: {driven} {word}, {number} {unit}{left}\x1b[?7h"
         );
     }
 }
@@ -126,6 +168,10 @@ struct DisplayedProgress {
 /// Writes the line again and again until the campaign is over, and takes it away then.
 fn write_lines<R: Wait + Eprint>(rt: &R, displayed: &DisplayedProgress) {
     let mut milliseconds = 0u64;
+    let mut last = EndedTrials {
+        count: 0,
+        milliseconds,
+    };
     for _ in rt.forever() {
         displayed
             .parker
@@ -134,7 +180,14 @@ fn write_lines<R: Wait + Eprint>(rt: &R, displayed: &DisplayedProgress) {
             break;
         }
         milliseconds = milliseconds.saturating_add(PAUSE);
-        displayed.progress.write_line(rt, milliseconds);
+        let count = displayed.progress.ended();
+        if count != last.count {
+            last = EndedTrials {
+                count,
+                milliseconds,
+            };
+        }
+        displayed.progress.write_line(rt, last, milliseconds);
     }
     if milliseconds > 0 {
         let _ = eprint!(rt; "\r\x1b[K");

@@ -21,6 +21,34 @@ struct DisplayedSteps {
     parker: Parker,
 }
 
+/// How fast something goes: how many a second, or how many seconds each one takes.
+#[derive(Clone, Copy, Drop)]
+pub struct Rate {
+    pub number: u64,
+    /// `a second` or `s each`.
+    pub unit: &'static str,
+}
+
+impl Rate {
+    /// The rate if `count` took `milliseconds`.
+    pub fn of(count: u64, milliseconds: u64) -> Rate {
+        let rate = count
+            .saturating_mul(1000)
+            .checked_div(milliseconds)
+            .unwrap_or(0);
+        match (milliseconds / 1000).checked_div(count) {
+            Some(each) if rate == 0 => Rate {
+                number: each,
+                unit: "s each",
+            },
+            _ => Rate {
+                number: rate,
+                unit: "a second",
+            },
+        }
+    }
+}
+
 /// Adds how many seconds `left` items take, if that is known: `thousands` thousandths of an item took `milliseconds`.
 fn add_rest(
     line: &mut String,
@@ -46,7 +74,7 @@ fn progress_line(
 ) -> Result<String, AllocError> {
     let done = steps.done();
     let thousands = done.saturating_mul(1000);
-    let rate = thousands.checked_div(milliseconds).unwrap_or(0);
+    let Rate { number, unit } = Rate::of(done, milliseconds);
     let mut line = String::new(alloc);
     add_grouped_number(&mut line, alloc, done as usize)?;
     if let Some(all) = steps.all() {
@@ -56,8 +84,9 @@ fn progress_line(
     line.push_str(" ")?;
     line.push_str(word)?;
     line.push_str(", ")?;
-    add_grouped_number(&mut line, alloc, rate as usize)?;
-    line.push_str(" a second")?;
+    add_grouped_number(&mut line, alloc, number as usize)?;
+    line.push_str(" ")?;
+    line.push_str(unit)?;
     if let Some(all) = steps.all() {
         add_rest(
             &mut line,
