@@ -1,5 +1,6 @@
 //! Clients that a campaign or a run calls in place of a known system.
 
+use crate::outputs::report_failure;
 use crate::systems::Unmade;
 use clap::ArgMatches;
 use pst_clients::{Clients, Folder, Notes, open_clients, result_types};
@@ -44,8 +45,8 @@ pub fn open_for_worker<H: Wait + Drop, R: Files + Eprint + AllocGlobal>(
         Ok(clients) => Ok(clients),
         Err(error) if error.kind() == ErrorKind::OutOfMemory => Err(Unmade::NoMemory),
         Err(error) => {
-            let name = folder.name;
-            let _ = eprintln!(rt; "pst: cannot open the pipes of clients in {name}: {error}");
+            let verb = "open the pipes of clients in";
+            report_failure(rt, rt.alloc(), verb, folder.name, &error);
             Err(Unmade::NoSystem)
         }
     }

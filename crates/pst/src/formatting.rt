@@ -1,7 +1,7 @@
 //! `pst fmt`.
 
 use crate::input::{self, Reading, STANDARD_INPUT};
-use crate::{help, json_items, refused, words};
+use crate::{help, json_items, outputs, refused, words};
 use clap::{Arg, ArgAction, ArgMatches, Command};
 use pst_cli::{Status, refuse_text};
 use pst_messages::{Asked, message_of};
@@ -39,11 +39,11 @@ struct FormatOptions {
     reading: Reading,
 }
 
-/// Prints a text on standard output.
-fn print<R: Runtime>(rt: &R, text: &[u8]) -> Status {
+/// Prints a text on standard output. If it cannot be printed, standard error says so.
+fn print<R: Runtime + AllocGlobal>(rt: &R, text: &[u8]) -> Status {
     match io::writer(rt).write_all(text) {
         Ok(()) => Status::Accepted,
-        Err(_) => Status::Lost,
+        Err(error) => outputs::lost(rt, rt.alloc(), None, &error),
     }
 }
 
@@ -88,16 +88,19 @@ fn write_both<R: Files>(rt: &R, name: &str, copy: &str, text: &[u8]) -> Result<(
 }
 
 /// Says why a file was not rewritten.
-fn report<R: Eprint>(rt: &R, name: &str, copy: &str, why: &Unwritten) {
-    let _ = match why {
+fn report<R: Eprint>(rt: &R, alloc: Global, name: &str, copy: &str, why: &Unwritten) {
+    match why {
         Unwritten::Kept(error) => {
-            eprintln!(rt; "pst: cannot write {name}: {error}; its new text is in {copy}")
+            outputs::report_unwritten(rt, alloc, name, error);
+            let _ = eprintln!(rt; "  its new text is in {copy}");
         }
         Unwritten::Taken => {
-            eprintln!(rt; "pst: cannot write {name}: there is a file {copy}, which would be lost")
+            let _ = eprintln!(rt;
+                "pst: cannot write {name}: there is a file {copy}, which would be lost"
+            );
         }
-        Unwritten::NoCopy(error) => eprintln!(rt; "pst: cannot write {copy}: {error}"),
-    };
+        Unwritten::NoCopy(error) => outputs::report_unwritten(rt, alloc, copy, error),
+    }
 }
 
 /// Rewrites a file.
@@ -108,7 +111,7 @@ fn rewrite<R: Runtime + AllocGlobal>(rt: &R, name: &str, text: &[u8]) -> Status 
     match write_both(rt, name, copy.as_str(), text) {
         Ok(()) => Status::Accepted,
         Err(why) => {
-            report(rt, name, copy.as_str(), &why);
+            report(rt, rt.alloc(), name, copy.as_str(), &why);
             Status::Lost
         }
     }
@@ -130,7 +133,7 @@ fn finish<R: Runtime + AllocGlobal>(
         }
         return match println!(rt; "{name}") {
             Ok(()) => Status::Failed,
-            Err(_) => Status::Lost,
+            Err(error) => outputs::lost(rt, rt.alloc(), None, &error),
         };
     }
     if name == STANDARD_INPUT {
@@ -154,8 +157,8 @@ fn refuse<R: Runtime + AllocGlobal>(
         return refused::report_out_of_memory(rt);
     }
     let refusal = Refusal::Unread(fault);
-    if println!(rt; "refused {refusal}").is_err() {
-        return Status::Lost;
+    if let Err(error) = println!(rt; "refused {refusal}") {
+        return outputs::lost(rt, rt.alloc(), None, &error);
     }
     if !how.reading.is_quiet {
         if let Ok(Some(message)) = message_of(rt.alloc(), files, bytes, Asked::Model) {

@@ -16,6 +16,26 @@ fn case_form(words: &ArgMatches<'_>) -> ItemForm {
     }
 }
 
+/// Refuses trials whose numbers do not fit 64 bits. The error is the status that the program ends with, and
+/// standard error says why.
+pub fn refuse_trials<R: Eprint>(rt: &R, matches: &ArgMatches<'_>) -> Result<(), Status> {
+    let Some(("generate", words)) = matches.subcommand() else {
+        return Ok(());
+    };
+    let (Some(first), Some(trials)) = (
+        words.get_one::<u64>("first"),
+        words.get_one::<u64>("trials"),
+    ) else {
+        return Ok(());
+    };
+    if trials <= u64::MAX - first {
+        return Ok(());
+    }
+    let last = u64::MAX - 1;
+    let _ = eprintln!(rt; "error: --first {first} --trials {trials}: the last trial is {last}");
+    Err(Status::Refused)
+}
+
 /// Writes the cases of the trials that the arguments choose. It leaves out trials whose numbers do not fit 64 bits.
 pub fn generate<W: Sink, R: Threads + Sync + AllocGlobal>(
     rt: &R,

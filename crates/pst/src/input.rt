@@ -1,5 +1,6 @@
 //! The input of the program: its files, and their text.
 
+use crate::outputs::report_failure;
 use pst_cli::Absence;
 use pst_sexpr::MAX_BYTES;
 use pst_sources::SourceFile;
@@ -67,7 +68,7 @@ fn read_file<R: Files + AllocGlobal>(rt: &R, name: &str, limit: u64) -> Result<V
 }
 
 /// Writes to standard error which file cannot be read and why, unless `is_quiet`.
-fn report_unread<R: Eprint>(rt: &R, name: &str, unread: &Unread, is_quiet: bool) {
+fn report_unread<R: Eprint + AllocGlobal>(rt: &R, name: &str, unread: &Unread, is_quiet: bool) {
     if is_quiet {
         return;
     }
@@ -77,21 +78,20 @@ fn report_unread<R: Eprint>(rt: &R, name: &str, unread: &Unread, is_quiet: bool)
     } else {
         name
     };
-    let _ = match unread.error.kind() {
-        ErrorKind::NotFound => eprintln!(rt; "pst: cannot {done} {name}: no such file"),
-        ErrorKind::IsADirectory => eprintln!(rt; "pst: cannot {done} {name}: is a directory"),
-        ErrorKind::PermissionDenied => eprintln!(rt;
-            "pst: cannot {done} {name}: permission denied"
-        ),
-        _ => {
-            let error = &unread.error;
-            eprintln!(rt; "pst: cannot {done} {name}: {error}")
-        }
-    };
+    if unread.error.kind() == ErrorKind::NotFound {
+        let _ = eprintln!(rt; "pst: cannot {done} {name}: no such file");
+        return;
+    }
+    report_failure(rt, rt.alloc(), done, name, &unread.error);
 }
 
 /// Returns why there is no input if a file cannot be read. Standard error says which file it is, unless `is_quiet`.
-fn absence<R: Eprint>(rt: &R, name: &str, unread: &Unread, is_quiet: bool) -> Absence<'static> {
+fn absence<R: Eprint + AllocGlobal>(
+    rt: &R,
+    name: &str,
+    unread: &Unread,
+    is_quiet: bool,
+) -> Absence<'static> {
     if unread.error.kind() == ErrorKind::OutOfMemory {
         return Absence::NoMemory;
     }
@@ -106,7 +106,7 @@ pub fn can_be_opened<R: Files>(rt: &R, name: &str) -> bool {
 
 /// Opens each of the files, and reads nothing. `NoFile` means that one cannot be opened; standard error says which,
 /// unless `is_quiet`.
-pub fn try_to_open<R: Files + Eprint>(
+pub fn try_to_open<R: Files + Eprint + AllocGlobal>(
     rt: &R,
     names: &[&str],
     is_quiet: bool,

@@ -1,11 +1,93 @@
-//! The files that the program writes.
+//! The files that the program writes, and the messages on those that it cannot write.
 
 use crate::input::STANDARD_INPUT;
 use pst_cli::{Absence, Status, refuse_text};
 use pst_sexpr::Out;
+use std::alloc::{AllocError, Global};
 use std::fs::canonicalize;
-use std::io;
+use std::io::{self, ErrorKind, Write};
 use std::rt::{Files, Runtime};
+
+/// A writer that keeps the last error of another writer.
+#[derive(Drop)]
+pub struct FailureKeeper<W> {
+    writer: W,
+    failure: Option<io::Error>,
+}
+
+impl<W: Write> FailureKeeper<W> {
+    /// Writes to `writer`, which has had no error.
+    pub fn new(writer: W) -> FailureKeeper<W> {
+        FailureKeeper {
+            writer,
+            failure: None,
+        }
+    }
+
+    /// Returns the last error of the writer, if it had one.
+    pub fn failure(&self) -> Option<io::Error> {
+        self.failure
+    }
+}
+
+impl<W: Write> Write for FailureKeeper<W> {
+    fn write(&mut self, buf: &[u8]) -> io::Result<usize> {
+        match self.writer.write(buf) {
+            Ok(count) => Ok(count),
+            Err(error) => {
+                self.failure = Some(error);
+                Err(error)
+            }
+        }
+    }
+
+    fn flush(&mut self) -> io::Result<()> {
+        self.writer.flush()
+    }
+}
+
+/// Returns what an error says, as `no space left on device`: in lower case, and without its number.
+fn reason(alloc: Global, error: &io::Error) -> Result<String, AllocError> {
+    let whole = format!(in alloc; "{error}")?;
+    let text = match whole.as_str().split_once(" (os error ") {
+        Some((text, _)) => text,
+        None => whole.as_str(),
+    };
+    let mut reason = String::new(alloc);
+    for character in text.chars() {
+        if reason.is_empty() {
+            reason.push(character.to_ascii_lowercase())?;
+        } else {
+            reason.push(character)?;
+        }
+    }
+    Ok(reason)
+}
+
+/// Writes to standard error what cannot be done to `name`, as `write`, and why.
+pub fn report_failure<R: Eprint>(rt: &R, alloc: Global, verb: &str, name: &str, error: &io::Error) {
+    let _ = match reason(alloc, error) {
+        Ok(reason) => eprintln!(rt; "pst: cannot {verb} {name}: {reason}"),
+        Err(AllocError) => eprintln!(rt; "pst: cannot {verb} {name}"),
+    };
+}
+
+/// Writes to standard error that the file `name` cannot be written, and why.
+pub fn report_unwritten<R: Eprint>(rt: &R, alloc: Global, name: &str, error: &io::Error) {
+    report_failure(rt, alloc, "write", name, error);
+}
+
+/// Returns the status of a command whose output, to the file `name` or to standard output, cannot be written.
+/// Standard error says why, but not for a closed pipe, as in `pst judge c.runs | head -n 1`.
+pub fn lost<R: Eprint>(rt: &R, alloc: Global, name: Option<&str>, error: &io::Error) -> Status {
+    if error.kind() != ErrorKind::BrokenPipe {
+        match name {
+            Some(name) => report_unwritten(rt, alloc, name, error),
+            None => report_failure(rt, alloc, "write to", "standard output", error),
+        }
+    }
+    Status::Lost
+}
 
 /// Returns whether two names are those of one file, also by links.
 fn is_same_file<R: Files + AllocGlobal>(rt: &R, first: &str, second: &str) -> bool {

@@ -1,10 +1,13 @@
 //! The page of a campaign's failures: `pst campaign --html FILE`.
 
+use crate::input::STANDARD_INPUT;
+use crate::outputs::report_unwritten;
 use clap::{Arg, ArgMatches};
 use pst_cli::{CampaignNotes, Status, campaign_page};
 use pst_sources::{Input, SourceFile};
-use std::alloc::{AllocError, Global};
-use std::fmt::Display;
+use std::alloc::Global;
+use std::fs::{File, OpenOptions, metadata, remove_file};
+use std::io::{self, ErrorKind};
 use std::rt::Files;
 
 /// The option that names the file of the page.
@@ -27,7 +30,44 @@ pub struct CampaignPage<'a> {
     name: Option<&'a str>,
     /// The files of the input.
     files: &'a [SourceFile<'a>],
-    is_quiet: bool,
+}
+
+/// Opens the file `name` to write it and leaves it as it is, or makes it and removes it if it is not there.
+/// Pipes and devices are not opened.
+fn try_to_write<R: Files>(rt: &R, name: &str) -> io::Result<()> {
+    match metadata(rt, name) {
+        Ok(found) if found.is_file() || found.is_dir() => {
+            OpenOptions::new().write(true).open(rt, name)?;
+            Ok(())
+        }
+        Err(error) if error.kind() == ErrorKind::NotFound => {
+            File::create_new(rt, name)?;
+            remove_file(rt, name)
+        }
+        _ => Ok(()),
+    }
+}
+
+/// Refuses a page on standard output, and a file that cannot be written: a campaign may take hours before its
+/// page is. The error is the status that the program ends with, and standard error says why.
+pub fn refuse_page<R: Files + Eprint + AllocGlobal>(
+    rt: &R,
+    matches: &ArgMatches<'_>,
+) -> Result<(), Status> {
+    let Some(name) = file_name(matches) else {
+        return Ok(());
+    };
+    if name == STANDARD_INPUT {
+        let _ = eprintln!(rt; "error: --html takes the name of a file, and `-` is none");
+        return Err(Status::Refused);
+    }
+    match try_to_write(rt, name) {
+        Ok(()) => Ok(()),
+        Err(error) => {
+            report_unwritten(rt, rt.alloc(), name, &error);
+            Err(Status::Lost)
+        }
+    }
 }
 
 impl<'a> CampaignPage<'a> {
@@ -37,7 +77,6 @@ impl<'a> CampaignPage<'a> {
         CampaignPage {
             name: words.get_str("html"),
             files,
-            is_quiet: words.get_flag("quiet"),
         }
     }
 
@@ -59,7 +98,7 @@ impl<'a> CampaignPage<'a> {
             return Status::Accepted;
         };
         let Ok(page) = campaign_page(alloc, self.files, input, failures) else {
-            self.report(rt, name, &AllocError);
+            let _ = eprintln!(rt; "pst: cannot write {name}: memory allocation failed");
             return Status::Lost;
         };
         let Some(page) = page else {
@@ -68,16 +107,9 @@ impl<'a> CampaignPage<'a> {
         match std::fs::write(rt, name, page.as_slice()) {
             Ok(()) => Status::Accepted,
             Err(error) => {
-                self.report(rt, name, &error);
+                report_unwritten(rt, alloc, name, &error);
                 Status::Lost
             }
-        }
-    }
-
-    /// Says why the page is not written.
-    fn report<R: Eprint, E: Display>(self, rt: &R, name: &str, why: &E) {
-        if !self.is_quiet {
-            let _ = eprintln!(rt; "pst: cannot write {name}: {why}");
         }
     }
 }

@@ -2,7 +2,9 @@
 
 use crate::input::Reading;
 use crate::terminal::Terminals;
-use crate::{formatting, input, json_items, outputs, page, refused, streaming, systems};
+use crate::{
+    formatting, generating, input, json_items, outputs, page, refused, saving, streaming, systems,
+};
 use clap::ArgMatches;
 use pst_cli::{Status, refuse_text};
 use pst_sexpr::Out;
@@ -32,8 +34,9 @@ fn names<'a>(matches: &'a ArgMatches<'_>) -> &'a [&'a str] {
     }
 }
 
-/// Refuses an unknown system, a stream whose model is not in a file, and output to a file of the input. The error is the
-/// status that the program ends with.
+/// Refuses an unknown system, a stream whose model is not in a file of its own, output to a file of the
+/// input, a file as the folder of failures, trials that have no number, and a page that cannot be written.
+/// The error is the status that the program ends with.
 fn refuse_arguments<R: Runtime + AllocGlobal>(
     rt: &R,
     matches: &ArgMatches<'_>,
@@ -45,10 +48,13 @@ fn refuse_arguments<R: Runtime + AllocGlobal>(
         return Err(systems::refuse_system(rt, name, inputs, is_quiet, &mut out));
     }
     if streaming::is_stream(matches) && !streaming::leaves_input(inputs) {
-        return Err(streaming::refuse_stream(rt, is_quiet, &mut out));
+        return Err(streaming::refuse_stream(rt, inputs, is_quiet, &mut out));
     }
     outputs::refuse_input(rt, inputs, "-o", output_name(matches), is_quiet)?;
-    outputs::refuse_input(rt, inputs, "--html", page::file_name(matches), is_quiet)
+    outputs::refuse_input(rt, inputs, "--html", page::file_name(matches), is_quiet)?;
+    saving::refuse_file(rt, matches)?;
+    generating::refuse_trials(rt, matches)?;
+    page::refuse_page(rt, matches)
 }
 
 /// Reads the files that the arguments name, with a tree in place of each JSON item.

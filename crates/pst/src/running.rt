@@ -5,10 +5,13 @@ ghost use Rattle.std.specs.Prelude.{◌≡◌, false};
 use crate::campaigning::campaign;
 use crate::driving::drive;
 use crate::judging::judge;
-use crate::reading::{is_quiet, output_name};
+use crate::outputs::FailureKeeper;
+use crate::reading::output_name;
 use crate::systems::Unmade;
 use crate::terminal::Terminals;
-use crate::{converting, explaining, generating, noticed, refused, streaming, summary, warned};
+use crate::{
+    converting, explaining, generating, noticed, outputs, refused, streaming, summary, warned,
+};
 use clap::ArgMatches;
 use pst_campaign::EarlyStop;
 use pst_cli::{Absence, Counts, Status, check_json, check_text, list_text, refuse_text};
@@ -116,9 +119,15 @@ fn answer<W: Sink, R: Runtime + Threads + Wait + Sync + AllocGlobal + Copy + Dro
     }
 }
 
-/// Writes messages on refusals, and warnings on a model that `check` accepts, to standard error, unless the arguments
-/// forbid it.
-fn say<R: Eprint + AllocGlobal>(rt: &R, work: Work<'_, '_>, input: Input<'_>, status: Status) {
+/// Writes messages on refusals, warnings on a model that `check` accepts, and a line that sums up the items,
+/// to standard error, unless the arguments forbid it.
+fn say<R: Eprint + AllocGlobal>(
+    rt: &R,
+    work: Work<'_, '_>,
+    input: Input<'_>,
+    status: Status,
+    counts: &Counts,
+) {
     let Some((word, words)) = work.matches.subcommand() else {
         return;
     };
@@ -129,23 +138,26 @@ fn say<R: Eprint + AllocGlobal>(rt: &R, work: Work<'_, '_>, input: Input<'_>, st
     match status {
         Status::Refused => refused::report_refusals(rt, word, words, files, bytes),
         Status::Accepted if word == "check" => warned::report_warnings(rt, files, bytes),
-        _ => {}
+        _ => summary::report_no_items(rt, word, words, bytes, status, counts),
     }
+    summary::report_counts(rt, counts);
 }
 
 /// Runs the subcommand with its output to `writer`. Unless the arguments forbid it, standard error has a message on
 /// each refusal, and warnings on a model that `check` accepts and after the lines of `judge`. Its last line sums up the
-/// items of `judge` and `run`.
+/// items of `judge` and `run`. It says in each case if the output cannot be written.
 fn run_to<
     W: Write + Drop,
     R: Runtime + AllocGlobal + Threads + Wait + Sync + Copy + Drop + Send + 'static,
 >(rt: &R, work: Work<'_, '_>, input: Input<'_>, systems: Systems, writer: W) -> Status {
-    let mut out = Out::new(writer);
+    let mut out = Out::new(FailureKeeper::new(writer));
     let mut counts = Counts::new();
     let status = answer(rt, work, input, systems, &mut counts, &mut out);
-    say(rt, work, input, status);
-    if !is_quiet(work.matches) {
-        summary::report_counts(rt, &counts);
+    say(rt, work, input, status, &counts);
+    if out.has_failed() {
+        if let Some(error) = out.into_inner().failure() {
+            return outputs::lost(rt, rt.alloc(), output_name(work.matches), &error);
+        }
     }
     status
 }
@@ -166,7 +178,7 @@ pub fn run<R: Runtime + AllocGlobal + Threads + Wait + Sync + Copy + Drop + Send
             run_to(rt, Work { terminals, ..work }, input, systems, file)
         }
         Err(error) => {
-            let _ = eprintln!(rt; "pst: cannot write {name}: {error}");
+            outputs::report_unwritten(rt, rt.alloc(), name, &error);
             Status::Lost
         }
     }

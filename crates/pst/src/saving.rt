@@ -1,6 +1,7 @@
 //! Files of the failures of a campaign.
 
 use crate::input::STANDARD_INPUT;
+use crate::outputs::report_failure;
 use crate::quoting::push_shell_word;
 use clap::ArgMatches;
 use pst_cli::Status;
@@ -84,6 +85,24 @@ fn failure_file(
     Ok(text)
 }
 
+/// Refuses a folder for failures that is a file. The error is the status that the program ends with, and
+/// standard error says why.
+pub fn refuse_file<R: Files + Eprint>(rt: &R, matches: &ArgMatches<'_>) -> Result<(), Status> {
+    let Some(("campaign", words)) = matches.subcommand() else {
+        return Ok(());
+    };
+    let Some(folder) = words.get_str("save") else {
+        return Ok(());
+    };
+    match std::fs::metadata(rt, folder) {
+        Ok(found) if found.is_file() => {
+            let _ = eprintln!(rt; "pst: {folder} is a file: --save takes a folder");
+            Err(Status::Refused)
+        }
+        _ => Ok(()),
+    }
+}
+
 impl<'a> Saving<'a> {
     /// Makes the folder `folder`, unless it is there, for the failures of a campaign on the systems `name`. If it cannot be
     /// made, standard error says why.
@@ -95,7 +114,7 @@ impl<'a> Saving<'a> {
         name: &str,
     ) -> Result<Saving<'a>, Status> {
         if let Err(error) = std::fs::create_dir_all(rt, folder) {
-            let _ = eprintln!(rt; "pst: cannot make {folder}: {error}");
+            report_failure(rt, rt.alloc(), "make", folder, &error);
             return Err(Status::Lost);
         }
         match command_arguments(rt, words, name) {
@@ -129,7 +148,7 @@ impl<'a> Saving<'a> {
         let folder = self.folder;
         for numbered in failures {
             if let Err(error) = self.write(rt, numbered) {
-                let _ = eprintln!(rt; "pst: cannot write a failure to {folder}: {error}");
+                report_failure(rt, rt.alloc(), "write a failure to", folder, &error);
                 return Status::Lost;
             }
         }

@@ -5,8 +5,9 @@ use crate::input::STANDARD_INPUT;
 use crate::telling::StepsDisplay;
 use crate::terminal::Terminals;
 use clap::ArgMatches;
-use pst_cli::{Absence, Counts, Status, judge_stream, refuse_text};
+use pst_cli::{Absence, Counts, Status, item_count, judge_stream, refuse_text};
 use pst_sexpr::Sink;
+use std::alloc::Global;
 use std::io::Input;
 use std::sync::Wait;
 use std::thread::Threads;
@@ -19,25 +20,51 @@ pub fn is_stream(matches: &ArgMatches<'_>) -> bool {
     }
 }
 
-/// Returns whether the file names leave standard input to the items of a stream.
+/// Returns whether the file names are that of the model alone, which leaves standard input to the items of a
+/// stream.
 pub fn leaves_input(names: &[&str]) -> bool {
-    !names.is_empty() && !names.iter().any(|name| *name == STANDARD_INPUT)
+    match names {
+        [model] => *model != STANDARD_INPUT,
+        _ => false,
+    }
 }
 
 /// Refuses the input. Unless `is_quiet`, it writes to standard error that standard input has the items of a stream.
-pub fn refuse_stream<W: Sink, R: Eprint>(rt: &R, is_quiet: bool, out: &mut W) -> Status
+pub fn refuse_stream<W: Sink, R: Eprint>(
+    rt: &R,
+    names: &[&str],
+    is_quiet: bool,
+    out: &mut W,
+) -> Status
     requires { W.broken out.old ≡ false }
 {
     if !is_quiet {
-        let _ = eprintln!(rt;
-            "pst: with --stream the model is in a file, and standard input has the items"
-        );
+        let _ = match names {
+            [model, items, ..] if *model != STANDARD_INPUT && *items != STANDARD_INPUT =>
+                eprintln!(rt;
+                    "pst: with --stream the items come on standard input: pst judge --stream {model} < {items}"
+                ),
+            _ => eprintln!(rt;
+                "pst: with --stream the model is in a file, and standard input has the items"
+            ),
+        };
     }
     refuse_text(Absence::NoFile, out)
 }
 
-/// Judges the items of standard input, one on each line, by the model at the beginning of `input`. If standard error is a
-/// terminal, and standard output, on which the verdicts come meanwhile, is none, a line says how many are judged.
+/// Writes to standard error that the items after the model in its file are not judged, if there are some.
+fn report_unjudged<R: Eprint>(rt: &R, alloc: Global, input: &[u8]) {
+    if matches!(item_count(alloc, input), Ok(1..)) {
+        let _ = eprintln!(rt;
+            "pst: the items after the model are not judged: with --stream they come on standard input"
+        );
+    }
+}
+
+/// Judges the items of standard input, one on each line, by the model at the beginning of `input`. If
+/// standard error is a terminal, and standard output, on which the verdicts come meanwhile, is none, a line
+/// says how many are judged. Items after the model are not judged; standard error says so unless the
+/// arguments forbid messages.
 pub fn judge_standard_input<
     W: Sink,
     R: Threads + Wait + Sync + Input + Eprint + AllocGlobal + Copy + Drop + Send + 'static,
@@ -52,7 +79,11 @@ pub fn judge_standard_input<
     requires { W.broken out.old ≡ false }
 {
     let alloc = rt.alloc();
-    let is_told = terminals.errors && !terminals.output && !words.get_flag("quiet");
+    let is_quiet = words.get_flag("quiet");
+    if !is_quiet {
+        report_unjudged(rt, alloc, input);
+    }
+    let is_told = terminals.errors && !terminals.output && !is_quiet;
     let Ok(telling) = StepsDisplay::begin(rt, alloc, is_told, "judged") else {
         return refuse_text(Absence::NoMemory, out);
     };

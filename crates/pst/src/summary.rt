@@ -1,6 +1,7 @@
 //! The line that sums up the results of items, on standard error.
 
-use pst_cli::Counts;
+use clap::ArgMatches;
+use pst_cli::{Counts, Status, item_count};
 use std::alloc::{AllocError, Global};
 
 /// Returns the number of items with each result, in the order of the line.
@@ -36,13 +37,20 @@ pub fn add_grouped_number(
     Ok(())
 }
 
-/// Returns the line for two or more items, as `pst: 3 items: 2 explained, 1 unexplained`. `None` for fewer items.
-fn summary_line(alloc: Global, counts: &Counts) -> Result<Option<String>, AllocError> {
-    let each = each_count(counts);
+/// Returns how many items there are.
+fn total(counts: &Counts) -> usize {
     let mut total = 0usize;
-    for (count, _) in &each {
+    for (count, _) in &each_count(counts) {
         total = total.saturating_add(*count);
     }
+    total
+}
+
+/// Returns the line for two or more items, as `pst: 3 items: 2 explained, 1 unexplained`. `None` for fewer
+/// items.
+fn summary_line(alloc: Global, counts: &Counts) -> Result<Option<String>, AllocError> {
+    let each = each_count(counts);
+    let total = total(counts);
     if total < 2 {
         return Ok(None);
     }
@@ -67,5 +75,32 @@ fn summary_line(alloc: Global, counts: &Counts) -> Result<Option<String>, AllocE
 pub fn report_counts<R: Eprint + AllocGlobal>(rt: &R, counts: &Counts) {
     if let Ok(Some(line)) = summary_line(rt.alloc(), counts) {
         let _ = eprintln!(rt; "{line}");
+    }
+}
+
+/// Returns whether the command takes items from its files.
+fn takes_items(word: &str, words: &ArgMatches<'_>) -> bool {
+    match word {
+        "judge" => !words.get_flag("stream"),
+        "explain" | "run" => true,
+        _ => false,
+    }
+}
+
+/// Writes to standard error that the command `word` had no items, if its input has none after the model.
+/// `status` is the status of the command.
+pub fn report_no_items<R: Eprint + AllocGlobal>(
+    rt: &R,
+    word: &str,
+    words: &ArgMatches<'_>,
+    input: &[u8],
+    status: Status,
+    counts: &Counts,
+) {
+    if status != Status::Accepted || total(counts) > 0 || !takes_items(word, words) {
+        return;
+    }
+    if item_count(rt.alloc(), input) == Ok(0) {
+        let _ = eprintln!(rt; "pst: no cases or runs after the model");
     }
 }
