@@ -9,7 +9,7 @@ use crate::saving::Saving;
 use crate::watching::BothWatchers;
 use crate::{least, words};
 use clap::ArgMatches;
-use pst_campaign::EarlyStop;
+use pst_campaign::{EarlyStop, StopCondition};
 use pst_cli::{
     Absence, CampaignNotes, MEMORY_OBJECT, Status, campaign_with_notes, check_json, refuse_text,
 };
@@ -180,6 +180,15 @@ fn run_and_save<
     status.or_worse(save_failures(rt, saving, &notes, how.is_quiet))
 }
 
+/// Writes to standard error that the file that ends the campaign is there before it begins, if that is so.
+fn report_early_end<R: Eprint>(rt: &R, words: &ArgMatches<'_>, ending: &EarlyStop) {
+    if let Some(name) = words.get_str("stop-file") {
+        if ending.is_over() {
+            let _ = eprintln!(rt; "pst: {name} is there already: no trial was begun");
+        }
+    }
+}
+
 /// Runs a campaign with a worker for each of the systems, if there are some, and saves its failures if the arguments say
 /// so. Unless the arguments forbid it, a line on standard error displays the progress, if that is a terminal, and
 /// explanations of the least failure and of the first trial without a case follow after the report.
@@ -213,6 +222,9 @@ pub fn campaign<
         page: CampaignPage::from_arguments(words, input),
         input: bytes,
     };
+    if !how.is_quiet {
+        report_early_end(rt, words, ending);
+    }
     if let Some(folder) = words.get_str("save") {
         return match Saving::begin(rt, words, folder, settings.seed, name) {
             Ok(saving) => run_and_save(rt, settings, systems, &saving, how, out),
