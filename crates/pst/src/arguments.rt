@@ -1,10 +1,11 @@
 //! The arguments of the program: parsing, help, and messages on wrong arguments.
 
-use crate::{help, refused, words};
+use crate::{help, outputs, refused, words};
+use clap::builder::ValueParser;
 use clap::error::ErrorKind;
 use clap::{ArgMatches, Error};
 use pst_cli::Status;
-use std::alloc::AllocError;
+use std::alloc::{AllocError, Global};
 use std::rt::Runtime;
 use std::{env, io};
 
@@ -13,10 +14,64 @@ fn is_no_tip(line: &str) -> bool {
     line.starts_with("  tip: to pass '")
 }
 
-/// Returns what is wrong with the arguments, without tips that do not help.
-fn error_text<R: AllocGlobal>(rt: &R, error: &Error) -> Result<String, AllocError> {
-    let alloc = rt.alloc();
+/// Returns the least and the greatest number that the option `--name` of a subcommand takes, if it takes a
+/// number.
+fn number_range(
+    alloc: Global,
+    subcommand: &str,
+    name: &str,
+) -> Result<Option<(u64, u64)>, AllocError> {
+    let command = words::command(alloc)?;
+    let Some(subcommand) = command.find_subcommand(subcommand) else {
+        return Ok(None);
+    };
+    for argument in subcommand.get_arguments() {
+        if argument.get_long() == Some(name) {
+            return match argument.get_value_parser() {
+                ValueParser::Unsigned(least, most) => Ok(Some((least, most))),
+                _ => Ok(None),
+            };
+        }
+    }
+    Ok(None)
+}
+
+/// Returns the value and the option of an error's text, as `5` and `branches`, if the error is that a value
+/// is invalid.
+fn invalid_value(text: &str) -> Option<(&str, &str)> {
+    let (_, text) = text.split_once("invalid value '")?;
+    let (value, text) = text.rsplit_once("' for '--")?;
+    let (option, _) = text.split_once(' ')?;
+    Some((value, option))
+}
+
+/// Returns what is wrong with the arguments if a number is out of the range of its option, or none. `started`
+/// are the words of the program.
+fn number_text(
+    alloc: Global,
+    started: &[String],
+    text: &str,
+) -> Result<Option<String>, AllocError> {
+    let (Some(subcommand), Some((value, name))) = (started.get(1), invalid_value(text)) else {
+        return Ok(None);
+    };
+    match number_range(alloc, subcommand.as_str(), name)? {
+        Some((least, most)) => Ok(Some(format!(in alloc;
+            "error: --{name} is a number from {least} to {most}, not '{value}'\n\nFor more information, try '--help'.\n"
+        )?)),
+        None => Ok(None),
+    }
+}
+
+/// Returns what is wrong with the arguments, without tips that do not help. `started` are the words of the
+/// program.
+fn error_text(alloc: Global, started: &[String], error: &Error) -> Result<String, AllocError> {
     let whole = format!(in alloc; "{error}")?;
+    if error.kind() == ErrorKind::ValueValidation {
+        if let Some(text) = number_text(alloc, started, whole.as_str())? {
+            return Ok(text);
+        }
+    }
     let mut text = String::new(alloc);
     let mut was_empty = false;
     for line in whole.as_str().lines() {
@@ -31,18 +86,22 @@ fn error_text<R: AllocGlobal>(rt: &R, error: &Error) -> Result<String, AllocErro
 }
 
 /// Prints help on standard output, or what is wrong with the arguments on standard error, and returns the status that
-/// the program ends with.
-fn report_parse_error<R: Runtime + AllocGlobal>(rt: &R, error: &Error) -> Status {
+/// the program ends with. `started` are the words of the program.
+fn report_parse_error<R: Runtime + AllocGlobal>(
+    rt: &R,
+    started: &[String],
+    error: &Error,
+) -> Status {
     if error.kind() == ErrorKind::OutOfMemory {
         return refused::report_out_of_memory(rt);
     }
     if !error.use_stderr() {
         return match error.print(rt) {
             Ok(()) => Status::Accepted,
-            Err(_) => Status::Lost,
+            Err(error) => outputs::lost(rt, rt.alloc(), None, &error),
         };
     }
-    let Ok(text) = error_text(rt, error) else {
+    let Ok(text) = error_text(rt.alloc(), started, error) else {
         return refused::report_out_of_memory(rt);
     };
     match eprint!(rt; "{text}") {
@@ -55,7 +114,7 @@ fn report_parse_error<R: Runtime + AllocGlobal>(rt: &R, error: &Error) -> Status
 fn print_text<R: Runtime + AllocGlobal>(rt: &R, text: &str) -> Status {
     match print!(rt; "{text}") {
         Ok(()) => Status::Accepted,
-        Err(_) => Status::Lost,
+        Err(error) => outputs::lost(rt, rt.alloc(), None, &error),
     }
 }
 
@@ -84,7 +143,7 @@ pub fn parse_arguments<'a, R: Runtime + AllocGlobal>(
         }
         Ok(matches) if words::starts_clients(&matches) => Err(refuse_client(rt)),
         Ok(matches) => Ok(matches),
-        Err(error) => Err(report_parse_error(rt, &error)),
+        Err(error) => Err(report_parse_error(rt, started, &error)),
     }
 }
 
