@@ -46,15 +46,19 @@ impl<W: Write> Write for FailureKeeper<W> {
     }
 }
 
+/// Returns the text of an error without its number.
+fn without_number(text: &str) -> &str {
+    match text.split_once(" (os error ") {
+        Some((message, _)) => message,
+        None => text,
+    }
+}
+
 /// Returns what an error says, as `no space left on device`: in lower case, and without its number.
 fn reason(alloc: Global, error: &io::Error) -> Result<String, AllocError> {
     let whole = format!(in alloc; "{error}")?;
-    let text = match whole.as_str().split_once(" (os error ") {
-        Some((text, _)) => text,
-        None => whole.as_str(),
-    };
     let mut reason = String::new(alloc);
-    for character in text.chars() {
+    for character in without_number(whole.as_str()).chars() {
         if reason.is_empty() {
             reason.push(character.to_ascii_lowercase())?;
         } else {
