@@ -1,8 +1,8 @@
 //! Texts that name models and characters, and repeat their parts.
 //!
 //! `{NAME}` is the text of the file `models/NAME.model`, and `{FOLDER/NAME}` that of `FOLDER/NAME.model`; `{nul}`, `{tab}`,
-//! `{return}`, `{byte_order_mark}` and `{right_to_left}` are characters; and `{N*PART}` is the part, N times, in which each
-//! `#` is the next number, from 1 on.
+//! `{return}`, `{byte_order_mark}`, `{right_to_left}` and `{open_brace}` are characters; and `{N*PART}` is the part, N times, in
+//! which each `#` is the next number, from 1 on.
 
 use std::alloc::{AllocError, Global};
 use std::fs::Files;
@@ -44,7 +44,7 @@ fn push_repeated(
     Ok(())
 }
 
-/// The character of that name, if it is one that is hard to see in a text.
+/// The character of that name, if it is one that is hard to see in a text, or has a meaning there.
 fn character_named(name: &str) -> Option<&'static str> {
     match name {
         "nul" => Some("\0"),
@@ -52,6 +52,7 @@ fn character_named(name: &str) -> Option<&'static str> {
         "return" => Some("\r"),
         "byte_order_mark" => Some("\u{feff}"),
         "right_to_left" => Some("\u{202e}"),
+        "open_brace" => Some("{"),
         _ => None,
     }
 }
