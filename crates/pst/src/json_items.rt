@@ -28,12 +28,12 @@ pub fn has_items(text: &[u8]) -> bool {
 fn with_trees<'a>(
     alloc: Global,
     model: &Source,
-    files: Vec<SourceFile<'a>>,
+    files: &[SourceFile<'a>],
 ) -> Result<Vec<SourceFile<'a>>, AllocError> {
     let mut all = Vec::new(alloc);
     for file in files {
-        let SourceFile { name, bytes } = file;
-        let bytes = trees_text(alloc, model, bytes.as_slice())?;
+        let name = file.name;
+        let bytes = trees_text(alloc, model, file.bytes.as_slice())?;
         all.push(SourceFile { name, bytes })?;
     }
     Ok(all)
@@ -43,35 +43,37 @@ fn with_trees<'a>(
 fn up_to<'a>(
     alloc: Global,
     count: usize,
-    files: Vec<SourceFile<'a>>,
+    files: &[SourceFile<'a>],
 ) -> Result<Vec<SourceFile<'a>>, AllocError> {
     let mut left = count;
     let mut all = Vec::new(alloc);
     for file in files {
-        let SourceFile { name, mut bytes } = file;
-        bytes.truncate(left);
+        let name = file.name;
+        let bytes = file.bytes.as_slice();
+        let bytes = Vec::from_slice(alloc, bytes.get(..left).unwrap_or(bytes))?;
         left = left.saturating_sub(bytes.len()).saturating_sub(1);
         all.push(SourceFile { name, bytes })?;
     }
     Ok(all)
 }
 
-/// Returns the files with each JSON item as its tree. The model is a tree, before the first JSON item; if it is refused, no more
-/// than what is before this item is left. Files of more than `MAX_BYTES` stay as they are, and are refused.
+/// Returns the files with each JSON item as its tree, or `None` if they have none. The model is a tree, before the first
+/// JSON item; if it is refused, no more than what is before this item is left. Files of more than `MAX_BYTES` stay as they
+/// are, and are refused.
 pub fn as_trees<'a>(
     alloc: Global,
-    files: Vec<SourceFile<'a>>,
-) -> Result<Vec<SourceFile<'a>>, AllocError> {
-    let text = joined(alloc, files.as_slice())?;
+    files: &[SourceFile<'a>],
+) -> Result<Option<Vec<SourceFile<'a>>>, AllocError> {
+    let text = joined(alloc, files)?;
     let Some(place) = first_item(text.as_slice()) else {
-        return Ok(files);
+        return Ok(None);
     };
     if text.len() > MAX_BYTES {
-        return Ok(files);
+        return Ok(None);
     }
     let head = text.as_slice().get(..place).unwrap_or(&[]);
     match load(alloc, head)? {
-        Ok(ModelFile { typed, trees: _ }) => with_trees(alloc, typed.source(), files),
-        Err(_) => up_to(alloc, place, files),
+        Ok(ModelFile { typed, trees: _ }) => Ok(Some(with_trees(alloc, typed.source(), files)?)),
+        Err(_) => Ok(Some(up_to(alloc, place, files)?)),
     }
 }

@@ -120,13 +120,13 @@ fn main(rt: HostRuntime) -> ExitCode {
                 Err(status) => return status.code(),
             };
             let (Ok(text), Ok(notes)) = (
-                joined(alloc, files.as_slice()),
+                joined(alloc, files.as_trees()),
                 clients::empty_notes(alloc),
             ) else {
                 return refused::report_out_of_memory(&rt).code();
             };
             let input = Input {
-                files: files.as_slice(),
+                files: files.as_trees(),
                 bytes: text.as_slice(),
             };
             // Boxed systems are made here, since a function cannot return one.
@@ -174,6 +174,7 @@ fn main(rt: HostRuntime) -> ExitCode {
             let ending = interrupting::early_end(&matches, has_appeared);
             let work = Work {
                 matches: &matches,
+                files: files.as_read(),
                 misfits: misfits.as_deref(),
                 ending: &ending,
                 terminals,

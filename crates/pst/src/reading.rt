@@ -57,19 +57,27 @@ fn refuse_arguments<R: Runtime + AllocGlobal>(
     page::refuse_page(rt, matches)
 }
 
-/// Reads the files that the arguments name, with a tree in place of each JSON item.
-fn files_of<'a, R: Runtime + AllocGlobal>(
-    rt: &R,
-    matches: &'a ArgMatches<'_>,
-    reading: Reading,
-) -> Result<Vec<SourceFile<'a>>, Status> {
-    let files = match input::read_files(rt, names(matches), reading) {
-        Ok(files) => files,
-        Err(why) => return Err(refuse_text(why, &mut Out::new(io::writer(rt)))),
-    };
-    match json_items::as_trees(rt.alloc(), files) {
-        Ok(files) => Ok(files),
-        Err(_) => Err(refused::report_out_of_memory(rt)),
+/// The files of the input.
+#[derive(Drop)]
+pub struct InputFiles<'a> {
+    /// The files as they were read.
+    read: Vec<SourceFile<'a>>,
+    /// The files with a tree in place of each JSON item, if there is one.
+    trees: Option<Vec<SourceFile<'a>>>,
+}
+
+impl<'a> InputFiles<'a> {
+    /// The files as they were read.
+    pub fn as_read(&self) -> &[SourceFile<'a>] {
+        self.read.as_slice()
+    }
+
+    /// The files with a tree in place of each JSON item.
+    pub fn as_trees(&self) -> &[SourceFile<'a>] {
+        match &self.trees {
+            Some(trees) => trees.as_slice(),
+            None => self.read.as_slice(),
+        }
     }
 }
 
@@ -79,7 +87,7 @@ pub fn read<'a, R: Runtime + AllocGlobal>(
     rt: &R,
     matches: &'a ArgMatches<'_>,
     terminals: Terminals,
-) -> Result<Vec<SourceFile<'a>>, Status> {
+) -> Result<InputFiles<'a>, Status> {
     refuse_arguments(rt, matches)?;
     let reading = Reading {
         is_quiet: is_quiet(matches),
@@ -88,5 +96,12 @@ pub fn read<'a, R: Runtime + AllocGlobal>(
     if let Some(("fmt", words)) = matches.subcommand() {
         return Err(formatting::lay_out(rt, words, reading));
     }
-    files_of(rt, matches, reading)
+    let read = match input::read_files(rt, names(matches), reading) {
+        Ok(read) => read,
+        Err(why) => return Err(refuse_text(why, &mut Out::new(io::writer(rt)))),
+    };
+    match json_items::as_trees(rt.alloc(), read.as_slice()) {
+        Ok(trees) => Ok(InputFiles { read, trees }),
+        Err(_) => Err(refused::report_out_of_memory(rt)),
+    }
 }

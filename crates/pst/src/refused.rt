@@ -5,7 +5,7 @@ use clap::ArgMatches;
 use pst_cli::{Absence, Status, refuse_text};
 use pst_messages::{Asked, message_of};
 use pst_sexpr::Out;
-use pst_sources::SourceFile;
+use pst_sources::{SourceFile, joined};
 use std::io;
 use std::rt::Runtime;
 
@@ -44,10 +44,12 @@ pub fn report_refusals<R: Eprint + AllocGlobal>(
     word: &str,
     words: &ArgMatches<'_>,
     files: &[SourceFile<'_>],
-    input: &[u8],
 ) {
     let asked = asked(word, words);
-    match message_of(rt.alloc(), files, input, asked) {
+    let Ok(text) = joined(rt.alloc(), files) else {
+        return;
+    };
+    match message_of(rt.alloc(), files, text.as_slice(), asked) {
         Ok(Some(message)) => {
             let _ = eprint!(rt; "{message}");
         }

@@ -17,7 +17,7 @@ use pst_campaign::EarlyStop;
 use pst_cli::{Absence, Counts, Status, check_json, check_text, list_text, refuse_text};
 use pst_driver::Misfits;
 use pst_sexpr::{Out, Sink};
-use pst_sources::Input;
+use pst_sources::{Input, SourceFile};
 use pst_system::BoxedSystem;
 use std::io;
 use std::io::Write;
@@ -31,6 +31,8 @@ use std::time::Clock;
 pub struct Work<'a, 'm> {
     /// The arguments of the program.
     pub matches: &'a ArgMatches<'m>,
+    /// The files of the input as they were read, with their JSON items.
+    pub files: &'a [SourceFile<'a>],
     /// The list of answers of a wrong type, if it is kept. The threads that drive cases share it.
     pub misfits: Option<&'a Misfits>,
     /// When a campaign ends before all its trials have run. The threads that drive cases share it.
@@ -136,7 +138,7 @@ fn say<R: Eprint + AllocGlobal>(
     }
     let Input { files, bytes } = input;
     match status {
-        Status::Refused => refused::report_refusals(rt, word, words, files, bytes),
+        Status::Refused => refused::report_refusals(rt, word, words, work.files),
         Status::Accepted if word == "check" => warned::report_warnings(rt, files, bytes),
         _ => summary::report_no_items(rt, word, words, bytes, status, counts),
     }
