@@ -2,12 +2,14 @@
 ghost use Rattle.std.specs.Prelude.{◌≡◌, ◌<◌, IsTrue, IfOk, IfErr};
 ghost use Rattle.std.specs.Arc.{arc_value};
 ghost use Rattle.pst_campaign.specs.Entries.{MayGive, cause_of};
+ghost use Rattle.pst_campaign.specs.Workers.{IsFresh, IsWorked};
 ghost use Rattle.pst_ledger.specs.declared.entry.Entry.TheVariants.{Done, Lost};
 ghost use Rattle.pst_system.specs.Kept.{AreKept};
 
+use crate::crews::work_alone;
 use crate::ending::StopCondition;
-use crate::runner::TrialRunner;
-use pst_ledger::Cause;
+use crate::runner::{TrialRunner, Worker};
+use pst_ledger::{Cause, Ledger, Seat};
 use pst_system::{BoxedSystem, System};
 use pst_trial::{Plan, Record, Shrinking, TrialFault, trial_counting};
 use std::alloc::Global;
@@ -15,7 +17,7 @@ use std::sync::{Arc, Wait};
 use std::thread::Threads;
 
 /// The cause that has the name of a trial's fault.
-fn cause_of(fault: TrialFault) -> Cause
+pub(crate) fn cause_of(fault: TrialFault) -> Cause
     ensures { result ≡ cause_of fault }
 {
     match fault {
@@ -75,7 +77,7 @@ impl<'a, K: StopCondition> TrialRunner<Record, BoxedSystem> for Watched<'a, K> {
         ((System-box t).fails t.value) ((System-box s).fails s.value)
         ((System-box t).reset_fails t.value) ((System-box s).reset_fails s.value) };
 
-    fn run<H: Threads + Wait + Sync>(
+    fn run<H: Threads + Wait>(
         &self,
         rt: &H,
         alloc: Global,
@@ -101,4 +103,34 @@ impl<'a, K: StopCondition> TrialRunner<Record, BoxedSystem> for Watched<'a, K> {
     ghost keeps_trans = { λ s t u p q. kept_on q p };
 
     ghost moves = { λ w s t kept k e. gives_before kept (arc_value w.plan.now) k e };
+}
+
+impl<'a, K: StopCondition> Worker<BoxedSystem> for Watched<'a, K> {
+    ghost use Rattle.std.specs.Arc.{arc_value};
+    ghost use Rattle.pst_campaign.specs.Entries.{MayGive};
+
+    ghost trials = { λ w. (arc_value w.plan.now).settings.trials };
+
+    ghost may_give = { λ w s k e. MayGive ((System-box s).answers s.value) ((System-box s).fails s.value)
+        ((System-box s).reset_fails s.value) (arc_value w.plan.now) k e };
+
+    ghost may_end = { λ w. K.may_end w.watch.now };
+
+    fn work<H: Threads + Wait>(
+        &self,
+        rt: &H,
+        alloc: Global,
+        ledger: &Ledger<Record>,
+        seat: Seat<Record>,
+        system: BoxedSystem,
+    ) -> Seat<Record>
+        requires fresh { IsFresh ledger.now.table seat }
+        requires trials { ledger.now.table.slots ≡ (arc_value self.now.plan.now).settings.trials }
+        ensures { IsWorked (K.may_end self.now.watch.now)
+            (MayGive ((System-box system).answers system.value) ((System-box system).fails system.value)
+            ((System-box system).reset_fails system.value) (arc_value self.now.plan.now))
+            ledger.now.table result }
+    {
+        work_alone(rt, alloc, self.plan, self.watch, ledger, seat, system)
+    }
 }

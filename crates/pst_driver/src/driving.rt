@@ -22,7 +22,7 @@ use std::sync::Wait;
 use std::thread::Threads;
 
 /// Whether each reply is a value.
-fn all_answers(replies: &[Reply]) -> bool
+pub(crate) fn all_answers(replies: &[Reply]) -> bool
     ensures { result ≡ all_answers replies.now }
 {
     for reply in replies {
@@ -61,7 +61,10 @@ fn is_answered(history: &History) -> bool
 }
 
 /// The replies of branches that are not run.
-fn skip_all(alloc: Global, branches: &[Items<Command>]) -> Result<Items<Items<Reply>>, AllocError>
+pub(crate) fn skip_all(
+    alloc: Global,
+    branches: &[Items<Command>],
+) -> Result<Items<Items<Reply>>, AllocError>
     ensures { IfOk result (λ hs. hs ≡ map none_run branches.now) }
 {
     let mut all = Items::new(alloc);
@@ -74,7 +77,7 @@ fn skip_all(alloc: Global, branches: &[Items<Command>]) -> Result<Items<Items<Re
 }
 
 /// The replies of the branches, which run at once if the whole prefix has values, and else not at all.
-fn run_branches<S: Subject, R: Threads + Wait>(
+fn run_branches<S: Subject + Sync, R: Threads + Wait>(
     rt: &R,
     alloc: Global,
     typed: &Typed,
@@ -97,7 +100,7 @@ fn run_branches<S: Subject, R: Threads + Wait>(
 }
 
 /// The replies of the suffix, which runs if each reply before it is a value, and else not at all.
-fn run_suffix<S: Subject>(
+pub(crate) fn run_suffix<S: Subject>(
     alloc: Global,
     typed: &Typed,
     system: &S,
@@ -120,7 +123,7 @@ fn run_suffix<S: Subject>(
 }
 
 /// Drives a case that has the shape of the model.
-fn drive<S: Subject, R: Threads + Wait>(
+fn drive<S: Subject + Sync, R: Threads + Wait>(
     rt: &R,
     alloc: Global,
     typed: &Typed,

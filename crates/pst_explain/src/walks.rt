@@ -142,7 +142,7 @@ fn walk_asking<'a, C: Callbacks, A: Condition>(
 }
 
 /// Returns the walk of the interleaving `word`, which explains the item: since each postcondition is true along it, none
-/// is asked again.
+/// is evaluated again.
 pub fn explaining_walk<'a, C: Callbacks>(
     callbacks: &C,
     alloc: Global,

@@ -49,7 +49,7 @@ fn has_all(seen: &[Option<CallbackShape<'_>>]) -> bool
     has_pre(seen) && has_next(seen) && has_post(seen)
 }
 
-/// Adds the faults of a callback at `path` behind the callbacks `seen`.
+/// Adds the faults of a callback at `path` after the callbacks `seen`.
 #[tactic(auto, using(crate::proofs::Keeping::keeping, crate::proofs::Seen::seen))]
 fn callback(
     walk: Walk,
@@ -78,7 +78,7 @@ fn callback(
     }
 }
 
-/// Adds the faults of the callback that is part `number` of the tree at `path`, behind the callbacks `seen`.
+/// Adds the faults of the callback that is part `number` of the tree at `path`, after the callbacks `seen`.
 #[tactic(auto, using(crate::proofs::Keeping::keeping))]
 fn known_callback(
     walk: Walk,

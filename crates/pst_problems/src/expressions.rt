@@ -271,7 +271,7 @@ pub fn of_expression(
     }
 }
 
-/// The problem of an expression that stands too deep.
+/// The problem of an expression that is nested too deep.
 pub fn deep_expression(alloc: Global, path: &[usize]) -> FoundProblem {
     wrong(alloc, path, "expressions are nested more than 64 deep")
 }

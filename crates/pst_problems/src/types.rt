@@ -100,7 +100,7 @@ fn no_type_at_all(alloc: Global, path: &[usize], form: &Form) -> FoundProblem {
     )
 }
 
-/// The problem of a type that stands too deep.
+/// The problem of a type that is nested too deep.
 pub fn deep_type(alloc: Global, path: &[usize]) -> FoundProblem {
     wrong(alloc, path, "types are nested more than 16 deep")
 }

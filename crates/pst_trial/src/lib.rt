@@ -8,6 +8,7 @@
 
 mod attempts;
 mod cases;
+mod crews;
 mod driver;
 mod outcome;
 mod plan;
@@ -20,6 +21,7 @@ mod threads;
 mod trials;
 
 pub use cases::trial_case;
+pub use crews::{CrewDriver, trial_with};
 pub use driver::Driver;
 pub use outcome::TrialOutcome;
 pub use plan::Plan;
