@@ -5,7 +5,7 @@ use crate::{help, json_items, outputs, refused, words};
 use clap::{Arg, ArgAction, ArgMatches, Command};
 use pst_cli::{Status, refuse_text};
 use pst_messages::{Asked, message_of};
-use pst_print::laid_out;
+use pst_print::format_file;
 use pst_sexpr::{FaultKind, Out, SexprFault};
 use pst_sources::SourceFile;
 use pst_typing::Refusal;
@@ -184,7 +184,7 @@ fn lay_out_file<R: Runtime + AllocGlobal>(rt: &R, name: &str, how: FormatOptions
         }
         return finish(rt, file, bytes, how);
     }
-    match laid_out(rt.alloc(), bytes) {
+    match format_file(rt.alloc(), bytes) {
         Ok(text) => finish(rt, file, text.as_slice(), how),
         Err(fault) => refuse(rt, files.as_slice(), bytes, fault, how),
     }

@@ -6,9 +6,9 @@ use crate::telling::StepsDisplay;
 use crate::words::is_json;
 use clap::ArgMatches;
 use pst_cli::{
-    AnsweredFile, Counts, JudgedFile, MEMORY_OBJECT, Shown, Status, Steps, item_count, judge_file,
-    judge_file_counting, judge_file_keeping_on, judge_file_keeping_on_counting, judge_json,
-    judge_json_counting, judge_text, judge_text_keeping_on,
+    AnsweredFile, Counts, JudgedFile, MEMORY_OBJECT, ProgressCounter, Shown, Status, item_count,
+    judge_file, judge_file_counting, judge_file_keeping_on, judge_file_keeping_on_counting,
+    judge_json, judge_json_counting, judge_text, judge_text_keeping_on,
 };
 use pst_sexpr::{Out, Sink, put_all};
 use pst_sources::{Input, SourceFile};
@@ -143,7 +143,7 @@ fn judge_all<W: Sink, R: Threads + Sync>(
     alloc: Global,
     words: &ArgMatches<'_>,
     input: &[u8],
-    steps: &Steps,
+    steps: &ProgressCounter,
     out: &mut W,
 ) -> (Status, Option<AnsweredFile>)
     requires { W.broken out.old ≡ false }

@@ -39,7 +39,7 @@ mod words;
 
 use interrupting::StopFile;
 use pst_cli::KnownSystem;
-use pst_driver::Overheard;
+use pst_driver::MisfitRecorder;
 use pst_samples::{Counter, Meet, Queue, Racy, Registry, Stuck};
 use pst_sources::{Input, joined};
 use pst_system::BoxedSystem;
@@ -74,7 +74,7 @@ macro_rules! boxed {
 /// A system in a box, which records its misfits if there is a list for them.
 macro_rules! overheard {
     ($alloc:expr, $misfits:expr, $system:expr) => {
-        boxed!($alloc, Overheard::new($system, overheard::share_misfits(&$misfits)))
+        boxed!($alloc, MisfitRecorder::new($system, overheard::share_misfits(&$misfits)))
     };
 }
 

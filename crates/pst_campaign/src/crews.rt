@@ -15,7 +15,7 @@ use crate::working::work_with;
 use pst_driver::{Crew, KeptSystem, Relations, Subject, start_crew};
 use pst_ledger::{Cause, Ledger, Seat};
 use pst_system::{BoxedSystem, System};
-use pst_trial::{Plan, Record, Shrinking, may_share_records, trial_with};
+use pst_trial::{Plan, Record, ShrinkProgress, may_share_records, trial_with};
 use std::alloc::Global;
 use std::marker::Brand;
 use std::sync::{Arc, Wait};
@@ -31,7 +31,7 @@ fn run_trial<J: Relations, S: Subject, H: Wait>(
     plan: &Arc<Plan>,
     number: u64,
     crew: &Crew<J, S>,
-    shrinking: &Shrinking,
+    shrinking: &ShrinkProgress,
 ) -> Result<Record, Cause>
     requires model { (arc_value plan.now).model ≡ J.model }
     ensures number { IfOk result (λ r. r.number ≡ number) }
@@ -75,7 +75,7 @@ impl<'p, 'w, 'c, K: StopCondition, J: Relations, S: Subject> TrialRunner<Record,
         number: u64,
         _system: &mut (),
     ) -> Result<Record, Cause> {
-        let own = Shrinking::new();
+        let own = ShrinkProgress::new();
         let shrinking = self.watch.shrinking().unwrap_or(&own);
         let ended = run_trial(rt, alloc, self.plan, number, self.crew, shrinking);
         shrinking.end_trial(number);

@@ -11,7 +11,7 @@ use crate::ending::StopCondition;
 use crate::runner::{TrialRunner, Worker};
 use pst_ledger::{Cause, Ledger, Seat};
 use pst_system::{BoxedSystem, System};
-use pst_trial::{Plan, Record, Shrinking, TrialFault, trial_counting};
+use pst_trial::{Plan, Record, ShrinkProgress, TrialFault, trial_counting};
 use std::alloc::Global;
 use std::sync::{Arc, Wait};
 use std::thread::Threads;
@@ -35,7 +35,7 @@ fn run_trial<H: Threads + Wait>(
     plan: &Arc<Plan>,
     number: u64,
     system: &mut BoxedSystem,
-    shrinking: &Shrinking,
+    shrinking: &ShrinkProgress,
 ) -> Result<Record, Cause>
     requires below { number < (arc_value plan.now).settings.trials }
     ensures number { IfOk result (λ r. r.number ≡ number) }
@@ -84,7 +84,7 @@ impl<'a, K: StopCondition> TrialRunner<Record, BoxedSystem> for Watched<'a, K> {
         number: u64,
         system: &mut BoxedSystem,
     ) -> Result<Record, Cause> {
-        let own = Shrinking::new();
+        let own = ShrinkProgress::new();
         let shrinking = self.watch.shrinking().unwrap_or(&own);
         let ended = run_trial(rt, alloc, self.plan, number, system, shrinking);
         shrinking.end_trial(number);

@@ -17,7 +17,7 @@ use pst_case::Run;
 use pst_compile::Compiled;
 use pst_explain::{TreePlace, explain_item, first_places, graph_item};
 use pst_judge::Judged;
-use pst_rejudge::Steps;
+use pst_rejudge::ProgressCounter;
 use pst_sexpr::Sink;
 use pst_sources::SourceFile;
 use std::alloc::{AllocError, Global};
@@ -79,7 +79,7 @@ fn explanations(
     places: &[TreePlace<'_>],
     runs: &[Run],
     all: &[Judged],
-    steps: &Steps,
+    steps: &ProgressCounter,
 ) -> Result<Vec<u8>, AllocError>
     requires lawful { AreLawful compiled.now runs.now }
     requires judged { AreJudged compiled.now runs.now all.now }
@@ -121,7 +121,7 @@ fn chosen_output(
     places: &[TreePlace<'_>],
     runs: &[Run],
     all: &[Judged],
-    steps: &Steps,
+    steps: &ProgressCounter,
 ) -> Result<Output, AllocError>
     requires lawful { AreLawful compiled.now runs.now }
     requires judged { AreJudged compiled.now runs.now all.now }
@@ -144,7 +144,7 @@ fn explain_output<R: Threads + Sync>(
     alloc: Global,
     input: &[u8],
     asked: ExplainOptions<'_>,
-    steps: &Steps,
+    steps: &ProgressCounter,
 ) -> Result<Output, AllocError>
     ensures { IfOk result (λ output. IsExplainOutput input.now asked.entry.chosen output.text.items output.status) }
 {
@@ -152,7 +152,7 @@ fn explain_output<R: Threads + Sync>(
         compiled,
         runs,
         judged,
-    } = match judged_file(rt, alloc, input, Keep::All, &Steps::new())? {
+    } = match judged_file(rt, alloc, input, Keep::All, &ProgressCounter::new())? {
         Ok(file) => file,
         Err(output) => return Ok(output),
     };
@@ -186,7 +186,7 @@ pub fn explain_text<W: Sink, R: Threads + Sync>(
     ensures { Prints (IsExplainOutput input.now asked.entry.chosen)
         (W.taken sink.old) (W.taken sink.new) (W.broken sink.new) result }
 {
-    explain_counting(rt, alloc, input, asked, &Steps::new(), sink)
+    explain_counting(rt, alloc, input, asked, &ProgressCounter::new(), sink)
 }
 
 /// Does what [`explain_text`] does, and counts the items that are explained in `steps`.
@@ -195,7 +195,7 @@ pub fn explain_counting<W: Sink, R: Threads + Sync>(
     alloc: Global,
     input: &[u8],
     asked: ExplainOptions<'_>,
-    steps: &Steps,
+    steps: &ProgressCounter,
     sink: &mut W,
 ) -> Status
     requires { W.broken sink.old ≡ false }

@@ -16,7 +16,7 @@ use pst_case::Run;
 use pst_compile::Compiled;
 use pst_explain::graph_item;
 use pst_judge::Judged;
-use pst_rejudge::Steps;
+use pst_rejudge::ProgressCounter;
 use pst_sexpr::Sink;
 use std::alloc::{AllocError, Global};
 use std::thread::Threads;
@@ -115,7 +115,7 @@ fn graph_output<R: Threads + Sync>(
         compiled,
         runs,
         judged,
-    } = match judged_file(rt, alloc, input, Keep::All, &Steps::new())? {
+    } = match judged_file(rt, alloc, input, Keep::All, &ProgressCounter::new())? {
         Ok(file) => file,
         Err(output) => return Ok(output),
     };

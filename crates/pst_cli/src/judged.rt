@@ -12,7 +12,7 @@ use crate::sharing::may_share_compiled;
 use pst_case::Run;
 use pst_compile::Compiled;
 use pst_judge::Judged;
-use pst_rejudge::{JudgedParts, Steps, head_and_rest, judge_in_parts, rejudge_counting};
+use pst_rejudge::{JudgedParts, ProgressCounter, head_and_rest, judge_in_parts, rejudge_counting};
 use pst_sexpr::MAX_BYTES;
 use std::alloc::{AllocError, Global};
 use std::thread::Threads;
@@ -37,7 +37,7 @@ fn judged_at_once<R: Threads + Sync>(
     alloc: Global,
     input: &[u8],
     keep: Keep,
-    steps: &Steps,
+    steps: &ProgressCounter,
 ) -> Result<Option<JudgedFile>, AllocError>
     ensures { IfOk result (λ read. IfSome read (λ file.
         HoldsJudged (keeps_all keep) input.now file.compiled (joined file.runs.items) file.judged.items)) }
@@ -92,7 +92,7 @@ fn judged_in_order<R: Threads + Sync>(
     rt: &R,
     alloc: Global,
     input: &[u8],
-    steps: &Steps,
+    steps: &ProgressCounter,
 ) -> Result<Result<JudgedFile, Output>, AllocError>
     ensures { IfOk result (λ read. MatchResult read
         (λ file. HoldsJudged true input.now file.compiled (joined file.runs.items) file.judged.items)
@@ -120,7 +120,7 @@ pub fn judged_file<R: Threads + Sync>(
     alloc: Global,
     input: &[u8],
     keep: Keep,
-    steps: &Steps,
+    steps: &ProgressCounter,
 ) -> Result<Result<JudgedFile, Output>, AllocError>
     ensures { IfOk result (λ read. MatchResult read
         (λ file. HoldsJudged (keeps_all keep) input.now file.compiled (joined file.runs.items) file.judged.items)

@@ -25,7 +25,7 @@ use crate::run::status_of_one;
 use crate::sharing::may_share_compiled;
 use crate::shown::Shown;
 use crate::status::Status;
-use pst_rejudge::{Answer, Steps, judge_each};
+use pst_rejudge::{ItemResult, ProgressCounter, judge_each};
 use pst_runs::RunFault;
 use pst_sexpr::Sink;
 use pst_typing::items_of;
@@ -37,13 +37,13 @@ pub(crate) fn add_answer_line(
     alloc: Global,
     text: &mut String,
     number: usize,
-    answer: &Answer,
+    answer: &ItemResult,
 ) -> Result<(), AllocError>
     ensures { OnOk result (string_bytes text.new ≡ string_bytes text.old ++ answer_line number answer.now) }
 {
     match answer {
-        Answer::Judged(judged) => add_item_line(text, number, judged),
-        Answer::Refused { kind, command } => {
+        ItemResult::Judged(judged) => add_item_line(text, number, judged),
+        ItemResult::Refused { kind, command } => {
             let fault = RunFault {
                 run: number,
                 command: *command,
@@ -56,7 +56,7 @@ pub(crate) fn add_answer_line(
 }
 
 /// The lines of all items, numbered from 1.
-fn answer_lines(alloc: Global, answers: &[Answer]) -> Result<String, AllocError>
+fn answer_lines(alloc: Global, answers: &[ItemResult]) -> Result<String, AllocError>
     ensures { IfOk result (λ text. string_bytes text ≡ answer_lines 1 answers.now) }
 {
     let mut text = String::new(alloc);
@@ -67,12 +67,12 @@ fn answer_lines(alloc: Global, answers: &[Answer]) -> Result<String, AllocError>
 }
 
 /// Whether the item is explained or valid.
-pub fn is_good_answer(answer: &Answer) -> bool
+pub fn is_good_answer(answer: &ItemResult) -> bool
     ensures { result ≡ is_good_answer answer.now }
 {
     match answer {
-        Answer::Judged(judged) => is_good(judged),
-        Answer::Refused { .. } => false,
+        ItemResult::Judged(judged) => is_good(judged),
+        ItemResult::Refused { .. } => false,
     }
 }
 
@@ -81,7 +81,7 @@ fn add_failed_line(
     alloc: Global,
     text: &mut String,
     number: usize,
-    answer: &Answer,
+    answer: &ItemResult,
 ) -> Result<(), AllocError>
     ensures { OnOk result
         (string_bytes text.new ≡ string_bytes text.old ++ failed_answer_line number answer.now) }
@@ -93,7 +93,7 @@ fn add_failed_line(
 }
 
 /// The lines of the items that are neither explained nor valid, each with its number among all of them, from 1.
-fn failed_lines(alloc: Global, answers: &[Answer]) -> Result<String, AllocError>
+fn failed_lines(alloc: Global, answers: &[ItemResult]) -> Result<String, AllocError>
     ensures { IfOk result (λ text. string_bytes text ≡ failed_answer_lines 1 answers.now) }
 {
     let mut text = String::new(alloc);
@@ -104,7 +104,7 @@ fn failed_lines(alloc: Global, answers: &[Answer]) -> Result<String, AllocError>
 }
 
 /// The lines of the displayed items, numbered from 1.
-fn shown_lines(alloc: Global, shown: Shown, answers: &[Answer]) -> Result<String, AllocError>
+fn shown_lines(alloc: Global, shown: Shown, answers: &[ItemResult]) -> Result<String, AllocError>
     ensures { IfOk result (λ text. string_bytes text ≡ shown_answer_lines shown answers.now) }
 {
     match shown {
@@ -114,17 +114,17 @@ fn shown_lines(alloc: Global, shown: Shown, answers: &[Answer]) -> Result<String
 }
 
 /// `Refused` if the item is refused, else the status of its judgement.
-pub(crate) fn answer_status(answer: &Answer) -> Status
+pub(crate) fn answer_status(answer: &ItemResult) -> Status
     ensures { result ≡ answer_status answer.now }
 {
     match answer {
-        Answer::Judged(judged) => status_of_one(judged),
-        Answer::Refused { .. } => Status::Refused,
+        ItemResult::Judged(judged) => status_of_one(judged),
+        ItemResult::Refused { .. } => Status::Refused,
     }
 }
 
 /// The worst of the statuses of all items.
-pub fn worst_status(answers: &[Answer]) -> Status
+pub fn worst_status(answers: &[ItemResult]) -> Status
     ensures { result ≡ worst_status Accepted answers.now }
 {
     let mut status = Status::Accepted;
@@ -140,7 +140,7 @@ pub struct AnsweredFile {
     /// The model, and all trees of the input.
     pub file: CompiledFile,
     /// The answers, in the order of the items.
-    pub answers: Vec<Answer>,
+    pub answers: Vec<ItemResult>,
 }
 
 /// The lines of the displayed items after the model, and all answers; or the refusal of the model.
@@ -149,7 +149,7 @@ fn keeping_on_output<R: Threads + Sync>(
     alloc: Global,
     input: &[u8],
     shown: Shown,
-    steps: &Steps,
+    steps: &ProgressCounter,
 ) -> Result<(Output, Option<AnsweredFile>), AllocError>
     ensures output { IfOk result (λ r. IsShownKeepingOn shown input.now r.0.text.items r.0.status) }
     ensures held { IfOk result (λ r. IfSome r.1 (λ answered. HoldsAnswers input.now answered.file.compiled
@@ -190,7 +190,7 @@ pub fn judge_file_keeping_on<W: Sink, R: Threads + Sync>(
     ensures held { IfSome result.1 (λ answered. HoldsAnswers input.now answered.file.compiled
         answered.file.trees.items answered.answers.items) }
 {
-    judge_file_keeping_on_counting(rt, alloc, input, shown, &Steps::new(), sink)
+    judge_file_keeping_on_counting(rt, alloc, input, shown, &ProgressCounter::new(), sink)
 }
 
 /// Does what [`judge_file_keeping_on`] does, and counts the items that are judged in `steps`.
@@ -199,7 +199,7 @@ pub fn judge_file_keeping_on_counting<W: Sink, R: Threads + Sync>(
     alloc: Global,
     input: &[u8],
     shown: Shown,
-    steps: &Steps,
+    steps: &ProgressCounter,
     sink: &mut W,
 ) -> (Status, Option<AnsweredFile>)
     requires { W.broken sink.old ≡ false }

@@ -60,7 +60,7 @@ pub use laws::{keeps_judgements, one_output, streams_are_files};
 pub use list::list_text;
 pub use notes::CampaignNotes;
 pub use objects::{MEMORY_OBJECT, check_json, judge_json, judge_json_counting};
-pub use pst_rejudge::Steps;
+pub use pst_rejudge::ProgressCounter;
 pub use repeat::run_repeatedly;
 pub use run::{run_counting, run_text};
 pub use run_objects::run_json;

@@ -24,7 +24,7 @@ use pst_case::{Run, Shaped};
 use pst_compile::Compiled;
 use pst_judge::{Judged, Valid, Why, valid};
 use pst_model::Typed;
-use pst_rejudge::Steps;
+use pst_rejudge::ProgressCounter;
 use pst_runs::run_tree;
 use pst_sexpr::{Out, Sink, Tree, WriteFailed, put_all, write};
 use pst_system::{BoxedSystem, System};
@@ -134,7 +134,7 @@ fn item_reports<R: Threads + Wait>(
     system: &mut BoxedSystem,
     runs: &[Run],
     counts: &mut Counts,
-    steps: &Steps,
+    steps: &ProgressCounter,
 ) -> Result<Output, AllocError>
     requires { AreLawful compiled.now runs.now }
     ensures reported { IfOk result (λ output.
@@ -162,7 +162,7 @@ fn run_output<R: Threads + Wait>(
     input: &[u8],
     system: &mut BoxedSystem,
     counts: &mut Counts,
-    steps: &Steps,
+    steps: &ProgressCounter,
 ) -> Result<Output, AllocError>
     ensures output { IfOk result (λ output.
         IsRunOutput (answers system.old) (fails system.old) (reset_fails system.old)
@@ -218,7 +218,7 @@ pub fn run_text<W: Sink, R: Threads + Wait>(
         input,
         system,
         &mut Counts::new(),
-        &Steps::new(),
+        &ProgressCounter::new(),
         sink,
     )
 }
@@ -231,7 +231,7 @@ pub fn run_counting<W: Sink, R: Threads + Wait>(
     input: &[u8],
     system: &mut BoxedSystem,
     counts: &mut Counts,
-    steps: &Steps,
+    steps: &ProgressCounter,
     sink: &mut W,
 ) -> Status
     requires { W.broken sink.old ≡ false }

@@ -14,7 +14,7 @@ use pst_case::{Run, Shaped};
 use pst_compile::Compiled;
 use pst_judge::{Judged, Valid, Why, valid};
 use pst_rejudge::{
-    Field, Name, Steps, add_number, add_words, judged_fields, object_line, refused_fields,
+    Field, Name, ProgressCounter, add_number, add_words, judged_fields, object_line, refused_fields,
 };
 use pst_runs::RunFault;
 use pst_sexpr::Sink;
@@ -205,7 +205,7 @@ fn objects<R: Threads + Wait>(
     runs: &[Run],
     repeats: Option<u32>,
     counts: &mut Counts,
-    steps: &Steps,
+    steps: &ProgressCounter,
 ) -> Result<Output, AllocError>
     requires { AreLawful compiled.now runs.now }
 {
@@ -249,7 +249,7 @@ fn json_output<R: Threads + Wait>(
     system: &mut BoxedSystem,
     repeats: Option<u32>,
     counts: &mut Counts,
-    steps: &Steps,
+    steps: &ProgressCounter,
 ) -> Result<Output, AllocError> {
     let file = match load_compiled(alloc, input)? {
         Ok(file) => file,
@@ -282,7 +282,7 @@ pub fn run_json<W: Sink, R: Threads + Wait>(
     system: &mut BoxedSystem,
     repeats: Option<u32>,
     counts: &mut Counts,
-    steps: &Steps,
+    steps: &ProgressCounter,
     sink: &mut W,
 ) -> Status
     requires { W.broken sink.old ≡ false }

@@ -13,7 +13,7 @@ use crate::refusal::refusal_output;
 use crate::sharing::may_share_compiled;
 use crate::status::Status;
 use pst_compile::Compiled;
-use pst_rejudge::{Answer, Steps, StreamFault, next_block};
+use pst_rejudge::{ItemResult, ProgressCounter, StreamFault, next_block};
 use pst_sexpr::{Sink, WriteFailed, put_all};
 use std::alloc::{AllocError, Global};
 use std::io::Read;
@@ -41,7 +41,7 @@ pub(crate) struct Written {
 }
 
 /// The lines of the answers, numbered from `count + 1` on.
-fn lines_after(alloc: Global, count: usize, answers: &[Answer]) -> Result<String, AllocError>
+fn lines_after(alloc: Global, count: usize, answers: &[ItemResult]) -> Result<String, AllocError>
     ensures { IfOk result (λ text. string_bytes text ≡ answer_lines (count + 1) answers.now) }
 {
     let mut text = String::new(alloc);
@@ -57,7 +57,7 @@ fn lines_after(alloc: Global, count: usize, answers: &[Answer]) -> Result<String
 }
 
 /// The worst of `so_far` and the statuses of the answers.
-fn worst_after(so_far: Status, answers: &[Answer]) -> Status
+fn worst_after(so_far: Status, answers: &[ItemResult]) -> Status
     ensures { result ≡ worst_status so_far answers.now }
 {
     let mut status = so_far;
@@ -71,7 +71,7 @@ fn worst_after(so_far: Status, answers: &[Answer]) -> Status
 fn write_block<W: Sink>(
     alloc: Global,
     written: Written,
-    answers: &[Answer],
+    answers: &[ItemResult],
     sink: &mut W,
 ) -> Result<Written, Cut>
     requires { W.broken sink.old ≡ false }
@@ -111,7 +111,7 @@ fn write_stream<I: Read, W: Sink, R: Threads + Sync>(
     compiled: &Compiled,
     reader: &mut I,
     counts: &mut Counts,
-    steps: &Steps,
+    steps: &ProgressCounter,
     sink: &mut W,
 ) -> Result<Status, Cut>
     requires { W.broken sink.old ≡ false }
@@ -170,7 +170,7 @@ pub fn judge_stream<I: Read, W: Sink, R: Threads + Sync>(
     input: &[u8],
     reader: &mut I,
     counts: &mut Counts,
-    steps: &Steps,
+    steps: &ProgressCounter,
     sink: &mut W,
 ) -> Status
     requires { W.broken sink.old ≡ false }

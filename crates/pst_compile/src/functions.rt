@@ -5,14 +5,14 @@ ghost use Rattle.std.specs.Option.{option_copied};
 ghost use Rattle.pst_compile.specs.Functions as spec;
 ghost use Rattle.pst_compile.specs.Scopes.{scope_of, function_in, numbers_in};
 
-use crate::blocks::ended;
+use crate::blocks::append_instruction;
 use crate::expressions::load;
 use crate::frame_size::{frame_size, larger};
 use crate::names::Names;
 use crate::target::{Target, register_after};
 use pst_eval::Context;
 use pst_machine::{FunCode, Instr};
-use pst_model::{Expr, Fun, Item, Op, calls_of, opening_of};
+use pst_model::{Expr, Fun, Item, Op, calls_of, initial_state_of};
 use pst_value::Items;
 use std::alloc::{AllocError, Global};
 
@@ -33,7 +33,7 @@ fn fun_code(
         place: 0,
     };
     let loaded = load(expr, context, names, start)?;
-    let body = ended(loaded.code, Instr::Return(loaded.register))?;
+    let body = append_instruction(loaded.code, Instr::Return(loaded.register))?;
     let registers = larger(count, frame_size(body.as_slice())?);
     Ok(FunCode {
         args: count,
@@ -150,7 +150,7 @@ fn callbacks_code(alloc: Global, items: &[Item]) -> Functions
     };
     let none = Names::Frame(&[], 0);
     let state = Names::With(b"s", 0, &none);
-    let opening = optional_code(opening_of(items), &context, &none, 0)?;
+    let opening = optional_code(initial_state_of(items), &context, &none, 0)?;
     let command = optional_code(calls_of(items), &context, &state, 1)?;
     let others = operations_code(&context, items)?;
     let mut all = Items::new(alloc);

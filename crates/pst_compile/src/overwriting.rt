@@ -7,10 +7,10 @@ ghost use Rattle.std.specs.Prelude.{◌≡◌, IfOk};
 ghost use Rattle.pst_compile.specs.Code as spec;
 ghost use Rattle.pst_compile.specs.Scopes.{scope_of, code_in};
 
-use crate::blocks::{Block, either, ended, joined};
-use crate::expressions::{load, put, put_binary, put_entry};
+use crate::blocks::{Block, append_instruction, concat_code, either};
+use crate::expressions::{binary_code, expression_code, load, put_code};
 use crate::names::Names;
-use crate::operands::put_name;
+use crate::operands::name_code;
 use crate::target::Target;
 use pst_eval::Context;
 use pst_machine::Instr;
@@ -19,7 +19,7 @@ use pst_value::{Boxed, Text};
 
 /// The code of an expression, which leaves its value in the register `dest` in place of what that held. It
 /// changes no other register below the target's.
-#[cycle(put)]
+#[cycle(expression_code)]
 pub fn overwrite(
     expr: &Expr,
     context: &Context<'_>,
@@ -31,9 +31,9 @@ pub fn overwrite(
         (scope_of names.now) dest target.register target.place) }
 {
     match expr {
-        Expr::Name(name) => put_name(name, context.alloc, names, target.to(dest)),
-        Expr::Binary(operator, a, b) => put_binary(*operator, a, b, context, names, dest, target),
-        Expr::Put(map, key, value) => put_entry(map, key, value, context, names, dest, target),
+        Expr::Name(name) => name_code(name, context.alloc, names, target.to(dest)),
+        Expr::Binary(operator, a, b) => binary_code(*operator, a, b, context, names, dest, target),
+        Expr::Put(map, key, value) => put_code(map, key, value, context, names, dest, target),
         Expr::Let(name, bound, body) => {
             overwrite_by_let(name, bound, body, context, names, dest, target)
         }
@@ -54,13 +54,13 @@ pub fn overwrite(
         | Expr::Map(_, _)
         | Expr::Call(_, _)
         | Expr::Apply(_, _) => {
-            let code = put(expr, context, names, target)?;
-            ended(code, Instr::Take(dest, target.register))
+            let code = expression_code(expr, context, names, target)?;
+            append_instruction(code, Instr::Take(dest, target.register))
         }
     }
 }
 
-#[cycle(put)]
+#[cycle(expression_code)]
 fn overwrite_by_let(
     name: &Text,
     bound: &Boxed<Expr>,
@@ -77,10 +77,10 @@ fn overwrite_by_let(
     let next = target.after(first.code.len())?.above(1)?;
     let inner = Names::With(name.as_bytes(), first.register, &*names);
     let second = overwrite(body.get(), context, &inner, dest, next)?;
-    joined(first.code, second)
+    concat_code(first.code, second)
 }
 
-#[cycle(put)]
+#[cycle(expression_code)]
 fn overwrite_by_if(
     test: &Boxed<Expr>,
     then: &Boxed<Expr>,
@@ -101,5 +101,5 @@ fn overwrite_by_if(
     let middle = start.after(first.len())?.after(1)?;
     let second = overwrite(other.get(), context, names, dest, middle)?;
     let both = either(context.alloc, operand.register, first, second, jump.place)?;
-    joined(operand.code, both)
+    concat_code(operand.code, both)
 }

@@ -3,7 +3,7 @@ ghost use Rattle.std.specs.Prelude.{◌≡◌, IfOk, IfErr, true};
 ghost use Rattle.std.specs.Thread.{IsSend, IsSync};
 ghost use Rattle.pst_driver.specs.Progress.{all_known};
 
-use crate::arrivals::Arrivals;
+use crate::arrivals::StartBarrier;
 use crate::branches::{STACK_BYTES, copy_known, may_share_model};
 use crate::desk::{Delivery, Desk, Order};
 use crate::fault::DriveFault;
@@ -47,7 +47,7 @@ impl<J: Relations> Desks<J> {
 #[derive(Drop)]
 pub struct Crew<J: Relations, S: Subject> {
     pub(crate) system: RwLock<KeptSystem<J, S>>,
-    pub(crate) arrivals: Arrivals,
+    pub(crate) arrivals: StartBarrier,
     /// How many threads have started.
     started: AtomicU64,
     desks: Desks<J>,
@@ -58,7 +58,7 @@ impl<J: Relations, S: Subject> Crew<J, S> {
     pub fn new(system: KeptSystem<J, S>) -> Crew<J, S> {
         Crew {
             system: RwLock::new(system),
-            arrivals: Arrivals::new(0),
+            arrivals: StartBarrier::new(0),
             started: AtomicU64::new(0),
             desks: Desks {
                 first: Desk::new(),
@@ -135,7 +135,7 @@ fn serve<J: Relations, S: Subject, R: Wait>(
     alloc: Global,
     typed: &Typed,
     system: &RwLock<KeptSystem<J, S>>,
-    arrivals: &Arrivals,
+    arrivals: &StartBarrier,
     desk: &Desk<J>,
     branch: u32,
 )

@@ -10,7 +10,7 @@ ghost use Rattle.pst_system.specs.Kept.{AreKept};
 
 use crate::branches::run_at_once;
 use crate::fault::DriveFault;
-use crate::part::{run_part, skip};
+use crate::part::{run_part, skip_commands};
 use crate::subject::Subject;
 use pst_case::{Case, Command, History, Reply, results_of};
 use pst_judge::Valid;
@@ -70,7 +70,7 @@ pub(crate) fn skip_all(
     let mut all = Items::new(alloc);
     for branch in branches {
         let mut replies = Items::new(alloc);
-        skip(&mut replies, branch.as_slice())?;
+        skip_commands(&mut replies, branch.as_slice())?;
         all.push(replies)?;
     }
     Ok(all)
@@ -115,7 +115,7 @@ pub(crate) fn run_suffix<S: Subject>(
 {
     if !is_answered(so_far) {
         let mut replies = Items::new(alloc);
-        skip(&mut replies, suffix)?;
+        skip_commands(&mut replies, suffix)?;
         return Ok(replies);
     }
     let known = so_far.recorded(alloc)?;
@@ -123,7 +123,7 @@ pub(crate) fn run_suffix<S: Subject>(
 }
 
 /// Drives a case that has the shape of the model.
-fn drive<S: Subject + Sync, R: Threads + Wait>(
+fn drive_shaped<S: Subject + Sync, R: Threads + Wait>(
     rt: &R,
     alloc: Global,
     typed: &Typed,
@@ -197,5 +197,5 @@ pub fn run<R: Threads + Wait>(
     ensures kept { AreKept (answers system.new) (answers system.old) (fails system.new) (fails system.old)
         (reset_fails system.new) (reset_fails system.old) }
 {
-    drive(rt, alloc, typed, system, valid.shaped().case())
+    drive_shaped(rt, alloc, typed, system, valid.shaped().case())
 }

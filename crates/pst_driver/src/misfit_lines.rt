@@ -3,7 +3,7 @@
 use crate::misfits::{MOST_KEPT, Misfit, Misfits};
 use pst_model::{Source, operation_of};
 use pst_print::ty_form;
-use pst_scene::{add, add_form, add_value, text_of, value_text};
+use pst_scene::{add_form, add_str, add_value, text_of, value_text};
 use pst_system::RealCall;
 use pst_value::Ty;
 use std::alloc::{AllocError, Global};
@@ -35,12 +35,12 @@ fn shown(alloc: Global, spelling: &[u8]) -> Result<String, AllocError> {
 /// The call as items spell it.
 fn call_text(alloc: Global, model: &Source, call: &RealCall) -> Result<Vec<u8>, AllocError> {
     let mut text = text_of(alloc, "(")?;
-    add(&mut text, call.name.as_str())?;
+    add_str(&mut text, call.name.as_str())?;
     for arg in call.args.as_slice() {
-        add(&mut text, " ")?;
+        add_str(&mut text, " ")?;
         add_value(&mut text, alloc, model, arg)?;
     }
-    add(&mut text, ")")?;
+    add_str(&mut text, ")")?;
     Ok(text)
 }
 

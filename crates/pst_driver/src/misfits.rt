@@ -1,7 +1,7 @@
 //! Misfits: answers of a system that are not of the result type of the called operation.
 //!
-//! A driver replies `misfit` to such an answer and does not keep it. A system in `Overheard` answers as before,
-//! and `Misfits` keeps the first of these answers, for lines that people read (`misfits_text`).
+//! A driver replies `misfit` to such an answer and does not keep it. A system in `MisfitRecorder` answers as
+//! before, and `Misfits` keeps the first of these answers, for lines that people read (`misfits_text`).
 ghost use Rattle.std.specs.Prelude.{◌≡◌, [], IfOk};
 ghost use Rattle.pst_case.specs.Shape.{result_type};
 ghost use Rattle.pst_model.specs.Fitting.{fits_in};

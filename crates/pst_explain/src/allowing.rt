@@ -7,7 +7,7 @@ ghost use Rattle.pst_judge.specs.Verdict.{first_broken};
 use crate::bounded::Bounded;
 use pst_case::{History, Reply};
 use pst_eval::{Callbacks, Env};
-use pst_reasons::{AllowedValues, Candidates, allowed, merge_beyond, without};
+use pst_reasons::{AllowedValues, Candidates, find_allowed_values, interleaving_beyond, without};
 use pst_scene::{
     Call, Falsity, Scene, arguments, falsity_of, operation, state_before, wanted_reply,
 };
@@ -111,7 +111,7 @@ pub fn wrong_without<'a, C: Callbacks>(
     let shaped = &scene.run.shaped;
     let others = without(number, core, Vec::new(alloc))?;
     let others = others.as_slice();
-    let merge = merge_beyond(
+    let merge = interleaving_beyond(
         callbacks,
         alloc,
         scene.model,
@@ -152,7 +152,7 @@ pub fn allowed_answers<C: Callbacks>(
     };
     let shaped = &scene.run.shaped;
     callbacks.set_further_calls(1);
-    let found = allowed(
+    let found = find_allowed_values(
         callbacks,
         alloc,
         scene.model,

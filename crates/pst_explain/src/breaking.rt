@@ -3,7 +3,7 @@
 use pst_case::{Reply, Run};
 use pst_model::{Source, Typed};
 use pst_print::ty_form;
-use pst_scene::{Call, Scene, add, add_form, call_numbered, operation, scene_of};
+use pst_scene::{Call, Scene, add_form, add_str, call_numbered, operation, scene_of};
 use pst_value::Ty;
 use std::alloc::{AllocError, Global};
 
@@ -59,10 +59,10 @@ pub fn broken_sentence(
         return Ok(None);
     };
     let mut text = call.text(alloc, model)?;
-    add(&mut text, " ")?;
-    add(&mut text, meaning(reply))?;
+    add_str(&mut text, " ")?;
+    add_str(&mut text, meaning(reply))?;
     if let Some(wanted) = broken.wanted {
-        add(&mut text, " a value of type ")?;
+        add_str(&mut text, " a value of type ")?;
         add_form(&mut text, &ty_form(alloc, wanted)?)?;
     }
     Ok(Some(text))

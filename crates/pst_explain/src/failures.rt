@@ -3,7 +3,7 @@
 use crate::walks::{Walk, blocked_after, empty_walk, walk_along};
 use pst_case::Reply;
 use pst_eval::{Callback, Env, FaultPlace};
-use pst_model::{Expr, calls_of, opening_of};
+use pst_model::{Expr, calls_of, initial_state_of};
 use pst_scene::{
     Binding, Call, FaultyPart, Scene, arguments, bindings_of, call_numbered, calls_before,
     faulty_part, operation, reference, states_along, words_of,
@@ -113,7 +113,7 @@ fn init_expression<'a>(
     alloc: Global,
     scene: &Scene<'a>,
 ) -> Result<Option<Expression<'a>>, AllocError> {
-    match opening_of(scene.model.items.as_slice()) {
+    match initial_state_of(scene.model.items.as_slice()) {
         Some(expr) => expression_in(alloc, scene, expr, &Env::Frame(&[], &[])),
         None => Ok(None),
     }

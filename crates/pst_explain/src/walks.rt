@@ -9,7 +9,7 @@ use pst_eval::Callbacks;
 use pst_judge::{Condition, Postconditions, verdict_with_interleaving};
 use pst_reasons::{SomePostconditions, states};
 use pst_scene::{
-    Call, CasePart, DeadEnd, Outcome, PreAnswer, Scene, falsity_of, in_order, next_calls,
+    Call, CasePart, DeadEnd, Outcome, PreAnswer, Scene, calls_in_order, falsity_of, next_calls,
     outcome_of, precondition,
 };
 use pst_value::Value;
@@ -135,7 +135,7 @@ fn walk_asking<'a, C: Callbacks, A: Condition>(
     requires matches { matches (C.model callbacks.now) scene.now.run.now.shaped.case history.now ≡ true }
     requires answered { first_broken 1 (recorded history.now) ≡ None }
 {
-    let order = in_order(alloc, &scene.calls, word)?;
+    let order = calls_in_order(alloc, &scene.calls, word)?;
     let shaped = &scene.run.shaped;
     let states = states(callbacks, condition, alloc, shaped, history, word)?;
     walk_along(alloc, scene, word, order.as_slice(), states.as_slice())

@@ -17,9 +17,9 @@ use Rattle.pst_grid.specs.declared.answer.Ending.{Ending}
 use Rattle.pst_grid.specs.declared.answer.Ending.TheVariants.{AllTrue, StopsAt}
 use Rattle.pst_grid.specs.Remembered.{IsFoundOrCovered}
 use Rattle.pst_grid.specs.declared.position.Position.{Position}
-use Rattle.pst_grid.specs.declared.search.Best.{Best}
-use Rattle.pst_grid.specs.declared.search.FalseMerge.{FalseMerge}
-use Rattle.pst_grid.specs.declared.search.FaultedMerge.{FaultedMerge}
+use Rattle.pst_grid.specs.declared.search.FirstFailures.{FirstFailures}
+use Rattle.pst_grid.specs.declared.search.FalseInterleaving.{FalseInterleaving}
+use Rattle.pst_grid.specs.declared.search.FaultedInterleaving.{FaultedInterleaving}
 use Rattle.pst_grid.specs.declared.search.Goal.{Goal}
 use Rattle.pst_grid.specs.declared.search.Goal.TheVariants.{ToEnd, Stopped}
 use Rattle.pst_grid.specs.declared.search.SearchProgress.{SearchProgress}
@@ -70,7 +70,7 @@ module _ {S F : Type 0} (turn : S → ℕ → ℕ → StepOutcome S F) (rest : S
           ((completes lengths l.letters l.member, r), λ v k. l.least v (merge lengths v k.0) (subst (IsSought ToEnd) (sym k.1) refl))
       by (StopsAt n why) r s h = let q : ToEnd ≡ Stopped = s in cc
 
-  module _ (best : Best F) (c : Covered turn rest ToEnd (none_done lengths) state [] (Completes lengths (none_done lengths)) nothing_kept best) where
+  module _ (best : FirstFailures F) (c : Covered turn rest ToEnd (none_done lengths) state [] (Completes lengths (none_done lengths)) nothing_kept best) where
     none_true : (v : List ℕ) → Ends turn rest lengths state AllTrue v → ⊥
     none_true v k = c.none_sought v (merge lengths v k.0) (subst (IsSought ToEnd) (sym k.1) refl)
 
@@ -93,7 +93,7 @@ module _ {S F : Type 0} (turn : S → ℕ → ℕ → StepOutcome S F) (rest : S
     is_further : best.fault ≡ None → IsFurther turn rest (none_done lengths) state [] (Completes lengths (none_done lengths)) None best.furthest
     is_further none = elim c.reached [ inl e ↦ absurd (one_false none e) | inr p ↦ p ]
 
-    nothing : best.fault ≡ None → (x : FalseMerge) → best.furthest ≡ Some x → IsAnswer turn rest lengths state (Nothing x.at x.word)
+    nothing : best.fault ≡ None → (x : FalseInterleaving) → best.furthest ≡ Some x → IsAnswer turn rest lengths state (Nothing x.at x.word)
     nothing none x e = (none_true, λ v k. c.none_faults none v (merge lengths v k.0) k.1, least, λ v n k. omega (arith, c.bounds v n (merge lengths v k.0) k.1, ap reach e))
       where
         p : IsFurther turn rest (none_done lengths) state [] (Completes lengths (none_done lengths)) None best.furthest
@@ -112,7 +112,7 @@ module _ {S F : Type 0} (turn : S → ℕ → ℕ → StepOutcome S F) (rest : S
         least = subst (λ w. Ends turn rest lengths state (StopsAt x.at False) w × ((v : List ℕ) → Ends turn rest lengths state (StopsAt x.at False) v → IsUpTo w v)) (sym l.word)
             ((completes lengths l.letters l.member, l.stops ∙ ap (λ n. StopsAt n False) at), λ v k. l.least v (merge lengths v k.0) (k.1 ∙ sym (ap (λ n. StopsAt n False) at)))
 
-    faulted : (f : FaultedMerge F) → best.fault ≡ Some f → IsAnswer turn rest lengths state (Faulted f.word f.at f.fault)
+    faulted : (f : FaultedInterleaving F) → best.fault ≡ Some f → IsAnswer turn rest lengths state (Faulted f.word f.at f.fault)
     faulted f e =
         let l = c.first refl f e in
         let z : l.steps ≡ f.at = (let q = l.place in omega arith) in
@@ -126,22 +126,22 @@ module _ {S F : Type 0} (turn : S → ℕ → ℕ → StepOutcome S F) (rest : S
     kept_one : HasEnd false best
     kept_one = by best.fault refl
       where
-        further : (o : Option FalseMerge) → (x : FalseMerge) → o ≡ Some x → MatchOption o ⊥ (λ x. Unit {0})
+        further : (o : Option FalseInterleaving) → (x : FalseInterleaving) → o ≡ Some x → MatchOption o ⊥ (λ x. Unit {0})
         further None x e = cc
         further (Some y) x e = tt
 
-        by : (o : Option (FaultedMerge F)) → best.fault ≡ o → MatchOption o (MatchOption best.furthest ⊥ (λ x. Unit {0})) (λ f. Unit {0})
+        by : (o : Option (FaultedInterleaving F)) → best.fault ≡ o → MatchOption o (MatchOption best.furthest ⊥ (λ x. Unit {0})) (λ f. Unit {0})
         by None e = let p = is_further e in further best.furthest p.merge p.kept
         by (Some f) e = tt
 
     answered : (answer : SomeAnswer F) → MatchOption best.fault (MatchOption best.furthest ⊥ (λ x. answer ≡ Nothing x.at x.word)) (λ f. answer ≡ Faulted f.word f.at f.fault) → IsAnswer turn rest lengths state answer
     answered answer e = by best.fault refl e
       where
-        nothing_of : best.fault ≡ None → (o : Option FalseMerge) → best.furthest ≡ o → MatchOption o ⊥ (λ x. answer ≡ Nothing x.at x.word) → IsAnswer turn rest lengths state answer
+        nothing_of : best.fault ≡ None → (o : Option FalseInterleaving) → best.furthest ≡ o → MatchOption o ⊥ (λ x. answer ≡ Nothing x.at x.word) → IsAnswer turn rest lengths state answer
         nothing_of q None r e = absurd e
         nothing_of q (Some x) r e = subst (IsAnswer turn rest lengths state) (sym e) (nothing q x r)
 
-        by : (o : Option (FaultedMerge F)) → best.fault ≡ o → MatchOption o (MatchOption best.furthest ⊥ (λ x. answer ≡ Nothing x.at x.word)) (λ f. answer ≡ Faulted f.word f.at f.fault) → IsAnswer turn rest lengths state answer
+        by : (o : Option (FaultedInterleaving F)) → best.fault ≡ o → MatchOption o (MatchOption best.furthest ⊥ (λ x. answer ≡ Nothing x.at x.word)) (λ f. answer ≡ Faulted f.word f.at f.fault) → IsAnswer turn rest lengths state answer
         by None q e = nothing_of q best.furthest refl e
         by (Some f) q e = subst (IsAnswer turn rest lengths state) (sym e) (faulted f q)
 
@@ -157,17 +157,17 @@ module _ {S F : Type 0} (turn : S → ℕ → ℕ → StepOutcome S F) (rest : S
 
   -- ---- the answers of a search for a merge that is not
 
-  module _ (best : Best F) (answer : EveryAnswer F) (is : MatchOption best.fault (MatchOption best.furthest (answer ≡ All) (λ x. answer ≡ Not x.word x.at False)) (λ f. answer ≡ Not f.word f.at (Fault f.fault))) where
+  module _ (best : FirstFailures F) (answer : EveryAnswer F) (is : MatchOption best.fault (MatchOption best.furthest (answer ≡ All) (λ x. answer ≡ Not x.word x.at False)) (λ f. answer ≡ Not f.word f.at (Fault f.fault))) where
     -- a merge that stops is all that is kept
     told : (word : List ℕ) (at : ℕ) (why : StopReason F) → Keeps at word why nothing_kept best → (w : Vec ℕ Global) × (answer ≡ Not w at why) × (w.items ≡ word)
     told word at False h = by best.furthest h.1 (subst (λ o. MatchOption o (MatchOption best.furthest (answer ≡ All) (λ x. answer ≡ Not x.word x.at False)) (λ f. answer ≡ Not f.word f.at (Fault f.fault))) h.0 is)
       where
-        by : (o : Option FalseMerge) → MatchOption o ⊥ (λ x. (x.at ≡ at) × (x.word.items ≡ word)) → MatchOption o (answer ≡ All) (λ x. answer ≡ Not x.word x.at False) → (w : Vec ℕ Global) × (answer ≡ Not w at False) × (w.items ≡ word)
+        by : (o : Option FalseInterleaving) → MatchOption o ⊥ (λ x. (x.at ≡ at) × (x.word.items ≡ word)) → MatchOption o (answer ≡ All) (λ x. answer ≡ Not x.word x.at False) → (w : Vec ℕ Global) × (answer ≡ Not w at False) × (w.items ≡ word)
         by None k e = absurd k
         by (Some x) k e = (x.word, e ∙ ap (λ n. Not x.word n False) k.0, k.1)
     told word at (Fault fault) h = by best.fault h.1 is
       where
-        by : (o : Option (FaultedMerge F)) → MatchOption o ⊥ (λ x. (x.at ≡ at) × (x.word.items ≡ word) × (x.fault ≡ fault))
+        by : (o : Option (FaultedInterleaving F)) → MatchOption o ⊥ (λ x. (x.at ≡ at) × (x.word.items ≡ word) × (x.fault ≡ fault))
             → MatchOption o (MatchOption best.furthest (answer ≡ All) (λ x. answer ≡ Not x.word x.at False)) (λ f. answer ≡ Not f.word f.at (Fault f.fault)) → (w : Vec ℕ Global) × (answer ≡ Not w at (Fault fault)) × (w.items ≡ word)
         by None k e = absurd k
         by (Some x) k e = (x.word, e ∙ ap (λ n. Not x.word n (Fault x.fault)) k.0 ∙ ap (λ f. Not x.word at (Fault f)) k.2, k.1)
@@ -197,7 +197,7 @@ module _ {S F : Type 0} (turn : S → ℕ → ℕ → StepOutcome S F) (rest : S
       fresh = still-fresh turn rest Stopped (none_done lengths) state [] (Completes lengths (none_done lengths)) nothing_kept new.best c (λ _. refl) refl
 
       all : answer ≡ All
-      all = subst (λ (b : Best F). MatchOption b.fault (MatchOption b.furthest (answer ≡ All) (λ x. answer ≡ Not x.word x.at False)) (λ f. answer ≡ Not f.word f.at (Fault f.fault))) fresh e
+      all = subst (λ (b : FirstFailures F). MatchOption b.fault (MatchOption b.furthest (answer ≡ All) (λ x. answer ≡ Not x.word x.at False)) (λ f. answer ≡ Not f.word f.at (Fault f.fault))) fresh e
 
       true_one : (x : Ending F) → (IsSought Stopped x → ⊥) → x ≡ AllTrue
       true_one AllTrue other = refl

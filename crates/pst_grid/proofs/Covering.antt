@@ -13,9 +13,9 @@ use Rattle.pst_grid.specs.Kept.{reach, Keeps, KeepsFurthest, KeepsFault, is_stop
 use Rattle.pst_grid.specs.Merges.{run, IsUpTo, after, later, one_more}
 use Rattle.pst_grid.specs.declared.answer.Ending.{Ending}
 use Rattle.pst_grid.specs.declared.answer.Ending.TheVariants.{AllTrue, StopsAt}
-use Rattle.pst_grid.specs.declared.search.Best.{Best}
-use Rattle.pst_grid.specs.declared.search.FalseMerge.{FalseMerge}
-use Rattle.pst_grid.specs.declared.search.FaultedMerge.{FaultedMerge}
+use Rattle.pst_grid.specs.declared.search.FirstFailures.{FirstFailures}
+use Rattle.pst_grid.specs.declared.search.FalseInterleaving.{FalseInterleaving}
+use Rattle.pst_grid.specs.declared.search.FaultedInterleaving.{FaultedInterleaving}
 use Rattle.pst_grid.specs.declared.search.Goal.{Goal}
 use Rattle.pst_grid.specs.declared.search.Goal.TheVariants.{ToEnd, Stopped}
 use Rattle.pst_grid.specs.declared.search.SearchProgress.{SearchProgress}
@@ -27,23 +27,23 @@ later-AllTrue (StopsAt n why) h = cc
 
 -- ---- what is kept of the merges that stop at a false event
 
-pub same_reach : (old new : Option FalseMerge) → new ≡ old → reach old ≤ reach new
+pub same_reach : (old new : Option FalseInterleaving) → new ≡ old → reach old ≤ reach new
 same_reach old new e = omega (arith, ap reach e)
 
 -- this word, which stops at a false event after so many true ones, is kept, and is further than the one before
-pub record IsNew (n : ℕ) (w : List ℕ) (old new : Option FalseMerge) : Type 0 where
-  pub merge : FalseMerge
+pub record IsNew (n : ℕ) (w : List ℕ) (old new : Option FalseInterleaving) : Type 0 where
+  pub merge : FalseInterleaving
   pub kept : new ≡ Some merge
   pub more : reach old ≤ n
   pub place : merge.at ≡ n
   pub word : merge.word.items ≡ w
 
-pub record IsKept (n : ℕ) (w : List ℕ) (old new : Option FalseMerge) : Type 0 where
+pub record IsKept (n : ℕ) (w : List ℕ) (old new : Option FalseInterleaving) : Type 0 where
   pub grows : reach old ≤ reach new
   pub bounds : n < reach new
   pub either : (new ≡ old) ⊎ IsNew n w old new
 
-kept_new : (at : ℕ) (word : List ℕ) (old new : Option FalseMerge) → reach old ≤ at → MatchOption new ⊥ (λ x. (x.at ≡ at) × (x.word.items ≡ word)) → IsKept at word old new
+kept_new : (at : ℕ) (word : List ℕ) (old new : Option FalseInterleaving) → reach old ≤ at → MatchOption new ⊥ (λ x. (x.at ≡ at) × (x.word.items ≡ word)) → IsKept at word old new
 kept_new at word old None more h = absurd h
 kept_new at word old (Some x) more h = record {
   grows = omega (arith, more, h.0);
@@ -51,10 +51,10 @@ kept_new at word old (Some x) more h = record {
   either = inr (record { merge = x; kept = refl; more = more; place = h.0; word = h.1 });
 }
 
-kept_old : (at : ℕ) (word : List ℕ) (old new : Option FalseMerge) → at < reach old → new ≡ old → IsKept at word old new
+kept_old : (at : ℕ) (word : List ℕ) (old new : Option FalseInterleaving) → at < reach old → new ≡ old → IsKept at word old new
 kept_old at word old new less e = record { grows = same_reach old new e; bounds = omega (arith, less, ap reach e); either = inl e }
 
-pub kept_furthest : (at : ℕ) (word : List ℕ) (old new : Option FalseMerge) → KeepsFurthest at word old new → IsKept at word old new
+pub kept_furthest : (at : ℕ) (word : List ℕ) (old new : Option FalseInterleaving) → KeepsFurthest at word old new → IsKept at word old new
 kept_furthest at word None new h = kept_new at word None new (omega arith) h
 kept_furthest at word (Some x) new h = by (nat_lt x.at at) refl h
   where
@@ -62,12 +62,12 @@ kept_furthest at word (Some x) new h = by (nat_lt x.at at) refl h
     by true e k = kept_new at word (Some x) new (let l : x.at < at = grind (arith, nat_tests) in omega (arith, l)) k
     by false e k = kept_old at word (Some x) new (let l : at ≤ x.at = grind (arith, nat_tests) in omega (arith, l)) k
 
-pub keeps-none : {F : Type 0} (n : ℕ) (word : List ℕ) (why : StopReason F) (best : Best F) → is_kept n why best ≡ false → Keeps n word why best best
+pub keeps-none : {F : Type 0} (n : ℕ) (word : List ℕ) (why : StopReason F) (best : FirstFailures F) → is_kept n why best ≡ false → Keeps n word why best best
 keeps-none n word False best e =
     (refl, subst (λ b. MatchBool b (MatchOption best.furthest ⊥ (λ x. (x.at ≡ n) × (x.word.items ≡ word))) (best.furthest ≡ best.furthest)) (sym e) refl)
 keeps-none {F} n word (Fault fault) best e = (refl, by best.fault refl e)
   where
-    by : (o : Option (FaultedMerge F)) → best.fault ≡ o → is_none o ≡ false
+    by : (o : Option (FaultedInterleaving F)) → best.fault ≡ o → is_none o ≡ false
         → MatchOption o (MatchOption best.fault ⊥ (λ x. (x.at ≡ n) × (x.word.items ≡ word) × (x.fault ≡ fault))) (λ x. best.fault ≡ Some x)
     by None k h = cc
     by (Some x) k h = k
@@ -94,7 +94,7 @@ later-StopsAt (StopsAt k w) n why h = record { steps = k; more = cc; ends = cc }
 
 module _ {S F : Type 0} (turn : S → ℕ → ℕ → StepOutcome S F) (rest : S → Ending F) (goal : Goal) (done : List ℕ) (state : S) where
   -- the words of A, and then those of B, which all come later
-  pub Covered-join : (before : List ℕ) (A B W : List ℕ → Type 0) (x y z : Best F)
+  pub Covered-join : (before : List ℕ) (A B W : List ℕ → Type 0) (x y z : FirstFailures F)
       → ((w : List ℕ) → W w → A w ⊎ B w) → ((w : List ℕ) → A w → W w) → ((w : List ℕ) → B w → W w)
       → ((v w : List ℕ) → A v → B w → IsUpTo v w)
       → Covered turn rest goal done state before A x y → Covered turn rest goal done state before B y z → Covered turn rest goal done state before W x z
@@ -111,14 +111,14 @@ module _ {S F : Type 0} (turn : S → ℕ → ℕ → StepOutcome S F) (rest : S
       none_before : z.fault ≡ None → y.fault ≡ None
       none_before e = by y.fault refl
         where
-          by : (o : Option (FaultedMerge F)) → y.fault ≡ o → y.fault ≡ None
+          by : (o : Option (FaultedInterleaving F)) → y.fault ≡ o → y.fault ≡ None
           by None k = k
           by (Some f) k = let j = b.kept f k in cc
 
-      first_of_both : x.fault ≡ None → (f : FaultedMerge F) → z.fault ≡ Some f → IsLeastFault turn rest done state before W f
+      first_of_both : x.fault ≡ None → (f : FaultedInterleaving F) → z.fault ≡ Some f → IsLeastFault turn rest done state before W f
       first_of_both none f e = by y.fault refl
         where
-          by : (o : Option (FaultedMerge F)) → y.fault ≡ o → IsLeastFault turn rest done state before W f
+          by : (o : Option (FaultedInterleaving F)) → y.fault ≡ o → IsLeastFault turn rest done state before W f
           by None k = let l = b.first k f e in record {
             letters = l.letters;
             steps = l.steps;
@@ -180,7 +180,7 @@ module _ {S F : Type 0} (turn : S → ℕ → ℕ → StepOutcome S F) (rest : S
       ]
 
   -- no words at all
-  pub Covered-none : (before : List ℕ) (W : List ℕ → Type 0) (x : Best F) → ((w : List ℕ) → W w → ⊥) → Covered turn rest goal done state before W x x
+  pub Covered-none : (before : List ℕ) (W : List ℕ → Type 0) (x : FirstFailures F) → ((w : List ℕ) → W w → ⊥) → Covered turn rest goal done state before W x x
   Covered-none before W x empty = record {
     none_sought = λ w k e. empty w k;
     kept = λ f e. e;
@@ -192,18 +192,18 @@ module _ {S F : Type 0} (turn : S → ℕ → ℕ → StepOutcome S F) (rest : S
   }
 
   -- the same words by another name
-  pub Covered-same : (before : List ℕ) (A B : List ℕ → Type 0) (x y : Best F) → ((w : List ℕ) → A w → B w) → ((w : List ℕ) → B w → A w) → Covered turn rest goal done state before A x y → Covered turn rest goal done state before B x y
+  pub Covered-same : (before : List ℕ) (A B : List ℕ → Type 0) (x y : FirstFailures F) → ((w : List ℕ) → A w → B w) → ((w : List ℕ) → B w → A w) → Covered turn rest goal done state before A x y → Covered turn rest goal done state before B x y
   Covered-same before A B x y to from a =
       Covered-join before A (λ w. ⊥) B x y y (λ w k. inl (from w k)) to (λ w k. absurd k) (λ v w k e. absurd e) a (Covered-none before (λ w. ⊥) y (λ w k. k))
 
   -- a search for words that stop keeps nothing while it finds none
-  pub still-fresh : (before : List ℕ) (W : List ℕ → Type 0) (x y : Best F) → Covered turn rest goal done state before W x y → IsFresh goal x → IsFresh goal y
+  pub still-fresh : (before : List ℕ) (W : List ℕ → Type 0) (x y : FirstFailures F) → Covered turn rest goal done state before W x y → IsFresh goal x → IsFresh goal y
   still-fresh before W x y c fresh g = no_fault y.fault refl ∙ ap (λ u. record { fault = None; furthest = u }) no_false
     where
       stops : (w : List ℕ) (n : ℕ) (why : StopReason F) → W w → run turn rest done state w ≡ StopsAt n why → ⊥
       stops w n why k e = c.none_sought w k (subst (IsSought goal) (sym e) g)
 
-      no_fault : (o : Option (FaultedMerge F)) → y.fault ≡ o → y ≡ record { fault = None; furthest = y.furthest }
+      no_fault : (o : Option (FaultedInterleaving F)) → y.fault ≡ o → y ≡ record { fault = None; furthest = y.furthest }
       no_fault None k = ap (λ u. record { fault = u; furthest = y.furthest }) k
       no_fault (Some f) k = let l = c.first (ap (λ b. b.fault) (fresh g)) f k in absurd (stops l.letters l.steps (Fault f.fault) l.member l.faults)
 
@@ -212,7 +212,7 @@ module _ {S F : Type 0} (turn : S → ℕ → ℕ → StepOutcome S F) (rest : S
 
   -- the words of W all stop, for one reason and after as many true events, and the one with these letters is the least
   module _ (W : List ℕ → Type 0) (n : ℕ) (letters : List ℕ) (member : W letters) (sorted : (v : List ℕ) → W v → IsUpTo letters v) where
-    pub stops-covered : (before : List ℕ) (why : StopReason F) (x y : Best F) → ((w : List ℕ) → W w → run turn rest done state w ≡ StopsAt n why) → (goal ≡ Stopped → ⊥)
+    pub stops-covered : (before : List ℕ) (why : StopReason F) (x y : FirstFailures F) → ((w : List ℕ) → W w → run turn rest done state w ≡ StopsAt n why) → (goal ≡ Stopped → ⊥)
         → Keeps (length before + n) (before ++ letters) why x y → Covered turn rest goal done state before W x y
     stops-covered before False x y all passed h = record {
       none_sought = λ w k s. passed (subst (IsSought goal) (all w k) s);
@@ -244,16 +244,16 @@ module _ {S F : Type 0} (turn : S → ℕ → ℕ → StepOutcome S F) (rest : S
       reached = inl h.0;
     }
       where
-        still : (o : Option (FaultedMerge F)) (f : FaultedMerge F) → o ≡ Some f → KeepsFault (length before + n) (before ++ letters) fault o y.fault → y.fault ≡ Some f
+        still : (o : Option (FaultedInterleaving F)) (f : FaultedInterleaving F) → o ≡ Some f → KeepsFault (length before + n) (before ++ letters) fault o y.fault → y.fault ≡ Some f
         still None f e k = cc
         still (Some g) f e k = k ∙ e
 
-        some_fault : (o p : Option (FaultedMerge F)) → p ≡ None → KeepsFault (length before + n) (before ++ letters) fault o p → ⊥
+        some_fault : (o p : Option (FaultedInterleaving F)) → p ≡ None → KeepsFault (length before + n) (before ++ letters) fault o p → ⊥
         some_fault None None e k = k
         some_fault None (Some g) e k = cc
         some_fault (Some g) p e k = let r : Some g ≡ None = sym k ∙ e in cc
 
-        least : (f : FaultedMerge F) → KeepsFault (length before + n) (before ++ letters) fault None (Some f) → IsLeastFault turn rest done state before W f
+        least : (f : FaultedInterleaving F) → KeepsFault (length before + n) (before ++ letters) fault None (Some f) → IsLeastFault turn rest done state before W f
         least f k = record {
           letters = letters;
           steps = n;
@@ -296,7 +296,7 @@ module _ {S F : Type 0} (turn : S → ℕ → ℕ → StepOutcome S F) (rest : S
   run-begins why e (c ∷ w) k = ap (λ a. run turn rest done state (a ∷ w)) k.0 ∙ run-Stop why e w
 
   -- the words behind a true event
-  pub Covered-Next : (goal : Goal) (before : List ℕ) (next : S) (x y : Best F) → turn state b (get_or done b 0) ≡ Next next
+  pub Covered-Next : (goal : Goal) (before : List ℕ) (next : S) (x y : FirstFailures F) → turn state b (get_or done b 0) ≡ Next next
       → Covered turn rest goal (one_more done b) next (before ++ b ∷ []) (Completes lengths (one_more done b)) x y
       → Covered turn rest goal done state before (Begins lengths done b) x y
   Covered-Next goal before next x y e a = record {
@@ -373,7 +373,7 @@ module _ {S F : Type 0} (turn : S → ℕ → ℕ → StepOutcome S F) (rest : S
 
 module _ {S F : Type 0} (turn : S → ℕ → ℕ → StepOutcome S F) (rest : S → Ending F) (goal : Goal) (lengths done : List ℕ) (state : S) where
   -- a branch that has no command left
-  pub Covered-full : (b : ℕ) (before : List ℕ) (x : Best F) → get_or lengths b 0 ≤ get_or done b 0 → Covered turn rest goal done state before (Begins lengths done b) x x
+  pub Covered-full : (b : ℕ) (before : List ℕ) (x : FirstFailures F) → get_or lengths b 0 ≤ get_or done b 0 → Covered turn rest goal done state before (Begins lengths done b) x x
   Covered-full b before x h = Covered-none turn rest goal done state before (Begins lengths done b) x none
     where
       none : (w : List ℕ) → Begins lengths done b w → ⊥
@@ -381,7 +381,7 @@ module _ {S F : Type 0} (turn : S → ℕ → ℕ → StepOutcome S F) (rest : S
       none (c ∷ w) k = let p = Completes-head lengths done c w k.1 in let e : c ≡ b = k.0 in
           let q : get_or done b 0 < get_or lengths b 0 = subst (λ a. get_or done a 0 < get_or lengths a 0) e p in omega arith
 
-  pub Covered-start : (before : List ℕ) (x : Best F) → Covered turn rest goal done state before (BeginsBelow lengths done 0) x x
+  pub Covered-start : (before : List ℕ) (x : FirstFailures F) → Covered turn rest goal done state before (BeginsBelow lengths done 0) x x
   Covered-start before x = Covered-none turn rest goal done state before (BeginsBelow lengths done 0) x none
     where
       none : (w : List ℕ) → BeginsBelow lengths done 0 w → ⊥
@@ -389,7 +389,7 @@ module _ {S F : Type 0} (turn : S → ℕ → ℕ → StepOutcome S F) (rest : S
       none (c ∷ w) k = let e : c < 0 = k.0 in omega arith
 
   -- one branch more
-  pub Covered-more : (b : ℕ) (before : List ℕ) (x y z : Best F)
+  pub Covered-more : (b : ℕ) (before : List ℕ) (x y z : FirstFailures F)
       → Covered turn rest goal done state before (BeginsBelow lengths done b) x y → Covered turn rest goal done state before (Begins lengths done b) y z
       → Covered turn rest goal done state before (BeginsBelow lengths done (b + 1)) x z
   Covered-more b before x y z p q = Covered-join turn rest goal done state before (BeginsBelow lengths done b) (Begins lengths done b) (BeginsBelow lengths done (b + 1)) x y z split left right sorted p q
@@ -412,7 +412,7 @@ module _ {S F : Type 0} (turn : S → ℕ → ℕ → StepOutcome S F) (rest : S
       sorted (a ∷ v) (c ∷ w) p q = let s : a < b = p.0 in let t : c ≡ b = q.0 in inl (omega arith)
 
   -- all branches, where some command is left
-  pub Covered-all : (b : ℕ) (before : List ℕ) (x y : Best F) (open_branch : ℕ) → get_or done open_branch 0 < get_or lengths open_branch 0 → length lengths ≤ b
+  pub Covered-all : (b : ℕ) (before : List ℕ) (x y : FirstFailures F) (open_branch : ℕ) → get_or done open_branch 0 < get_or lengths open_branch 0 → length lengths ≤ b
       → Covered turn rest goal done state before (BeginsBelow lengths done b) x y → Covered turn rest goal done state before (Completes lengths done) x y
   Covered-all b before x y c left past p = Covered-same turn rest goal done state before (BeginsBelow lengths done b) (Completes lengths done) x y (λ w k. k.1) all p
     where

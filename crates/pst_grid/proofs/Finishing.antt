@@ -14,7 +14,7 @@ use Rattle.pst_grid.specs.Kept.{Keeps, is_stopped, IsFresh, IsSought}
 use Rattle.pst_grid.specs.Merges.{run}
 use Rattle.pst_grid.specs.Remembered.{IsAccounted, AreAccounted, IsFoundOrCovered, HasCoveredAll, IsRemembered}
 use Rattle.pst_grid.specs.declared.position.Position.{Position}
-use Rattle.pst_grid.specs.declared.search.Best.{Best}
+use Rattle.pst_grid.specs.declared.search.FirstFailures.{FirstFailures}
 use Rattle.pst_grid.specs.declared.search.Goal.{Goal}
 use Rattle.pst_grid.specs.declared.search.Goal.TheVariants.{ToEnd, Stopped}
 use Rattle.pst_grid.specs.declared.search.SearchProgress.{SearchProgress}
@@ -49,7 +49,7 @@ module _ {S F : Type 0} (turn : S → ℕ → ℕ → StepOutcome S F) (rest : S
     ended-run [] k = refl
     ended-run (a ∷ w) k = let p = Completes-head lengths done a w k in let q = full a in absurd (omega arith)
 
-    all-true : (before : List ℕ) (best : Best F) → rest state ≡ AllTrue → Covered turn rest Stopped done state before (Completes lengths done) best best
+    all-true : (before : List ℕ) (best : FirstFailures F) → rest state ≡ AllTrue → Covered turn rest Stopped done state before (Completes lengths done) best best
     all-true before best e = record {
       none_sought = λ w k s. let r : Stopped ≡ ToEnd = subst (IsSought Stopped) (ended-run w k ∙ e) s in cc;
       kept = λ x f. f;

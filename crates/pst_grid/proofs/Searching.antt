@@ -12,7 +12,7 @@ use Rattle.pst_grid.specs.Covered.{Covered, IsHeld, IsLeastSought, HasCovered, I
 use Rattle.pst_grid.specs.Kept.{Keeps, nothing_kept, is_stopped, IsFresh, IsSought}
 use Rattle.pst_grid.specs.Merges.{run, IsUpTo, later, one_more}
 use Rattle.pst_grid.specs.declared.answer.Ending.TheVariants.{AllTrue, StopsAt}
-use Rattle.pst_grid.specs.declared.search.Best.{Best}
+use Rattle.pst_grid.specs.declared.search.FirstFailures.{FirstFailures}
 use Rattle.pst_grid.specs.declared.search.Goal.{Goal}
 use Rattle.pst_grid.specs.declared.search.SearchProgress.{SearchProgress}
 use Rattle.pst_grid.proofs.Completing.{BeginsBelow, Completes-head, Completes-tail, Completes-cons}
@@ -138,7 +138,7 @@ module _ {S F : Type 0} (turn : S → ℕ → ℕ → StepOutcome S F) (rest : S
         )
 
     -- all behind a true event
-    pub visited-Next : (next : S) (best : Best F) (entered explored : SearchProgress F) (best2 : Best F)
+    pub visited-Next : (next : S) (best : FirstFailures F) (entered explored : SearchProgress F) (best2 : FirstFailures F)
         → turn state b (get_or done b 0) ≡ Next next
         → entered.done.items ≡ one_more done b → entered.word.items ≡ before ++ b ∷ [] → entered.best ≡ best
         → HasCovered turn rest goal next (Completes lengths entered.done.items) entered explored

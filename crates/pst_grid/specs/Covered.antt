@@ -2,9 +2,9 @@
 use Rattle.std.specs.Prelude.{◌≡◌, ℕ, ◌+◌, ◌<◌, ◌≤◌, ◌⊎◌, List, [], ◌++◌, length, Option, Some, None, Bool, MatchBool}
 use Rattle.pst_grid.specs.declared.answer.StopReason.TheVariants.{False, Fault}
 use Rattle.pst_grid.specs.declared.answer.StepOutcome.{StepOutcome}
-use Rattle.pst_grid.specs.declared.search.Best.{Best}
-use Rattle.pst_grid.specs.declared.search.FalseMerge.{FalseMerge}
-use Rattle.pst_grid.specs.declared.search.FaultedMerge.{FaultedMerge}
+use Rattle.pst_grid.specs.declared.search.FirstFailures.{FirstFailures}
+use Rattle.pst_grid.specs.declared.search.FalseInterleaving.{FalseInterleaving}
+use Rattle.pst_grid.specs.declared.search.FaultedInterleaving.{FaultedInterleaving}
 use Rattle.pst_grid.specs.declared.search.Goal.{Goal}
 use Rattle.pst_grid.specs.declared.search.SearchProgress.{SearchProgress}
 use Rattle.pst_grid.specs.Completions.{Completes}
@@ -25,7 +25,7 @@ module _ {S F : Type 0} (turn : S → ℕ → ℕ → StepOutcome S F) (rest : S
   FaultsOn w = (n : ℕ) × (f : F) × (run turn rest done s w ≡ StopsAt n (Fault f))
 
   -- the least faulting word of W, as it is kept behind the letters before it
-  pub record IsLeastFault (before : List ℕ) (W : List ℕ → Type 0) (x : FaultedMerge F) : Type 0 where
+  pub record IsLeastFault (before : List ℕ) (W : List ℕ → Type 0) (x : FaultedInterleaving F) : Type 0 where
     pub letters : List ℕ
     pub steps : ℕ
     pub member : W letters
@@ -35,7 +35,7 @@ module _ {S F : Type 0} (turn : S → ℕ → ℕ → StepOutcome S F) (rest : S
     pub least : (v : List ℕ) → W v → FaultsOn v → IsUpTo letters v
 
   -- the least word of W with so many true events before a false one, kept behind the letters before it
-  pub record IsLeastFalse (before : List ℕ) (W : List ℕ → Type 0) (x : FalseMerge) : Type 0 where
+  pub record IsLeastFalse (before : List ℕ) (W : List ℕ → Type 0) (x : FalseInterleaving) : Type 0 where
     pub letters : List ℕ
     pub steps : ℕ
     pub member : W letters
@@ -45,8 +45,8 @@ module _ {S F : Type 0} (turn : S → ℕ → ℕ → StepOutcome S F) (rest : S
     pub least : (v : List ℕ) → W v → run turn rest done s v ≡ StopsAt steps False → IsUpTo letters v
 
   -- the furthest merge that is kept is one of W, and further than the one before
-  pub record IsFurther (before : List ℕ) (W : List ℕ → Type 0) (old new : Option FalseMerge) : Type 0 where
-    pub merge : FalseMerge
+  pub record IsFurther (before : List ℕ) (W : List ℕ → Type 0) (old new : Option FalseInterleaving) : Type 0 where
+    pub merge : FalseInterleaving
     pub kept : new ≡ Some merge
     pub more : reach old ≤ merge.at
     pub least : IsLeastFalse before W merge
@@ -56,12 +56,12 @@ module _ {S F : Type 0} (turn : S → ℕ → ℕ → StepOutcome S F) (rest : S
   -- What the search has seen, old before and new after it covered the words of W, which stand behind the
   -- letters before: it is for none of W; the first fault is kept, and is that of W's least faulting word;
   -- no word of W is further than the furthest merge, which is the one before or the least so far in W.
-  pub record Covered (before : List ℕ) (W : List ℕ → Type 0) (old new : Best F) : Type 0 where
+  pub record Covered (before : List ℕ) (W : List ℕ → Type 0) (old new : FirstFailures F) : Type 0 where
     pub none_sought : (w : List ℕ) → W w → IsSought goal (run turn rest done s w) → ⊥
-    pub kept : (x : FaultedMerge F) → old.fault ≡ Some x → new.fault ≡ Some x
+    pub kept : (x : FaultedInterleaving F) → old.fault ≡ Some x → new.fault ≡ Some x
     pub none_faults : new.fault ≡ None → (w : List ℕ) → W w → FaultsOn turn rest done s w → ⊥
     pub first :
-        old.fault ≡ None → (x : FaultedMerge F) → new.fault ≡ Some x → IsLeastFault turn rest done s before W x
+        old.fault ≡ None → (x : FaultedInterleaving F) → new.fault ≡ Some x → IsLeastFault turn rest done s before W x
     pub grows : reach old.furthest ≤ reach new.furthest
     pub bounds : (w : List ℕ) (n : ℕ) →
         W w → run turn rest done s w ≡ StopsAt n False → length before + n < reach new.furthest

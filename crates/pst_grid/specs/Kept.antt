@@ -5,24 +5,24 @@ use Rattle.pst_grid.specs.declared.answer.Ending.{Ending}
 use Rattle.pst_grid.specs.declared.answer.Ending.TheVariants.{AllTrue, StopsAt}
 use Rattle.pst_grid.specs.declared.answer.StopReason.{StopReason}
 use Rattle.pst_grid.specs.declared.answer.StopReason.TheVariants.{False, Fault}
-use Rattle.pst_grid.specs.declared.search.Best.{Best}
-use Rattle.pst_grid.specs.declared.search.FalseMerge.{FalseMerge}
-use Rattle.pst_grid.specs.declared.search.FaultedMerge.{FaultedMerge}
+use Rattle.pst_grid.specs.declared.search.FirstFailures.{FirstFailures}
+use Rattle.pst_grid.specs.declared.search.FalseInterleaving.{FalseInterleaving}
+use Rattle.pst_grid.specs.declared.search.FaultedInterleaving.{FaultedInterleaving}
 use Rattle.pst_grid.specs.declared.search.Goal.{Goal}
 use Rattle.pst_grid.specs.declared.search.Goal.TheVariants.{ToEnd, Stopped}
 
 -- the events of the merge that is kept up to its false one, which is counted too; 0 where none is kept
-abbrev pub reach : Option FalseMerge → ℕ
+abbrev pub reach : Option FalseInterleaving → ℕ
 reach None = 0
 reach (Some x) = suc x.at
 
 -- so many true events are more than those of the merge that is kept
-abbrev pub is_further : ℕ → Option FalseMerge → Bool
+abbrev pub is_further : ℕ → Option FalseInterleaving → Bool
 is_further at None = true
 is_further at (Some x) = nat_lt x.at at
 
 -- what is kept after this word, which stops at a false event after so many true ones
-abbrev pub KeepsFurthest : ℕ → List ℕ → Option FalseMerge → Option FalseMerge → Type 0
+abbrev pub KeepsFurthest : ℕ → List ℕ → Option FalseInterleaving → Option FalseInterleaving → Type 0
 KeepsFurthest at word old new =
     MatchBool (is_further at old)
     (MatchOption new ⊥ (λ x. (x.at ≡ at) × (x.word.items ≡ word)))
@@ -30,29 +30,29 @@ KeepsFurthest at word old new =
 
 -- what is kept after this word, which faults after so many true events
 abbrev pub KeepsFault :
-    {F : Type 0} → ℕ → List ℕ → F → Option (FaultedMerge F) → Option (FaultedMerge F) → Type 0
+    {F : Type 0} → ℕ → List ℕ → F → Option (FaultedInterleaving F) → Option (FaultedInterleaving F) → Type 0
 KeepsFault at word fault old new =
     MatchOption old
     (MatchOption new ⊥ (λ x. (x.at ≡ at) × (x.word.items ≡ word) × (x.fault ≡ fault)))
     (λ x. new ≡ Some x)
 
 -- what is kept after this word, which stops for this reason after so many true events
-abbrev pub Keeps : {F : Type 0} → ℕ → List ℕ → StopReason F → Best F → Best F → Type 0
+abbrev pub Keeps : {F : Type 0} → ℕ → List ℕ → StopReason F → FirstFailures F → FirstFailures F → Type 0
 Keeps at word False old new = (new.fault ≡ old.fault) × KeepsFurthest at word old.furthest new.furthest
 Keeps at word (Fault fault) old new =
     (new.furthest ≡ old.furthest) × KeepsFault at word fault old.fault new.fault
 
 -- a word that stops for this reason after so many true events is kept
-abbrev pub is_kept : {F : Type 0} → ℕ → StopReason F → Best F → Bool
+abbrev pub is_kept : {F : Type 0} → ℕ → StopReason F → FirstFailures F → Bool
 is_kept at False best = is_further at best.furthest
 is_kept at (Fault fault) best = is_none best.fault
 
 -- nothing is kept
-abbrev pub nothing_kept : {F : Type 0} → Best F
+abbrev pub nothing_kept : {F : Type 0} → FirstFailures F
 nothing_kept = record { fault = None; furthest = None }
 
 -- the search found a merge that is all true, or keeps one that faults or stops at a false event
-abbrev pub HasEnd : {F : Type 0} → Bool → Best F → Type 0
+abbrev pub HasEnd : {F : Type 0} → Bool → FirstFailures F → Type 0
 HasEnd found best =
     MatchBool found (Unit {0})
     (MatchOption best.fault (MatchOption best.furthest ⊥ (λ x. Unit {0})) (λ f. Unit {0}))
@@ -68,5 +68,5 @@ IsSought goal AllTrue = goal ≡ ToEnd
 IsSought goal (StopsAt at why) = goal ≡ Stopped
 
 -- a search for words that stop keeps nothing before it has found one
-abbrev pub IsFresh : {F : Type 0} → Goal → Best F → Type 0
+abbrev pub IsFresh : {F : Type 0} → Goal → FirstFailures F → Type 0
 IsFresh goal best = goal ≡ Stopped → best ≡ nothing_kept

@@ -4,7 +4,7 @@ use Rattle.pst_grid.specs.declared.answer.StopReason.TheVariants.{False}
 use Rattle.pst_grid.specs.declared.answer.Ending.{Ending}
 use Rattle.pst_grid.specs.declared.answer.Ending.TheVariants.{StopsAt}
 use Rattle.pst_grid.specs.declared.answer.StepOutcome.{StepOutcome}
-use Rattle.pst_grid.specs.declared.search.Best.{Best}
+use Rattle.pst_grid.specs.declared.search.FirstFailures.{FirstFailures}
 use Rattle.pst_grid.specs.declared.search.Goal.{Goal}
 use Rattle.pst_grid.specs.declared.search.SearchProgress.{SearchProgress}
 use Rattle.pst_grid.specs.declared.position.Position.{Position}
@@ -26,7 +26,7 @@ IsRemembered done s (k ∷ ks) = ((k.done ≡ done) × (k.state ≡ s)) ⊎ IsRe
 module _ {S F : Type 0} (turn : S → ℕ → ℕ → StepOutcome S F) (rest : S → Ending F)
     (goal : Goal) (lengths : List ℕ) where
   -- all that the words behind this place and state could give is in what the search has seen
-  pub record IsAccounted (best : Best F) (done : List ℕ) (s : S) : Type 0 where
+  pub record IsAccounted (best : FirstFailures F) (done : List ℕ) (s : S) : Type 0 where
     pub none_sought : (w : List ℕ) → Completes lengths done w → IsSought goal (run turn rest done s w) → ⊥
     pub none_faults :
         best.fault ≡ None → (w : List ℕ) → Completes lengths done w → FaultsOn turn rest done s w → ⊥
@@ -35,7 +35,7 @@ module _ {S F : Type 0} (turn : S → ℕ → ℕ → StepOutcome S F) (rest : S
         → sum done + n < reach best.furthest
 
   -- so it is with each position at which so many commands are done
-  abbrev pub AreAccounted : ℕ → Best F → List (Position S) → Type 0
+  abbrev pub AreAccounted : ℕ → FirstFailures F → List (Position S) → Type 0
   AreAccounted depth best keys = EachFrom depth (λ k. IsAccounted best k.done k.state) keys
 
   -- The search has covered the words of W, and the remembered positions where so many commands are done are

@@ -10,7 +10,7 @@ use std::alloc::{AllocError, Global};
 
 /// Runs the rest after the word, which is a whole interleaving, and returns whether the search is for it. If it is not
 /// true to its end, the search notes where it stops.
-pub(crate) fn finish<S: Steps>(
+pub(crate) fn run_to_end<S: Steps>(
     alloc: Global,
     steps: &S,
     lengths: &[usize],

@@ -6,7 +6,7 @@ ghost use Rattle.pst_grid.specs.Covered.{IsExplored};
 ghost use Rattle.pst_grid.specs.StepOutcomes.{AreCommands};
 ghost use Rattle.pst_grid.specs.declared.search.Goal.TheVariants.{ToEnd};
 
-use crate::finish::finish;
+use crate::finish::run_to_end;
 use crate::search::{Goal, SearchProgress, is_done};
 use crate::{SomeAnswer, StepOutcome, Steps};
 use std::alloc::{AllocError, Global};
@@ -28,7 +28,7 @@ fn explore<S: Steps>(
         (Completes lengths.now search.old.done.items) search.old search.new) }
 {
     if is_done(lengths, &search.done) {
-        return finish(alloc, steps, lengths, Goal::ToEnd, search, state);
+        return run_to_end(alloc, steps, lengths, Goal::ToEnd, search, state);
     }
     for branch in 0..lengths.len() {
         if visit(alloc, steps, lengths, search, state, branch)? {

@@ -8,7 +8,7 @@ ghost use Rattle.pst_grid.specs.Kept.{IsFresh};
 ghost use Rattle.pst_grid.specs.Remembered.{AreAccounted, IsSearched};
 ghost use Rattle.pst_grid.specs.StepOutcomes.{AreCommands};
 
-use crate::finish::finish;
+use crate::finish::run_to_end;
 use crate::hasher::BuildWordHasher;
 use crate::position::{KeptState, Position, remember};
 use crate::search::{Goal, SearchProgress, is_done};
@@ -48,7 +48,7 @@ fn explore<S: Steps>(
         return Ok(false);
     }
     if ended {
-        return finish(alloc, steps, lengths, goal, search, state);
+        return run_to_end(alloc, steps, lengths, goal, search, state);
     }
     for branch in 0..lengths.len() {
         if visit(alloc, steps, lengths, goal, search, seen, state, branch)? {

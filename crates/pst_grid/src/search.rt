@@ -33,7 +33,7 @@ impl Goal {
 
 /// An interleaving whose run faults, after `at` true events.
 #[derive(Drop)]
-pub(crate) struct FaultedMerge<F> {
+pub(crate) struct FaultedInterleaving<F> {
     pub word: Vec<usize>,
     pub at: usize,
     pub fault: F,
@@ -41,16 +41,16 @@ pub(crate) struct FaultedMerge<F> {
 
 /// An interleaving whose run stops at a false event, after `at` true events.
 #[derive(Drop)]
-pub(crate) struct FalseMerge {
+pub(crate) struct FalseInterleaving {
     pub word: Vec<usize>,
     pub at: usize,
 }
 
 /// The first faulting interleaving so far, and the first of those so far with the most true events before a false one.
 #[derive(Drop)]
-pub(crate) struct Best<F> {
-    pub fault: Option<FaultedMerge<F>>,
-    pub furthest: Option<FalseMerge>,
+pub(crate) struct FirstFailures<F> {
+    pub fault: Option<FaultedInterleaving<F>>,
+    pub furthest: Option<FalseInterleaving>,
 }
 
 /// The position of a search, and what it has seen.
@@ -59,7 +59,7 @@ pub(crate) struct SearchProgress<F> {
     // How many commands of each branch are done, and the letters that led there.
     pub done: Vec<usize>,
     pub word: Vec<usize>,
-    pub best: Best<F>,
+    pub best: FirstFailures<F>,
     // How many steps were made.
     pub steps: usize,
 }
@@ -77,7 +77,7 @@ impl<F: Drop> SearchProgress<F> {
         Ok(SearchProgress {
             done: vec![in alloc; 0; lengths.len()]?,
             word: Vec::new(alloc),
-            best: Best {
+            best: FirstFailures {
                 fault: None,
                 furthest: None,
             },
@@ -143,14 +143,14 @@ impl<F: Drop> SearchProgress<F> {
         match why {
             StopReason::False => {
                 if is_further(at, &self.best.furthest) {
-                    let word = self.least_merge(alloc, lengths)?;
-                    self.best.furthest = Some(FalseMerge { word, at });
+                    let word = self.first_interleaving(alloc, lengths)?;
+                    self.best.furthest = Some(FalseInterleaving { word, at });
                 }
             }
             StopReason::Fault(fault) => {
                 if self.best.fault.is_none() {
-                    let word = self.least_merge(alloc, lengths)?;
-                    self.best.fault = Some(FaultedMerge { word, at, fault });
+                    let word = self.first_interleaving(alloc, lengths)?;
+                    self.best.fault = Some(FaultedInterleaving { word, at, fault });
                 }
             }
         }
@@ -196,7 +196,7 @@ impl<F: Drop> SearchProgress<F> {
     }
 
     /// The first interleaving that begins with the word.
-    fn least_merge(&self, alloc: Global, lengths: &[usize]) -> Result<Vec<usize>, AllocError>
+    fn first_interleaving(&self, alloc: Global, lengths: &[usize]) -> Result<Vec<usize>, AllocError>
         requires { length self.now.done.items ≡ length lengths.now }
         ensures { IfOk result
             (λ v. v.items ≡ self.now.word.items ++ fill_from 0 lengths.now self.now.done.items) }
@@ -216,7 +216,7 @@ impl<F: Drop> SearchProgress<F> {
         if found {
             return SomeAnswer::Found { word };
         }
-        let Best { fault, furthest } = best;
+        let FirstFailures { fault, furthest } = best;
         match fault {
             Some(faulted) => SomeAnswer::Faulted {
                 word: faulted.word,
@@ -236,12 +236,12 @@ impl<F: Drop> SearchProgress<F> {
             (λ f. result ≡ EveryAnswer.Not f.word f.at (stop.Fault f.fault)) }
     {
         match (self.best.fault, self.best.furthest) {
-            (Some(FaultedMerge { word, at, fault }), _) => EveryAnswer::Not {
+            (Some(FaultedInterleaving { word, at, fault }), _) => EveryAnswer::Not {
                 word,
                 at,
                 why: StopReason::Fault(fault),
             },
-            (None, Some(FalseMerge { word, at })) => EveryAnswer::Not {
+            (None, Some(FalseInterleaving { word, at })) => EveryAnswer::Not {
                 word,
                 at,
                 why: StopReason::False,
@@ -252,18 +252,18 @@ impl<F: Drop> SearchProgress<F> {
 }
 
 /// The answer of a search in which no interleaving is true to its end and none faults.
-fn furthest_answer<F: Drop>(furthest: Option<FalseMerge>) -> SomeAnswer<F>
+fn furthest_answer<F: Drop>(furthest: Option<FalseInterleaving>) -> SomeAnswer<F>
     requires { MatchOption furthest ⊥ (λ _. Unit {0}) }
     ensures { MatchOption furthest ⊥ (λ x. result ≡ SomeAnswer.Nothing x.at x.word) }
 {
     match furthest {
-        Some(FalseMerge { word, at }) => SomeAnswer::Nothing { far: at, word },
+        Some(FalseInterleaving { word, at }) => SomeAnswer::Nothing { far: at, word },
         None => unreachable!(),
     }
 }
 
 /// Whether `at` true events are more than those of the furthest interleaving so far.
-fn is_further(at: usize, furthest: &Option<FalseMerge>) -> bool
+fn is_further(at: usize, furthest: &Option<FalseInterleaving>) -> bool
     ensures { result ≡ spec.is_further at furthest.now }
 {
     match furthest {

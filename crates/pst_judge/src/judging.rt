@@ -138,7 +138,7 @@ fn verdict_with_letters<C: Callbacks, A: Condition>(
 /// The verdict on a history of a case, with `condition` checked on each event, by the model of the callbacks.
 ///
 /// It is [`verdict`] with the condition in place of each event's postcondition.
-pub fn verdict_asking<C: Callbacks, A: Condition>(
+pub fn verdict_with_condition<C: Callbacks, A: Condition>(
     callbacks: &C,
     condition: &A,
     alloc: Global,
@@ -174,7 +174,7 @@ pub fn verdict<C: Callbacks>(
         → IsValid (C.model callbacks.now) shaped.now.case → FaultsOnlyInPost v) }
 {
     let _case = shaped.case();
-    verdict_asking(callbacks, &Postconditions, alloc, shaped, history)
+    verdict_with_condition(callbacks, &Postconditions, alloc, shaped, history)
 }
 
 /// The interleaving of a verdict that explains, or else `letters`.

@@ -4,7 +4,9 @@ use crate::command::{after_head, head_word};
 use crate::ill::ValueFault;
 use crate::values::{CaseSearch, Wanted, problem_in};
 use pst_model::Op;
-use pst_problems::{FoundProblem, Problem, Signature, counted, operation, with_note, wrong};
+use pst_problems::{
+    FoundProblem, Problem, Signature, counted, operation_named, problem_at, with_note,
+};
 use pst_sexpr::Form;
 use std::alloc::Global;
 
@@ -12,7 +14,7 @@ use std::alloc::Global;
 fn other_count(alloc: Global, path: &[usize], op: &Op, found: usize) -> FoundProblem {
     let name = op.name.as_str();
     let takes = counted(op.params.len(), "argument");
-    wrong(
+    problem_at(
         alloc,
         path,
         format_args!("`{name}` takes {takes}, here it has {found}"),
@@ -53,7 +55,7 @@ pub fn bad_argument(
     path: &[usize],
     form: &Form,
 ) -> FoundProblem {
-    match operation(search.source.items.as_slice(), head_word(form)) {
+    match operation_named(search.source.items.as_slice(), head_word(form)) {
         Some(op) => with_declared(alloc, argument_problem(alloc, search, path, form, op)?, op),
         None => Ok(None),
     }

@@ -1,7 +1,7 @@
 //! The commands of a case, and where they are.
 
 use pst_model::Source;
-use pst_problems::{head_of, operation};
+use pst_problems::{head_of, operation_named};
 use pst_sexpr::{Form, node_of};
 use pst_value::Ty;
 use std::alloc::{AllocError, Global};
@@ -238,7 +238,7 @@ pub fn result_of<'a>(source: &'a Source, parts: &[Part<'_>], command: usize) -> 
     let Some(command) = command_at(parts, command) else {
         return None;
     };
-    match operation(source.items.as_slice(), head_word(command.form)) {
+    match operation_named(source.items.as_slice(), head_word(command.form)) {
         Some(op) => Some(&op.result),
         None => None,
     }

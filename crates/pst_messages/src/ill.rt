@@ -1,7 +1,7 @@
 //! The faults of commands and replies, and the messages about them.
 
 use crate::shown::wrong_tree;
-use pst_problems::{FoundProblem, TypeText, key_word, noted, short_text, wrong};
+use pst_problems::{FoundProblem, TypeText, key_word, problem_at, problem_with_note, short_text};
 use pst_sexpr::Form;
 use pst_value::{KeyTy, Ty};
 use std::alloc::Global;
@@ -46,7 +46,7 @@ fn falls(alloc: Global, path: &[usize], key: &Form, before: &Form) -> FoundProbl
 
 /// The problem of a variable in command `command` that names command `number`, which is not earlier.
 fn later(alloc: Global, path: &[usize], number: usize, command: usize) -> FoundProblem {
-    noted(
+    problem_with_note(
         alloc,
         path,
         format_args!(
@@ -58,7 +58,7 @@ fn later(alloc: Global, path: &[usize], number: usize, command: usize) -> FoundP
 
 /// The problem of a variable that names command `number`, which is in another branch.
 fn other_branch(alloc: Global, path: &[usize], number: usize) -> FoundProblem {
-    noted(
+    problem_with_note(
         alloc,
         path,
         format_args!("${number} is the result of a command of another branch"),
@@ -94,7 +94,7 @@ pub fn value_fault_problem(
         ValueFault::Falls(key, before) => falls(alloc, path, key, before),
         ValueFault::Later { number, command } => later(alloc, path, number, command),
         ValueFault::OtherBranch(number) => other_branch(alloc, path, number),
-        ValueFault::Argument => wrong(
+        ValueFault::Argument => problem_at(
             alloc,
             path,
             "an argument has another type, or is not a value",

@@ -3,7 +3,7 @@
 use crate::command::{Part, after_head, is_headed, place_of, trees_in};
 use crate::ill::{ValueFault, value_fault_problem};
 use crate::values::{CaseSearch, Wanted, problem_in};
-use pst_problems::{FoundProblem, Problem, counted, noted, with_note, wrong};
+use pst_problems::{FoundProblem, Problem, counted, problem_at, problem_with_note, with_note};
 use pst_sexpr::{Form, node_of};
 use std::alloc::Global;
 
@@ -39,9 +39,9 @@ fn other_count(alloc: Global, path: &[usize], part: &Part<'_>, replies: usize) -
     let called = part.called;
     let has = counted(part.commands.len(), "command");
     if replies == 1 {
-        return wrong(alloc, path, format_args!("{called}: 1 reply for {has}"));
+        return problem_at(alloc, path, format_args!("{called}: 1 reply for {has}"));
     }
-    wrong(
+    problem_at(
         alloc,
         path,
         format_args!("{called}: {replies} replies for {has}"),
@@ -52,7 +52,7 @@ fn other_count(alloc: Global, path: &[usize], part: &Part<'_>, replies: usize) -
 fn other_lists(alloc: Global, path: &[usize], lists: usize, parts: usize) -> FoundProblem {
     let found = counted(lists, "list");
     let wanted = counted(parts, "part");
-    noted(
+    problem_with_note(
         alloc,
         path,
         format_args!("{found} of replies for {wanted}"),

@@ -7,7 +7,7 @@ use crate::shape::bad_form;
 use crate::values::{CaseSearch, Sought, Wanted, problem_in};
 use pst_case::CaseFaultKind;
 use pst_model::Source;
-use pst_problems::{FoundProblem, Problem, below, unknown_among, wrong};
+use pst_problems::{FoundProblem, Problem, below, problem_at, unknown_among};
 use pst_runs::{RunFault, RunFaultKind};
 use pst_sexpr::Form;
 use std::alloc::{AllocError, Global};
@@ -16,7 +16,7 @@ use std::alloc::{AllocError, Global};
 fn too_many(alloc: Global, path: &[usize], part: &Part<'_>, most: usize) -> FoundProblem {
     let called = part.called;
     let number = part.commands.len();
-    wrong(
+    problem_at(
         alloc,
         path,
         format_args!("{called} has {number} commands, at most {most}"),
@@ -44,7 +44,7 @@ fn over_limit(alloc: Global, item: usize, parts: &[Part<'_>]) -> FoundProblem {
             together = together.saturating_add(number);
         }
     }
-    wrong(
+    problem_at(
         alloc,
         &[item],
         format_args!("the branches have {together} commands together, at most 16"),
@@ -125,7 +125,7 @@ fn fault_problem(
 /// The problem of an item about which only the fault is known.
 fn unlocated_problem(alloc: Global, fault: RunFault) -> FoundProblem {
     let kind = fault.kind.name();
-    wrong(
+    problem_at(
         alloc,
         &[fault.run],
         format_args!("the item is refused: {kind}"),

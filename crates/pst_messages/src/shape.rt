@@ -7,8 +7,8 @@ use crate::command::{
 use crate::replies::lists_of;
 use crate::shown::wrong_tree;
 use pst_problems::{
-    DidYouMean, FoundProblem, NearestName, counted, head_of, noted, noted_at, with_note, wrong,
-    wrong_at,
+    DidYouMean, FoundProblem, NearestName, counted, head_of, problem_at, problem_at_part,
+    problem_with_note, problem_with_note_at_part, with_note,
 };
 use pst_sexpr::{Form, node_of};
 use std::alloc::{AllocError, Global};
@@ -217,25 +217,29 @@ fn misplaced_problem(alloc: Global, item: usize, place: usize, form: &Form) -> F
     };
     match part {
         "replies" if !is_headed(form, "run") => {
-            wrong(
+            problem_at(
                 alloc,
                 &path,
                 "a case has no replies: with replies it is a run",
             )
         }
-        "suffix" => wrong(
+        "suffix" => problem_at(
             alloc,
             &path,
             "an item has one suffix, after the branches and before the replies",
         ),
-        _ => wrong(alloc, &path, "an item has no such part here"),
+        _ => problem_at(alloc, &path, "an item has no such part here"),
     }
 }
 
 /// The problem of the fault `fault` of item `item`.
 fn fault_problem(alloc: Global, item: usize, form: &Form, fault: Fault<'_>) -> FoundProblem {
     match fault {
-        Fault::Missing(word) => wrong(alloc, &[item], format_args!("`({word} ..)` is missing")),
+        Fault::Missing(word) => problem_at(
+            alloc,
+            &[item],
+            format_args!("`({word} ..)` is missing"),
+        ),
         Fault::OtherPart(word, place, form) => wrong_tree(
             alloc,
             &[item, place],
@@ -244,12 +248,12 @@ fn fault_problem(alloc: Global, item: usize, form: &Form, fault: Fault<'_>) -> F
             "",
         ),
         Fault::NoCall(command) => command_problem(alloc, item, command),
-        Fault::BranchCount(count) => wrong(
+        Fault::BranchCount(count) => problem_at(
             alloc,
             &[item, BRANCHES],
             format_args!("an item has 2 to 4 branches, this one has {count}"),
         ),
-        Fault::NoBranch(number) => wrong(
+        Fault::NoBranch(number) => problem_at(
             alloc,
             &[item, BRANCHES, number],
             "a branch is a list of calls: `(CALL ..)`",
@@ -286,14 +290,14 @@ fn list_count_problem(
         "the replies are lists, one for each part: {parts} parts ({names}), {has}"
     );
     if lists.saturating_add(1) == parts {
-        return noted(
+        return problem_with_note(
             alloc,
             &[item],
             what,
             "hint: the prefix has a list too, which may be empty",
         );
     }
-    wrong(alloc, &[item], what)
+    problem_at(alloc, &[item], what)
 }
 
 /// The problem of the replies of a run.
@@ -308,7 +312,7 @@ fn lists_problem(alloc: Global, item: usize, form: &Form) -> FoundProblem {
         Some((_, lists)) if lists.len() != parts => {
             list_count_problem(alloc, item, lists.len(), parts, names)
         }
-        _ => wrong(alloc, &[item], "the replies are lists, one for each part"),
+        _ => problem_at(alloc, &[item], "the replies are lists, one for each part"),
     }
 }
 
@@ -334,8 +338,8 @@ fn headed_otherwise(alloc: Global, item: usize, form: &Form) -> FoundProblem {
     }
     let what = format_args!("neither a case nor a run begins with `{head}`");
     match head_meant(alloc, head)? {
-        Some(hint) => noted_at(alloc, &[item], 0, what, hint),
-        None => wrong_at(alloc, &[item], 0, what),
+        Some(hint) => problem_with_note_at_part(alloc, &[item], 0, what, hint),
+        None => problem_at_part(alloc, &[item], 0, what),
     }
 }
 
@@ -344,7 +348,7 @@ fn form_problem(alloc: Global, item: usize, form: &Form) -> FoundProblem {
     match head_word(form) {
         "case" => parts_problem(alloc, item, form, false),
         "run" => parts_problem(alloc, item, form, true),
-        "model" | "model2" => wrong(
+        "model" | "model2" => problem_at(
             alloc,
             &[item],
             "a second model: the first tree of an input is its model",

@@ -6,7 +6,7 @@ ghost use Rattle.pst_print.specs.Words.{key_word, truth_word};
 ghost use Rattle.pst_sexpr.specs.Parts.{headed};
 ghost use Rattle.pst_sexpr.specs.declared.form.Form.TheVariants.{Word};
 
-use crate::nodes::{before, name, three, two};
+use crate::nodes::{name, prepend, three, two};
 use crate::types::{map_form, ty_form};
 use crate::words::{binary_word, unary_word};
 use pst_model::{Clause, Expr};
@@ -37,21 +37,21 @@ fn truth(alloc: Global, holds: bool) -> Result<Form, AllocError>
 }
 
 /// A node of a word and a tree.
-fn of_one(alloc: Global, head: &str, first: Form) -> Result<Form, AllocError>
+fn unary_form(alloc: Global, head: &str, first: Form) -> Result<Form, AllocError>
     ensures { IfOk result (λ form. form ≡ headed head.now (first ∷ [])) }
 {
     headed(alloc, head, list_of(alloc, first)?)
 }
 
 /// A node of a word and two trees.
-fn of_two(alloc: Global, head: &str, first: Form, second: Form) -> Result<Form, AllocError>
+fn binary_form(alloc: Global, head: &str, first: Form, second: Form) -> Result<Form, AllocError>
     ensures { IfOk result (λ form. form ≡ headed head.now (first ∷ second ∷ [])) }
 {
     headed(alloc, head, two(alloc, first, second)?)
 }
 
 /// A node of a word and three trees.
-fn of_three(
+fn ternary_form(
     alloc: Global,
     head: &str,
     first: Form,
@@ -74,14 +74,14 @@ fn at_form(alloc: Global, tuple: Form, number: u64) -> Result<Form, AllocError>
     ensures { IfOk result (λ form. form ≡ headed (codes "at") (tuple ∷ Word (decimal number) ∷ [])) }
 {
     let place = place(alloc, number)?;
-    of_two(alloc, "at", tuple, place)
+    binary_form(alloc, "at", tuple, place)
 }
 
 fn list_form(alloc: Global, ty: &Ty, items: Items<Form>) -> Result<Form, AllocError>
     ensures { IfOk result (λ form. form ≡ headed (codes "list") (ty_form ty.now ∷ items)) }
 {
     let ty = ty_form(alloc, ty)?;
-    headed(alloc, "list", before(alloc, ty, items)?)
+    headed(alloc, "list", prepend(alloc, ty, items)?)
 }
 
 /// The empty map of a type of keys and a type of values.
@@ -105,7 +105,7 @@ fn fold_form(
     let bound = name(alloc, names.0)?;
     let built = name(alloc, names.1)?;
     let rest = three(alloc, built, first, body)?;
-    let parts = before(alloc, bound, before(alloc, items, rest)?)?;
+    let parts = prepend(alloc, bound, prepend(alloc, items, rest)?)?;
     headed(alloc, "fold", parts)
 }
 
@@ -113,7 +113,7 @@ fn call_form(alloc: Global, operation: &Text, args: Items<Form>) -> Result<Form,
     ensures { IfOk result (λ form. form ≡ headed (codes "call") (Word operation.now ∷ args)) }
 {
     let operation = name(alloc, operation)?;
-    headed(alloc, "call", before(alloc, operation, args)?)
+    headed(alloc, "call", prepend(alloc, operation, args)?)
 }
 
 /// The tree of an expression.
@@ -135,18 +135,18 @@ pub fn expr_form(alloc: Global, expr: &Expr) -> Result<Form, AllocError>
             let condition = expr_form(alloc, condition.get())?;
             let yes = expr_form(alloc, yes.get())?;
             let otherwise = expr_form(alloc, otherwise.get())?;
-            of_three(alloc, "if", condition, yes, otherwise)
+            ternary_form(alloc, "if", condition, yes, otherwise)
         }
         Expr::And(first, second) => {
             let first = expr_form(alloc, first.get())?;
-            of_two(alloc, "and", first, expr_form(alloc, second.get())?)
+            binary_form(alloc, "and", first, expr_form(alloc, second.get())?)
         }
         Expr::Or(first, second) => {
             let first = expr_form(alloc, first.get())?;
-            of_two(alloc, "or", first, expr_form(alloc, second.get())?)
+            binary_form(alloc, "or", first, expr_form(alloc, second.get())?)
         }
         Expr::Unary(operator, operand) => {
-            of_one(
+            unary_form(
                 alloc,
                 unary_word(*operator),
                 expr_form(alloc, operand.get())?,
@@ -155,14 +155,14 @@ pub fn expr_form(alloc: Global, expr: &Expr) -> Result<Form, AllocError>
         Expr::Binary(operator, first, second) => {
             let first = expr_form(alloc, first.get())?;
             let second = expr_form(alloc, second.get())?;
-            of_two(alloc, binary_word(*operator), first, second)
+            binary_form(alloc, binary_word(*operator), first, second)
         }
         Expr::Tuple(parts) => headed(alloc, "tuple", each_expr(alloc, parts.as_slice())?),
         Expr::At(tuple, number) => at_form(alloc, expr_form(alloc, tuple.get())?, *number),
         Expr::List(ty, items) => list_form(alloc, ty, each_expr(alloc, items.as_slice())?),
         Expr::For(clauses, body) => {
             let clauses = Form::Node(each_clause(alloc, clauses.as_slice())?);
-            of_two(alloc, "for", clauses, expr_form(alloc, body.get())?)
+            binary_form(alloc, "for", clauses, expr_form(alloc, body.get())?)
         }
         Expr::Fold(bound, items, built, first, body) => {
             let items = expr_form(alloc, items.get())?;
@@ -175,7 +175,7 @@ pub fn expr_form(alloc: Global, expr: &Expr) -> Result<Form, AllocError>
             let map = expr_form(alloc, map.get())?;
             let key = expr_form(alloc, key.get())?;
             let value = expr_form(alloc, value.get())?;
-            of_three(alloc, "put", map, key, value)
+            ternary_form(alloc, "put", map, key, value)
         }
         Expr::Call(operation, args) => {
             call_form(alloc, operation, each_expr(alloc, args.as_slice())?)

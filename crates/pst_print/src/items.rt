@@ -3,7 +3,7 @@ ghost use Rattle.std.specs.Prelude.{◌≡◌, IfOk, map};
 ghost use Rattle.pst_print.specs.Printed as spec;
 
 use crate::expressions::expr_form;
-use crate::nodes::{before, name, three, two};
+use crate::nodes::{name, prepend, three, two};
 use crate::types::ty_form;
 use crate::words::model_word;
 use pst_model::{Expr, Fun, Item, Op, Param, Source};
@@ -38,9 +38,9 @@ fn signature(
 ) -> Result<Items<Form>, AllocError>
     ensures { IfOk result (λ forms. forms ≡ spec.signature declared.now params.now answer.now rest) }
 {
-    let rest = before(alloc, ty_form(alloc, answer)?, rest)?;
-    let rest = before(alloc, params_form(alloc, params)?, rest)?;
-    before(alloc, name(alloc, declared)?, rest)
+    let rest = prepend(alloc, ty_form(alloc, answer)?, rest)?;
+    let rest = prepend(alloc, params_form(alloc, params)?, rest)?;
+    prepend(alloc, name(alloc, declared)?, rest)
 }
 
 fn fun_form(alloc: Global, function: &Fun) -> Result<Form, AllocError>

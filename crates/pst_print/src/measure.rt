@@ -16,14 +16,14 @@ pub struct Measure {
 
 /// The columns in which a token begins and ends if the whole file is on one line, and the number of comments up to it.
 #[derive(Clone, Copy, Drop)]
-struct Reach {
+struct Columns {
     begin: usize,
     end: usize,
     comments: usize,
 }
 
 /// The reach of each token.
-fn reaches(alloc: Global, input: &[u8], tokens: &[Token]) -> Result<Vec<Reach>, AllocError> {
+fn reaches(alloc: Global, input: &[u8], tokens: &[Token]) -> Result<Vec<Columns>, AllocError> {
     let mut found = Vec::new(alloc);
     let mut column = 0usize;
     let mut comments = 0usize;
@@ -35,7 +35,7 @@ fn reaches(alloc: Global, input: &[u8], tokens: &[Token]) -> Result<Vec<Reach>, 
         if token.kind == Kind::Comment {
             comments = comments.saturating_add(1);
         }
-        found.push(Reach {
+        found.push(Columns {
             begin,
             end,
             comments,
@@ -76,7 +76,7 @@ fn broken(alloc: Global, tokens: &[Token]) -> Result<Vec<bool>, AllocError> {
         if token.kind == Kind::Close {
             let _ = open.pop();
         } else if token.lines > 0 {
-            note(&mut found, open.as_slice());
+            mark_broken(&mut found, open.as_slice());
         }
         if token.kind == Kind::Open {
             open.push(number)?;
@@ -86,7 +86,7 @@ fn broken(alloc: Global, tokens: &[Token]) -> Result<Vec<bool>, AllocError> {
 }
 
 /// Notes for the innermost open node that one of its parts begins a line.
-fn note(found: &mut [bool], open: &[usize]) {
+fn mark_broken(found: &mut [bool], open: &[usize]) {
     if let Some(node) = open.last() {
         if let Some(has_lines) = found.get_mut(*node) {
             *has_lines = true;
@@ -111,7 +111,7 @@ fn closers(alloc: Global, tokens: &[Token]) -> Result<Vec<usize>, AllocError> {
 }
 
 /// The measure of a token with the reach `first`. `last` is the reach of the last token of its tree.
-fn measure_of(first: Reach, last: Reach, closers: usize, has_lines: bool) -> Measure {
+fn measure_of(first: Columns, last: Columns, closers: usize, has_lines: bool) -> Measure {
     Measure {
         has_lines,
         width: last.end.saturating_sub(first.begin).saturating_add(closers),

@@ -37,7 +37,7 @@ pub fn three(
 }
 
 /// A tree, and then others.
-pub fn before(alloc: Global, first: Form, rest: Items<Form>) -> Result<Items<Form>, AllocError>
+pub fn prepend(alloc: Global, first: Form, rest: Items<Form>) -> Result<Items<Form>, AllocError>
     ensures { IfOk result (λ forms. forms ≡ first ∷ rest) }
 {
     let mut forms = list_of(alloc, first)?;

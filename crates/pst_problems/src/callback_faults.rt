@@ -12,7 +12,7 @@ ghost use Rattle.pst_syntax.specs.ShownItems.{shown_callback, shown_callback_opt
 
 use crate::fault::{FormFault, Role};
 use crate::problem::below;
-use crate::telling::{Walk, tell, unless};
+use crate::telling::{Walk, push_fault, push_fault_unless};
 use crate::whole_faults::once;
 use pst_sexpr::Form;
 use pst_syntax::{CallbackShape, FaultKind, callback_shape};
@@ -99,7 +99,7 @@ fn known_callback(
             Ok(())
         }
         None => {
-            tell(
+            push_fault(
                 walk,
                 faults,
                 at.as_slice(),
@@ -132,7 +132,7 @@ pub fn callbacks(
     }
     let seen = seen.as_slice();
     let are_there = has_all(seen);
-    unless(
+    push_fault_unless(
         walk,
         faults,
         path,

@@ -12,7 +12,7 @@ ghost use Rattle.pst_syntax.specs.Shown.{shown};
 use crate::fault::{FormFault, Role};
 use crate::part_faults::{bound, fits, map_of, operation, place};
 use crate::problem::below;
-use crate::telling::{Walk, tell, unless};
+use crate::telling::{Walk, push_fault, push_fault_unless};
 use crate::type_faults::ty_part;
 use pst_sexpr::Form;
 use pst_syntax::{ClauseShape, FaultKind, FoldShape, MAX_TY_LEVELS, Shape, clause_shape, shape_of};
@@ -33,10 +33,10 @@ pub fn expr(
         (expr_faults_at walk.has_maps room role.Expression path.now form.now)) }
 {
     let Some(shape) = shape_of(walk.has_maps, form) else {
-        return tell(walk, faults, path, Role::Expression, FaultKind::UnknownForm);
+        return push_fault(walk, faults, path, Role::Expression, FaultKind::UnknownForm);
     };
     if room == 0 {
-        return tell(
+        return push_fault(
             walk,
             faults,
             path,
@@ -44,7 +44,7 @@ pub fn expr(
             FaultKind::OverLimit,
         );
     }
-    unless(
+    push_fault_unless(
         walk,
         faults,
         path,
@@ -367,6 +367,6 @@ fn clause(
             expr_part(walk, faults, path, 1, test, room)?;
             Ok(())
         }
-        None => tell(walk, faults, path, Role::Clause, FaultKind::UnknownForm),
+        None => push_fault(walk, faults, path, Role::Clause, FaultKind::UnknownForm),
     }
 }

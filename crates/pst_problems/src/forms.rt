@@ -223,7 +223,7 @@ fn among(rows: &[HeadedForm], word: &str) -> Option<HeadedForm> {
 }
 
 /// The form of expressions with the head `word`. The forms of maps count only if `has_maps`.
-pub fn expression(has_maps: bool, word: &str) -> Option<HeadedForm> {
+pub fn expression_form(has_maps: bool, word: &str) -> Option<HeadedForm> {
     if let Some(form) = among(&EXPRESSIONS, word) {
         return Some(form);
     }
@@ -242,7 +242,7 @@ pub fn is_of_maps(word: &str) -> bool {
 
 /// Whether a word heads a form, a clause or a type.
 pub fn is_head(has_maps: bool, word: &str) -> bool {
-    expression(has_maps, word).is_some() || word == "ref" || word == "in" || word == "when"
+    expression_form(has_maps, word).is_some() || word == "ref" || word == "in" || word == "when"
 }
 
 /// The second column of the row that begins with `word`.

@@ -17,7 +17,7 @@ use crate::problem::below;
 use crate::seen_items::{
     has_command, has_fun, has_fun_room, has_init, has_op, has_op_room, has_state,
 };
-use crate::telling::{Walk, tell, tell_name, unless};
+use crate::telling::{Walk, push_fault, push_fault_unless, push_name_faults};
 use crate::whole_faults::{once, whole_expr, whole_ty};
 use pst_sexpr::Form;
 use pst_syntax::{FaultKind, FunShape, ItemShape, OpShape, is_free, is_name};
@@ -36,7 +36,7 @@ fn state(
         (unless_at path.now role.Item (not stands) DoubleName
         (spec.whole_ty_at walk.has_maps (below path.now 1) form.now))) }
 {
-    unless(
+    push_fault_unless(
         walk,
         faults,
         path,
@@ -61,7 +61,7 @@ fn item_name(
         (map (placed (below path.now 1) role.ItemName) (name_faults is_lawful is_taken word.now))) }
 {
     let path = below(path, walk.alloc, 1)?;
-    tell_name(
+    push_name_faults(
         walk,
         faults,
         path.as_slice(),
@@ -86,7 +86,7 @@ fn fun(
         (shown_fun shape.now))) }
 {
     let has_room = has_fun_room(seen);
-    unless(
+    push_fault_unless(
         walk,
         faults,
         path,
@@ -117,7 +117,7 @@ fn op(
         (shown_op shape.now))) }
 {
     let has_room = has_op_room(seen);
-    unless(
+    push_fault_unless(
         walk,
         faults,
         path,
@@ -191,7 +191,7 @@ pub fn known_item(
             Ok(())
         }
         None => {
-            tell(
+            push_fault(
                 walk,
                 faults,
                 at.as_slice(),

@@ -16,7 +16,7 @@ use crate::fault::{FormFault, Role};
 use crate::item_faults::known_item;
 use crate::problem::below;
 use crate::seen_items::has_items;
-use crate::telling::{Walk, tell, tell_name, unless};
+use crate::telling::{Walk, push_fault, push_fault_unless, push_name_faults};
 use pst_sexpr::{Form, Tree};
 use pst_syntax::{FaultKind, MAX_TREES, is_name, item_shape, model_shape, room_after};
 use pst_value::{Items, Text};
@@ -46,7 +46,7 @@ fn items(
     }
     let seen = seen.as_slice();
     let are_there = has_items(seen);
-    unless(
+    push_fault_unless(
         walk,
         faults,
         path,
@@ -68,7 +68,7 @@ fn model_name(
         (map (placed (below path.now 1) role.ModelName) (name_faults (is_name name.now) false name.now))) }
 {
     let path = below(path, walk.alloc, 1)?;
-    tell_name(
+    push_name_faults(
         walk,
         faults,
         path.as_slice(),
@@ -91,7 +91,7 @@ fn named(
         (spec.named_faults_at path.now (model_shape form.now))) }
 {
     let Some(shape) = model_shape(form) else {
-        return tell(walk, faults, path, Role::Model, FaultKind::UnknownForm);
+        return push_fault(walk, faults, path, Role::Model, FaultKind::UnknownForm);
     };
     let walk = Walk {
         has_maps: shape.has_maps,
@@ -122,7 +122,7 @@ fn model(
         (spec.named_faults_at path.now (model_shape form.now)))) }
 {
     let are_few = has_few_trees(form);
-    unless(
+    push_fault_unless(
         walk,
         faults,
         path,
@@ -141,7 +141,7 @@ fn add_faults(walk: Walk, faults: &mut Items<FormFault>, trees: &[Tree]) -> Resu
 {
     match trees {
         [] => {
-            tell(walk, faults, &[], Role::Model, FaultKind::Missing)?;
+            push_fault(walk, faults, &[], Role::Model, FaultKind::Missing)?;
             Ok(())
         }
         [tree, ..] => {

@@ -13,7 +13,7 @@ ghost use Rattle.pst_syntax.specs.ShownItems.{shown_param, shown_param_option};
 
 use crate::fault::{FormFault, Role};
 use crate::problem::below;
-use crate::telling::{Walk, tell, tell_name, unless};
+use crate::telling::{Walk, push_fault, push_fault_unless, push_name_faults};
 use crate::whole_faults::whole_ty;
 use pst_sexpr::Form;
 use pst_syntax::{FaultKind, MAX_PARTS, ParamShape, is_free, param_shape};
@@ -54,7 +54,7 @@ fn param(
     let is_lawful = is_free(walk.has_maps, shape.name);
     let is_taken = is_param(seen, shape.name);
     let at = at.as_slice();
-    tell_name(
+    push_name_faults(
         walk,
         faults,
         at,
@@ -89,7 +89,7 @@ fn known_param(
             Ok(())
         }
         None => {
-            tell(
+            push_fault(
                 walk,
                 faults,
                 at.as_slice(),
@@ -139,7 +139,7 @@ pub fn params(
 {
     let path = below(path, walk.alloc, 2)?;
     let path = path.as_slice();
-    unless(
+    push_fault_unless(
         walk,
         faults,
         path,

@@ -11,7 +11,7 @@ ghost use Rattle.pst_syntax.specs.Shown.{shown};
 
 use crate::fault::{FormFault, Role};
 use crate::problem::below;
-use crate::telling::{Walk, tell_name, unless};
+use crate::telling::{Walk, push_fault_unless, push_name_faults};
 use crate::type_faults::ty_part;
 use pst_sexpr::{Form, value_of};
 use pst_syntax::{FaultKind, MAX_PARTS, MAX_TY_LEVELS, Shape, is_free, is_used_operation};
@@ -46,7 +46,7 @@ pub fn bound(
 {
     let path = below(path, walk.alloc, number)?;
     let is_lawful = is_free(walk.has_maps, word);
-    tell_name(
+    push_name_faults(
         walk,
         faults,
         path.as_slice(),
@@ -70,7 +70,7 @@ pub fn place(
 {
     let path = below(path, walk.alloc, 2)?;
     let holds = value_of(word).is_some();
-    unless(
+    push_fault_unless(
         walk,
         faults,
         path.as_slice(),
@@ -92,7 +92,7 @@ pub fn operation(
 {
     let path = below(path, walk.alloc, 1)?;
     let holds = is_used_operation(word);
-    unless(
+    push_fault_unless(
         walk,
         faults,
         path.as_slice(),

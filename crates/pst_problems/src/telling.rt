@@ -23,7 +23,7 @@ pub struct Walk {
 
 /// Adds the fault of the part at `path`.
 #[tactic(auto, using(crate::proofs::Keeping::keeping))]
-pub fn tell(
+pub fn push_fault(
     walk: Walk,
     faults: &mut Items<FormFault>,
     path: &[usize],
@@ -42,7 +42,7 @@ pub fn tell(
 
 /// Adds the fault of the part at `path` unless `holds`.
 #[tactic(auto, using(crate::proofs::Keeping::keeping))]
-pub fn unless(
+pub fn push_fault_unless(
     walk: Walk,
     faults: &mut Items<FormFault>,
     path: &[usize],
@@ -55,14 +55,14 @@ pub fn unless(
     if holds {
         Ok(())
     } else {
-        tell(walk, faults, path, role, kind)
+        push_fault(walk, faults, path, role, kind)
     }
 }
 
 /// Adds the faults of a declared name. `is_lawful` says whether it is valid there, and `is_taken` whether it
 /// is taken.
 #[tactic(auto, using(crate::proofs::Keeping::keeping, crate::proofs::Levels::name_steps))]
-pub fn tell_name(
+pub fn push_name_faults(
     walk: Walk,
     faults: &mut Items<FormFault>,
     path: &[usize],
@@ -74,9 +74,9 @@ pub fn tell_name(
     ensures { OnOk result (faults.new ≡ keep walk.limit faults.old
         (map (placed path.now role) (name_faults is_lawful is_taken word.now))) }
 {
-    unless(walk, faults, path, role, is_lawful, FaultKind::BadName)?;
-    unless(walk, faults, path, role, !is_taken, FaultKind::DoubleName)?;
-    unless(
+    push_fault_unless(walk, faults, path, role, is_lawful, FaultKind::BadName)?;
+    push_fault_unless(walk, faults, path, role, !is_taken, FaultKind::DoubleName)?;
+    push_fault_unless(
         walk,
         faults,
         path,

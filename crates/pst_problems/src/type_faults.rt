@@ -9,7 +9,7 @@ ghost use Rattle.pst_syntax.specs.Shown.{shown_ty};
 
 use crate::fault::{FormFault, Role};
 use crate::problem::below;
-use crate::telling::{Walk, tell, unless};
+use crate::telling::{Walk, push_fault, push_fault_unless};
 use pst_sexpr::Form;
 use pst_syntax::{FaultKind, MAX_PARTS, TyShape, ty_shape};
 use pst_value::Items;
@@ -40,12 +40,12 @@ pub fn ty(
         (ty_faults_at walk.has_maps room role path.now form.now)) }
 {
     let Some(shape) = ty_shape(walk.has_maps, form) else {
-        return tell(walk, faults, path, role, FaultKind::UnknownForm);
+        return push_fault(walk, faults, path, role, FaultKind::UnknownForm);
     };
     if room == 0 {
-        return tell(walk, faults, path, Role::DeepType, FaultKind::OverLimit);
+        return push_fault(walk, faults, path, Role::DeepType, FaultKind::OverLimit);
     }
-    unless(
+    push_fault_unless(
         walk,
         faults,
         path,

@@ -8,7 +8,7 @@ ghost use Rattle.pst_syntax.specs.declared.fault.FaultKind.TheVariants.{DoubleNa
 
 use crate::expression_faults::expr_part;
 use crate::fault::{FormFault, Role};
-use crate::telling::{Walk, unless};
+use crate::telling::{Walk, push_fault_unless};
 use crate::type_faults::ty_part;
 use pst_sexpr::Form;
 use pst_syntax::{FaultKind, MAX_EXPR_LEVELS, MAX_TY_LEVELS};
@@ -57,7 +57,7 @@ pub fn once(
         (unless_at path.now role (not stands) DoubleName
         (spec.whole_expr_at walk.has_maps (below path.now 1) form.now))) }
 {
-    unless(walk, faults, path, role, !stands, FaultKind::DoubleName)?;
+    push_fault_unless(walk, faults, path, role, !stands, FaultKind::DoubleName)?;
     whole_expr(walk, faults, path, 1, form)?;
     Ok(())
 }

@@ -9,7 +9,7 @@ use crate::asked::SomePostconditions;
 use crate::numbers::{commands_in, no_numbers, numbers_to, split_last, without};
 use pst_case::{History, Shaped};
 use pst_eval::Callbacks;
-use pst_judge::{Verdict, verdict_asking};
+use pst_judge::{Verdict, verdict_with_condition};
 use std::alloc::{AllocError, Global};
 
 /// Returns the lexicographically first interleaving that is true to its end if only the postconditions of the commands
@@ -30,7 +30,7 @@ fn true_merge<C: Callbacks>(
         (λ word. IsLeastTrue m shaped.now.case history.now numbers word.items)) }
 {
     let asked = SomePostconditions { first, rest };
-    match verdict_asking(callbacks, &asked, alloc, shaped, history)? {
+    match verdict_with_condition(callbacks, &asked, alloc, shaped, history)? {
         Verdict::Explained(word) => Ok(Some(word)),
         Verdict::Faulted(_) => Ok(None),
         Verdict::Unexplained(_) => Ok(None),
@@ -106,7 +106,7 @@ fn leave_out<C: Callbacks>(
 /// still impossible. So it prefers a core of commands with small numbers. Other commands may have answered anything.
 /// The core is empty if every interleaving faults in `init` or `next`, whatever was answered. The function takes one
 /// search for each command.
-pub fn core<C: Callbacks>(
+pub fn minimal_core<C: Callbacks>(
     callbacks: &C,
     alloc: Global,
     shaped: &Shaped,
@@ -127,7 +127,7 @@ pub fn core<C: Callbacks>(
 
 /// Returns the first interleaving that is true to its end if only the postconditions of `core` without `number` are
 /// checked.
-pub fn merge_without<C: Callbacks>(
+pub fn interleaving_without<C: Callbacks>(
     callbacks: &C,
     alloc: Global,
     shaped: &Shaped,

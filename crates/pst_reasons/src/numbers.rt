@@ -59,14 +59,14 @@ fn split_parts(branches: &[Items<Command>]) -> Option<(&Items<Command>, &[Items<
 }
 
 /// Returns how many commands the branches have together.
-pub fn letters_in(branches: &[Items<Command>]) -> usize
+pub fn count_branch_commands(branches: &[Items<Command>]) -> usize
     requires { length (joined branches.now) ≤ 16 }
     ensures { result ≡ length (joined branches.now) }
 {
     let Some((branch, branches)) = split_parts(branches) else {
         return 0;
     };
-    branch.len() + letters_in(branches)
+    branch.len() + count_branch_commands(branches)
 }
 
 /// Returns how many commands a case has.
@@ -76,7 +76,7 @@ pub(crate) fn commands_in(shaped: &Shaped) -> u32
     let case = shaped.case();
     let prefix = case.prefix.len();
     let branches = case.branches.as_slice();
-    let letters = letters_in(branches);
+    let letters = count_branch_commands(branches);
     let suffix = case.suffix.len();
     (prefix + letters + suffix) as u32
 }

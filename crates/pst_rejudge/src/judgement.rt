@@ -5,7 +5,7 @@ ghost use Rattle.pst_judge.specs.declared.judgement.Judged.TheVariants as judged
 
 use crate::add::{add_number, add_words};
 use crate::field::{Field, Name};
-use crate::merge::merge_text;
+use crate::merge::interleaving_text;
 use pst_eval::FaultPlace;
 use pst_judge::{Judged, Verdict, Why};
 use pst_runs::RunFaultKind;
@@ -28,7 +28,7 @@ fn add_merge(
 ) -> Result<(), AllocError>
     ensures { OnOk result (fields.new.items ≡ fields.old.items ++ merge_field branches.now.items ∷ []) }
 {
-    let merge = merge_text(alloc, branches.as_slice())?;
+    let merge = interleaving_text(alloc, branches.as_slice())?;
     fields.push(Field::Words(Name::Merge, merge))?;
     Ok(())
 }

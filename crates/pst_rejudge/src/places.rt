@@ -23,7 +23,10 @@ fn no_parts(alloc: Global, parts: &[&[u8]]) -> Result<Vec<Option<JudgedRuns>>, A
 }
 
 /// The places with parts put into them.
-fn put(mut places: Vec<Option<JudgedRuns>>, taken: Vec<JudgedPart>) -> Vec<Option<JudgedRuns>>
+fn fill_places(
+    mut places: Vec<Option<JudgedRuns>>,
+    taken: Vec<JudgedPart>,
+) -> Vec<Option<JudgedRuns>>
     ensures { (m : Source) (keeps : Bool) (parts : List (Bor (List ℕ))) → AreFilled m keeps parts places.items
         → All (StandsIn m keeps parts) taken.items → AreFilled m keeps parts result.items }
 {
@@ -37,7 +40,7 @@ fn put(mut places: Vec<Option<JudgedRuns>>, taken: Vec<JudgedPart>) -> Vec<Optio
 }
 
 /// All parts that were taken, each in its place.
-pub(crate) fn in_places(
+pub(crate) fn place_parts(
     alloc: Global,
     parts: &[&[u8]],
     lists: Vec<Vec<JudgedPart>>,
@@ -47,7 +50,7 @@ pub(crate) fn in_places(
 {
     let mut places = no_parts(alloc, parts)?;
     for taken in lists {
-        places = put(places, taken);
+        places = fill_places(places, taken);
     }
     Ok(places)
 }

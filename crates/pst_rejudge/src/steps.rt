@@ -4,15 +4,15 @@ use std::sync::atomic::{AtomicU64, Ordering};
 
 /// How far a command is, for another thread to look at.
 #[derive(Drop)]
-pub struct Steps {
+pub struct ProgressCounter {
     done: AtomicU64,
     all: AtomicU64,
 }
 
-impl Steps {
+impl ProgressCounter {
     /// Nothing is done, and how much there is to do is not known.
-    pub fn new() -> Steps {
-        Steps {
+    pub fn new() -> ProgressCounter {
+        ProgressCounter {
             done: AtomicU64::new(0),
             all: AtomicU64::new(0),
         }

@@ -4,7 +4,7 @@ ghost use Rattle.std.specs.Prelude.{◌≡◌, ◌≤◌, IfOk, length};
 use std::alloc::{AllocError, Global};
 
 /// Returns whether a byte is a continuation byte of a UTF-8 character.
-fn goes_on(byte: u8) -> bool {
+fn is_continuation_byte(byte: u8) -> bool {
     byte >= 0x80 && byte < 0xC0
 }
 
@@ -13,7 +13,7 @@ fn beginning(text: &[u8], end: usize) -> &[u8]
     requires { end ≤ length text.now }
     ensures { length result.now ≤ end }
 {
-    if end > 0 && end < text.len() && goes_on(text[end]) {
+    if end > 0 && end < text.len() && is_continuation_byte(text[end]) {
         return beginning(text, end - 1);
     }
     &text[..end]
@@ -24,7 +24,7 @@ fn ending(text: &[u8]) -> &[u8]
     ensures { length result.now ≤ length text.now }
 {
     match text.split_first() {
-        Some((first, rest)) if goes_on(*first) => ending(rest),
+        Some((first, rest)) if is_continuation_byte(*first) => ending(rest),
         _ => text,
     }
 }
@@ -32,7 +32,7 @@ fn ending(text: &[u8]) -> &[u8]
 /// Returns `text` if it has at most `width` bytes. Otherwise returns its beginning and its end with `..` between them,
 /// so that they fit, or an empty text if not even `..` fits. A character of several bytes is kept or left out as a
 /// whole.
-pub fn cut(alloc: Global, text: &[u8], width: usize) -> Result<Vec<u8>, AllocError>
+pub fn cut_in_middle(alloc: Global, text: &[u8], width: usize) -> Result<Vec<u8>, AllocError>
     ensures fits { IfOk result (λ cut. length cut.items ≤ width) }
     ensures whole { IfOk result (λ cut. length text.now ≤ width → cut.items ≡ text.now) }
 {

@@ -5,7 +5,7 @@ use crate::evaluating::evaluate;
 use crate::falsity::{Falsity, falsity_of, falsity_text};
 use crate::scene::Scene;
 use crate::texts::{joined, operation, text_of};
-use crate::walk::{PreAnswer, arguments, precondition, state_behind};
+use crate::walk::{PreAnswer, arguments, precondition, state_after};
 use pst_case::Reply;
 use pst_eval::Env;
 use pst_model::Source;
@@ -62,7 +62,7 @@ fn next_state<'a>(
     state: &Value,
     call: &Call<'_>,
 ) -> Result<Outcome<'a>, AllocError> {
-    match state_behind(alloc, scene, state, call)? {
+    match state_after(alloc, scene, state, call)? {
         Some(next) => Ok(Outcome::Leads(next)),
         None => Ok(Outcome::Refused(DeadEnd::NextFaults)),
     }

@@ -4,7 +4,7 @@ ghost use Rattle.std.specs.Prelude.{IfOk, MatchOption};
 ghost use Rattle.pst_eval.specs.Env.{env_of};
 ghost use Rattle.pst_scene.specs.Parts.{Decides};
 
-use crate::attempt::{All, Tried, attempt, attempt_all};
+use crate::attempt::{Tried, TriedAll, attempt_all, try_evaluate};
 use pst_eval::{Context, Env};
 use pst_model::Expr;
 use pst_value::Value;
@@ -14,7 +14,7 @@ use std::alloc::AllocError;
 type DecidingPart<'a> = Option<(&'a Expr, u32)>;
 
 /// The test of an `if`, or the chosen one of the others.
-fn of_if<'a>(
+fn deciding_part_of_if<'a>(
     expr: &'a Expr,
     context: &Context<'_>,
     env: &Env<'_>,
@@ -26,7 +26,7 @@ fn of_if<'a>(
     let Expr::If(test, then, other) = expr else {
         return Ok(None);
     };
-    match attempt(test.get(), context, env, turns)? {
+    match try_evaluate(test.get(), context, env, turns)? {
         Tried::Faults(_) => Ok(Some((test.get(), turns))),
         Tried::Gives(Value::Bool(true), left) => Ok(Some((then.get(), left))),
         Tried::Gives(Value::Bool(false), left) => Ok(Some((other.get(), left))),
@@ -47,10 +47,10 @@ fn of_and<'a>(
     let Expr::And(first, second) = expr else {
         return Ok(None);
     };
-    match attempt(first.get(), context, env, turns)? {
+    match try_evaluate(first.get(), context, env, turns)? {
         Tried::Faults(_) => Ok(Some((first.get(), turns))),
         Tried::Gives(Value::Bool(true), left) => {
-            match attempt(second.get(), context, env, left)? {
+            match try_evaluate(second.get(), context, env, left)? {
                 Tried::Faults(_) => Ok(Some((second.get(), left))),
                 _ => Ok(None),
             }
@@ -72,10 +72,10 @@ fn of_or<'a>(
     let Expr::Or(first, second) = expr else {
         return Ok(None);
     };
-    match attempt(first.get(), context, env, turns)? {
+    match try_evaluate(first.get(), context, env, turns)? {
         Tried::Faults(_) => Ok(Some((first.get(), turns))),
         Tried::Gives(Value::Bool(false), left) => {
-            match attempt(second.get(), context, env, left)? {
+            match try_evaluate(second.get(), context, env, left)? {
                 Tried::Faults(_) => Ok(Some((second.get(), left))),
                 _ => Ok(None),
             }
@@ -97,7 +97,7 @@ fn of_unary<'a>(
     let Expr::Unary(_, operand) = expr else {
         return Ok(None);
     };
-    match attempt(operand.get(), context, env, turns)? {
+    match try_evaluate(operand.get(), context, env, turns)? {
         Tried::Faults(_) => Ok(Some((operand.get(), turns))),
         _ => Ok(None),
     }
@@ -116,7 +116,7 @@ fn of_at<'a>(
     let Expr::At(tuple, _) = expr else {
         return Ok(None);
     };
-    match attempt(tuple.get(), context, env, turns)? {
+    match try_evaluate(tuple.get(), context, env, turns)? {
         Tried::Faults(_) => Ok(Some((tuple.get(), turns))),
         _ => Ok(None),
     }
@@ -135,9 +135,9 @@ fn of_binary<'a>(
     let Expr::Binary(_, first, second) = expr else {
         return Ok(None);
     };
-    match attempt(first.get(), context, env, turns)? {
+    match try_evaluate(first.get(), context, env, turns)? {
         Tried::Faults(_) => Ok(Some((first.get(), turns))),
-        Tried::Gives(_, left) => match attempt(second.get(), context, env, left)? {
+        Tried::Gives(_, left) => match try_evaluate(second.get(), context, env, left)? {
             Tried::Faults(_) => Ok(Some((second.get(), left))),
             _ => Ok(None),
         },
@@ -158,17 +158,17 @@ fn of_put<'a>(
     let Expr::Put(map, key, value) = expr else {
         return Ok(None);
     };
-    let left = match attempt(map.get(), context, env, turns)? {
+    let left = match try_evaluate(map.get(), context, env, turns)? {
         Tried::Faults(_) => return Ok(Some((map.get(), turns))),
         Tried::Gives(_, left) => left,
         Tried::Stuck => return Ok(None),
     };
-    let fewer = match attempt(key.get(), context, env, left)? {
+    let fewer = match try_evaluate(key.get(), context, env, left)? {
         Tried::Faults(_) => return Ok(Some((key.get(), left))),
         Tried::Gives(_, fewer) => fewer,
         Tried::Stuck => return Ok(None),
     };
-    match attempt(value.get(), context, env, fewer)? {
+    match try_evaluate(value.get(), context, env, fewer)? {
         Tried::Faults(_) => Ok(Some((value.get(), fewer))),
         _ => Ok(None),
     }
@@ -188,7 +188,7 @@ fn of_tuple<'a>(
         return Ok(None);
     };
     match attempt_all(parts.as_slice(), context, env, turns)? {
-        All::Faults(part, left, _) => Ok(Some((part, left))),
+        TriedAll::Faults(part, left, _) => Ok(Some((part, left))),
         _ => Ok(None),
     }
 }
@@ -207,7 +207,7 @@ fn of_list<'a>(
         return Ok(None);
     };
     match attempt_all(items.as_slice(), context, env, turns)? {
-        All::Faults(part, left, _) => Ok(Some((part, left))),
+        TriedAll::Faults(part, left, _) => Ok(Some((part, left))),
         _ => Ok(None),
     }
 }
@@ -226,7 +226,7 @@ fn of_call<'a>(
         return Ok(None);
     };
     match attempt_all(arguments.as_slice(), context, env, turns)? {
-        All::Faults(part, left, _) => Ok(Some((part, left))),
+        TriedAll::Faults(part, left, _) => Ok(Some((part, left))),
         _ => Ok(None),
     }
 }
@@ -243,7 +243,7 @@ pub fn deciding_part<'a>(
         (λ p. Decides context.now expr.now (env_of env.now) turns p.0.now p.1)) }
 {
     match expr {
-        Expr::If(_, _, _) => of_if(expr, context, env, turns),
+        Expr::If(_, _, _) => deciding_part_of_if(expr, context, env, turns),
         Expr::And(_, _) => of_and(expr, context, env, turns),
         Expr::Or(_, _) => of_or(expr, context, env, turns),
         Expr::Unary(_, _) => of_unary(expr, context, env, turns),

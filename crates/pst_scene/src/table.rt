@@ -62,7 +62,7 @@ pub struct Table {
 }
 
 /// A row of two cells of plain text.
-pub fn two(alloc: Global, first: Vec<u8>, second: Vec<u8>) -> Result<Vec<Cell>, AllocError> {
+pub fn two_cells(alloc: Global, first: Vec<u8>, second: Vec<u8>) -> Result<Vec<Cell>, AllocError> {
     let mut row = Vec::new(alloc);
     row.push(Cell::plain(first))?;
     row.push(Cell::plain(second))?;

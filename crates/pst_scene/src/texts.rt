@@ -3,7 +3,7 @@
 use crate::calls::Call;
 use crate::forms::add_form;
 use crate::scene::Scene;
-use crate::spelling::{add, add_value};
+use crate::spelling::{add_str, add_value};
 use pst_model::{Expr, Op, Source, operation_of};
 use pst_print::expr_form;
 use pst_sexpr::Form;
@@ -22,7 +22,7 @@ pub fn joined(alloc: Global, parts: &[&[u8]]) -> Result<Vec<u8>, AllocError> {
 /// A text of one part.
 pub fn text_of(alloc: Global, part: &str) -> Result<Vec<u8>, AllocError> {
     let mut text = Vec::new(alloc);
-    add(&mut text, part)?;
+    add_str(&mut text, part)?;
     Ok(text)
 }
 

@@ -2,12 +2,12 @@
 
 use crate::calls::Call;
 use crate::evaluating::evaluate;
-use crate::order::{count_before, first_calls, in_order};
+use crate::order::{calls_in_order, count_before, first_calls};
 use crate::scene::Scene;
 use crate::texts::operation;
 use pst_case::Reply;
 use pst_eval::Env;
-use pst_model::{Expr, opening_of};
+use pst_model::{Expr, initial_state_of};
 use pst_operators::Stop;
 use pst_value::{Boxed, Fault, Items, Value};
 use std::alloc::{AllocError, Global};
@@ -49,7 +49,7 @@ pub fn reference(alloc: Global, call: &Call<'_>) -> Result<Value, AllocError> {
 
 /// Returns the initial state. `None` if the model gives none, or `init` cannot be evaluated.
 pub fn initial_state(alloc: Global, scene: &Scene<'_>) -> Result<Option<Value>, AllocError> {
-    match opening_of(scene.model.items.as_slice()) {
+    match initial_state_of(scene.model.items.as_slice()) {
         Some(opening) => {
             let outcome = evaluate(alloc, scene.model, opening, &Env::Frame(&[], &[]))?;
             Ok(outcome.ok())
@@ -59,7 +59,7 @@ pub fn initial_state(alloc: Global, scene: &Scene<'_>) -> Result<Option<Value>, 
 }
 
 /// Returns the state after a command. `None` if its `next` cannot be evaluated.
-pub fn state_behind(
+pub fn state_after(
     alloc: Global,
     scene: &Scene<'_>,
     state: &Value,
@@ -88,7 +88,7 @@ pub fn states_along(
         return Ok(states);
     };
     for call in calls {
-        let Some(next) = state_behind(alloc, scene, &state, call)? else {
+        let Some(next) = state_after(alloc, scene, &state, call)? else {
             break;
         };
         states.push(state)?;
@@ -105,7 +105,7 @@ pub fn calls_before<'a>(
     word: &[usize],
     call: &Call<'_>,
 ) -> Result<Vec<Call<'a>>, AllocError> {
-    let order = in_order(alloc, &scene.calls, word)?;
+    let order = calls_in_order(alloc, &scene.calls, word)?;
     let count = count_before(order.as_slice(), call.number);
     first_calls(alloc, order.as_slice(), count)
 }

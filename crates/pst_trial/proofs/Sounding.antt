@@ -7,7 +7,7 @@ use Rattle.pst_case.specs.declared.history.History.{History}
 use Rattle.pst_model.specs.declared.model.Source.{Source}
 use Rattle.pst_shrink.proofs.Moving.{shrunk_moves}
 use Rattle.pst_shrink.specs.Weight.{weight}
-use Rattle.pst_shrink.specs.declared.attempt.Outcome.TheVariants.{Held, Broke}
+use Rattle.pst_shrink.specs.declared.attempt.AttemptOutcome.TheVariants.{Held, Broke}
 use Rattle.pst_shrink.specs.declared.shrunk.Shrunk.{Shrunk}
 use Rattle.pst_trial.specs.Moving.{answer_moves, answer_moves_in}
 use Rattle.pst_trial.specs.Driving.{Histories}

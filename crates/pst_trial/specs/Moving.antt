@@ -6,8 +6,8 @@ use Rattle.pst_case.specs.declared.history.History.{History}
 use Rattle.pst_driver.specs.declared.fault.DriveFault.{DriveFault}
 use Rattle.pst_model.specs.declared.model.Source.{Source}
 use Rattle.pst_shrink.specs.Outcomes.{IsKept}
-use Rattle.pst_shrink.specs.declared.attempt.Outcome.{Outcome}
-use Rattle.pst_shrink.specs.declared.attempt.Outcome.TheVariants.{NotValid, Held, Broke}
+use Rattle.pst_shrink.specs.declared.attempt.AttemptOutcome.{AttemptOutcome}
+use Rattle.pst_shrink.specs.declared.attempt.AttemptOutcome.TheVariants.{NotValid, Held, Broke}
 use Rattle.pst_trial.specs.Driving.{Histories, Faults, IsSteady}
 use Rattle.pst_trial.specs.JudgedRuns.{IsJudgedRun, AreExplained, IsAnswer, MayFail}
 use Rattle.pst_trial.specs.PlanView.{PlanView}
@@ -23,7 +23,7 @@ module _ (D E : Histories) (m : Source)
   explained_moves_in c [] all = tt
   explained_moves_in c (r ∷ rs) all = (run_moves_in c r all.0, all.1, explained_moves_in c rs all.2)
 
-  pub answer_moves_in : (n : ℕ) (c : Case) (o : Outcome JudgedRun) → IsAnswer D m n c o → IsAnswer E m n c o
+  pub answer_moves_in : (n : ℕ) (c : Case) (o : AttemptOutcome JudgedRun) → IsAnswer D m n c o → IsAnswer E m n c o
   answer_moves_in n c NotValid a = a
   answer_moves_in n c (Held rs) a = (a.0, explained_moves_in c rs a.1, a.2)
   answer_moves_in n c (Broke rs r) a = (a.0, explained_moves_in c rs a.1, a.2, run_moves_in c r a.3, a.4)
@@ -32,7 +32,7 @@ module _ (D E : Histories) (to : (v : OfModel) (h : History) → D v h → E v h
   pub run_moves : (c : Case) (r : JudgedRun) → IsJudgedRun D m c r → IsJudgedRun E m c r
   run_moves = run_moves_in D E m (λ c h. to (record { model = m; case = c }) h)
 
-  pub answer_moves : (n : ℕ) (c : Case) (o : Outcome JudgedRun) → IsAnswer D m n c o → IsAnswer E m n c o
+  pub answer_moves : (n : ℕ) (c : Case) (o : AttemptOutcome JudgedRun) → IsAnswer D m n c o → IsAnswer E m n c o
   answer_moves = answer_moves_in D E m (λ c h. to (record { model = m; case = c }) h)
 
 pub fault_moves : (P Q : Faults) → ((v : OfModel) (f : DriveFault) → P v f → Q v f) → (f : DriveFault)
@@ -41,11 +41,11 @@ fault_moves P Q to f (inl h) = inl (h.0, to h.0 f h.1)
 fault_moves P Q to f (inr h) = inr h
 
 module _ {D E : Histories} {P Q : Faults} (steady : IsSteady E D Q P) where
-  pub answer_before : (m : Source) (n : ℕ) (c : Case) (o : Outcome JudgedRun)
+  pub answer_before : (m : Source) (n : ℕ) (c : Case) (o : AttemptOutcome JudgedRun)
       → IsAnswer E m n c o → IsAnswer D m n c o
   answer_before m = answer_moves E D (λ v h. (steady.driving v h).0) m
 
-  pub answer_after : (m : Source) (n : ℕ) (c : Case) (o : Outcome JudgedRun)
+  pub answer_after : (m : Source) (n : ℕ) (c : Case) (o : AttemptOutcome JudgedRun)
       → IsAnswer D m n c o → IsAnswer E m n c o
   answer_after m = answer_moves D E (λ v h. (steady.driving v h).1) m
 

@@ -9,7 +9,7 @@ use crate::TrialFault;
 use crate::driver::Driver;
 use crate::plan::Plan;
 use crate::record::Record;
-use crate::shrinking::Shrinking;
+use crate::shrinking::ShrinkProgress;
 use crate::trials::trial_by;
 use pst_case::History;
 use pst_driver::{Crew, DriveFault, Relations, Subject, run_with};
@@ -29,7 +29,7 @@ pub struct CrewDriver<'r, 'c, 's, J: Relations, S: Subject, R: Wait> {
     /// The number of the trial.
     pub number: u64,
     /// Counts the candidates that are driven while the trial is shrunk.
-    pub shrinking: &'s Shrinking,
+    pub shrinking: &'s ShrinkProgress,
 }
 
 impl<'r, 'c, 's, J: Relations, S: Subject, R: Wait> Driver for CrewDriver<'r, 'c, 's, J, S, R> {
@@ -71,7 +71,7 @@ pub fn trial_with<J: Relations, S: Subject, R: Wait>(
     plan: &Arc<Plan>,
     number: u64,
     crew: &Crew<J, S>,
-    shrinking: &Shrinking,
+    shrinking: &ShrinkProgress,
 ) -> Result<Record, TrialFault>
     requires model { (arc_value plan.now).model ≡ J.model }
     ensures plan { IfOk result (λ r. r.plan ≡ arc_value plan.now) }

@@ -32,6 +32,6 @@ pub use settings::{
     MAX_BRANCHES, MAX_COMMANDS, MAX_LIMIT, MAX_REPEATS, MAX_SUFFIX, MAX_TRIALS, Settings,
 };
 pub use sharing::may_share_records;
-pub use shrinking::Shrinking;
+pub use shrinking::ShrinkProgress;
 pub use threads::{ThreadDriver, trial, trial_counting};
 pub use trials::trial_by;

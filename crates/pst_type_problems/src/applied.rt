@@ -6,7 +6,7 @@ use crate::trees::tree_in;
 use pst_model::{Fun, Item, Param};
 use pst_problems::{
     FoundProblem, Problem, Signature, below, counted, in_place_of, is_of_maps, nearest_head,
-    noted_at, operation, unknown_among, with_note, wrong,
+    operation_named, problem_at, problem_with_note_at_part, unknown_among, with_note,
 };
 use pst_sexpr::word_of;
 use pst_typing::Kind;
@@ -119,7 +119,7 @@ fn wrong_argument_count(leaf: &BlamedPart<'_>, declared: &Signature<'_>) -> Foun
     let name = declared.name;
     let takes = counted(declared.params.len(), "argument");
     let found = leaf.kinds.len();
-    let refused = wrong(
+    let refused = problem_at(
         leaf.alloc,
         leaf.path,
         format_args!("`{name}` takes {takes}, here it has {found}"),
@@ -166,7 +166,7 @@ pub fn call_problem(leaf: &BlamedPart<'_>) -> FoundProblem {
         return Ok(None);
     };
     let name = name.as_str();
-    match operation(leaf.context.items, name) {
+    match operation_named(leaf.context.items, name) {
         Some(op) => {
             let declared = Signature {
                 name,
@@ -185,7 +185,7 @@ fn no_function_noted<N: Display + Drop>(
     name: &str,
     note: N,
 ) -> FoundProblem {
-    noted_at(
+    problem_with_note_at_part(
         leaf.alloc,
         leaf.path,
         0,
@@ -212,7 +212,7 @@ fn no_function(leaf: &BlamedPart<'_>, name: &str) -> FoundProblem {
         let hint = "hint: a model with maps begins with `(model2 NAME ..)`";
         return no_function_noted(leaf, name, hint);
     }
-    if operation(leaf.context.items, name).is_some() {
+    if operation_named(leaf.context.items, name).is_some() {
         return no_function_noted(
             leaf,
             name,
@@ -226,7 +226,7 @@ fn no_function(leaf: &BlamedPart<'_>, name: &str) -> FoundProblem {
 fn later_function_problem(leaf: &BlamedPart<'_>, fun: &Fun) -> FoundProblem {
     let name = fun.name.as_str();
     if function(leaf.context.earlier, name).is_none() {
-        return noted_at(
+        return problem_with_note_at_part(
             leaf.alloc,
             leaf.path,
             0,
@@ -235,7 +235,7 @@ fn later_function_problem(leaf: &BlamedPart<'_>, fun: &Fun) -> FoundProblem {
         );
     }
     if fun.is_post && !leaf.context.is_post {
-        return noted_at(
+        return problem_with_note_at_part(
             leaf.alloc,
             leaf.path,
             0,

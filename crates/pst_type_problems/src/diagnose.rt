@@ -7,8 +7,8 @@ use crate::spelling::spelled;
 use crate::trees::head_word;
 use pst_model::{Expr, Op};
 use pst_problems::{
-    FoundProblem, Listed, Problem, is_of_maps, key_word, nearest, noted, operation, with_note,
-    wrong, wrong_at,
+    FoundProblem, Listed, Problem, is_of_maps, key_word, nearest, operation_named, problem_at,
+    problem_at_part, problem_with_note, with_note,
 };
 use pst_sexpr::{Form, word_of};
 use pst_typing::{Context, Kind, KindForm};
@@ -56,7 +56,7 @@ fn fixed_hint(name: &str) -> Option<&'static str> {
 fn no_meaning(leaf: &BlamedPart<'_>, name: &str) -> FoundProblem {
     let called = leaf.called;
     let what = format_args!("{called}: nothing has the name `{name}` here");
-    let found = wrong(leaf.alloc, leaf.path, what)?;
+    let found = problem_at(leaf.alloc, leaf.path, what)?;
     with_names(leaf, found)
 }
 
@@ -81,7 +81,7 @@ fn unknown_name_problem(leaf: &BlamedPart<'_>, name: &str) -> FoundProblem {
     if let Some(hint) = fixed_hint(name) {
         return unknown_noted(leaf, name, hint);
     }
-    if let Some(op) = operation(leaf.context.items, name) {
+    if let Some(op) = operation_named(leaf.context.items, name) {
         return named_operation(leaf, op);
     }
     match nearest(leaf.alloc, leaf.names, name)? {
@@ -133,7 +133,7 @@ fn equality_problem(leaf: &BlamedPart<'_>, first: &Kind, second: &Kind) -> Found
         return Ok(None);
     }
     let found = spelled(leaf.alloc, first)?;
-    noted(
+    problem_with_note(
         leaf.alloc,
         leaf.path,
         format_args!("`=` cannot compare references outside post, found {found}"),
@@ -158,7 +158,7 @@ fn same_problem(leaf: &BlamedPart<'_>, first: &Kind, second: &Kind) -> FoundProb
 /// The problem of a `deref`, if it has one.
 fn deref_problem(leaf: &BlamedPart<'_>) -> FoundProblem {
     if !leaf.context.is_post {
-        return noted(
+        return problem_with_note(
             leaf.alloc,
             leaf.path,
             "`deref` is only allowed in post and in postfuns",
@@ -195,7 +195,7 @@ fn at_problem(leaf: &BlamedPart<'_>) -> FoundProblem {
     let number = items.len();
     let shown = spelled(leaf.alloc, found)?;
     let what = format_args!("the tuple has {number} items: {shown}");
-    wrong_at(leaf.alloc, leaf.path, 2, what)
+    problem_at_part(leaf.alloc, leaf.path, 2, what)
 }
 
 /// The type of the values that are keys of the type `keys`.
@@ -294,6 +294,6 @@ pub fn diagnose(leaf: &BlamedPart<'_>) -> FoundProblem {
     }
     match of_head(leaf, head_word(leaf.form))? {
         Some(found) => Ok(Some(found)),
-        None => wrong(leaf.alloc, leaf.path, "this has no type"),
+        None => problem_at(leaf.alloc, leaf.path, "this has no type"),
     }
 }

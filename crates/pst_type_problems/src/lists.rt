@@ -5,7 +5,7 @@ use crate::operands::{wanted_list, wanted_type, with_reference_hint, with_refere
 use crate::spelling::spelled;
 use crate::trees::{clauses_of, goes_over_list};
 use pst_model::Expr;
-use pst_problems::{FoundProblem, TypeText, noted, wrong_at};
+use pst_problems::{FoundProblem, TypeText, problem_at_part, problem_with_note};
 use pst_sexpr::Form;
 use pst_typing::{Kind, KindForm};
 use pst_value::Ty;
@@ -18,7 +18,7 @@ pub fn nth_problem(leaf: &BlamedPart<'_>, list: &Kind, place: &Kind) -> FoundPro
             let int = Kind::of(leaf.alloc, &Ty::Int)?;
             wanted_type(leaf, "`nth`", 2, &int, place)
         }
-        (KindForm::Int, KindForm::List(_)) => noted(
+        (KindForm::Int, KindForm::List(_)) => problem_with_note(
             leaf.alloc,
             leaf.path,
             "`nth` takes a list and a place, found int and a list",
@@ -33,7 +33,7 @@ fn ill_item(leaf: &BlamedPart<'_>, part: usize, wanted: &Ty, found: &Kind) -> Fo
     let wants = TypeText(wanted);
     let has = spelled(leaf.alloc, found)?;
     let what = format_args!("an item of the list: expected {wants}, found {has}");
-    let refused = wrong_at(leaf.alloc, leaf.path, part, what)?;
+    let refused = problem_at_part(leaf.alloc, leaf.path, part, what)?;
     with_references_hint(leaf.alloc, refused, &Kind::of(leaf.alloc, wanted)?, found)
 }
 
@@ -68,7 +68,7 @@ fn ill_clause(leaf: &BlamedPart<'_>, clause: &Form, place: usize, found: &Kind) 
     }
     let has = spelled(leaf.alloc, found)?;
     let what = format_args!("`when`: expected bool, found {has}");
-    let refused = wrong_at(leaf.alloc, path.as_slice(), 1, what)?;
+    let refused = problem_at_part(leaf.alloc, path.as_slice(), 1, what)?;
     with_reference_hint(leaf.alloc, refused, found)
 }
 

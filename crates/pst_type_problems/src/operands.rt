@@ -2,7 +2,9 @@
 
 use crate::diagnose::BlamedPart;
 use crate::spelling::{spelled, spelled_as_value};
-use pst_problems::{FoundProblem, Problem, below, noted, with_note, wrong, wrong_at};
+use pst_problems::{
+    FoundProblem, Problem, below, problem_at, problem_at_part, problem_with_note, with_note,
+};
 use pst_typing::{Kind, KindForm};
 use std::alloc::{AllocError, Global};
 use std::fmt::Display;
@@ -66,7 +68,7 @@ pub fn other_type<D: Display + Drop>(
 ) -> FoundProblem {
     let wants = spelled(alloc, wanted)?;
     let has = spelled(alloc, found)?;
-    let refused = wrong(
+    let refused = problem_at(
         alloc,
         path,
         format_args!("{what}: expected {wants}, found {has}"),
@@ -92,7 +94,7 @@ pub fn wanted_type<D: Display + Drop>(
 /// The problem of the first part, which has another kind than its form takes.
 pub fn ill_first<D: Display + Drop>(leaf: &BlamedPart<'_>, what: D, found: &Kind) -> FoundProblem {
     let has = spelled(leaf.alloc, found)?;
-    let refused = wrong_at(
+    let refused = problem_at_part(
         leaf.alloc,
         leaf.path,
         1,
@@ -129,7 +131,7 @@ pub fn wanted_list(
     found: &Kind,
 ) -> FoundProblem {
     let has = spelled(alloc, found)?;
-    let refused = wrong_at(
+    let refused = problem_at_part(
         alloc,
         path,
         part,
@@ -149,7 +151,7 @@ pub fn wanted_map(leaf: &BlamedPart<'_>, head: &str, found: &Kind) -> FoundProbl
         return ill_first(leaf, format_args!("`{head}`: expected a map"), found);
     }
     let found = spelled(leaf.alloc, found)?;
-    noted(
+    problem_with_note(
         leaf.alloc,
         leaf.path,
         format_args!("`{head}` takes the map first, found {found}"),

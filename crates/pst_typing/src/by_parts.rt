@@ -12,7 +12,7 @@ use crate::blame::{Blame, Found};
 use crate::context::Context;
 use crate::kinds::Kind;
 use crate::operators::{
-    binary_type, copied, int_type, kept, keys_type, kind_of, part_type, text_type, unary_type,
+    binary_type, copied, int_type, keys_type, kind_if, kind_of, part_type, text_type, unary_type,
     values_type, where_true,
 };
 use crate::refusal::Refusal;
@@ -22,7 +22,7 @@ use pst_value::{Items, KeyTy, LIMIT, Ty};
 use std::alloc::{AllocError, Global};
 
 /// The kind of an expression by the kinds of its parts. If it has none, it is to blame itself.
-pub fn judged(
+pub fn kind_by_parts(
     expr: &Expr,
     context: &Context<'_>,
     names: &Names<'_>,
@@ -85,7 +85,7 @@ fn of_if(alloc: Global, kinds: &[Kind]) -> Result<Kind, Refusal>
     if !test.is(alloc, &Ty::Bool)? {
         return Err(Refusal::Ill);
     }
-    kept(no.same(alloc, yes)?, yes)
+    kind_if(no.same(alloc, yes)?, yes)
 }
 
 /// `bool`, of two tests.
@@ -189,7 +189,7 @@ fn of_fold(alloc: Global, kinds: &[Kind]) -> Result<Kind, Refusal>
     let [_, first, body] = kinds else {
         return Err(Refusal::Ill);
     };
-    kept(body.same(alloc, first)?, first)
+    kind_if(body.same(alloc, first)?, first)
 }
 
 /// The kind of maps of a type of keys and a type of values.
@@ -211,7 +211,7 @@ fn of_put(alloc: Global, kinds: &[Kind]) -> Result<Kind, Refusal>
         return Err(Refusal::Ill);
     }
     let values = values_type(alloc, map)?;
-    kept(value.same(alloc, &values)?, map)
+    kind_if(value.same(alloc, &values)?, map)
 }
 
 /// `call`, if the operation `name` takes arguments of these kinds.

@@ -8,7 +8,7 @@ ghost use Rattle.pst_value.specs.declared.ty.Ty.TheVariants.{Bool as truth, List
 
 use crate::blame::Found;
 use crate::context::Context;
-use crate::expressions::find;
+use crate::expressions::infer;
 use crate::kinds::Kind;
 use crate::scope::Scope;
 use crate::types::{holds_call, holds_ref, parameters_hold_call};
@@ -25,7 +25,7 @@ fn has_type(
 ) -> Result<bool, AllocError>
     ensures { IfOk result (λ has. has ≡ is_ty (type_in context.now expr.now (names_of scope.now)) kind.now) }
 {
-    match find(expr, context, scope)? {
+    match infer(expr, context, scope)? {
         Found::Kind(found) => found.same(context.alloc, kind),
         Found::Blamed(_) => Ok(false),
     }

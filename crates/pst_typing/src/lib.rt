@@ -23,7 +23,7 @@ mod types;
 pub use blame::{Blame, Found};
 pub use checking::check;
 pub use context::Context;
-pub use expressions::find;
+pub use expressions::infer;
 pub use items::{first_ill, well_item};
 pub use kinds::{Kind, KindForm};
 pub use laws::{first_ill_is_least, ill_is_not_well, items_are_exact, one_is_ill, types_are_exact};

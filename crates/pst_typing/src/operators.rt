@@ -46,7 +46,7 @@ pub fn where_true(alloc: Global, test: bool, ty: &Ty) -> Result<Kind, Refusal>
 }
 
 /// A kind, if a test is passed.
-pub fn kept(test: bool, kind: &Kind) -> Result<Kind, Refusal>
+pub fn kind_if(test: bool, kind: &Kind) -> Result<Kind, Refusal>
     ensures { Answers (spec.where_true test (Some kind.now)) result }
 {
     if test {
@@ -247,7 +247,7 @@ fn range_type(alloc: Global, first: &Kind, second: &Kind) -> Result<Kind, Refusa
 {
     let both = both_int(alloc, first, second)?;
     let ints = Kind::of(alloc, &Ty::Int)?.list(alloc)?;
-    kept(both, &ints)
+    kind_if(both, &ints)
 }
 
 /// The kind of an operator's value, by that of its operand.
@@ -294,11 +294,11 @@ pub fn binary_type(
             where_true(alloc, are, &Ty::Bool)
         }
         Binary::Same => where_true(alloc, are_references(alloc, first, second)?, &Ty::Bool),
-        Binary::Append => kept(are_joined(alloc, first, second)?, first),
+        Binary::Append => kind_if(are_joined(alloc, first, second)?, first),
         Binary::Nth => nth_type(alloc, first, second),
         Binary::Get => get_type(alloc, first, second),
         Binary::Has => where_true(alloc, has_keys(alloc, first, second)?, &Ty::Bool),
-        Binary::Del => kept(has_keys(alloc, first, second)?, first),
+        Binary::Del => kind_if(has_keys(alloc, first, second)?, first),
         Binary::Range => range_type(alloc, first, second),
     }
 }

@@ -10,7 +10,7 @@ use pst_case::Run;
 use pst_eval::Callbacks;
 use pst_judge::{Judged, Verdict};
 use pst_model::{Source, Typed};
-use pst_rejudge::Answer;
+use pst_rejudge::ItemResult;
 use pst_runs::read_runs;
 use pst_sexpr::{Tree, read};
 use pst_sources::{Input, notice_text};
@@ -203,11 +203,11 @@ fn add_answer<C: Callbacks>(
     subject: &Subject<'_>,
     trees: &[Tree],
     item: usize,
-    answer: &Answer,
+    answer: &ItemResult,
 ) -> Result<(), AllocError>
     requires { typed.now ≡ C.model callbacks.now }
 {
-    let Answer::Judged(judged) = answer else {
+    let ItemResult::Judged(judged) = answer else {
         return Ok(());
     };
     let Some(tree) = trees.get(item) else {
@@ -295,7 +295,7 @@ pub fn warnings_on_answers<C: Callbacks>(
     typed: &Typed,
     input: Input<'_>,
     trees: &[Tree],
-    answers: &[Answer],
+    answers: &[ItemResult],
 ) -> Result<Option<String>, AllocError>
     requires { typed.now ≡ C.model callbacks.now }
 {

@@ -38,20 +38,20 @@ explore-returns-then-ended-2 g t c =
     let here = c.args.search.now in
     let keys = c.args.seen.now.keys in
     let now = c.remember.new.seen.keys in
-    let new = c.finish.new.search in
+    let new = c.run_to_end.new.search in
     let is = rw (c.if-not-branch.false, c.deref-2.ensures.value) at c.in_ok-remember.ensures in
     let full = rw (c.if-ended-2.true, c.deref.ensures.value) at c.is_done-ended.ensures in
     let place = c.requires.place in
     if-ok (IsExplored turn rest c.args.goal c.args.state.now (Completes c.args.lengths.now here.done.items) here new)
     (IsSearched turn rest c.args.goal c.args.lengths.now most 0 (sum here.done.items) c.args.state.now (Completes c.args.lengths.now here.done.items) here new keys now)
-    (new.steps ≤ here.steps + most) c.finish.result
+    (new.steps ≤ here.steps + most) c.run_to_end.result
     (λ made found h. record {
       grown = grown-end _ _ _ _ _ _ _ _ _ (all-done _ _ place.branches place.within full) made is;
       ends = accounted-here _ _ _ _ _ here keys now c.requires.depth c.requires.accounted is new [] now found (sym (append-nil now)) tt
           (still-accounted turn rest c.args.goal c.args.state.now c.args.lengths.now (sum here.done.items + 1) _ here new now found
           (accounted-below _ _ _ _ _ here keys now c.requires.depth c.requires.accounted is) h);
     })
-    c.finish.ensures.steps c.finish.ensures.explored
+    c.run_to_end.ensures.steps c.run_to_end.ensures.explored
 
 pub explore-loop-branch-init : goal.explore-loop-branch-init
 explore-loop-branch-init g t c =

@@ -46,7 +46,7 @@ returns c =
     c.has_all-are_there.ensures
     ∙ ap (λ seen. list_any (λ shape. holds is_pre (shown_callback_option shape)) seen && list_any (λ shape. holds is_next (shown_callback_option shape)) seen && list_any (λ shape. holds is_post (shown_callback_option shape)) seen) c.as_slice-seen.ensures
     ∙ sym (all_shown is_pre is_next is_post shown_callback_option seen) in
-    c.in_ok-unless.ensures
+    c.in_ok-push_fault_unless.ensures
     ∙ ap (λ (b : Bool). keep limit c.loop-form.faults (unless_at path role.Callbacks b Missing [])) there
     ∙ sym (last (λ seen number forms. callbacks_faults_at maps seen path number forms) limit c.loop-form.number c.loop-form.form-index c.args.forms.now
     (callbacks_in seen) _ c.loop-form.faults c.loop-form-test.false c.loop-form.invariant.same)

@@ -14,7 +14,7 @@ expr-returns t c =
     let ne : c.args.room ≢ 0 = search rules in
     let e : shape_of c.args.walk.has_maps c.args.form.now ≡ Some (shown c.in-Some.shape) = sym c.shape_of.ensures ∙ ap shown_option c.in-Some.is in
     expr_whole c.args.walk.limit c.args.walk.has_maps c.args.room role.Expression c.args.path.now c.args.form.now (shown c.in-Some.shape) c.fits.result
-    c.args.faults.now c.unless.new.faults c.expr_parts.new.faults ne e c.fits.ensures c.in_ok-unless.ensures c.in_ok-expr_parts.ensures
+    c.args.faults.now c.push_fault_unless.new.faults c.expr_parts.new.faults ne e c.fits.ensures c.in_ok-push_fault_unless.ensures c.in_ok-expr_parts.ensures
 
 pub exprs-loop-form-preserved : goal.exprs-loop-form-preserved
 exprs-loop-form-preserved t c = record {

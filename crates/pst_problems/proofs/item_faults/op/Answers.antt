@@ -30,17 +30,17 @@ returns c =
     c.has_op-is_taken.ensures ∙ sym (any_shown (is_op_named shape.name.now) shown_item_option c.args.seen.now) in
     let lawful : c.is_name.result ≡ is_name shape.name.now = c.is_name.ensures in
     let name = λ (is_lawful is_taken : Bool). map (placed (below path 1) role.ItemName) (name_faults is_lawful is_taken shape.name.now) in
-    let named : c.item_name.new.faults ≡ keep limit c.unless.new.faults (name (is_name shape.name.now) (list_any (is_op_named shape.name.now) seen)) =
+    let named : c.item_name.new.faults ≡ keep limit c.push_fault_unless.new.faults (name (is_name shape.name.now) (list_any (is_op_named shape.name.now) seen)) =
     c.in_ok-item_name.ensures
-    ∙ ap (λ (is_lawful : Bool). keep limit c.unless.new.faults (name is_lawful c.has_op-is_taken.result)) lawful
-    ∙ ap (λ (is_taken : Bool). keep limit c.unless.new.faults (name (is_name shape.name.now) is_taken)) taken in
+    ∙ ap (λ (is_lawful : Bool). keep limit c.push_fault_unless.new.faults (name is_lawful c.has_op-is_taken.result)) lawful
+    ∙ ap (λ (is_taken : Bool). keep limit c.push_fault_unless.new.faults (name (is_name shape.name.now) is_taken)) taken in
     let params = params_faults_at maps (below path 2) shape.params.now in
     let ty = whole_ty_at maps (below path 3) shape.result.now in
     let last = callbacks_faults_at maps [] path 4 shape.callbacks.now in
     both_unless limit path role.Item c.has_op_room-has_room.result (has_room is_op seen) OverLimit
     (name (is_name shape.name.now) (list_any (is_op_named shape.name.now) seen) ++ (params ++ (ty ++ last)))
-    c.args.faults.now c.unless.new.faults c.callbacks.new.faults room c.in_ok-unless.ensures
-    (both limit c.unless.new.faults c.item_name.new.faults c.callbacks.new.faults
+    c.args.faults.now c.push_fault_unless.new.faults c.callbacks.new.faults room c.in_ok-push_fault_unless.ensures
+    (both limit c.push_fault_unless.new.faults c.item_name.new.faults c.callbacks.new.faults
     (name (is_name shape.name.now) (list_any (is_op_named shape.name.now) seen)) (params ++ (ty ++ last)) named
     (both limit c.item_name.new.faults c.params.new.faults c.callbacks.new.faults params (ty ++ last) c.in_ok-params.ensures
     (both limit c.params.new.faults c.whole_ty.new.faults c.callbacks.new.faults ty last c.in_ok-whole_ty.ensures c.in_ok-callbacks.ensures)))

@@ -10,4 +10,4 @@ pub returns : goal.returns
 returns c =
     both_unless c.args.walk.limit c.args.path.now role.Item (not c.args.stands) (not c.args.stands) DoubleName
     (whole_ty_at c.args.walk.has_maps (below c.args.path.now 1) c.args.form.now)
-    c.args.faults.now c.unless.new.faults c.whole_ty.new.faults refl c.in_ok-unless.ensures c.in_ok-whole_ty.ensures
+    c.args.faults.now c.push_fault_unless.new.faults c.whole_ty.new.faults refl c.in_ok-push_fault_unless.ensures c.in_ok-whole_ty.ensures

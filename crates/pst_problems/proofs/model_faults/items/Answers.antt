@@ -46,7 +46,7 @@ returns c =
     c.has_items-are_there.ensures
     ∙ ap (λ seen. list_any (λ shape. holds is_state (shown_item_option shape)) seen && list_any (λ shape. holds is_init (shown_item_option shape)) seen && list_any (λ shape. holds is_command (shown_item_option shape)) seen) c.as_slice-seen.ensures
     ∙ sym (all_shown is_state is_init is_command shown_item_option seen) in
-    c.in_ok-unless.ensures
+    c.in_ok-push_fault_unless.ensures
     ∙ ap (λ (b : Bool). keep limit c.loop-form.faults (unless_at path role.Model b Missing [])) there
     ∙ sym (last (λ seen number forms. items_faults_at maps seen path number forms) limit c.loop-form.number c.loop-form.form-index c.args.forms.now
     (items_in seen) _ c.loop-form.faults c.loop-form-test.false c.loop-form.invariant.same)

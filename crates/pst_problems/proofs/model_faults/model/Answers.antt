@@ -12,4 +12,4 @@ pub returns : goal.returns
 returns c =
     both_unless c.args.walk.limit c.args.path.now role.Model c.has_few_trees-are_few.result (nat_le (trees_in c.args.form.now) max_trees) OverLimit
     (named_faults_at c.args.path.now (model_shape c.args.form.now))
-    c.args.faults.now c.unless.new.faults c.named.new.faults c.has_few_trees-are_few.ensures c.in_ok-unless.ensures c.in_ok-named.ensures
+    c.args.faults.now c.push_fault_unless.new.faults c.named.new.faults c.has_few_trees-are_few.ensures c.in_ok-push_fault_unless.ensures c.in_ok-named.ensures

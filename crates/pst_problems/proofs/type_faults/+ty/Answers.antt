@@ -11,7 +11,7 @@ ty-returns t c =
     let ne : c.args.room ≢ 0 = search rules in
     let e : ty_shape c.args.walk.has_maps c.args.form.now ≡ Some (shown_ty c.in-Some.shape) = sym c.ty_shape.ensures ∙ ap shown_ty_option c.in-Some.is in
     ty_whole c.args.walk.limit c.args.walk.has_maps c.args.room c.args.role c.args.path.now c.args.form.now (shown_ty c.in-Some.shape) c.ty_fits.result
-    c.args.faults.now c.unless.new.faults c.ty_parts.new.faults ne e c.ty_fits.ensures c.in_ok-unless.ensures c.in_ok-ty_parts.ensures
+    c.args.faults.now c.push_fault_unless.new.faults c.ty_parts.new.faults ne e c.ty_fits.ensures c.in_ok-push_fault_unless.ensures c.in_ok-ty_parts.ensures
 
 pub tys-loop-form-preserved : goal.tys-loop-form-preserved
 tys-loop-form-preserved t c = record {
