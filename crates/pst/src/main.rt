@@ -52,7 +52,7 @@ use systems::{ChosenSystems, Unmade};
 use terminal::Terminals;
 
 /// Adds a system to the systems.
-fn and_one(systems: Systems, system: Result<BoxedSystem, Unmade>) -> Systems {
+fn add_system(systems: Systems, system: Result<BoxedSystem, Unmade>) -> Systems {
     let mut systems = systems?;
     let system = system?;
     match systems.push(system) {
@@ -115,7 +115,7 @@ fn main(rt: HostRuntime) -> ExitCode {
                 Ok(matches) => matches,
                 Err(status) => return status.code(),
             };
-            let files = match reading::read(&rt, &matches, terminals) {
+            let files = match reading::prepare_input(&rt, &matches, terminals) {
                 Ok(files) => files,
                 Err(status) => return status.code(),
             };
@@ -148,10 +148,10 @@ fn main(rt: HostRuntime) -> ExitCode {
                             Err(why) => Err(why),
                         },
                     };
-                    systems = and_one(systems, system);
+                    systems = add_system(systems, system);
                 }
             }
-            let Ok(has_appeared) = interrupting::first_look(&rt, alloc, &matches) else {
+            let Ok(has_appeared) = interrupting::initial_stop_flag(&rt, alloc, &matches) else {
                 return refused::report_out_of_memory(&rt).code();
             };
             let watched = match &has_appeared {
@@ -161,7 +161,7 @@ fn main(rt: HostRuntime) -> ExitCode {
             let stop_file = match watched {
                 Some(watched) => match Arc::try_clone(&watched) {
                     Ok(own) => match Builder::new()
-                        .spawn(&rt, move || interrupting::look(&rt, &own))
+                        .spawn(&rt, move || interrupting::watch_for_stop_file(&rt, &own))
                         .ok()
                     {
                         Some(thread) => Some(StopFile::new(watched, thread)),

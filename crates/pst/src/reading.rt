@@ -27,7 +27,7 @@ pub fn output_name<'a>(matches: &ArgMatches<'a>) -> Option<&'a str> {
 }
 
 /// Returns the file names in the arguments.
-fn names<'a>(matches: &'a ArgMatches<'_>) -> &'a [&'a str] {
+fn input_names<'a>(matches: &'a ArgMatches<'_>) -> &'a [&'a str] {
     match matches.subcommand() {
         Some((_, words)) => words.get_strs("FILE").unwrap_or(&[]),
         None => &[],
@@ -43,7 +43,7 @@ fn refuse_arguments<R: Runtime + AllocGlobal>(
 ) -> Result<(), Status> {
     let mut out = Out::new(io::writer(rt));
     let is_quiet = is_quiet(matches);
-    let inputs = names(matches);
+    let inputs = input_names(matches);
     if let Some(name) = systems::unknown_system(matches) {
         return Err(systems::refuse_system(rt, name, inputs, is_quiet, &mut out));
     }
@@ -83,7 +83,7 @@ impl<'a> InputFiles<'a> {
 
 /// Reads the files that the arguments name. If that fails, or the arguments are refused, or files are only laid out, the
 /// error is the status that the program ends with.
-pub fn read<'a, R: Runtime + AllocGlobal>(
+pub fn prepare_input<'a, R: Runtime + AllocGlobal>(
     rt: &R,
     matches: &'a ArgMatches<'_>,
     terminals: Terminals,
@@ -96,7 +96,7 @@ pub fn read<'a, R: Runtime + AllocGlobal>(
     if let Some(("fmt", words)) = matches.subcommand() {
         return Err(formatting::lay_out(rt, words, reading));
     }
-    let read = match input::read_files(rt, names(matches), reading) {
+    let read = match input::read_files(rt, input_names(matches), reading) {
         Ok(read) => read,
         Err(why) => return Err(refuse_text(why, &mut Out::new(io::writer(rt)))),
     };

@@ -213,7 +213,7 @@ fn work_on<K: StopCondition, S: Subject + Send + Sync + Drop, H: Threads + Wait>
 }
 
 /// Works at a fresh seat with a crew on the system in a box, until no number is left or the plan is over.
-pub(crate) fn work_alone<K: StopCondition, H: Threads + Wait>(
+pub(crate) fn work_on_boxed_system<K: StopCondition, H: Threads + Wait>(
     rt: &H,
     alloc: Global,
     plan: &Arc<Plan>,

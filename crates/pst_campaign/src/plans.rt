@@ -6,12 +6,12 @@ ghost use Rattle.pst_campaign.specs.Workers.{IsFresh, IsWorked};
 ghost use Rattle.pst_ledger.specs.declared.entry.Entry.TheVariants.{Done, Lost};
 ghost use Rattle.pst_system.specs.Kept.{AreKept};
 
-use crate::crews::work_alone;
+use crate::crews::work_on_boxed_system;
 use crate::ending::StopCondition;
 use crate::runner::{TrialRunner, Worker};
 use pst_ledger::{Cause, Ledger, Seat};
 use pst_system::{BoxedSystem, System};
-use pst_trial::{Plan, Record, ShrinkProgress, TrialFault, trial_counting};
+use pst_trial::{Plan, Record, ShrinkProgress, TrialFault, trial_with_progress};
 use std::alloc::Global;
 use std::sync::{Arc, Wait};
 use std::thread::Threads;
@@ -46,7 +46,7 @@ fn run_trial<H: Threads + Wait>(
     ensures kept { AreKept (answers system.new) (answers system.old) (fails system.new) (fails system.old)
         (reset_fails system.new) (reset_fails system.old) }
 {
-    match trial_counting(rt, alloc, plan, number, system, shrinking) {
+    match trial_with_progress(rt, alloc, plan, number, system, shrinking) {
         Ok(record) => Ok(record),
         Err(fault) => Err(cause_of(fault)),
     }
@@ -131,6 +131,6 @@ impl<'a, K: StopCondition> Worker<BoxedSystem> for Watched<'a, K> {
             ((System-box system).reset_fails system.value) (arc_value self.now.plan.now))
             ledger.now.table result }
     {
-        work_alone(rt, alloc, self.plan, self.watch, ledger, seat, system)
+        work_on_boxed_system(rt, alloc, self.plan, self.watch, ledger, seat, system)
     }
 }

@@ -9,7 +9,7 @@ ghost use Rattle.pst_runs.specs.Lawful.{AreLawful, IsLawful};
 use crate::chosen::{Chosen, has_item, refused_item};
 use crate::form::ExplanationForm;
 use crate::judge::status_of;
-use crate::judged::{JudgedFile, joined, judged_file};
+use crate::judged::{JudgedFile, join_parts, judged_file};
 use crate::kept::Keep;
 use crate::output::{Output, send};
 use crate::status::Status;
@@ -86,7 +86,7 @@ fn explanations(
 {
     let typed = compiled.typed();
     let form = asked.form;
-    steps.expect(chosen_count(asked, all));
+    steps.set_total(chosen_count(asked, all));
     let mut text = form.start(alloc, asked.files, typed.source())?;
     let mut number: usize = 0;
     let mut count: usize = 0;
@@ -156,7 +156,7 @@ fn explain_output<R: Threads + Sync>(
         Ok(file) => file,
         Err(output) => return Ok(output),
     };
-    let runs = joined(alloc, runs)?;
+    let runs = join_parts(alloc, runs)?;
     let places = first_places(alloc, asked.files, input)?;
     chosen_output(
         alloc,
@@ -186,11 +186,11 @@ pub fn explain_text<W: Sink, R: Threads + Sync>(
     ensures { Prints (IsExplainOutput input.now asked.entry.chosen)
         (W.taken sink.old) (W.taken sink.new) (W.broken sink.new) result }
 {
-    explain_counting(rt, alloc, input, asked, &ProgressCounter::new(), sink)
+    explain_with_progress(rt, alloc, input, asked, &ProgressCounter::new(), sink)
 }
 
 /// Does what [`explain_text`] does, and counts the items that are explained in `steps`.
-pub fn explain_counting<W: Sink, R: Threads + Sync>(
+pub fn explain_with_progress<W: Sink, R: Threads + Sync>(
     rt: &R,
     alloc: Global,
     input: &[u8],

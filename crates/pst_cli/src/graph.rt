@@ -8,7 +8,7 @@ ghost use Rattle.pst_runs.specs.Lawful.{AreLawful};
 
 use crate::chosen::refused_item;
 use crate::judge::{is_good, status_of};
-use crate::judged::{JudgedFile, joined, judged_file};
+use crate::judged::{JudgedFile, join_parts, judged_file};
 use crate::kept::Keep;
 use crate::output::{Output, send};
 use crate::status::Status;
@@ -119,7 +119,7 @@ fn graph_output<R: Threads + Sync>(
         Ok(file) => file,
         Err(output) => return Ok(output),
     };
-    let runs = joined(alloc, runs)?;
+    let runs = join_parts(alloc, runs)?;
     chosen_graph(
         alloc,
         &compiled,

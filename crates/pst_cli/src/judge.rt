@@ -112,7 +112,7 @@ fn judge_output<R: Threads + Sync>(
     Ok((output, Some(file)))
 }
 
-/// Does what [`judge_file_counting`] does, and keeps the items as `keep` says.
+/// Does what [`judge_file_with_progress`] does, and keeps the items as `keep` says.
 fn judge_keeping<W: Sink, R: Threads + Sync>(
     rt: &R,
     alloc: Global,
@@ -155,11 +155,11 @@ pub fn judge_file<W: Sink, R: Threads + Sync>(
     ensures lawful { IfSome result.1
         (λ judged. All (λ runs. AreLawful judged.compiled runs.items) judged.runs.items) }
 {
-    judge_file_counting(rt, alloc, input, shown, &ProgressCounter::new(), sink)
+    judge_file_with_progress(rt, alloc, input, shown, &ProgressCounter::new(), sink)
 }
 
 /// Does what [`judge_file`] does, and counts the items that are judged in `steps`.
-pub fn judge_file_counting<W: Sink, R: Threads + Sync>(
+pub fn judge_file_with_progress<W: Sink, R: Threads + Sync>(
     rt: &R,
     alloc: Global,
     input: &[u8],

@@ -12,7 +12,9 @@ use crate::sharing::may_share_compiled;
 use pst_case::Run;
 use pst_compile::Compiled;
 use pst_judge::Judged;
-use pst_rejudge::{JudgedParts, ProgressCounter, head_and_rest, judge_in_parts, rejudge_counting};
+use pst_rejudge::{
+    JudgedParts, ProgressCounter, head_and_rest, judge_in_parts, rejudge_with_progress,
+};
 use pst_sexpr::MAX_BYTES;
 use std::alloc::{AllocError, Global};
 use std::thread::Threads;
@@ -76,7 +78,7 @@ fn in_one_part(alloc: Global, runs: Vec<Run>) -> Result<Vec<Vec<Run>>, AllocErro
 }
 
 /// The runs of all parts, in order.
-pub fn joined(alloc: Global, parts: Vec<Vec<Run>>) -> Result<Vec<Run>, AllocError>
+pub fn join_parts(alloc: Global, parts: Vec<Vec<Run>>) -> Result<Vec<Run>, AllocError>
     ensures { IfOk result (λ runs. runs.items ≡ joined parts.items) }
 {
     let mut runs = Vec::new(alloc);
@@ -103,8 +105,8 @@ fn judged_in_order<R: Threads + Sync>(
         Err(output) => return Ok(Err(output)),
     };
     may_share_compiled();
-    steps.expect(runs.len());
-    let judged = rejudge_counting(rt, &compiled, alloc, runs.as_slice(), steps)?;
+    steps.set_total(runs.len());
+    let judged = rejudge_with_progress(rt, &compiled, alloc, runs.as_slice(), steps)?;
     let runs = in_one_part(alloc, runs)?;
     Ok(Ok(JudgedFile {
         compiled,

@@ -144,7 +144,7 @@ pub struct AnsweredFile {
 }
 
 /// The lines of the displayed items after the model, and all answers; or the refusal of the model.
-fn keeping_on_output<R: Threads + Sync>(
+fn keep_going_output<R: Threads + Sync>(
     rt: &R,
     alloc: Global,
     input: &[u8],
@@ -161,7 +161,7 @@ fn keeping_on_output<R: Threads + Sync>(
     };
     let items = items_of(file.trees.as_slice());
     may_share_compiled();
-    steps.expect(items.len());
+    steps.set_total(items.len());
     let answers = judge_each(
         rt,
         &file.compiled,
@@ -175,9 +175,9 @@ fn keeping_on_output<R: Threads + Sync>(
     Ok((output, Some(AnsweredFile { file, answers })))
 }
 
-/// Does what [`judge_text_keeping_on`] does, but with [`Shown::Failures`] writes only the lines of items that are
+/// Does what [`judge_text_keep_going`] does, but with [`Shown::Failures`] writes only the lines of items that are
 /// refused, or neither explained nor valid, with the same status. Returns the answers if the items were judged.
-pub fn judge_file_keeping_on<W: Sink, R: Threads + Sync>(
+pub fn judge_file_keep_going<W: Sink, R: Threads + Sync>(
     rt: &R,
     alloc: Global,
     input: &[u8],
@@ -190,11 +190,11 @@ pub fn judge_file_keeping_on<W: Sink, R: Threads + Sync>(
     ensures held { IfSome result.1 (λ answered. HoldsAnswers input.now answered.file.compiled
         answered.file.trees.items answered.answers.items) }
 {
-    judge_file_keeping_on_counting(rt, alloc, input, shown, &ProgressCounter::new(), sink)
+    judge_file_keep_going_with_progress(rt, alloc, input, shown, &ProgressCounter::new(), sink)
 }
 
-/// Does what [`judge_file_keeping_on`] does, and counts the items that are judged in `steps`.
-pub fn judge_file_keeping_on_counting<W: Sink, R: Threads + Sync>(
+/// Does what [`judge_file_keep_going`] does, and counts the items that are judged in `steps`.
+pub fn judge_file_keep_going_with_progress<W: Sink, R: Threads + Sync>(
     rt: &R,
     alloc: Global,
     input: &[u8],
@@ -208,7 +208,7 @@ pub fn judge_file_keeping_on_counting<W: Sink, R: Threads + Sync>(
     ensures held { IfSome result.1 (λ answered. HoldsAnswers input.now answered.file.compiled
         answered.file.trees.items answered.answers.items) }
 {
-    match keeping_on_output(rt, alloc, input, shown, steps) {
+    match keep_going_output(rt, alloc, input, shown, steps) {
         Ok((output, answered)) => (send(output.text.as_slice(), output.status, sink), answered),
         Err(AllocError) => (send(b"refused memory\n", Status::Lost, sink), None),
     }
@@ -222,7 +222,7 @@ pub fn judge_file_keeping_on_counting<W: Sink, R: Threads + Sync>(
 /// The status is `Refused` if an item is refused, else `Failed` if one is not explained or not valid, else `Accepted`;
 /// `Refused` if the model is refused; `Lost` if an allocation or the writer failed. If no item is refused, the lines
 /// and the status are those of `judge_text`.
-pub fn judge_text_keeping_on<W: Sink, R: Threads + Sync>(
+pub fn judge_text_keep_going<W: Sink, R: Threads + Sync>(
     rt: &R,
     alloc: Global,
     input: &[u8],
@@ -232,6 +232,6 @@ pub fn judge_text_keeping_on<W: Sink, R: Threads + Sync>(
     ensures { Prints (IsKeepingOnOutput input.now)
         (W.taken sink.old) (W.taken sink.new) (W.broken sink.new) result }
 {
-    let (status, _) = judge_file_keeping_on(rt, alloc, input, Shown::All, sink);
+    let (status, _) = judge_file_keep_going(rt, alloc, input, Shown::All, sink);
     status
 }

@@ -43,26 +43,26 @@ pub use chosen::Chosen;
 pub use compiled::CompiledFile;
 pub use convert::{ItemForm, convert_text};
 pub use counts::Counts;
-pub use explain::{ExplainOptions, explain_counting, explain_text};
+pub use explain::{ExplainOptions, explain_text, explain_with_progress};
 pub use explained_run::explain_run;
 pub use failure_page::{CampaignFailures, campaign_page};
 pub use form::ExplanationForm;
 pub use generate::generate_text;
 pub use graph::graph_text;
 pub use items::item_count;
-pub use judge::{judge_file, judge_file_counting, judge_text};
+pub use judge::{judge_file, judge_file_with_progress, judge_text};
 pub use judged::JudgedFile;
 pub use keep::{
-    AnsweredFile, judge_file_keeping_on, judge_file_keeping_on_counting, judge_text_keeping_on,
+    AnsweredFile, judge_file_keep_going, judge_file_keep_going_with_progress, judge_text_keep_going,
 };
-pub use known::{KnownSystem, known_system};
-pub use laws::{keeps_judgements, one_output, streams_are_files};
+pub use known::{KnownSystem, is_known_system};
+pub use laws::{keeps_judgements, output_is_unique, streams_are_files};
 pub use list::list_text;
 pub use notes::CampaignNotes;
-pub use objects::{MEMORY_OBJECT, check_json, judge_json, judge_json_counting};
+pub use objects::{MEMORY_OBJECT, check_json, judge_json, judge_json_with_progress};
 pub use pst_rejudge::ProgressCounter;
 pub use repeat::run_repeatedly;
-pub use run::{run_counting, run_text};
+pub use run::{run_text, run_with_progress};
 pub use run_objects::run_json;
 pub use shown::Shown;
 pub use status::Status;

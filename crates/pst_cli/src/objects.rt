@@ -101,7 +101,7 @@ fn judge_output<R: Threads + Sync>(
     };
     let items = items_of(file.trees.as_slice());
     may_share_compiled();
-    steps.expect(items.len());
+    steps.set_total(items.len());
     let answers = judge_each(
         rt,
         &file.compiled,
@@ -137,11 +137,11 @@ pub fn judge_json<W: Sink, R: Threads + Sync>(
     ensures held { IfSome result.1 (λ answered. HoldsAnswers input.now answered.file.compiled
         answered.file.trees.items answered.answers.items) }
 {
-    judge_json_counting(rt, alloc, input, shown, &ProgressCounter::new(), sink)
+    judge_json_with_progress(rt, alloc, input, shown, &ProgressCounter::new(), sink)
 }
 
 /// Does what [`judge_json`] does, and counts the items that are judged in `steps`.
-pub fn judge_json_counting<W: Sink, R: Threads + Sync>(
+pub fn judge_json_with_progress<W: Sink, R: Threads + Sync>(
     rt: &R,
     alloc: Global,
     input: &[u8],

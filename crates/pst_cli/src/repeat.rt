@@ -178,7 +178,7 @@ fn item_reports<R: Threads + Wait>(
         (reset_fails system.new) (reset_fails system.old) }
 {
     let mut reports = Vec::new(alloc);
-    steps.expect(runs.len());
+    steps.set_total(runs.len());
     for (index, run) in runs.iter().enumerate() {
         let report = item_report(
             rt,

@@ -145,7 +145,7 @@ fn item_reports<R: Threads + Wait>(
 {
     let mut text = Vec::new(alloc);
     let mut status = Status::Accepted;
-    steps.expect(runs.len());
+    steps.set_total(runs.len());
     for (index, run) in runs.iter().enumerate() {
         let output = item_report(rt, alloc, compiled, system, index + 1, &run.shaped, counts)?;
         text.extend_from_slice(output.text.as_slice())?;
@@ -212,7 +212,7 @@ pub fn run_text<W: Sink, R: Threads + Wait>(
     ensures kept { AreKept (answers system.new) (answers system.old) (fails system.new) (fails system.old)
         (reset_fails system.new) (reset_fails system.old) }
 {
-    run_counting(
+    run_with_progress(
         rt,
         alloc,
         input,
@@ -225,7 +225,7 @@ pub fn run_text<W: Sink, R: Threads + Wait>(
 
 /// Does what [`run_text`] does, counts the items that are driven in `steps`, and adds the result of each reported item
 /// to `counts`. If an allocation outside the driver fails, sets all counts to zero.
-pub fn run_counting<W: Sink, R: Threads + Wait>(
+pub fn run_with_progress<W: Sink, R: Threads + Wait>(
     rt: &R,
     alloc: Global,
     input: &[u8],

@@ -69,7 +69,10 @@ fn has_any<I: Read, O: Write>(
 
 /// Has the clients restarted that are known to have ended. If one process has them all, this waits until all
 /// are known to have ended, and is impossible once a pipe is closed.
-fn revive<I: Read, O: Write>(connections: &mut Vec<Mutex<Connection<I, O>>>, is_shared: bool) {
+fn restart_ended_clients<I: Read, O: Write>(
+    connections: &mut Vec<Mutex<Connection<I, O>>>,
+    is_shared: bool,
+) {
     if !has_any(connections, State::Ended) || is_shared && has_any(connections, State::Closed) {
         return;
     }
@@ -181,7 +184,7 @@ impl<R: Wait, I: Read + Drop, O: Write + Drop> Clients<R, I, O> {
         let answer = match self.ask_client(branch, line) {
             Ok(answer) => answer,
             Err(_) => {
-                revive(&mut self.connections, self.is_shared);
+                restart_ended_clients(&mut self.connections, self.is_shared);
                 self.ask(branch, line)?
             }
         };
@@ -239,7 +242,7 @@ impl<R: Wait + Drop + Send + Sync, I: Read + Drop + Send, O: Write + Drop + Send
 
     /// Restarts clients that ended, and then resets through each client in turn.
     fn reset(&mut self) -> Result<(), CallFault> {
-        revive(&mut self.connections, self.is_shared);
+        restart_ended_clients(&mut self.connections, self.is_shared);
         let mut branch = 0u32;
         for _ in 0..self.connections.len() {
             if let Err(fault) = self.reset_client(branch) {

@@ -34,7 +34,7 @@ pub fn empty_map(alloc: Global) -> Result<Value, AllocError>
 }
 
 /// One instruction.
-pub fn one(alloc: Global, instr: Instr) -> Block
+pub fn single_instruction(alloc: Global, instr: Instr) -> Block
     ensures { IfOk result (λ code. code ≡ instr ∷ []) }
 {
     let mut code = Items::new(alloc);
@@ -55,7 +55,7 @@ pub fn concat_code(first: Items<Instr>, second: Items<Instr>) -> Block
 pub fn prepend_instruction(alloc: Global, instr: Instr, rest: Items<Instr>) -> Block
     ensures { IfOk result (λ code. code ≡ instr ∷ rest) }
 {
-    let first = one(alloc, instr)?;
+    let first = single_instruction(alloc, instr)?;
     concat_code(first, rest)
 }
 
@@ -77,7 +77,7 @@ pub fn skipped_unless(alloc: Global, register: u32, code: Items<Instr>, place: u
 }
 
 /// Code that runs `first`, or `second` if the register is false. The jump to `second` is at `place`.
-pub fn either(
+pub fn if_else_code(
     alloc: Global,
     register: u32,
     first: Items<Instr>,

@@ -6,7 +6,8 @@ ghost use Rattle.pst_compile.specs.Scopes.{scope_of, code_in, numbers_in};
 ghost use Rattle.pst_model.specs.Parts.{operation_number};
 
 use crate::blocks::{
-    Block, append_instruction, concat_code, either, empty_map, one, skipped_unless,
+    Block, append_instruction, concat_code, empty_map, if_else_code, single_instruction,
+    skipped_unless,
 };
 use crate::loops::{fold_code, for_code};
 use crate::names::Names;
@@ -32,16 +33,16 @@ pub fn expression_code(
     let alloc = context.alloc;
     let register = target.register;
     match expr {
-        Expr::Int(number) => one(alloc, Instr::Const(register, Value::Int(*number))),
-        Expr::Bool(truth) => one(alloc, Instr::Const(register, Value::Bool(*truth))),
-        Expr::Text(text) => one(
+        Expr::Int(number) => single_instruction(alloc, Instr::Const(register, Value::Int(*number))),
+        Expr::Bool(truth) => single_instruction(alloc, Instr::Const(register, Value::Bool(*truth))),
+        Expr::Text(text) => single_instruction(
             alloc,
             Instr::Const(register, Value::Text(text.copy(alloc)?)),
         ),
         Expr::Name(name) => name_code(name, alloc, names, target),
         Expr::Unary(operator, operand) => unary_code(*operator, operand, context, names, target),
         Expr::At(tuple, item) => {
-            let operand = load(tuple.get(), context, names, target)?;
+            let operand = operand_code(tuple.get(), context, names, target)?;
             append_instruction(operand.code, Instr::At(register, operand.register, *item))
         }
         Expr::Binary(operator, a, b) => {
@@ -52,14 +53,14 @@ pub fn expression_code(
         Expr::And(first, second) => and_code(first, second, context, names, target),
         Expr::Or(first, second) => or_code(first, second, context, names, target),
         Expr::Tuple(exprs) => {
-            let operands = load_all(exprs.as_slice(), context, names, target)?;
+            let operands = operands_code(exprs.as_slice(), context, names, target)?;
             append_instruction(operands.code, Instr::Tuple(register, operands.registers))
         }
         Expr::List(_, exprs) => {
-            let operands = load_all(exprs.as_slice(), context, names, target)?;
+            let operands = operands_code(exprs.as_slice(), context, names, target)?;
             append_instruction(operands.code, Instr::List(register, operands.registers))
         }
-        Expr::Map(_, _) => one(alloc, Instr::Const(register, empty_map(alloc)?)),
+        Expr::Map(_, _) => single_instruction(alloc, Instr::Const(register, empty_map(alloc)?)),
         Expr::Put(map, key, value) => put_code(map, key, value, context, names, register, target),
         Expr::Call(name, exprs) => call_code(name, exprs, context, names, target),
         Expr::Apply(name, exprs) => apply_code(name, exprs, context, names, target),
@@ -72,7 +73,7 @@ pub fn expression_code(
 
 /// The code of an operand. A name has its own register, and no code.
 #[cycle(expression_code)]
-pub fn load(
+pub fn operand_code(
     expr: &Expr,
     context: &Context<'_>,
     names: &Names<'_>,
@@ -97,7 +98,7 @@ pub fn load(
 
 /// The code of operands, with registers from the target's on.
 #[cycle(expression_code)]
-fn load_all(
+fn operands_code(
     exprs: &[Expr],
     context: &Context<'_>,
     names: &Names<'_>,
@@ -113,7 +114,7 @@ fn load_all(
     let mut registers = Items::new(context.alloc);
     let mut next = target;
     for expr in exprs {
-        let operand = load(expr, context, names, next)?;
+        let operand = operand_code(expr, context, names, next)?;
         next = next.after(operand.code.len())?.above(1)?;
         code.append(operand.code)?;
         registers.push(operand.register)?;
@@ -132,7 +133,7 @@ fn unary_code(
     ensures { IfOk result (λ code. code ≡ spec.unary_code operator (code_in context.now operand.now)
         (scope_of names.now) target.register target.place) }
 {
-    let operand = load(operand.get(), context, names, target)?;
+    let operand = operand_code(operand.get(), context, names, target)?;
     append_instruction(
         operand.code,
         Instr::Unary(operator, target.register, operand.register),
@@ -153,9 +154,9 @@ pub fn binary_code(
     ensures { IfOk result (λ code. code ≡ spec.binary_code operator (code_in context.now first.now)
         (code_in context.now second.now) (scope_of names.now) dest target.register target.place) }
 {
-    let left = load(first.get(), context, names, target)?;
+    let left = operand_code(first.get(), context, names, target)?;
     let next = target.after(left.code.len())?.above(1)?;
-    let right = load(second.get(), context, names, next)?;
+    let right = operand_code(second.get(), context, names, next)?;
     let last = Instr::Binary(operator, dest, left.register, right.register);
     concat_code(left.code, append_instruction(right.code, last)?)
 }
@@ -175,11 +176,11 @@ pub fn put_code(
         (code_in context.now key.now) (code_in context.now value.now)
         (scope_of names.now) dest target.register target.place) }
 {
-    let first = load(map.get(), context, names, target)?;
+    let first = operand_code(map.get(), context, names, target)?;
     let next = target.after(first.code.len())?.above(1)?;
-    let second = load(key.get(), context, names, next)?;
+    let second = operand_code(key.get(), context, names, next)?;
     let last = next.after(second.code.len())?.above(1)?;
-    let third = load(value.get(), context, names, last)?;
+    let third = operand_code(value.get(), context, names, last)?;
     let instr = Instr::Put(dest, first.register, second.register, third.register);
     concat_code(
         first.code,
@@ -199,7 +200,7 @@ fn let_code(
     ensures { IfOk result (λ code. code ≡ spec.let_code name.now (code_in context.now bound.now)
         (code_in context.now body.now) (scope_of names.now) target.register target.place) }
 {
-    let first = load(bound.get(), context, names, target)?;
+    let first = operand_code(bound.get(), context, names, target)?;
     let next = target.after(first.code.len())?.above(1)?;
     let inner = Names::With(name.as_bytes(), first.register, &*names);
     let second = expression_code(body.get(), context, &inner, next)?;
@@ -222,13 +223,13 @@ fn if_code(
         (code_in context.now then.now) (code_in context.now other.now)
         (scope_of names.now) target.register target.place) }
 {
-    let operand = load(test.get(), context, names, target)?;
+    let operand = operand_code(test.get(), context, names, target)?;
     let jump = target.after(operand.code.len())?;
     let start = jump.after(1)?;
     let first = expression_code(then.get(), context, names, start)?;
     let middle = start.after(first.len())?.after(1)?;
     let second = expression_code(other.get(), context, names, middle)?;
-    let both = either(context.alloc, operand.register, first, second, jump.place)?;
+    let both = if_else_code(context.alloc, operand.register, first, second, jump.place)?;
     concat_code(operand.code, both)
 }
 
@@ -264,7 +265,7 @@ fn or_code(
     let code = expression_code(first.get(), context, names, target)?;
     let jump = target.after(code.len())?;
     let inner = expression_code(second.get(), context, names, jump.after(1)?.after(1)?)?;
-    let rest = either(
+    let rest = if_else_code(
         context.alloc,
         target.register,
         Items::new(context.alloc),
@@ -285,7 +286,7 @@ fn call_code(
     ensures { IfOk result (λ code. code ≡ spec.call_code (operation_number context.now.items.now name.now)
         (map (code_in context.now) exprs.now) (scope_of names.now) target.register target.place) }
 {
-    let operands = load_all(exprs.as_slice(), context, names, target)?;
+    let operands = operands_code(exprs.as_slice(), context, names, target)?;
     let next = target.after(operands.code.len())?;
     concat_code(
         operands.code,
@@ -304,7 +305,7 @@ fn apply_code(
     ensures { IfOk result (λ code. code ≡ spec.apply_code (numbers_in context.now name.now)
         (map (code_in context.now) exprs.now) (scope_of names.now) target.register target.place) }
 {
-    let operands = load_all(exprs.as_slice(), context, names, target)?;
+    let operands = operands_code(exprs.as_slice(), context, names, target)?;
     let next = target.after(operands.code.len())?;
     concat_code(
         operands.code,

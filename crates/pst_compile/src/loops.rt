@@ -7,7 +7,7 @@ ghost use Rattle.pst_compile.specs.Scopes.{scope_of, code_in, part_in};
 use crate::blocks::{
     Block, append_instruction, concat_code, loop_code, prepend_instruction, skipped_unless,
 };
-use crate::expressions::{expression_code, load};
+use crate::expressions::{expression_code, operand_code};
 use crate::names::Names;
 use crate::operands::split_first;
 use crate::overwriting::overwrite;
@@ -52,7 +52,7 @@ pub fn fold_code(
         acc.now (code_in context.now first.now) (code_in context.now body.now)
         (scope_of names.now) target.register target.place) }
 {
-    let list = load(list.get(), context, names, target)?;
+    let list = operand_code(list.get(), context, names, target)?;
     let built = target.after(list.code.len())?.above(1)?;
     let opening = expression_code(first.get(), context, names, built)?;
     let index = built.after(opening.len())?.above(1)?;
@@ -81,7 +81,7 @@ fn visit_code(
 {
     match split_first(clauses) {
         None => {
-            let operand = load(body, context, names, target)?;
+            let operand = operand_code(body, context, names, target)?;
             append_instruction(operand.code, Instr::Append(built, operand.register))
         }
         Some((first, rest)) => match first {
@@ -109,7 +109,7 @@ fn in_code(
         (spec.visit_code (map (part_in context.now) rest.now) (code_in context.now body.now) built)
         (scope_of names.now) target.register target.place) }
 {
-    let list = load(list, context, names, target)?;
+    let list = operand_code(list, context, names, target)?;
     let index = target.after(list.code.len())?.above(1)?;
     let item = index.after(1)?.above(1)?;
     let inside = item.after(1)?.above(1)?;
@@ -136,7 +136,7 @@ fn when_code(
         (spec.visit_code (map (part_in context.now) rest.now) (code_in context.now body.now) built)
         (scope_of names.now) target.register target.place) }
 {
-    let operand = load(test, context, names, target)?;
+    let operand = operand_code(test, context, names, target)?;
     let jump = target.after(operand.code.len())?;
     let inner = visit_code(rest, body, context, names, built, jump.after(1)?)?;
     let code = skipped_unless(context.alloc, operand.register, inner, jump.place)?;

@@ -7,8 +7,8 @@ ghost use Rattle.std.specs.Prelude.{◌≡◌, IfOk};
 ghost use Rattle.pst_compile.specs.Code as spec;
 ghost use Rattle.pst_compile.specs.Scopes.{scope_of, code_in};
 
-use crate::blocks::{Block, append_instruction, concat_code, either};
-use crate::expressions::{binary_code, expression_code, load, put_code};
+use crate::blocks::{Block, append_instruction, concat_code, if_else_code};
+use crate::expressions::{binary_code, expression_code, operand_code, put_code};
 use crate::names::Names;
 use crate::operands::name_code;
 use crate::target::Target;
@@ -73,7 +73,7 @@ fn overwrite_by_let(
     ensures { IfOk result (λ code. code ≡ spec.overwriting_let name.now (code_in context.now bound.now)
         (code_in context.now body.now) (scope_of names.now) dest target.register target.place) }
 {
-    let first = load(bound.get(), context, names, target)?;
+    let first = operand_code(bound.get(), context, names, target)?;
     let next = target.after(first.code.len())?.above(1)?;
     let inner = Names::With(name.as_bytes(), first.register, &*names);
     let second = overwrite(body.get(), context, &inner, dest, next)?;
@@ -94,12 +94,12 @@ fn overwrite_by_if(
         (code_in context.now then.now) (code_in context.now other.now)
         (scope_of names.now) dest target.register target.place) }
 {
-    let operand = load(test.get(), context, names, target)?;
+    let operand = operand_code(test.get(), context, names, target)?;
     let jump = target.after(operand.code.len())?;
     let start = jump.after(1)?;
     let first = overwrite(then.get(), context, names, dest, start)?;
     let middle = start.after(first.len())?.after(1)?;
     let second = overwrite(other.get(), context, names, dest, middle)?;
-    let both = either(context.alloc, operand.register, first, second, jump.place)?;
+    let both = if_else_code(context.alloc, operand.register, first, second, jump.place)?;
     concat_code(operand.code, both)
 }

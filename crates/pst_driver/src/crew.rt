@@ -131,7 +131,7 @@ fn run_order<J: Relations, S: Subject>(
 }
 
 /// Runs orders until there is none at a ring.
-fn serve<J: Relations, S: Subject, R: Wait>(
+fn run_orders<J: Relations, S: Subject, R: Wait>(
     alloc: Global,
     typed: &Typed,
     system: &RwLock<KeptSystem<J, S>>,
@@ -170,7 +170,7 @@ fn may_send<T: Send>()
 {}
 
 /// Starts the thread of branch `number`, and returns whether it started.
-fn start<'s, E, J: Relations + Send + Sync, S: Subject + Send + Sync, R: Wait>(
+fn start_thread<'s, E, J: Relations + Send + Sync, S: Subject + Send + Sync, R: Wait>(
     _rt: &'s R,
     alloc: Global,
     scope: &Scope<'s, E>,
@@ -198,7 +198,7 @@ fn start<'s, E, J: Relations + Send + Sync, S: Subject + Send + Sync, R: Wait>(
     let arrivals = &crew.arrivals;
     let run = move ||
         requires { typed.now ≡ J.model }
-    { serve::<J, S, R>(alloc, typed, system, arrivals, desk, number) };
+    { run_orders::<J, S, R>(alloc, typed, system, arrivals, desk, number) };
     let stack = Stack::new().stack_size(STACK_BYTES);
     stack.spawn_scoped_with(scope, Anything, run).is_ok()
 }
@@ -216,7 +216,7 @@ pub fn start_crew<'s, E, J: Relations + Send + Sync, S: Subject + Send + Sync, R
     requires { typed.now ≡ J.model }
 {
     for number in 0..count {
-        if !start(rt, alloc, scope, typed, crew, number) {
+        if !start_thread(rt, alloc, scope, typed, crew, number) {
             return;
         }
         crew.started.fetch_add(1, Ordering::SeqCst);

@@ -114,12 +114,12 @@ fn run_branches<J: Relations, S: Subject, R: Wait>(
         return Ok(skip_all(alloc, branches)?);
     }
     let known = results_of(alloc, prefix)?;
-    crew.arrivals.expect(count_threads(branches));
+    crew.arrivals.set_expected(count_threads(branches));
     order_branches(rt, alloc, crew, 0, branches, known)
 }
 
 /// Drives a case that has the shape of the model.
-fn drive<J: Relations, S: Subject, R: Wait>(
+fn drive_with_crew<J: Relations, S: Subject, R: Wait>(
     rt: &R,
     alloc: Global,
     crew: &Crew<J, S>,
@@ -198,7 +198,7 @@ pub fn run_with<J: Relations, S: Subject, R: Wait>(
 {
     let shaped = valid.shaped();
     let case = shaped.case();
-    let history = match drive(rt, alloc, crew, typed, case) {
+    let history = match drive_with_crew(rt, alloc, crew, typed, case) {
         Ok(history) => history,
         Err(fault) => return Err(fault),
     };

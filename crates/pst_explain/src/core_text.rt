@@ -7,7 +7,7 @@ use pst_model::Source;
 use pst_reasons::AllowedValues;
 use pst_scene::{
     Call, Cell, Page, Scene, Style, Table, add_reply, add_str, add_value, add_word,
-    expression_text, falsity_text, joined, operation, text_of, value_text,
+    expression_text, falsity_text, join_texts, operation_of_call, text_of, value_text,
 };
 use std::alloc::{AllocError, Global};
 
@@ -28,7 +28,7 @@ fn postcondition_text(
     call: &Call<'_>,
 ) -> Result<Vec<u8>, AllocError> {
     let mut text = text_of(alloc, "postcondition ")?;
-    if let Some(operation) = operation(scene, call) {
+    if let Some(operation) = operation_of_call(scene, call) {
         let expression = expression_text(alloc, &operation.post)?;
         text.extend_from_slice(expression.as_slice())?;
     }
@@ -63,7 +63,7 @@ fn add_each_value(
 ) -> Result<(), AllocError> {
     for value in found.values.as_slice() {
         let value = value_text(alloc, model, value)?;
-        let text = joined(alloc, &[b"allowed: ", value.as_slice()])?;
+        let text = join_texts(alloc, &[b"allowed: ", value.as_slice()])?;
         row.push(Cell::styled(Style::Right, text))?;
     }
     if !found.all {

@@ -10,7 +10,7 @@ use crate::bounded::Bounded;
 use pst_case::History;
 use pst_eval::Callbacks;
 use pst_reasons::{AllowedValues, minimal_core};
-use pst_scene::{Call, CasePart, Scene, call_numbered, operation, wants_one_reply};
+use pst_scene::{Call, CasePart, Scene, call_numbered, operation_of_call, wants_one_reply};
 use pst_value::Items;
 use std::alloc::{AllocError, Global};
 
@@ -73,7 +73,7 @@ impl<'a> Core<'a> {
 
 /// Returns whether the postcondition of a command requires one single reply.
 fn has_one_reply(alloc: Global, scene: &Scene<'_>, call: &Call<'_>) -> Result<bool, AllocError> {
-    match operation(scene, call) {
+    match operation_of_call(scene, call) {
         Some(operation) => wants_one_reply(alloc, &operation.post),
         None => Ok(false),
     }

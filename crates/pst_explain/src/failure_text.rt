@@ -5,7 +5,7 @@ use crate::walk_text::add_states;
 use pst_eval::Callback;
 use pst_model::Source;
 use pst_scene::{
-    Call, CasePart, Page, Scene, Table, add_str, add_word, expression_text, joined, text_of,
+    Call, CasePart, Page, Scene, Table, add_str, add_word, expression_text, join_texts, text_of,
     two_cells, value_text,
 };
 use pst_value::Fault;
@@ -46,7 +46,7 @@ fn add_part(
                 name.as_bytes(),
                 b":",
             ];
-            let sentence = joined(alloc, &parts)?;
+            let sentence = join_texts(alloc, &parts)?;
             page.add_sentence(alloc, 2, sentence.as_slice())?;
         }
     }

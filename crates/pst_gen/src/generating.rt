@@ -20,7 +20,7 @@ use std::alloc::{AllocError, Global};
 const MAX_PARALLEL: usize = 16;
 
 /// How many of the commands before the suffix may run in parallel: none if there is one branch.
-fn most(branches: u32, before: &[Command]) -> usize
+fn most_parallel(branches: u32, before: &[Command]) -> usize
     ensures { result ≡ most branches before.now }
 {
     if branches == 1 {
@@ -104,7 +104,7 @@ pub fn generate<C: Callbacks, R: Rng>(
     let script = script.as_slice();
     let word = rng.next_u64();
     let (before, behind) = script.split_at(script.len().saturating_sub(suffix as usize));
-    let parallel = most(branches, before);
+    let parallel = most_parallel(branches, before);
     let valid = longest_split(
         callbacks, alloc, typed, branches, word, before, behind, parallel,
     )?;

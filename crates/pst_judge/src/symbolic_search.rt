@@ -11,7 +11,7 @@ use crate::events::{split_commands, split_parts};
 use crate::numbered::NumberedCommand;
 use crate::packed::Packed;
 use crate::search::lengths_of;
-use crate::symbolic::{SymbolicFailure, run_last, symbolic_step};
+use crate::symbolic::{SymbolicFailure, run_suffix, symbolic_step};
 use crate::total::is_total;
 use crate::why::Why;
 use pst_case::{Command, Shaped};
@@ -84,7 +84,7 @@ impl<'a, C: Callbacks> Steps for SymbolicBranches<'a, C> {
         state: &Value,
     ) -> Result<(Ending<SymbolicFailure>, usize), AllocError> {
         let start = state.copy(alloc)?;
-        match run_last(self.callbacks, alloc, start, self.suffix.as_slice())? {
+        match run_suffix(self.callbacks, alloc, start, self.suffix.as_slice())? {
             Ending::AllTrue => Ok((Ending::AllTrue, self.suffix.len())),
             Ending::StopsAt(at, why) => Ok((Ending::StopsAt(at, why), at + 1)),
         }
@@ -220,7 +220,7 @@ fn append_letters(
 }
 
 /// Appends the numbers of the branches to `word` in turn, from `branch` on, each once for each of its commands.
-fn in_turn(
+fn append_branch_by_branch(
     branch: usize,
     branches: &[Items<Command>],
     word: Vec<usize>,
@@ -232,7 +232,7 @@ fn in_turn(
         return Ok(word);
     };
     let word = append_letters(branch, first.as_slice(), word)?;
-    in_turn(branch + 1, rest, word)
+    append_branch_by_branch(branch + 1, rest, word)
 }
 
 /// The reason if all interleavings fail alike: the failure of the first interleaving.
@@ -245,6 +245,6 @@ pub fn first_interleaving_reason(
     ensures { IfOk result (IsReasonOf failing (in_turn 0 (branch_lengths shaped.now.case))) }
 {
     let branches = shaped.case().branches.as_slice();
-    let word = in_turn(0, branches, Vec::new(alloc))?;
+    let word = append_branch_by_branch(0, branches, Vec::new(alloc))?;
     Ok(Some(reason_of(failing, word)))
 }

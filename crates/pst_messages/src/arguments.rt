@@ -11,7 +11,7 @@ use pst_sexpr::Form;
 use std::alloc::Global;
 
 /// The problem of a command with `found` arguments of `op`, which takes another number.
-fn other_count(alloc: Global, path: &[usize], op: &Op, found: usize) -> FoundProblem {
+fn argument_count_problem(alloc: Global, path: &[usize], op: &Op, found: usize) -> FoundProblem {
     let name = op.name.as_str();
     let takes = counted(op.params.len(), "argument");
     problem_at(
@@ -32,7 +32,7 @@ fn argument_problem(
     let found = after_head(form).len();
     let params = op.params.as_slice();
     if found != params.len() {
-        return other_count(alloc, path, op, found);
+        return argument_count_problem(alloc, path, op, found);
     }
     let other = Some(ValueFault::Argument);
     problem_in(alloc, search, path, form, Wanted::Call(params), other)
@@ -49,7 +49,7 @@ fn with_declared(alloc: Global, found: Option<Problem>, op: &Op) -> FoundProblem
 }
 
 /// The problem of a command whose arguments spell other values than its operation takes.
-pub fn bad_argument(
+pub fn bad_argument_problem(
     alloc: Global,
     search: &CaseSearch<'_>,
     path: &[usize],

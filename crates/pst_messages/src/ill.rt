@@ -33,7 +33,7 @@ pub enum ValueFault<'a> {
 }
 
 /// The problem of `key`, which is not greater than `before`, the key before it.
-fn falls(alloc: Global, path: &[usize], key: &Form, before: &Form) -> FoundProblem {
+fn key_order_problem(alloc: Global, path: &[usize], key: &Form, before: &Form) -> FoundProblem {
     let key = short_text(alloc, key)?;
     wrong_tree(
         alloc,
@@ -45,7 +45,12 @@ fn falls(alloc: Global, path: &[usize], key: &Form, before: &Form) -> FoundProbl
 }
 
 /// The problem of a variable in command `command` that names command `number`, which is not earlier.
-fn later(alloc: Global, path: &[usize], number: usize, command: usize) -> FoundProblem {
+fn later_variable_problem(
+    alloc: Global,
+    path: &[usize],
+    number: usize,
+    command: usize,
+) -> FoundProblem {
     problem_with_note(
         alloc,
         path,
@@ -57,7 +62,7 @@ fn later(alloc: Global, path: &[usize], number: usize, command: usize) -> FoundP
 }
 
 /// The problem of a variable that names command `number`, which is in another branch.
-fn other_branch(alloc: Global, path: &[usize], number: usize) -> FoundProblem {
+fn other_branch_problem(alloc: Global, path: &[usize], number: usize) -> FoundProblem {
     problem_with_note(
         alloc,
         path,
@@ -91,9 +96,11 @@ pub fn value_fault_problem(
             let before = format_args!("expected a key of type {wanted}, found ");
             wrong_tree(alloc, path, before, form, "")
         }
-        ValueFault::Falls(key, before) => falls(alloc, path, key, before),
-        ValueFault::Later { number, command } => later(alloc, path, number, command),
-        ValueFault::OtherBranch(number) => other_branch(alloc, path, number),
+        ValueFault::Falls(key, before) => key_order_problem(alloc, path, key, before),
+        ValueFault::Later { number, command } => later_variable_problem(
+            alloc, path, number, command,
+        ),
+        ValueFault::OtherBranch(number) => other_branch_problem(alloc, path, number),
         ValueFault::Argument => problem_at(
             alloc,
             path,

@@ -35,7 +35,12 @@ fn replies_in(lists: &[Form], number: usize) -> &[Form] {
 }
 
 /// The problem of a part with `replies` replies, which has another number of commands.
-fn other_count(alloc: Global, path: &[usize], part: &Part<'_>, replies: usize) -> FoundProblem {
+fn reply_count_problem(
+    alloc: Global,
+    path: &[usize],
+    part: &Part<'_>,
+    replies: usize,
+) -> FoundProblem {
     let called = part.called;
     let has = counted(part.commands.len(), "command");
     if replies == 1 {
@@ -49,7 +54,7 @@ fn other_count(alloc: Global, path: &[usize], part: &Part<'_>, replies: usize) -
 }
 
 /// The problem of a run with `lists` lists of replies for `parts` parts, which differ in number.
-fn other_lists(alloc: Global, path: &[usize], lists: usize, parts: usize) -> FoundProblem {
+fn list_count_problem(alloc: Global, path: &[usize], lists: usize, parts: usize) -> FoundProblem {
     let found = counted(lists, "list");
     let wanted = counted(parts, "part");
     problem_with_note(
@@ -73,19 +78,24 @@ fn list_problem(
         let replies = replies_in(lists, number).len();
         if part.commands.len() != replies {
             let path = [item, place, number.saturating_add(1)];
-            return other_count(alloc, &path, part, replies);
+            return reply_count_problem(alloc, &path, part, replies);
         }
     }
     Ok(None)
 }
 
 /// The problem of a run whose replies do not fit its parts and commands.
-pub fn no_fit(alloc: Global, item: usize, form: &Form, parts: &[Part<'_>]) -> FoundProblem {
+pub fn misfitting_replies_problem(
+    alloc: Global,
+    item: usize,
+    form: &Form,
+    parts: &[Part<'_>],
+) -> FoundProblem {
     match lists_of(form) {
         Some((place, lists)) if lists.len() == parts.len() => {
             list_problem(alloc, item, place, lists, parts)
         }
-        Some((place, lists)) => other_lists(alloc, &[item, place], lists.len(), parts.len()),
+        Some((place, lists)) => list_count_problem(alloc, &[item, place], lists.len(), parts.len()),
         None => Ok(None),
     }
 }
@@ -144,7 +154,7 @@ fn with_written(alloc: Global, found: Option<Problem>, has_maps: bool) -> FoundP
 }
 
 /// The problem of a run in which the reply to command `command`, counted from 1, is not a reply.
-pub fn bad_reply(
+pub fn bad_reply_problem(
     alloc: Global,
     search: &CaseSearch<'_>,
     item: usize,

@@ -106,7 +106,7 @@ enum Fault<'a> {
 }
 
 /// The fault of the first command of a part that is not written as a call, if there is one.
-fn no_call(part: Part<'_>) -> Option<Fault<'_>> {
+fn not_a_call_fault(part: Part<'_>) -> Option<Fault<'_>> {
     for (offset, form) in part.commands.iter().enumerate() {
         if head_of(form).is_none() {
             return Some(Fault::NoCall(Command { part, offset, form }));
@@ -118,7 +118,9 @@ fn no_call(part: Part<'_>) -> Option<Fault<'_>> {
 /// The fault of the tree at `place`, which has to have the head `head`, or of its commands.
 fn part_fault(parts: &[Form], place: usize, head: Head) -> Option<Fault<'_>> {
     match parts.get(place) {
-        Some(form) if is_headed(form, head.word) => no_call(headed_part(head, form, place)),
+        Some(form) if is_headed(form, head.word) => not_a_call_fault(headed_part(
+            head, form, place,
+        )),
         Some(form) => Some(Fault::OtherPart(head.word, place, form)),
         None => Some(Fault::Missing(head.word)),
     }
@@ -129,7 +131,7 @@ fn branch_fault(form: &Form, number: usize) -> Option<Fault<'_>> {
     if node_of(form).is_none() {
         return Some(Fault::NoBranch(number));
     }
-    no_call(branch_part(form, BRANCHES, number))
+    not_a_call_fault(branch_part(form, BRANCHES, number))
 }
 
 /// The fault of the branches of a `(branches ..)` tree. `branches` are the trees in it, with its head.
@@ -150,7 +152,7 @@ fn branches_fault(branches: &[Form]) -> Option<Fault<'_>> {
 }
 
 /// The fault of a tree at `place`, which is after the last part, if there is one.
-fn misplaced(parts: &[Form], place: usize) -> Option<Fault<'_>> {
+fn misplaced_fault(parts: &[Form], place: usize) -> Option<Fault<'_>> {
     match parts.get(place) {
         Some(_) => Some(Fault::Misplaced(place)),
         None => None,
@@ -160,21 +162,21 @@ fn misplaced(parts: &[Form], place: usize) -> Option<Fault<'_>> {
 /// The fault of the replies, if the item is a run, or of a tree after the last part.
 fn end_fault(parts: &[Form], place: usize, is_run: bool) -> Option<Fault<'_>> {
     if !is_run {
-        return misplaced(parts, place);
+        return misplaced_fault(parts, place);
     }
     match parts.get(place) {
-        Some(form) if is_headed(form, "replies") => misplaced(parts, place.saturating_add(1)),
+        Some(form) if is_headed(form, "replies") => misplaced_fault(parts, place.saturating_add(1)),
         Some(form) => Some(Fault::OtherPart("replies", place, form)),
         None => Some(Fault::Missing("replies")),
     }
 }
 
 /// The fault of the parts after the branches.
-fn fault_behind(parts: &[Form], place: usize, is_run: bool) -> Option<Fault<'_>> {
+fn fault_after_branches(parts: &[Form], place: usize, is_run: bool) -> Option<Fault<'_>> {
     match parts.get(place) {
-        Some(form) if is_headed(form, "suffix") => no_call(headed_part(SUFFIX, form, place)).or(
-            end_fault(parts, place.saturating_add(1), is_run),
-        ),
+        Some(form) if is_headed(form, "suffix") => not_a_call_fault(headed_part(
+            SUFFIX, form, place,
+        )).or(end_fault(parts, place.saturating_add(1), is_run)),
         _ => end_fault(parts, place, is_run),
     }
 }
@@ -185,11 +187,11 @@ fn fault_of(parts: &[Form], is_run: bool) -> Option<Fault<'_>> {
     match parts.get(BRANCHES) {
         Some(form) if is_headed(form, "branches") => prefix
             .or(branches_fault(trees_in(form)))
-            .or(fault_behind(parts, 3, is_run)),
+            .or(fault_after_branches(parts, 3, is_run)),
         _ => prefix
             .or(part_fault(parts, 2, LEFT))
             .or(part_fault(parts, 3, RIGHT))
-            .or(fault_behind(parts, 4, is_run)),
+            .or(fault_after_branches(parts, 4, is_run)),
     }
 }
 
@@ -331,7 +333,7 @@ fn head_meant(alloc: Global, head: &str) -> Result<Option<DidYouMean<'static>>, 
 }
 
 /// The problem of a tree that is neither a case nor a run.
-fn headed_otherwise(alloc: Global, item: usize, form: &Form) -> FoundProblem {
+fn other_head_problem(alloc: Global, item: usize, form: &Form) -> FoundProblem {
     let head = head_word(form);
     if head.is_empty() {
         return wrong_tree(alloc, &[item], "", form, " is neither a case nor a run");
@@ -353,7 +355,7 @@ fn form_problem(alloc: Global, item: usize, form: &Form) -> FoundProblem {
             &[item],
             "a second model: the first tree of an input is its model",
         ),
-        _ => headed_otherwise(alloc, item, form),
+        _ => other_head_problem(alloc, item, form),
     }
 }
 
@@ -370,7 +372,7 @@ fn is_bracketed(form: &Form) -> bool {
 
 /// The problem of item `item`, which has another form than a case or a run. A note shows the form that is probably
 /// meant.
-pub fn bad_form(alloc: Global, item: usize, form: &Form) -> FoundProblem {
+pub fn bad_form_problem(alloc: Global, item: usize, form: &Form) -> FoundProblem {
     let found = form_problem(alloc, item, form)?;
     if is_bracketed(form) {
         return with_note(alloc, found, JSON_ITEM);

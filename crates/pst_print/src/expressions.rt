@@ -6,7 +6,7 @@ ghost use Rattle.pst_print.specs.Words.{key_word, truth_word};
 ghost use Rattle.pst_sexpr.specs.Parts.{headed};
 ghost use Rattle.pst_sexpr.specs.declared.form.Form.TheVariants.{Word};
 
-use crate::nodes::{name, prepend, three, two};
+use crate::nodes::{name, prepend, three_forms, two_forms};
 use crate::types::{map_form, ty_form};
 use crate::words::{binary_word, unary_word};
 use pst_model::{Clause, Expr};
@@ -47,7 +47,7 @@ fn unary_form(alloc: Global, head: &str, first: Form) -> Result<Form, AllocError
 fn binary_form(alloc: Global, head: &str, first: Form, second: Form) -> Result<Form, AllocError>
     ensures { IfOk result (λ form. form ≡ headed head.now (first ∷ second ∷ [])) }
 {
-    headed(alloc, head, two(alloc, first, second)?)
+    headed(alloc, head, two_forms(alloc, first, second)?)
 }
 
 /// A node of a word and three trees.
@@ -60,14 +60,14 @@ fn ternary_form(
 ) -> Result<Form, AllocError>
     ensures { IfOk result (λ form. form ≡ headed head.now (first ∷ second ∷ third ∷ [])) }
 {
-    headed(alloc, head, three(alloc, first, second, third)?)
+    headed(alloc, head, three_forms(alloc, first, second, third)?)
 }
 
 fn let_form(alloc: Global, bound: &Text, value: Form, body: Form) -> Result<Form, AllocError>
     ensures { IfOk result (λ form. form ≡ headed (codes "let") (Word bound.now ∷ value ∷ body ∷ [])) }
 {
     let bound = name(alloc, bound)?;
-    headed(alloc, "let", three(alloc, bound, value, body)?)
+    headed(alloc, "let", three_forms(alloc, bound, value, body)?)
 }
 
 fn at_form(alloc: Global, tuple: Form, number: u64) -> Result<Form, AllocError>
@@ -104,7 +104,7 @@ fn fold_form(
 {
     let bound = name(alloc, names.0)?;
     let built = name(alloc, names.1)?;
-    let rest = three(alloc, built, first, body)?;
+    let rest = three_forms(alloc, built, first, body)?;
     let parts = prepend(alloc, bound, prepend(alloc, items, rest)?)?;
     headed(alloc, "fold", parts)
 }
@@ -217,7 +217,7 @@ fn clause_form(alloc: Global, clause: &Clause) -> Result<Form, AllocError>
         Clause::In(bound, list) => {
             let bound = name(alloc, bound)?;
             let list = expr_form(alloc, list)?;
-            headed(alloc, "in", two(alloc, bound, list)?)
+            headed(alloc, "in", two_forms(alloc, bound, list)?)
         }
         Clause::When(condition) => {
             let condition = expr_form(alloc, condition)?;

@@ -23,7 +23,11 @@ struct Columns {
 }
 
 /// The reach of each token.
-fn reaches(alloc: Global, input: &[u8], tokens: &[Token]) -> Result<Vec<Columns>, AllocError> {
+fn columns_of_tokens(
+    alloc: Global,
+    input: &[u8],
+    tokens: &[Token],
+) -> Result<Vec<Columns>, AllocError> {
     let mut found = Vec::new(alloc);
     let mut column = 0usize;
     let mut comments = 0usize;
@@ -47,7 +51,7 @@ fn reaches(alloc: Global, input: &[u8], tokens: &[Token]) -> Result<Vec<Columns>
 }
 
 /// For each token the number of the last token of its tree.
-fn ends(alloc: Global, tokens: &[Token]) -> Result<Vec<usize>, AllocError> {
+fn last_tokens(alloc: Global, tokens: &[Token]) -> Result<Vec<usize>, AllocError> {
     let mut found = Vec::new(alloc);
     let mut open: Vec<usize> = Vec::new(alloc);
     for (number, token) in tokens.iter().enumerate() {
@@ -68,7 +72,7 @@ fn ends(alloc: Global, tokens: &[Token]) -> Result<Vec<usize>, AllocError> {
 }
 
 /// For each token whether one of the parts of its node begins a line.
-fn broken(alloc: Global, tokens: &[Token]) -> Result<Vec<bool>, AllocError> {
+fn line_break_flags(alloc: Global, tokens: &[Token]) -> Result<Vec<bool>, AllocError> {
     let mut found = Vec::new(alloc);
     let mut open: Vec<usize> = Vec::new(alloc);
     for (number, token) in tokens.iter().enumerate() {
@@ -95,7 +99,7 @@ fn mark_broken(found: &mut [bool], open: &[usize]) {
 }
 
 /// For each token how many brackets close directly after it.
-fn closers(alloc: Global, tokens: &[Token]) -> Result<Vec<usize>, AllocError> {
+fn count_closers(alloc: Global, tokens: &[Token]) -> Result<Vec<usize>, AllocError> {
     let mut found = Vec::new(alloc);
     let mut count = 0usize;
     for token in tokens.iter().rev() {
@@ -121,10 +125,10 @@ fn measure_of(first: Columns, last: Columns, closers: usize, has_lines: bool) ->
 
 /// The measure of each token of a file.
 pub fn measures(alloc: Global, input: &[u8], tokens: &[Token]) -> Result<Vec<Measure>, AllocError> {
-    let reaches = reaches(alloc, input, tokens)?;
-    let ends = ends(alloc, tokens)?;
-    let closers = closers(alloc, tokens)?;
-    let broken = broken(alloc, tokens)?;
+    let reaches = columns_of_tokens(alloc, input, tokens)?;
+    let ends = last_tokens(alloc, tokens)?;
+    let closers = count_closers(alloc, tokens)?;
+    let broken = line_break_flags(alloc, tokens)?;
     let mut found = Vec::new(alloc);
     for ((first, end), has_lines) in reaches.iter().zip(ends.as_slice()).zip(broken.as_slice()) {
         if let (Some(last), Some(closers)) = (reaches.get(*end), closers.get(*end)) {

@@ -13,7 +13,7 @@ ghost use Rattle.pst_syntax.specs.ShownItems.{shown_callback, shown_callback_opt
 use crate::fault::{FormFault, Role};
 use crate::problem::below;
 use crate::telling::{Walk, push_fault, push_fault_unless};
-use crate::whole_faults::once;
+use crate::whole_faults::add_single_expression_faults;
 use pst_sexpr::Form;
 use pst_syntax::{CallbackShape, FaultKind, callback_shape};
 use pst_value::Items;
@@ -51,7 +51,7 @@ fn has_all(seen: &[Option<CallbackShape<'_>>]) -> bool
 
 /// Adds the faults of a callback at `path` after the callbacks `seen`.
 #[tactic(auto, using(crate::proofs::Keeping::keeping, crate::proofs::Seen::seen))]
-fn callback(
+fn add_callback_faults(
     walk: Walk,
     faults: &mut Items<FormFault>,
     seen: &[Option<CallbackShape<'_>>],
@@ -64,15 +64,15 @@ fn callback(
 {
     match shape {
         CallbackShape::Pre(body) => {
-            once(walk, faults, Role::Callback, path, has_pre(seen), body)?;
+            add_single_expression_faults(walk, faults, Role::Callback, path, has_pre(seen), body)?;
             Ok(())
         }
         CallbackShape::Next(body) => {
-            once(walk, faults, Role::Callback, path, has_next(seen), body)?;
+            add_single_expression_faults(walk, faults, Role::Callback, path, has_next(seen), body)?;
             Ok(())
         }
         CallbackShape::Post(body) => {
-            once(walk, faults, Role::Callback, path, has_post(seen), body)?;
+            add_single_expression_faults(walk, faults, Role::Callback, path, has_post(seen), body)?;
             Ok(())
         }
     }
@@ -80,7 +80,7 @@ fn callback(
 
 /// Adds the faults of the callback that is part `number` of the tree at `path`, after the callbacks `seen`.
 #[tactic(auto, using(crate::proofs::Keeping::keeping))]
-fn known_callback(
+fn add_known_callback_faults(
     walk: Walk,
     faults: &mut Items<FormFault>,
     seen: &[Option<CallbackShape<'_>>],
@@ -95,7 +95,7 @@ fn known_callback(
     let at = below(path, walk.alloc, number)?;
     match shape {
         Some(shape) => {
-            callback(walk, faults, seen, at.as_slice(), shape)?;
+            add_callback_faults(walk, faults, seen, at.as_slice(), shape)?;
             Ok(())
         }
         None => {
@@ -113,7 +113,7 @@ fn known_callback(
 
 /// Adds the faults of the callbacks of an operation, which are the parts from 4 on of the tree at `path`.
 #[tactic(auto, using(crate::proofs::Keeping::keeping))]
-pub fn callbacks(
+pub fn add_callbacks_faults(
     walk: Walk,
     faults: &mut Items<FormFault>,
     path: &[usize],
@@ -126,7 +126,7 @@ pub fn callbacks(
     let mut number = 4;
     for form in forms {
         let shape = callback_shape(form);
-        known_callback(walk, faults, seen.as_slice(), path, number, &shape)?;
+        add_known_callback_faults(walk, faults, seen.as_slice(), path, number, &shape)?;
         seen.push(shape)?;
         number += 1;
     }

@@ -10,10 +10,13 @@ ghost use Rattle.pst_syntax.specs.Shape.{At, Call, Fold, For, Let, ListOf};
 ghost use Rattle.pst_syntax.specs.Shown.{shown};
 
 use crate::fault::{FormFault, Role};
-use crate::part_faults::{bound, fits, map_of, operation, place};
+use crate::part_faults::{
+    add_bound_faults, add_map_faults, add_operation_name_faults, add_tuple_place_faults,
+    is_within_limits,
+};
 use crate::problem::below;
 use crate::telling::{Walk, push_fault, push_fault_unless};
-use crate::type_faults::ty_part;
+use crate::type_faults::add_ty_part_faults;
 use pst_sexpr::Form;
 use pst_syntax::{ClauseShape, FaultKind, FoldShape, MAX_TY_LEVELS, Shape, clause_shape, shape_of};
 use pst_value::{Items, Text};
@@ -22,7 +25,7 @@ use std::alloc::AllocError;
 /// Adds the faults of an expression with `room` levels of room.
 #[cycle(expr)]
 #[tactic(auto, using(crate::proofs::Keeping::keeping, crate::proofs::Levels::expr_levels))]
-pub fn expr(
+pub fn add_expr_faults(
     walk: Walk,
     faults: &mut Items<FormFault>,
     path: &[usize],
@@ -49,16 +52,16 @@ pub fn expr(
         faults,
         path,
         Role::Expression,
-        fits(&shape),
+        is_within_limits(&shape),
         FaultKind::OverLimit,
     )?;
-    expr_parts(walk, faults, path, &shape, room - 1)?;
+    add_expr_parts_faults(walk, faults, path, &shape, room - 1)?;
     Ok(())
 }
 
 #[cycle(expr)]
 #[tactic(auto, using(crate::proofs::Keeping::keeping))]
-fn expr_parts(
+fn add_expr_parts_faults(
     walk: Walk,
     faults: &mut Items<FormFault>,
     path: &[usize],
@@ -71,27 +74,29 @@ fn expr_parts(
 {
     match shape {
         Shape::Integer(_) | Shape::Truth(_) | Shape::Quoted(_) | Shape::Used(_) => Ok(()),
-        Shape::Let(name, value, body) => let_in(walk, faults, path, name, value, body, room),
-        Shape::If(a, b, c) => three(walk, faults, path, a, b, c, room),
-        Shape::Put(a, b, c) => three(walk, faults, path, a, b, c, room),
-        Shape::And(a, b) => two(walk, faults, path, a, b, room),
-        Shape::Or(a, b) => two(walk, faults, path, a, b, room),
-        Shape::Binary(_, a, b) => two(walk, faults, path, a, b, room),
-        Shape::Unary(_, a) => one(walk, faults, path, a, room),
-        Shape::Tuple(items) => exprs(walk, faults, path, 1, items, room),
-        Shape::At(tuple, number) => at(walk, faults, path, tuple, number, room),
-        Shape::List(item, items) => list(walk, faults, path, item, items, room),
-        Shape::For(parts, body) => comprehension(walk, faults, path, parts, body, room),
-        Shape::Fold(shape) => fold(walk, faults, path, shape, room),
-        Shape::Map(_, value) => map_of(walk, faults, path, value),
-        Shape::Call(name, arguments) => call(walk, faults, path, name, arguments, room),
-        Shape::Apply(_, arguments) => exprs(walk, faults, path, 1, arguments, room),
+        Shape::Let(name, value, body) => add_let_faults(
+            walk, faults, path, name, value, body, room,
+        ),
+        Shape::If(a, b, c) => add_ternary_faults(walk, faults, path, a, b, c, room),
+        Shape::Put(a, b, c) => add_ternary_faults(walk, faults, path, a, b, c, room),
+        Shape::And(a, b) => add_binary_faults(walk, faults, path, a, b, room),
+        Shape::Or(a, b) => add_binary_faults(walk, faults, path, a, b, room),
+        Shape::Binary(_, a, b) => add_binary_faults(walk, faults, path, a, b, room),
+        Shape::Unary(_, a) => add_unary_faults(walk, faults, path, a, room),
+        Shape::Tuple(items) => add_exprs_faults(walk, faults, path, 1, items, room),
+        Shape::At(tuple, number) => add_at_faults(walk, faults, path, tuple, number, room),
+        Shape::List(item, items) => add_list_faults(walk, faults, path, item, items, room),
+        Shape::For(parts, body) => add_for_faults(walk, faults, path, parts, body, room),
+        Shape::Fold(shape) => add_fold_faults(walk, faults, path, shape, room),
+        Shape::Map(_, value) => add_map_faults(walk, faults, path, value),
+        Shape::Call(name, arguments) => add_call_faults(walk, faults, path, name, arguments, room),
+        Shape::Apply(_, arguments) => add_exprs_faults(walk, faults, path, 1, arguments, room),
     }
 }
 
 /// Adds the faults of an expression that is part `number` of the tree at `path`.
 #[cycle(expr)]
-pub fn expr_part(
+pub fn add_expr_part_faults(
     walk: Walk,
     faults: &mut Items<FormFault>,
     path: &[usize],
@@ -103,13 +108,13 @@ pub fn expr_part(
         (expr_faults_at walk.has_maps room role.Expression (spec.below path.now number) form.now)) }
 {
     let path = below(path, walk.alloc, number)?;
-    expr(walk, faults, path.as_slice(), form, room)
+    add_expr_faults(walk, faults, path.as_slice(), form, room)
 }
 
 /// Adds the faults of an expression that is part 1 of the tree at `path`.
 #[cycle(expr)]
 #[tactic(auto, using(crate::proofs::Keeping::keeping))]
-fn one(
+fn add_unary_faults(
     walk: Walk,
     faults: &mut Items<FormFault>,
     path: &[usize],
@@ -120,14 +125,14 @@ fn one(
         (all_at (spec.spot_in walk.has_maps (expr_faults_at walk.has_maps room))
         (spots_from path.now 1 (Expression a.now ∷ [])))) }
 {
-    expr_part(walk, faults, path, 1, a, room)?;
+    add_expr_part_faults(walk, faults, path, 1, a, room)?;
     Ok(())
 }
 
 /// Adds the faults of expressions that are the parts 1 and 2 of the tree at `path`.
 #[cycle(expr)]
 #[tactic(auto, using(crate::proofs::Keeping::keeping))]
-fn two(
+fn add_binary_faults(
     walk: Walk,
     faults: &mut Items<FormFault>,
     path: &[usize],
@@ -139,15 +144,15 @@ fn two(
         (all_at (spec.spot_in walk.has_maps (expr_faults_at walk.has_maps room))
         (spots_from path.now 1 (Expression a.now ∷ Expression b.now ∷ [])))) }
 {
-    expr_part(walk, faults, path, 1, a, room)?;
-    expr_part(walk, faults, path, 2, b, room)?;
+    add_expr_part_faults(walk, faults, path, 1, a, room)?;
+    add_expr_part_faults(walk, faults, path, 2, b, room)?;
     Ok(())
 }
 
 /// Adds the faults of expressions that are the parts 1, 2 and 3 of the tree at `path`.
 #[cycle(expr)]
 #[tactic(auto, using(crate::proofs::Keeping::keeping))]
-fn three(
+fn add_ternary_faults(
     walk: Walk,
     faults: &mut Items<FormFault>,
     path: &[usize],
@@ -160,16 +165,16 @@ fn three(
         (all_at (spec.spot_in walk.has_maps (expr_faults_at walk.has_maps room))
         (spots_from path.now 1 (Expression a.now ∷ Expression b.now ∷ Expression c.now ∷ [])))) }
 {
-    expr_part(walk, faults, path, 1, a, room)?;
-    expr_part(walk, faults, path, 2, b, room)?;
-    expr_part(walk, faults, path, 3, c, room)?;
+    add_expr_part_faults(walk, faults, path, 1, a, room)?;
+    add_expr_part_faults(walk, faults, path, 2, b, room)?;
+    add_expr_part_faults(walk, faults, path, 3, c, room)?;
     Ok(())
 }
 
 /// Adds the faults of a body that sees a value under a name.
 #[cycle(expr)]
 #[tactic(auto, using(crate::proofs::Keeping::keeping))]
-fn let_in(
+fn add_let_faults(
     walk: Walk,
     faults: &mut Items<FormFault>,
     path: &[usize],
@@ -182,16 +187,16 @@ fn let_in(
         (all_at (spec.spot_in walk.has_maps (expr_faults_at walk.has_maps room))
         (spec.spots walk.has_maps path.now (Let name.now value.now body.now)))) }
 {
-    bound(walk, faults, path, 1, false, name)?;
-    expr_part(walk, faults, path, 2, value, room)?;
-    expr_part(walk, faults, path, 3, body, room)?;
+    add_bound_faults(walk, faults, path, 1, false, name)?;
+    add_expr_part_faults(walk, faults, path, 2, value, room)?;
+    add_expr_part_faults(walk, faults, path, 3, body, room)?;
     Ok(())
 }
 
 /// Adds the faults of an item of a tuple.
 #[cycle(expr)]
 #[tactic(auto, using(crate::proofs::Keeping::keeping))]
-fn at(
+fn add_at_faults(
     walk: Walk,
     faults: &mut Items<FormFault>,
     path: &[usize],
@@ -203,15 +208,15 @@ fn at(
         (all_at (spec.spot_in walk.has_maps (expr_faults_at walk.has_maps room))
         (spec.spots walk.has_maps path.now (At tuple.now number.now)))) }
 {
-    expr_part(walk, faults, path, 1, tuple, room)?;
-    place(walk, faults, path, number)?;
+    add_expr_part_faults(walk, faults, path, 1, tuple, room)?;
+    add_tuple_place_faults(walk, faults, path, number)?;
     Ok(())
 }
 
 /// Adds the faults of a list that is written out.
 #[cycle(expr)]
 #[tactic(auto, using(crate::proofs::Keeping::keeping))]
-fn list(
+fn add_list_faults(
     walk: Walk,
     faults: &mut Items<FormFault>,
     path: &[usize],
@@ -223,15 +228,15 @@ fn list(
         (all_at (spec.spot_in walk.has_maps (expr_faults_at walk.has_maps room))
         (spec.spots walk.has_maps path.now (ListOf item.now items.now)))) }
 {
-    ty_part(walk, faults, Role::ItemType, path, 1, item, MAX_TY_LEVELS)?;
-    exprs(walk, faults, path, 2, items, room)?;
+    add_ty_part_faults(walk, faults, Role::ItemType, path, 1, item, MAX_TY_LEVELS)?;
+    add_exprs_faults(walk, faults, path, 2, items, room)?;
     Ok(())
 }
 
 /// Adds the faults of a comprehension.
 #[cycle(expr)]
 #[tactic(auto, using(crate::proofs::Keeping::keeping))]
-fn comprehension(
+fn add_for_faults(
     walk: Walk,
     faults: &mut Items<FormFault>,
     path: &[usize],
@@ -243,15 +248,15 @@ fn comprehension(
         (all_at (spec.spot_in walk.has_maps (expr_faults_at walk.has_maps room))
         (spec.spots walk.has_maps path.now (For parts.now body.now)))) }
 {
-    clauses(walk, faults, path, parts, room)?;
-    expr_part(walk, faults, path, 2, body, room)?;
+    add_clauses_faults(walk, faults, path, parts, room)?;
+    add_expr_part_faults(walk, faults, path, 2, body, room)?;
     Ok(())
 }
 
 /// Adds the faults of a call of an operation.
 #[cycle(expr)]
 #[tactic(auto, using(crate::proofs::Keeping::keeping))]
-fn call(
+fn add_call_faults(
     walk: Walk,
     faults: &mut Items<FormFault>,
     path: &[usize],
@@ -263,15 +268,15 @@ fn call(
         (all_at (spec.spot_in walk.has_maps (expr_faults_at walk.has_maps room))
         (spec.spots walk.has_maps path.now (Call name.now arguments.now)))) }
 {
-    operation(walk, faults, path, name)?;
-    exprs(walk, faults, path, 2, arguments, room)?;
+    add_operation_name_faults(walk, faults, path, name)?;
+    add_exprs_faults(walk, faults, path, 2, arguments, room)?;
     Ok(())
 }
 
 /// Adds the faults of expressions that are the parts from `from` on of the tree at `path`.
 #[cycle(expr)]
 #[tactic(auto, using(crate::proofs::Keeping::keeping))]
-fn exprs(
+fn add_exprs_faults(
     walk: Walk,
     faults: &mut Items<FormFault>,
     path: &[usize],
@@ -286,7 +291,7 @@ fn exprs(
 {
     let mut number = from;
     for form in forms {
-        expr_part(walk, faults, path, number, form, room)?;
+        add_expr_part_faults(walk, faults, path, number, form, room)?;
         number += 1;
     }
     Ok(())
@@ -295,7 +300,7 @@ fn exprs(
 /// Adds the faults of a fold over a list.
 #[cycle(expr)]
 #[tactic(auto, using(crate::proofs::Keeping::keeping))]
-fn fold(
+fn add_fold_faults(
     walk: Walk,
     faults: &mut Items<FormFault>,
     path: &[usize],
@@ -308,19 +313,19 @@ fn fold(
         (Fold shape.now.name.now shape.now.list.now shape.now.built.now shape.now.first.now
         shape.now.body.now)))) }
 {
-    bound(walk, faults, path, 1, false, shape.name)?;
-    expr_part(walk, faults, path, 2, shape.list, room)?;
+    add_bound_faults(walk, faults, path, 1, false, shape.name)?;
+    add_expr_part_faults(walk, faults, path, 2, shape.list, room)?;
     let is_taken = shape.name.as_str() == shape.built.as_str();
-    bound(walk, faults, path, 3, is_taken, shape.built)?;
-    expr_part(walk, faults, path, 4, shape.first, room)?;
-    expr_part(walk, faults, path, 5, shape.body, room)?;
+    add_bound_faults(walk, faults, path, 3, is_taken, shape.built)?;
+    add_expr_part_faults(walk, faults, path, 4, shape.first, room)?;
+    add_expr_part_faults(walk, faults, path, 5, shape.body, room)?;
     Ok(())
 }
 
 /// Adds the faults of the clauses of the comprehension at `path`.
 #[cycle(expr)]
 #[tactic(auto, using(crate::proofs::Keeping::keeping))]
-fn clauses(
+fn add_clauses_faults(
     walk: Walk,
     faults: &mut Items<FormFault>,
     path: &[usize],
@@ -334,7 +339,7 @@ fn clauses(
     let path = below(path, walk.alloc, 1)?;
     let mut number = 0;
     for form in forms {
-        clause(walk, faults, path.as_slice(), number, form, room)?;
+        add_clause_faults(walk, faults, path.as_slice(), number, form, room)?;
         number += 1;
     }
     Ok(())
@@ -343,7 +348,7 @@ fn clauses(
 /// Adds the faults of a clause that is part `number` of the tree at `path`.
 #[cycle(expr)]
 #[tactic(auto, using(crate::proofs::Keeping::keeping))]
-fn clause(
+fn add_clause_faults(
     walk: Walk,
     faults: &mut Items<FormFault>,
     path: &[usize],
@@ -359,12 +364,12 @@ fn clause(
     let path = path.as_slice();
     match clause_shape(form) {
         Some(ClauseShape::In(name, list)) => {
-            bound(walk, faults, path, 1, false, name)?;
-            expr_part(walk, faults, path, 2, list, room)?;
+            add_bound_faults(walk, faults, path, 1, false, name)?;
+            add_expr_part_faults(walk, faults, path, 2, list, room)?;
             Ok(())
         }
         Some(ClauseShape::When(test)) => {
-            expr_part(walk, faults, path, 1, test, room)?;
+            add_expr_part_faults(walk, faults, path, 1, test, room)?;
             Ok(())
         }
         None => push_fault(walk, faults, path, Role::Clause, FaultKind::UnknownForm),

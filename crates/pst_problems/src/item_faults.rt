@@ -10,22 +10,24 @@ ghost use Rattle.pst_syntax.specs.Faults.{name_faults};
 ghost use Rattle.pst_syntax.specs.ShownItems.{shown_item, shown_item_option};
 ghost use Rattle.pst_syntax.specs.declared.fault.FaultKind.TheVariants.{DoubleName};
 
-use crate::callback_faults::callbacks;
+use crate::callback_faults::add_callbacks_faults;
 use crate::fault::{FormFault, Role};
-use crate::param_faults::params;
+use crate::param_faults::add_params_faults;
 use crate::problem::below;
 use crate::seen_items::{
     has_command, has_fun, has_fun_room, has_init, has_op, has_op_room, has_state,
 };
 use crate::telling::{Walk, push_fault, push_fault_unless, push_name_faults};
-use crate::whole_faults::{once, whole_expr, whole_ty};
+use crate::whole_faults::{
+    add_single_expression_faults, add_whole_expr_faults, add_whole_ty_faults,
+};
 use pst_sexpr::Form;
 use pst_syntax::{FaultKind, FunShape, ItemShape, OpShape, is_free, is_name};
 use pst_value::{Items, Text};
 use std::alloc::AllocError;
 
 /// Adds the faults of a state at `path`. `stands` says whether there is one already.
-fn state(
+fn add_state_faults(
     walk: Walk,
     faults: &mut Items<FormFault>,
     path: &[usize],
@@ -44,7 +46,7 @@ fn state(
         !stands,
         FaultKind::DoubleName,
     )?;
-    whole_ty(walk, faults, path, 1, form)?;
+    add_whole_ty_faults(walk, faults, path, 1, form)?;
     Ok(())
 }
 
@@ -74,7 +76,7 @@ fn item_name(
 
 /// Adds the faults of a function at `path` behind the items `seen`.
 #[tactic(auto, using(crate::proofs::Keeping::keeping))]
-fn fun(
+fn add_fun_faults(
     walk: Walk,
     faults: &mut Items<FormFault>,
     seen: &[Option<ItemShape<'_>>],
@@ -97,15 +99,15 @@ fn fun(
     let is_lawful = is_free(walk.has_maps, shape.name);
     let is_taken = has_fun(seen, shape.name);
     item_name(walk, faults, path, is_lawful, is_taken, shape.name)?;
-    params(walk, faults, path, shape.params)?;
-    whole_ty(walk, faults, path, 3, shape.result)?;
-    whole_expr(walk, faults, path, 4, shape.body)?;
+    add_params_faults(walk, faults, path, shape.params)?;
+    add_whole_ty_faults(walk, faults, path, 3, shape.result)?;
+    add_whole_expr_faults(walk, faults, path, 4, shape.body)?;
     Ok(())
 }
 
 /// Adds the faults of an operation at `path` behind the items `seen`.
 #[tactic(auto, using(crate::proofs::Keeping::keeping))]
-fn op(
+fn add_op_faults(
     walk: Walk,
     faults: &mut Items<FormFault>,
     seen: &[Option<ItemShape<'_>>],
@@ -134,15 +136,15 @@ fn op(
         is_taken,
         shape.name,
     )?;
-    params(walk, faults, path, shape.params)?;
-    whole_ty(walk, faults, path, 3, shape.result)?;
-    callbacks(walk, faults, path, shape.callbacks)?;
+    add_params_faults(walk, faults, path, shape.params)?;
+    add_whole_ty_faults(walk, faults, path, 3, shape.result)?;
+    add_callbacks_faults(walk, faults, path, shape.callbacks)?;
     Ok(())
 }
 
 /// Adds the faults of an item at `path` behind the items `seen`.
 #[tactic(auto, using(crate::proofs::Keeping::keeping, crate::proofs::Seen::seen))]
-fn item(
+fn add_item_faults(
     walk: Walk,
     faults: &mut Items<FormFault>,
     seen: &[Option<ItemShape<'_>>],
@@ -154,25 +156,25 @@ fn item(
 {
     match shape {
         ItemShape::State(ty) => {
-            state(walk, faults, path, has_state(seen), ty)?;
+            add_state_faults(walk, faults, path, has_state(seen), ty)?;
             Ok(())
         }
         ItemShape::Init(value) => {
-            once(walk, faults, Role::Item, path, has_init(seen), value)?;
+            add_single_expression_faults(walk, faults, Role::Item, path, has_init(seen), value)?;
             Ok(())
         }
         ItemShape::Command(calls) => {
-            once(walk, faults, Role::Item, path, has_command(seen), calls)?;
+            add_single_expression_faults(walk, faults, Role::Item, path, has_command(seen), calls)?;
             Ok(())
         }
-        ItemShape::Fun(shape) => fun(walk, faults, seen, path, shape),
-        ItemShape::Op(shape) => op(walk, faults, seen, path, shape),
+        ItemShape::Fun(shape) => add_fun_faults(walk, faults, seen, path, shape),
+        ItemShape::Op(shape) => add_op_faults(walk, faults, seen, path, shape),
     }
 }
 
 /// Adds the faults of the item that is part `number` of the tree at `path`, behind the items `seen`.
 #[tactic(auto, using(crate::proofs::Keeping::keeping))]
-pub fn known_item(
+pub fn add_known_item_faults(
     walk: Walk,
     faults: &mut Items<FormFault>,
     seen: &[Option<ItemShape<'_>>],
@@ -187,7 +189,7 @@ pub fn known_item(
     let at = below(path, walk.alloc, number)?;
     match shape {
         Some(shape) => {
-            item(walk, faults, seen, at.as_slice(), shape)?;
+            add_item_faults(walk, faults, seen, at.as_slice(), shape)?;
             Ok(())
         }
         None => {

@@ -13,7 +13,7 @@ ghost use Rattle.pst_syntax.specs.declared.fault.FaultKind.TheVariants.{OverLimi
 ghost use Rattle.pst_model.specs.Names.{is_name};
 
 use crate::fault::{FormFault, Role};
-use crate::item_faults::known_item;
+use crate::item_faults::add_known_item_faults;
 use crate::problem::below;
 use crate::seen_items::has_items;
 use crate::telling::{Walk, push_fault, push_fault_unless, push_name_faults};
@@ -24,7 +24,7 @@ use std::alloc::{AllocError, Global};
 
 /// Adds the faults of the items, which are the parts from 2 on of the tree at `path`.
 #[tactic(auto, using(crate::proofs::Keeping::keeping))]
-fn items(
+fn add_items_faults(
     walk: Walk,
     faults: &mut Items<FormFault>,
     path: &[usize],
@@ -40,7 +40,7 @@ fn items(
             return Ok(());
         }
         let shape = item_shape(form);
-        known_item(walk, faults, seen.as_slice(), path, number, &shape)?;
+        add_known_item_faults(walk, faults, seen.as_slice(), path, number, &shape)?;
         seen.push(shape)?;
         number += 1;
     }
@@ -81,7 +81,7 @@ fn model_name(
 
 /// Adds the faults of a model, apart from the number of its trees.
 #[tactic(auto, using(crate::proofs::Keeping::keeping))]
-fn named(
+fn add_named_model_faults(
     walk: Walk,
     faults: &mut Items<FormFault>,
     path: &[usize],
@@ -98,7 +98,7 @@ fn named(
         ..walk
     };
     model_name(walk, faults, path, shape.name)?;
-    items(walk, faults, path, shape.items)?;
+    add_items_faults(walk, faults, path, shape.items)?;
     Ok(())
 }
 
@@ -111,7 +111,7 @@ fn has_few_trees(form: &Form) -> bool
 
 /// Adds the faults of the model at `path`.
 #[tactic(auto, using(crate::proofs::Keeping::keeping))]
-fn model(
+fn add_model_faults(
     walk: Walk,
     faults: &mut Items<FormFault>,
     path: &[usize],
@@ -130,7 +130,7 @@ fn model(
         are_few,
         FaultKind::OverLimit,
     )?;
-    named(walk, faults, path, form)?;
+    add_named_model_faults(walk, faults, path, form)?;
     Ok(())
 }
 
@@ -145,7 +145,7 @@ fn add_faults(walk: Walk, faults: &mut Items<FormFault>, trees: &[Tree]) -> Resu
             Ok(())
         }
         [tree, ..] => {
-            model(walk, faults, &[0], tree.form())?;
+            add_model_faults(walk, faults, &[0], tree.form())?;
             Ok(())
         }
     }

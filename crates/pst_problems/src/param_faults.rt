@@ -14,7 +14,7 @@ ghost use Rattle.pst_syntax.specs.ShownItems.{shown_param, shown_param_option};
 use crate::fault::{FormFault, Role};
 use crate::problem::below;
 use crate::telling::{Walk, push_fault, push_fault_unless, push_name_faults};
-use crate::whole_faults::whole_ty;
+use crate::whole_faults::add_whole_ty_faults;
 use pst_sexpr::Form;
 use pst_syntax::{FaultKind, MAX_PARTS, ParamShape, is_free, param_shape};
 use pst_value::{Items, Text};
@@ -40,7 +40,7 @@ fn is_param(seen: &[Option<ParamShape<'_>>], word: &Text) -> bool
 
 /// Adds the faults of a parameter at `path` behind the parameters `seen`.
 #[tactic(auto, using(crate::proofs::Keeping::keeping, crate::proofs::Seen::seen))]
-fn param(
+fn add_param_faults(
     walk: Walk,
     faults: &mut Items<FormFault>,
     seen: &[Option<ParamShape<'_>>],
@@ -63,14 +63,14 @@ fn param(
         is_taken,
         shape.name,
     )?;
-    whole_ty(walk, faults, path, 1, shape.ty)?;
+    add_whole_ty_faults(walk, faults, path, 1, shape.ty)?;
     Ok(())
 }
 
 /// Adds the faults of the parameter that is part `number` of the tree at `path`, behind the parameters
 /// `seen`.
 #[tactic(auto, using(crate::proofs::Keeping::keeping))]
-fn known_param(
+fn add_known_param_faults(
     walk: Walk,
     faults: &mut Items<FormFault>,
     seen: &[Option<ParamShape<'_>>],
@@ -85,7 +85,7 @@ fn known_param(
     let at = below(path, walk.alloc, number)?;
     match shape {
         Some(shape) => {
-            param(walk, faults, seen, at.as_slice(), shape)?;
+            add_param_faults(walk, faults, seen, at.as_slice(), shape)?;
             Ok(())
         }
         None => {
@@ -103,7 +103,7 @@ fn known_param(
 
 /// Adds the faults of the parameters at `path`.
 #[tactic(auto, using(crate::proofs::Keeping::keeping))]
-fn params_after(
+fn add_params_faults_after(
     walk: Walk,
     faults: &mut Items<FormFault>,
     path: &[usize],
@@ -119,7 +119,7 @@ fn params_after(
             return Ok(());
         }
         let shape = param_shape(form);
-        known_param(walk, faults, seen.as_slice(), path, number, &shape)?;
+        add_known_param_faults(walk, faults, seen.as_slice(), path, number, &shape)?;
         seen.push(shape)?;
         number += 1;
     }
@@ -128,7 +128,7 @@ fn params_after(
 
 /// Adds the faults of a list of parameters, which is part 2 of the tree at `path`.
 #[tactic(auto, using(crate::proofs::Keeping::keeping))]
-pub fn params(
+pub fn add_params_faults(
     walk: Walk,
     faults: &mut Items<FormFault>,
     path: &[usize],
@@ -147,6 +147,6 @@ pub fn params(
         are_few(forms),
         FaultKind::OverLimit,
     )?;
-    params_after(walk, faults, path, forms)?;
+    add_params_faults_after(walk, faults, path, forms)?;
     Ok(())
 }

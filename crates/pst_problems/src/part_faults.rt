@@ -12,14 +12,14 @@ ghost use Rattle.pst_syntax.specs.Shown.{shown};
 use crate::fault::{FormFault, Role};
 use crate::problem::below;
 use crate::telling::{Walk, push_fault_unless, push_name_faults};
-use crate::type_faults::ty_part;
+use crate::type_faults::add_ty_part_faults;
 use pst_sexpr::{Form, value_of};
 use pst_syntax::{FaultKind, MAX_PARTS, MAX_TY_LEVELS, Shape, is_free, is_used_operation};
 use pst_value::{Items, LIMIT, Text};
 use std::alloc::AllocError;
 
 /// Whether an expression keeps to the limits besides that of its depth.
-pub fn fits(shape: &Shape<'_>) -> bool
+pub fn is_within_limits(shape: &Shape<'_>) -> bool
     ensures { result ≡ fits (shown shape.now) }
 {
     match shape {
@@ -32,7 +32,7 @@ pub fn fits(shape: &Shape<'_>) -> bool
 }
 
 /// Adds the faults of a bound name that is part `number` of the tree at `path`.
-pub fn bound(
+pub fn add_bound_faults(
     walk: Walk,
     faults: &mut Items<FormFault>,
     path: &[usize],
@@ -59,7 +59,7 @@ pub fn bound(
 
 /// Adds the fault of the place of an item of a tuple, which is part 2 of the tree at `path`.
 #[tactic(auto, using(crate::proofs::Keeping::keeping))]
-pub fn place(
+pub fn add_tuple_place_faults(
     walk: Walk,
     faults: &mut Items<FormFault>,
     path: &[usize],
@@ -81,7 +81,7 @@ pub fn place(
 }
 
 /// Adds the fault of the name of an operation, which is part 1 of the tree at `path`.
-pub fn operation(
+pub fn add_operation_name_faults(
     walk: Walk,
     faults: &mut Items<FormFault>,
     path: &[usize],
@@ -104,7 +104,7 @@ pub fn operation(
 
 /// Adds the faults of an empty map.
 #[tactic(auto, using(crate::proofs::Keeping::keeping))]
-pub fn map_of(
+pub fn add_map_faults(
     walk: Walk,
     faults: &mut Items<FormFault>,
     path: &[usize],
@@ -113,6 +113,6 @@ pub fn map_of(
     ensures { (e : spec.At) → OnOk result (faults.new ≡ keep walk.limit faults.old
         (all_at (spec.spot_in walk.has_maps e) (spots_from path.now 2 (OfType value.now ∷ [])))) }
 {
-    ty_part(walk, faults, Role::Type, path, 2, value, MAX_TY_LEVELS)?;
+    add_ty_part_faults(walk, faults, Role::Type, path, 2, value, MAX_TY_LEVELS)?;
     Ok(())
 }

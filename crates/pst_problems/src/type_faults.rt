@@ -28,7 +28,7 @@ fn ty_fits(shape: &TyShape<'_>) -> bool
 /// Adds the faults of a type with `room` levels of room.
 #[cycle(ty)]
 #[tactic(auto, using(crate::proofs::Keeping::keeping, crate::proofs::Levels::ty_levels))]
-pub fn ty(
+pub fn add_ty_faults(
     walk: Walk,
     faults: &mut Items<FormFault>,
     role: Role,
@@ -53,13 +53,13 @@ pub fn ty(
         ty_fits(&shape),
         FaultKind::OverLimit,
     )?;
-    ty_parts(walk, faults, role, path, &shape, room - 1)?;
+    add_ty_parts_faults(walk, faults, role, path, &shape, room - 1)?;
     Ok(())
 }
 
 #[cycle(ty)]
 #[tactic(auto, using(crate::proofs::Keeping::keeping))]
-fn ty_parts(
+fn add_ty_parts_faults(
     walk: Walk,
     faults: &mut Items<FormFault>,
     role: Role,
@@ -73,17 +73,17 @@ fn ty_parts(
 {
     match shape {
         TyShape::Int | TyShape::Bool | TyShape::Text | TyShape::Call => Ok(()),
-        TyShape::Tuple(types) => tys(walk, faults, role, path, types, room),
-        TyShape::List(item) => inner_ty(walk, faults, role, path, 1, item, room),
-        TyShape::Map(_, value) => inner_ty(walk, faults, role, path, 2, value, room),
-        TyShape::Ref(target) => inner_ty(walk, faults, role, path, 1, target, room),
+        TyShape::Tuple(types) => add_tys_faults(walk, faults, role, path, types, room),
+        TyShape::List(item) => add_inner_ty_faults(walk, faults, role, path, 1, item, room),
+        TyShape::Map(_, value) => add_inner_ty_faults(walk, faults, role, path, 2, value, room),
+        TyShape::Ref(target) => add_inner_ty_faults(walk, faults, role, path, 1, target, room),
     }
 }
 
 /// Adds the faults of the type in the type at `path`, of which it is part `number`.
 #[cycle(ty)]
 #[tactic(auto, using(crate::proofs::Keeping::keeping))]
-fn inner_ty(
+fn add_inner_ty_faults(
     walk: Walk,
     faults: &mut Items<FormFault>,
     role: Role,
@@ -96,13 +96,13 @@ fn inner_ty(
         (all_at (spec.spot_at none_at (λ inner. ty_faults_at walk.has_maps room role) none_at)
         (spots_from path.now number (OfType form.now ∷ [])))) }
 {
-    ty_part(walk, faults, role, path, number, form, room)?;
+    add_ty_part_faults(walk, faults, role, path, number, form, room)?;
     Ok(())
 }
 
 /// Adds the faults of a type that is part `number` of the tree at `path`.
 #[cycle(ty)]
-pub fn ty_part(
+pub fn add_ty_part_faults(
     walk: Walk,
     faults: &mut Items<FormFault>,
     role: Role,
@@ -115,13 +115,13 @@ pub fn ty_part(
         (ty_faults_at walk.has_maps room role (spec.below path.now number) form.now)) }
 {
     let path = below(path, walk.alloc, number)?;
-    ty(walk, faults, role, path.as_slice(), form, room)
+    add_ty_faults(walk, faults, role, path.as_slice(), form, room)
 }
 
 /// Adds the faults of types that are the parts from 1 on of the tree at `path`.
 #[cycle(ty)]
 #[tactic(auto, using(crate::proofs::Keeping::keeping))]
-fn tys(
+fn add_tys_faults(
     walk: Walk,
     faults: &mut Items<FormFault>,
     role: Role,
@@ -135,7 +135,7 @@ fn tys(
 {
     let mut number = 1;
     for form in forms {
-        ty_part(walk, faults, role, path, number, form, room)?;
+        add_ty_part_faults(walk, faults, role, path, number, form, room)?;
         number += 1;
     }
     Ok(())

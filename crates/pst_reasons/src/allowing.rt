@@ -11,7 +11,7 @@ ghost use Rattle.pst_judge.specs.Verdict.{first_broken};
 ghost use Rattle.pst_reasons.specs.Reasons as reasons;
 
 use crate::answers::split_first;
-use crate::numbers::without;
+use crate::numbers::push_without;
 use crate::searching::{interleaving_beyond, is_allowed};
 use pst_case::{History, Shaped};
 use pst_eval::Callbacks;
@@ -46,7 +46,7 @@ fn is_one_of(answer: &Value, answers: &[Value]) -> bool
 }
 
 /// Returns the proposed answer for the interleaving `word`, if it is new and the model allows it.
-fn next_value<C: Callbacks, P: Candidates>(
+fn new_allowed_candidate<C: Callbacks, P: Candidates>(
     callbacks: &C,
     alloc: Global,
     model: &Source,
@@ -132,7 +132,7 @@ fn value_beyond_recorded<C: Callbacks, P: Candidates>(
     let Some(word) = merge else {
         return Ok(None);
     };
-    next_value(
+    new_allowed_candidate(
         callbacks,
         alloc,
         model,
@@ -173,7 +173,7 @@ fn proposed_value<C: Callbacks, P: Candidates>(
     if left == 0 {
         return Ok(None);
     }
-    let first = next_value(
+    let first = new_allowed_candidate(
         callbacks, alloc, model, shaped, history, others, number, candidates, word, known,
     )?;
     if let Some(value) = first {
@@ -286,7 +286,7 @@ pub fn find_allowed_values<C: Callbacks, P: Candidates>(
     ensures distinct { IfOk result (λ found. AreDistinct found.values) }
     ensures few { IfOk result (λ found. length found.values ≤ at_most) }
 {
-    let others = without(number, core, Vec::new(alloc))?;
+    let others = push_without(number, core, Vec::new(alloc))?;
     let values = Items::new(alloc);
     add_allowed(
         callbacks,

@@ -16,7 +16,7 @@ use std::alloc::{AllocError, Global};
 
 /// Returns an interleaving that is true to its end if `condition` is checked for each event. `None` if no interleaving
 /// is.
-fn true_merge<C: Callbacks, A: Condition>(
+fn explaining_interleaving<C: Callbacks, A: Condition>(
     callbacks: &C,
     condition: &A,
     alloc: Global,
@@ -64,7 +64,7 @@ pub fn is_allowed<C: Callbacks>(
         answer,
         others,
     };
-    match true_merge(callbacks, &asked, alloc, shaped, history)? {
+    match explaining_interleaving(callbacks, &asked, alloc, shaped, history)? {
         Some(_word) => Ok(true),
         None => Ok(false),
     }
@@ -96,5 +96,5 @@ pub fn interleaving_beyond<C: Callbacks>(
         answers,
         others,
     };
-    true_merge(callbacks, &asked, alloc, shaped, history)
+    explaining_interleaving(callbacks, &asked, alloc, shaped, history)
 }

@@ -47,7 +47,7 @@ pub fn answer_of<C: Callbacks>(
 }
 
 /// Reads and judges the item that a tree spells, and counts it in `steps`.
-fn answer_counted<C: Callbacks>(
+fn answer_with_progress<C: Callbacks>(
     callbacks: &C,
     alloc: Global,
     typed: &Typed,
@@ -85,7 +85,7 @@ pub fn judge_each<C: Callbacks + Sync, R: Threads + Sync>(
             |tree: &Tree| -> Result<ItemResult, AllocError>
                 requires { typed.now ≡ C.model callbacks.now }
                 ensures { IfOk result (IsAnswer (C.model callbacks.entry.now) tree.now) }
-            { answer_counted(callbacks, alloc, typed, tree, steps) },
+            { answer_with_progress(callbacks, alloc, typed, tree, steps) },
         )
         .collect::<Result<Vec<ItemResult>, AllocError>>(rt, alloc)?
 }

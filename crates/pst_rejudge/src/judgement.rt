@@ -21,7 +21,7 @@ fn add_place(alloc: Global, fields: &mut Vec<Field>, place: &FaultPlace) -> Resu
 }
 
 /// Adds an interleaving, the numbers of its branches.
-fn add_merge(
+fn add_interleaving(
     alloc: Global,
     fields: &mut Vec<Field>,
     branches: &Vec<usize>,
@@ -40,7 +40,7 @@ fn add_verdict(alloc: Global, fields: &mut Vec<Field>, verdict: &Verdict) -> Res
     match verdict {
         Verdict::Explained(word) => {
             add_words(alloc, fields, Name::Verdict, "explained")?;
-            add_merge(alloc, fields, word)
+            add_interleaving(alloc, fields, word)
         }
         Verdict::Faulted(place) => {
             add_words(alloc, fields, Name::Verdict, "fault")?;
@@ -58,19 +58,19 @@ fn add_verdict(alloc: Global, fields: &mut Vec<Field>, verdict: &Verdict) -> Res
 }
 
 /// Adds why a case is not valid.
-fn add_why(alloc: Global, fields: &mut Vec<Field>, why: &Why) -> Result<(), AllocError>
+fn add_reason(alloc: Global, fields: &mut Vec<Field>, why: &Why) -> Result<(), AllocError>
     ensures { OnOk result (fields.new.items ≡ fields.old.items ++ outcome_fields (judged.Invalid why.now)) }
 {
     match why {
         Why::PreFalse { command, merge } => {
             add_words(alloc, fields, Name::Verdict, "prefalse")?;
             add_number(fields, Name::Command, *command as u64)?;
-            add_merge(alloc, fields, merge)
+            add_interleaving(alloc, fields, merge)
         }
         Why::CallbackFault { place, merge } => {
             add_words(alloc, fields, Name::Verdict, "casefault")?;
             add_place(alloc, fields, place)?;
-            add_merge(alloc, fields, merge)
+            add_interleaving(alloc, fields, merge)
         }
         Why::NoMemory => {
             add_words(alloc, fields, Name::Verdict, "refused")?;
@@ -92,7 +92,7 @@ pub fn judged_fields(
     match judged {
         Judged::Verdict(verdict) => add_verdict(alloc, &mut fields, verdict)?,
         Judged::Valid => add_words(alloc, &mut fields, Name::Verdict, "valid")?,
-        Judged::Invalid(why) => add_why(alloc, &mut fields, why)?,
+        Judged::Invalid(why) => add_reason(alloc, &mut fields, why)?,
     }
     Ok(fields)
 }

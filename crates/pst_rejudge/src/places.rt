@@ -12,7 +12,7 @@ use crate::taking::JudgedPart;
 use std::alloc::{AllocError, Global};
 
 /// An empty place for each part.
-fn no_parts(alloc: Global, parts: &[&[u8]]) -> Result<Vec<Option<JudgedRuns>>, AllocError>
+fn empty_places(alloc: Global, parts: &[&[u8]]) -> Result<Vec<Option<JudgedRuns>>, AllocError>
     ensures { IfOk result (λ places. (m : Source) (keeps : Bool) → AreFilled m keeps parts.now places.items) }
 {
     let mut places = Vec::with_capacity(alloc, parts.len())?;
@@ -48,7 +48,7 @@ pub(crate) fn place_parts(
     ensures { IfOk result (λ places. (m : Source) (keeps : Bool)
         → All (λ taken. All (StandsIn m keeps parts.now) taken.items) lists.items → AreFilled m keeps parts.now places.items) }
 {
-    let mut places = no_parts(alloc, parts)?;
+    let mut places = empty_places(alloc, parts)?;
     for taken in lists {
         places = fill_places(places, taken);
     }

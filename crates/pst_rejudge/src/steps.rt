@@ -32,7 +32,7 @@ impl ProgressCounter {
     }
 
     /// There are `all` items, and none of them is done yet.
-    pub fn expect(&self, all: usize) {
+    pub fn set_total(&self, all: usize) {
         self.done.store(0, Ordering::SeqCst);
         self.all.store(all as u64, Ordering::SeqCst);
     }

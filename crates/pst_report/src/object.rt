@@ -163,7 +163,7 @@ fn add_shrunk(
 }
 
 /// The lost numbers, each with its cause, such as `3:Panicked`.
-fn losses(alloc: Global, entries: &[Entry<Record>]) -> Result<Vec<Text>, AllocError> {
+fn lost_trial_texts(alloc: Global, entries: &[Entry<Record>]) -> Result<Vec<Text>, AllocError> {
     let mut losses = Vec::new(alloc);
     for (number, entry) in entries.iter().enumerate() {
         if let Entry::Lost(cause) = entry {
@@ -186,7 +186,7 @@ pub fn add_failure(
 ) -> Result<(), AllocError>
     requires { AreOf plan.now 0 entries.now }
 {
-    fields.push(Field::Lines(Name::Losses, losses(alloc, entries)?))?;
+    fields.push(Field::Lines(Name::Losses, lost_trial_texts(alloc, entries)?))?;
     if let Some((number, shrunk)) = least_failure(plan, entries) {
         add_number(fields, Name::Least, number as u64)?;
         add_shrunk(alloc, fields, plan.typed(), shrunk)?;

@@ -34,7 +34,11 @@ pub enum Visited<'a> {
 }
 
 /// The list that is built with one more item.
-fn appended<'a>(built: Items<Value>, value: Value, left: u32) -> Result<Visited<'a>, AllocError>
+fn push_to_built<'a>(
+    built: Items<Value>,
+    value: Value,
+    left: u32,
+) -> Result<Visited<'a>, AllocError>
     ensures { IfOk result (Appends (operators.append built value) left) }
 {
     match append(built, value) {
@@ -207,7 +211,7 @@ fn in_clauses<'a>(
     let Some((first, rest)) = split_first(clauses) else {
         return match try_evaluate(body, context, env, turns)? {
             Tried::Faults(fault) => { Ok(Visited::Part(in_expr(body, site, env, turns)?, fault)) }
-            Tried::Gives(value, left) => appended(built, value, left),
+            Tried::Gives(value, left) => push_to_built(built, value, left),
             Tried::Stuck => Ok(Visited::Itself),
         };
     };

@@ -46,10 +46,10 @@ pub use scene::{Scene, scene_of};
 pub use spelling::{add_number, add_reply, add_str, add_value};
 pub use style::Style;
 pub use table::{Cell, Table, two_cells};
-pub use texts::{expression_text, joined, operation, text_of, value_text};
+pub use texts::{expression_text, join_texts, operation_of_call, text_of, value_text};
 pub use walk::{
-    PreAnswer, arguments, calls_before, initial_state, precondition, reference, state_after,
-    state_before, states_along,
+    PreAnswer, calls_before, evaluate_precondition, initial_state, recorded_arguments,
+    reference_to_result, state_after, state_before, states_along,
 };
 pub use wanted::{wanted_reply, wants_one_reply};
 pub use words::words_of;

@@ -35,7 +35,7 @@ fn deciding_part_of_if<'a>(
 }
 
 /// The operand of an `and` that faults.
-fn of_and<'a>(
+fn faulty_part_of_and<'a>(
     expr: &'a Expr,
     context: &Context<'_>,
     env: &Env<'_>,
@@ -60,7 +60,7 @@ fn of_and<'a>(
 }
 
 /// The operand of an `or` that faults.
-fn of_or<'a>(
+fn faulty_part_of_or<'a>(
     expr: &'a Expr,
     context: &Context<'_>,
     env: &Env<'_>,
@@ -85,7 +85,7 @@ fn of_or<'a>(
 }
 
 /// The operand of an operator of one that faults.
-fn of_unary<'a>(
+fn faulty_part_of_unary<'a>(
     expr: &'a Expr,
     context: &Context<'_>,
     env: &Env<'_>,
@@ -104,7 +104,7 @@ fn of_unary<'a>(
 }
 
 /// The tuple of an `at` that faults.
-fn of_at<'a>(
+fn faulty_part_of_at<'a>(
     expr: &'a Expr,
     context: &Context<'_>,
     env: &Env<'_>,
@@ -123,7 +123,7 @@ fn of_at<'a>(
 }
 
 /// The operand of an operator of two that faults.
-fn of_binary<'a>(
+fn faulty_part_of_binary<'a>(
     expr: &'a Expr,
     context: &Context<'_>,
     env: &Env<'_>,
@@ -146,7 +146,7 @@ fn of_binary<'a>(
 }
 
 /// The map, the key or the value of a `put` that faults.
-fn of_put<'a>(
+fn faulty_part_of_put<'a>(
     expr: &'a Expr,
     context: &Context<'_>,
     env: &Env<'_>,
@@ -175,7 +175,7 @@ fn of_put<'a>(
 }
 
 /// The part of a tuple that faults.
-fn of_tuple<'a>(
+fn faulty_part_of_tuple<'a>(
     expr: &'a Expr,
     context: &Context<'_>,
     env: &Env<'_>,
@@ -194,7 +194,7 @@ fn of_tuple<'a>(
 }
 
 /// The item of a list that faults.
-fn of_list<'a>(
+fn faulty_part_of_list<'a>(
     expr: &'a Expr,
     context: &Context<'_>,
     env: &Env<'_>,
@@ -213,7 +213,7 @@ fn of_list<'a>(
 }
 
 /// The argument of a call that faults.
-fn of_call<'a>(
+fn faulty_part_of_call<'a>(
     expr: &'a Expr,
     context: &Context<'_>,
     env: &Env<'_>,
@@ -244,15 +244,15 @@ pub fn deciding_part<'a>(
 {
     match expr {
         Expr::If(_, _, _) => deciding_part_of_if(expr, context, env, turns),
-        Expr::And(_, _) => of_and(expr, context, env, turns),
-        Expr::Or(_, _) => of_or(expr, context, env, turns),
-        Expr::Unary(_, _) => of_unary(expr, context, env, turns),
-        Expr::At(_, _) => of_at(expr, context, env, turns),
-        Expr::Binary(_, _, _) => of_binary(expr, context, env, turns),
-        Expr::Put(_, _, _) => of_put(expr, context, env, turns),
-        Expr::Tuple(_) => of_tuple(expr, context, env, turns),
-        Expr::List(_, _) => of_list(expr, context, env, turns),
-        Expr::Call(_, _) => of_call(expr, context, env, turns),
+        Expr::And(_, _) => faulty_part_of_and(expr, context, env, turns),
+        Expr::Or(_, _) => faulty_part_of_or(expr, context, env, turns),
+        Expr::Unary(_, _) => faulty_part_of_unary(expr, context, env, turns),
+        Expr::At(_, _) => faulty_part_of_at(expr, context, env, turns),
+        Expr::Binary(_, _, _) => faulty_part_of_binary(expr, context, env, turns),
+        Expr::Put(_, _, _) => faulty_part_of_put(expr, context, env, turns),
+        Expr::Tuple(_) => faulty_part_of_tuple(expr, context, env, turns),
+        Expr::List(_, _) => faulty_part_of_list(expr, context, env, turns),
+        Expr::Call(_, _) => faulty_part_of_call(expr, context, env, turns),
         _ => Ok(None),
     }
 }

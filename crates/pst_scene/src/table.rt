@@ -94,7 +94,7 @@ fn small_and_large(widths: &[usize], share: usize) -> (usize, usize) {
 
 /// Returns the widths of columns that may have `room` bytes together. Each column that needs at most an equal share
 /// keeps its width, and the others share the rest equally.
-fn fitted(alloc: Global, widths: &[usize], room: usize) -> Result<Vec<usize>, AllocError> {
+fn fit_widths(alloc: Global, widths: &[usize], room: usize) -> Result<Vec<usize>, AllocError> {
     let share = room.checked_div(widths.len()).unwrap_or(0);
     let (sum, large) = small_and_large(widths, share);
     let most = room.saturating_sub(sum).checked_div(large).unwrap_or(0);
@@ -214,7 +214,7 @@ impl Table {
         if sum_of(widths) <= room {
             return self.write_in(page, alloc, indent, widths);
         }
-        let widths = fitted(alloc, widths, room)?;
+        let widths = fit_widths(alloc, widths, room)?;
         self.write_in(page, alloc, indent, widths.as_slice())
     }
 

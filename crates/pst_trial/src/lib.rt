@@ -33,5 +33,5 @@ pub use settings::{
 };
 pub use sharing::may_share_records;
 pub use shrinking::ShrinkProgress;
-pub use threads::{ThreadDriver, trial, trial_counting};
+pub use threads::{ThreadDriver, trial, trial_with_progress};
 pub use trials::trial_by;

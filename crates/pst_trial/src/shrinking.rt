@@ -40,7 +40,7 @@ impl ShrinkProgress {
     }
 
     /// Whether this trial is named as the one that is shrunk.
-    fn names(&self, trial: u64) -> bool {
+    fn is_shrinking(&self, trial: u64) -> bool {
         match self.current() {
             Some((named, _)) => named == trial,
             None => false,
@@ -49,7 +49,7 @@ impl ShrinkProgress {
 
     /// A candidate of a trial is driven next, after `driven` others.
     pub fn begin_candidate(&self, trial: u64, driven: u64) {
-        if driven == 0 || self.current().is_none() || self.names(trial) {
+        if driven == 0 || self.current().is_none() || self.is_shrinking(trial) {
             self.word
                 .store(pack_progress(trial, driven), Ordering::SeqCst);
         }
@@ -57,7 +57,7 @@ impl ShrinkProgress {
 
     /// A trial has ended. If another is shrunk meanwhile, it is named at its next candidate.
     pub fn end_trial(&self, trial: u64) {
-        if self.names(trial) {
+        if self.is_shrinking(trial) {
             self.word.store(0, Ordering::SeqCst);
         }
     }

@@ -101,11 +101,11 @@ pub fn trial<R: Threads + Wait>(
         (fails system.new) (fails system.old)
         (reset_fails system.new) (reset_fails system.old) }
 {
-    trial_counting(rt, alloc, plan, number, system, &ShrinkProgress::new())
+    trial_with_progress(rt, alloc, plan, number, system, &ShrinkProgress::new())
 }
 
 /// Does what [`trial`] does, and counts in `shrinking` the candidates that it drives while the case is shrunk.
-pub fn trial_counting<R: Threads + Wait>(
+pub fn trial_with_progress<R: Threads + Wait>(
     rt: &R,
     alloc: Global,
     plan: &Arc<Plan>,

@@ -1,7 +1,7 @@
 //! Models that are not well typed.
 
 use crate::diagnose::{BlamedPart, diagnose};
-use crate::operands::other_type;
+use crate::operands::other_type_problem;
 use crate::trees::{enter_part, head_word, tree_in};
 use crate::walk::{names_in, part_at};
 use pst_model::{Expr, Fun, Item, Op, Source, state_of};
@@ -83,7 +83,7 @@ fn wanted_type_problem(alloc: Global, site: &Site<'_>, found: &Kind) -> FoundPro
     if found.same(alloc, site.wanted)? {
         return Ok(None);
     }
-    other_type(alloc, site.path, site.called, site.wanted, found)
+    other_type_problem(alloc, site.path, site.called, site.wanted, found)
 }
 
 /// Adds what is wrong with the type of an expression: one problem for each part that is to blame.

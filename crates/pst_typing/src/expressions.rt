@@ -28,7 +28,7 @@ pub fn infer(expr: &Expr, context: &Context<'_>, scope: &Scope<'_>) -> Result<Fo
 fn infer_kind(expr: &Expr, context: &Context<'_>, names: &Names<'_>) -> Result<Found, AllocError>
     ensures { IfOk result (λ found. IsFound (type_in context.now) (names_in names.now) expr.now found) }
 {
-    let Gathered { kinds, blames, .. } = gather(expr, context, names)?;
+    let Gathered { kinds, blames, .. } = infer_parts(expr, context, names)?;
     if blames.is_empty() {
         kind_by_parts(expr, context, names, kinds)
     } else {
@@ -38,7 +38,11 @@ fn infer_kind(expr: &Expr, context: &Context<'_>, names: &Names<'_>) -> Result<F
 
 /// What is known of the parts of an expression.
 #[cycle(infer)]
-fn gather(expr: &Expr, context: &Context<'_>, names: &Names<'_>) -> Result<Gathered, AllocError>
+fn infer_parts(
+    expr: &Expr,
+    context: &Context<'_>,
+    names: &Names<'_>,
+) -> Result<Gathered, AllocError>
     ensures { IfOk result (λ all. ArePartsOf (type_in context.now) (names_in names.now) expr.now all) }
 {
     match expr {

@@ -7,7 +7,7 @@ ghost use Rattle.pst_typing.specs.Answers.{Answers};
 ghost use Rattle.pst_typing.specs.Scope.{names_of, names_in, name_seen};
 
 use crate::kinds::Kind;
-use crate::operators::copied;
+use crate::operators::copy_kind;
 use crate::refusal::Refusal;
 use pst_model::{Fun, Item, Op, Param, operation_number, operation_of};
 use pst_value::Items;
@@ -87,7 +87,7 @@ pub fn find_name(names: &Names<'_>, name: &[u8]) -> Result<Kind, Refusal>
     ensures { Answers (rules.type_named (names_in names.now) name.now) result }
 {
     match names {
-        Names::Outer(seen) => copied(kind_seen(seen, name)),
+        Names::Outer(seen) => copy_kind(kind_seen(seen, name)),
         Names::With(bound, kind, outer) => {
             if *bound == name {
                 return Ok(kind.copy()?);

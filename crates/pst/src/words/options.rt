@@ -68,7 +68,7 @@ pub fn branches_option<'a>(alloc: Global) -> Result<Arg<'a>, AllocError> {
 }
 
 /// Returns whether the arguments have a client, which the launcher starts and not the program.
-pub fn starts_clients(matches: &ArgMatches<'_>) -> bool {
+pub fn names_client(matches: &ArgMatches<'_>) -> bool {
     match matches.subcommand() {
         Some((_, words)) => words.get_str("client").is_some(),
         None => false,

@@ -4,13 +4,13 @@ use Rattle.pst_compile.specs.Scopes.{scope_of, code_in}
 use Rattle.pst_compile.proofs.Loading.{code_next, registers_next}
 use Rattle.pst_compile.proofs.+expression_code.Goals as goal
 
-pub expressions::load_all-load-requires : goal.expressions::load_all-load-requires
-expressions::load_all-load-requires t c =
+pub expressions::operands_code-operand_code-requires : goal.expressions::operands_code-operand_code-requires
+expressions::operands_code-operand_code-requires t c =
     let h = rw (sym c.expr-item.is) at (item_weight c.args.exprs.now c.loop-expr.expr-index c.expr-item.result c.loop-expr-test.true) in
     (omega (arith, h), tt)
 
-pub expressions::load_all-loop-expr-preserved : goal.expressions::load_all-loop-expr-preserved
-expressions::load_all-loop-expr-preserved t c =
+pub expressions::operands_code-loop-expr-preserved : goal.expressions::operands_code-loop-expr-preserved
+expressions::operands_code-loop-expr-preserved t c =
     let m = code_in c.args.context.now in
     let sc = scope_of c.args.names.now in
     let r : c.in_ok-next.next.register ≡ c.loop-expr.next.register + 1 = c.in_ok-next.ensures.register ∙ ap (λ n. n + 1) c.in_ok-after.ensures.register in

@@ -7,8 +7,8 @@ use Rattle.pst_compile.proofs.+expression_code.Given as goal
 abbrev pub decreases-expressions::expression_code : goal.decreases-expressions::expression_code
 decreases-expressions::expression_code l = 4 * weight l.expr.now
 
-abbrev pub decreases-expressions::load : goal.decreases-expressions::load
-decreases-expressions::load l = 4 * weight l.expr.now + 1
+abbrev pub decreases-expressions::operand_code : goal.decreases-expressions::operand_code
+decreases-expressions::operand_code l = 4 * weight l.expr.now + 1
 
 abbrev pub decreases-expressions::unary_code : goal.decreases-expressions::unary_code
 decreases-expressions::unary_code l = 4 * weight l.operand.now + 3
@@ -37,8 +37,8 @@ decreases-expressions::call_code l = 4 * total (map weight l.exprs.now) + 3
 abbrev pub decreases-expressions::apply_code : goal.decreases-expressions::apply_code
 decreases-expressions::apply_code l = 4 * total (map weight l.exprs.now) + 3
 
-abbrev pub decreases-expressions::load_all : goal.decreases-expressions::load_all
-decreases-expressions::load_all l = 4 * total (map weight l.exprs.now) + 2
+abbrev pub decreases-expressions::operands_code : goal.decreases-expressions::operands_code
+decreases-expressions::operands_code l = 4 * total (map weight l.exprs.now) + 2
 
 abbrev pub decreases-overwriting::overwrite : goal.decreases-overwriting::overwrite
 decreases-overwriting::overwrite l = 4 * weight l.expr.now + 1
@@ -64,8 +64,8 @@ decreases-loops::in_code l = 4 * (weight l.list.now + 1 + total (map clause_weig
 abbrev pub decreases-loops::when_code : goal.decreases-loops::when_code
 decreases-loops::when_code l = 4 * (weight l.test.now + 1 + total (map clause_weight l.rest.now) + weight l.body.now) + 1
 
-abbrev pub invariant-expressions::load_all-loop-expr : goal.invariant-expressions::load_all-loop-expr
-invariant-expressions::load_all-loop-expr l =
+abbrev pub invariant-expressions::operands_code-loop-expr : goal.invariant-expressions::operands_code-loop-expr
+invariant-expressions::operands_code-loop-expr l =
     let m = map (code_in l.context) in
     record {
       code : l.code ++ load_all (m (drop l.expr-index l.exprs)) (scope_of l.names) l.next.register l.next.place ≡ load_all (m l.exprs) (scope_of l.names) l.fn.target.register l.fn.target.place;

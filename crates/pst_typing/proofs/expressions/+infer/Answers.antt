@@ -6,80 +6,80 @@ use Rattle.pst_typing.proofs.Blaming.{named_leaf, named, named_for, judged_ok, i
 use Rattle.pst_typing.proofs.Gathers.{ok_one, ok_more, ok_let, ok_let_ill, fold_no_list, fold_no_first, fold_goes, each_more, ok_body, ok_when, ok_in, in_ends}
 use Rattle.pst_typing.proofs.expressions.+infer.Goals as goal
 
-pub gather-returns-in-Int : goal.gather-returns-in-Int
-gather-returns-in-Int t c =
+pub infer_parts-returns-in-Int : goal.infer_parts-returns-in-Int
+infer_parts-returns-in-Int t c =
     named_leaf (type_in c.args.context.now) (names_in c.args.names.now) c.args.expr.now _ c.in-Int.is _ (parts_int _) c.new.ensures
 
-pub gather-returns-in-Bool : goal.gather-returns-in-Bool
-gather-returns-in-Bool t c =
+pub infer_parts-returns-in-Bool : goal.infer_parts-returns-in-Bool
+infer_parts-returns-in-Bool t c =
     named_leaf (type_in c.args.context.now) (names_in c.args.names.now) c.args.expr.now _ c.in-Bool.is _ (parts_bool _) c.new-in-Bool.ensures
 
-pub gather-returns-in-Text : goal.gather-returns-in-Text
-gather-returns-in-Text t c =
+pub infer_parts-returns-in-Text : goal.infer_parts-returns-in-Text
+infer_parts-returns-in-Text t c =
     named_leaf (type_in c.args.context.now) (names_in c.args.names.now) c.args.expr.now _ c.in-Text.is _ (parts_text _) c.new-in-Text.ensures
 
-pub gather-returns-in-Name : goal.gather-returns-in-Name
-gather-returns-in-Name t c =
+pub infer_parts-returns-in-Name : goal.infer_parts-returns-in-Name
+infer_parts-returns-in-Name t c =
     named_leaf (type_in c.args.context.now) (names_in c.args.names.now) c.args.expr.now _ c.in-Name.is _ (parts_name _) c.new-in-Name.ensures
 
-pub gather-returns-in-Map : goal.gather-returns-in-Map
-gather-returns-in-Map t c =
+pub infer_parts-returns-in-Map : goal.infer_parts-returns-in-Map
+infer_parts-returns-in-Map t c =
     named_leaf (type_in c.args.context.now) (names_in c.args.names.now) c.args.expr.now _ c.in-Map.is _ (parts_map _ _) c.new-in-Map.ensures
 
-pub gather-returns-in-Let : goal.gather-returns-in-Let
-gather-returns-in-Let t c =
+pub infer_parts-returns-in-Let : goal.infer_parts-returns-in-Let
+infer_parts-returns-in-Let t c =
     named (type_in c.args.context.now) (names_in c.args.names.now) c.args.expr.now _ c.in-Let.is _ _ (parts_let _ _ _) c.infer_let.ensures
 
-pub gather-returns-in-If : goal.gather-returns-in-If
-gather-returns-in-If t c =
+pub infer_parts-returns-in-If : goal.infer_parts-returns-in-If
+infer_parts-returns-in-If t c =
     named (type_in c.args.context.now) (names_in c.args.names.now) c.args.expr.now _ c.in-If.is _ _ (parts_if _ _ _) c.infer_three.ensures
 
-pub gather-returns-in-And : goal.gather-returns-in-And
-gather-returns-in-And t c =
+pub infer_parts-returns-in-And : goal.infer_parts-returns-in-And
+infer_parts-returns-in-And t c =
     named (type_in c.args.context.now) (names_in c.args.names.now) c.args.expr.now _ c.in-And.is _ _ (parts_and _ _) c.infer_two.ensures
 
-pub gather-returns-in-Or : goal.gather-returns-in-Or
-gather-returns-in-Or t c =
+pub infer_parts-returns-in-Or : goal.infer_parts-returns-in-Or
+infer_parts-returns-in-Or t c =
     named (type_in c.args.context.now) (names_in c.args.names.now) c.args.expr.now _ c.in-Or.is _ _ (parts_or _ _) c.infer_two-in-Or.ensures
 
-pub gather-returns-in-Unary : goal.gather-returns-in-Unary
-gather-returns-in-Unary t c =
+pub infer_parts-returns-in-Unary : goal.infer_parts-returns-in-Unary
+infer_parts-returns-in-Unary t c =
     named (type_in c.args.context.now) (names_in c.args.names.now) c.args.expr.now _ c.in-Unary.is _ _ (parts_unary _ _) c.infer_one.ensures
 
-pub gather-returns-in-Binary : goal.gather-returns-in-Binary
-gather-returns-in-Binary t c =
+pub infer_parts-returns-in-Binary : goal.infer_parts-returns-in-Binary
+infer_parts-returns-in-Binary t c =
     named (type_in c.args.context.now) (names_in c.args.names.now) c.args.expr.now _ c.in-Binary.is _ _ (parts_binary _ _ _) c.infer_two-in-Binary.ensures
 
-pub gather-returns-in-Tuple : goal.gather-returns-in-Tuple
-gather-returns-in-Tuple t c =
+pub infer_parts-returns-in-Tuple : goal.infer_parts-returns-in-Tuple
+infer_parts-returns-in-Tuple t c =
     named (type_in c.args.context.now) (names_in c.args.names.now) c.args.expr.now _ c.in-Tuple.is _ _ (parts_tuple _) (rw c.as_slice.ensures at c.infer_each.ensures)
 
-pub gather-returns-in-At : goal.gather-returns-in-At
-gather-returns-in-At t c =
+pub infer_parts-returns-in-At : goal.infer_parts-returns-in-At
+infer_parts-returns-in-At t c =
     named (type_in c.args.context.now) (names_in c.args.names.now) c.args.expr.now _ c.in-At.is _ _ (parts_at _ _) c.infer_one-in-At.ensures
 
-pub gather-returns-in-List : goal.gather-returns-in-List
-gather-returns-in-List t c =
+pub infer_parts-returns-in-List : goal.infer_parts-returns-in-List
+infer_parts-returns-in-List t c =
     named (type_in c.args.context.now) (names_in c.args.names.now) c.args.expr.now _ c.in-List.is _ _ (parts_list _ _) (rw c.as_slice-in-List.ensures at c.infer_each-in-List.ensures)
 
-pub gather-returns-in-Fold : goal.gather-returns-in-Fold
-gather-returns-in-Fold t c =
+pub infer_parts-returns-in-Fold : goal.infer_parts-returns-in-Fold
+infer_parts-returns-in-Fold t c =
     named (type_in c.args.context.now) (names_in c.args.names.now) c.args.expr.now _ c.in-Fold.is _ _ (parts_fold _ _ _ _ _) c.infer_fold.ensures
 
-pub gather-returns-in-Put : goal.gather-returns-in-Put
-gather-returns-in-Put t c =
+pub infer_parts-returns-in-Put : goal.infer_parts-returns-in-Put
+infer_parts-returns-in-Put t c =
     named (type_in c.args.context.now) (names_in c.args.names.now) c.args.expr.now _ c.in-Put.is _ _ (parts_put _ _ _) c.infer_three-in-Put.ensures
 
-pub gather-returns-in-Call : goal.gather-returns-in-Call
-gather-returns-in-Call t c =
+pub infer_parts-returns-in-Call : goal.infer_parts-returns-in-Call
+infer_parts-returns-in-Call t c =
     named (type_in c.args.context.now) (names_in c.args.names.now) c.args.expr.now _ c.in-Call.is _ _ (parts_call _ _) (rw c.as_slice-in-Call.ensures at c.infer_each-in-Call.ensures)
 
-pub gather-returns-in-Apply : goal.gather-returns-in-Apply
-gather-returns-in-Apply t c =
+pub infer_parts-returns-in-Apply : goal.infer_parts-returns-in-Apply
+infer_parts-returns-in-Apply t c =
     named (type_in c.args.context.now) (names_in c.args.names.now) c.args.expr.now _ c.in-Apply.is _ _ (parts_apply _ _) (rw c.as_slice-in-Apply.ensures at c.infer_each-in-Apply.ensures)
 
-pub gather-returns-in-For : goal.gather-returns-in-For
-gather-returns-in-For t c =
+pub infer_parts-returns-in-For : goal.infer_parts-returns-in-For
+infer_parts-returns-in-For t c =
     named_for (type_in c.args.context.now) (names_in c.args.names.now) c.args.expr.now _ c.in-For.is _ _ _ _ refl c.new-none.ensures (rw (c.as_slice-in-For.ensures, c.get.ensures) at c.infer_clauses.ensures)
 
 pub infer_kind-returns-then-is_empty : goal.infer_kind-returns-then-is_empty

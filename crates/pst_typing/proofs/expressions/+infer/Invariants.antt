@@ -8,8 +8,8 @@ use Rattle.pst_typing.proofs.expressions.+infer.Given as goal
 abbrev pub decreases-infer_kind : goal.decreases-infer_kind
 decreases-infer_kind l = 8 * weight l.expr.now + 1
 
-abbrev pub decreases-gather : goal.decreases-gather
-decreases-gather l = 8 * weight l.expr.now
+abbrev pub decreases-infer_parts : goal.decreases-infer_parts
+decreases-infer_parts l = 8 * weight l.expr.now
 
 abbrev pub decreases-infer_one : goal.decreases-infer_one
 decreases-infer_one l = 8 * weight l.expr.now + 2
