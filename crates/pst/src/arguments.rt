@@ -141,7 +141,7 @@ pub fn parse_arguments<'a, R: Runtime + AllocGlobal>(
         Ok(matches) if matches.subcommand_name() == Some("verdicts") => {
             Err(print_text(rt, help::VERDICTS))
         }
-        Ok(matches) if words::starts_clients(&matches) => Err(refuse_client(rt)),
+        Ok(matches) if words::names_client(&matches) => Err(refuse_client(rt)),
         Ok(matches) => Ok(matches),
         Err(error) => Err(report_parse_error(rt, started, &error)),
     }
