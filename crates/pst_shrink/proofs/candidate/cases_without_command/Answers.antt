@@ -1,10 +1,10 @@
 use Rattle.pst_shrink.proofs.Dropping.{used, dropped}
 use Rattle.pst_shrink.proofs.candidate.cases_without_command.Goals as goal
-use Rattle.pst_shrink.proofs.candidate.cases_without_command.Goals.{then-not-uses+in_ok-without+in_ok-push, else-not-uses}
+use Rattle.pst_shrink.proofs.candidate.cases_without_command.Goals.{then-not-is_used+in_ok-without_command+in_ok-push, else-not-uses}
 
 pub loop-before-preserved : goal.loop-before-preserved
 loop-before-preserved c = elim c.if-not-is_used.branch [
-  | then-not-uses+in_ok-without+in_ok-push w ↦
+  | then-not-is_used+in_ok-without_command+in_ok-push w ↦
       dropped c.args.case.now c.loop-before.before c.is_used.result c.loop-before.all c.if-not-is_used.all
       w.in_ok-without.field-0
       c.is_used.ensures w.if-not-uses.true c.loop-before.invariant w.in_ok-without.ensures
