@@ -11,7 +11,7 @@ use crate::types::{map_form, ty_form};
 use crate::words::{binary_word, unary_word};
 use pst_model::{Clause, Expr};
 use pst_sexpr::{Form, headed, list_of, word};
-use pst_value::{Items, KeyTy, Text, Ty};
+use pst_value::{Boxed, Items, KeyTy, Text, Ty};
 use std::alloc::{AllocError, Global};
 
 fn integer(alloc: Global, number: i64) -> Result<Form, AllocError>
@@ -116,6 +116,13 @@ fn call_form(alloc: Global, operation: &Text, args: Items<Form>) -> Result<Form,
     headed(alloc, "call", prepend(alloc, operation, args)?)
 }
 
+/// An application of a function.
+fn apply_form(alloc: Global, function: &Text, args: Items<Form>) -> Result<Form, AllocError>
+    ensures { IfOk result (λ form. form ≡ headed function.now args) }
+{
+    headed(alloc, function.as_str(), args)
+}
+
 /// The tree of an expression.
 #[cycle(expr_form)]
 #[tactic(auto, using(crate::proofs::Forms::expr_forms))]
@@ -128,62 +135,46 @@ pub fn expr_form(alloc: Global, expr: &Expr) -> Result<Form, AllocError>
         Expr::Text(text) => Ok(Form::Text(text.copy(alloc)?)),
         Expr::Name(bound) => name(alloc, bound),
         Expr::Let(bound, value, body) => {
-            let value = expr_form(alloc, value.get())?;
-            let_form(alloc, bound, value, expr_form(alloc, body.get())?)
+            let_form(alloc, bound, form_of(alloc, value)?, form_of(alloc, body)?)
         }
-        Expr::If(condition, yes, otherwise) => {
-            let condition = expr_form(alloc, condition.get())?;
-            let yes = expr_form(alloc, yes.get())?;
-            let otherwise = expr_form(alloc, otherwise.get())?;
-            ternary_form(alloc, "if", condition, yes, otherwise)
+        Expr::If(test, yes, no) => {
+            let (test, yes) = (form_of(alloc, test)?, form_of(alloc, yes)?);
+            ternary_form(alloc, "if", test, yes, form_of(alloc, no)?)
         }
-        Expr::And(first, second) => {
-            let first = expr_form(alloc, first.get())?;
-            binary_form(alloc, "and", first, expr_form(alloc, second.get())?)
-        }
-        Expr::Or(first, second) => {
-            let first = expr_form(alloc, first.get())?;
-            binary_form(alloc, "or", first, expr_form(alloc, second.get())?)
-        }
-        Expr::Unary(operator, operand) => {
-            unary_form(
-                alloc,
-                unary_word(*operator),
-                expr_form(alloc, operand.get())?,
-            )
-        }
-        Expr::Binary(operator, first, second) => {
-            let first = expr_form(alloc, first.get())?;
-            let second = expr_form(alloc, second.get())?;
-            binary_form(alloc, binary_word(*operator), first, second)
+        Expr::And(a, b) => binary_form(alloc, "and", form_of(alloc, a)?, form_of(alloc, b)?),
+        Expr::Or(a, b) => binary_form(alloc, "or", form_of(alloc, a)?, form_of(alloc, b)?),
+        Expr::Unary(operator, a) => unary_form(alloc, unary_word(*operator), form_of(alloc, a)?),
+        Expr::Binary(operator, a, b) => {
+            let word = binary_word(*operator);
+            binary_form(alloc, word, form_of(alloc, a)?, form_of(alloc, b)?)
         }
         Expr::Tuple(parts) => headed(alloc, "tuple", each_expr(alloc, parts.as_slice())?),
-        Expr::At(tuple, number) => at_form(alloc, expr_form(alloc, tuple.get())?, *number),
+        Expr::At(tuple, number) => at_form(alloc, form_of(alloc, tuple)?, *number),
         Expr::List(ty, items) => list_form(alloc, ty, each_expr(alloc, items.as_slice())?),
         Expr::For(clauses, body) => {
             let clauses = Form::Node(each_clause(alloc, clauses.as_slice())?);
-            binary_form(alloc, "for", clauses, expr_form(alloc, body.get())?)
+            binary_form(alloc, "for", clauses, form_of(alloc, body)?)
         }
         Expr::Fold(bound, items, built, first, body) => {
-            let items = expr_form(alloc, items.get())?;
-            let first = expr_form(alloc, first.get())?;
-            let body = expr_form(alloc, body.get())?;
-            fold_form(alloc, (bound, built), items, first, body)
+            let (items, first) = (form_of(alloc, items)?, form_of(alloc, first)?);
+            fold_form(alloc, (bound, built), items, first, form_of(alloc, body)?)
         }
         Expr::Map(kind, ty) => empty_map(alloc, *kind, ty),
         Expr::Put(map, key, value) => {
-            let map = expr_form(alloc, map.get())?;
-            let key = expr_form(alloc, key.get())?;
-            let value = expr_form(alloc, value.get())?;
-            ternary_form(alloc, "put", map, key, value)
+            let (map, key) = (form_of(alloc, map)?, form_of(alloc, key)?);
+            ternary_form(alloc, "put", map, key, form_of(alloc, value)?)
         }
-        Expr::Call(operation, args) => {
-            call_form(alloc, operation, each_expr(alloc, args.as_slice())?)
-        }
-        Expr::Apply(function, args) => {
-            headed(alloc, function.as_str(), each_expr(alloc, args.as_slice())?)
-        }
+        Expr::Call(called, args) => call_form(alloc, called, each_expr(alloc, args.as_slice())?),
+        Expr::Apply(called, args) => apply_form(alloc, called, each_expr(alloc, args.as_slice())?),
     }
+}
+
+/// The tree of a part of an expression.
+#[cycle(expr_form)]
+fn form_of(alloc: Global, part: &Boxed<Expr>) -> Result<Form, AllocError>
+    ensures { IfOk result (λ form. form ≡ expr_form part.now) }
+{
+    expr_form(alloc, part.get())
 }
 
 #[cycle(expr_form)]
