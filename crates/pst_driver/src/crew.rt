@@ -2,6 +2,7 @@
 ghost use Rattle.std.specs.Prelude.{◌≡◌, IfOk, IfErr, true};
 ghost use Rattle.std.specs.Thread.{IsSend, IsSync};
 ghost use Rattle.pst_driver.specs.Progress.{all_known};
+ghost use Rattle.pst_system.specs.Kept.{AreKept};
 
 use crate::arrivals::StartBarrier;
 use crate::branches::{STACK_BYTES, copy_known, may_share_model};
@@ -84,6 +85,15 @@ impl<J: Relations, S: Subject> Crew<J, S> {
         self.desks.second.asked.ring();
         self.desks.third.asked.ring();
         self.desks.fourth.asked.ring();
+    }
+
+    /// Gives the system back, for drives without the crew. It has the relations that `J` names.
+    pub fn into_system(self) -> S
+        ensures { AreKept (S.may_answer result) J.answering (S.may_fail result) J.failing
+            (S.may_refuse_reset result) J.resetting }
+    {
+        let Crew { system, .. } = self;
+        system.into_inner().into_system()
     }
 }
 
@@ -204,7 +214,8 @@ fn start_thread<'s, E, J: Relations + Send + Sync, S: Subject + Send + Sync, R: 
 }
 
 /// Starts the threads of `count` branches in a scope, for a crew of which none has started. They run by the
-/// model. If one cannot be started, drives that need it or a later one return `NoThread`.
+/// model. Returns whether all have started. If one cannot be started, no later one is tried, and drives that need
+/// any of these return `NoThread`.
 pub fn start_crew<'s, E, J: Relations + Send + Sync, S: Subject + Send + Sync, R: Threads + Wait>(
     rt: &'s R,
     alloc: Global,
@@ -212,13 +223,14 @@ pub fn start_crew<'s, E, J: Relations + Send + Sync, S: Subject + Send + Sync, R
     typed: &'s Typed,
     crew: &'s Crew<J, S>,
     count: u32,
-)
+) -> bool
     requires { typed.now ≡ J.model }
 {
     for number in 0..count {
         if !start_thread(rt, alloc, scope, typed, crew, number) {
-            return;
+            return false;
         }
         crew.started.fetch_add(1, Ordering::SeqCst);
     }
+    true
 }

@@ -76,6 +76,15 @@ impl<J: Relations, S: Subject> KeptSystem<J, S> {
         &self.system
     }
 
+    /// The system itself.
+    pub(crate) fn into_system(self) -> S
+        ensures { AreKept (S.may_answer result) J.answering (S.may_fail result) J.failing
+            (S.may_refuse_reset result) J.resetting }
+    {
+        let KeptSystem { system, of: _ } = self;
+        system
+    }
+
     /// Takes the system back to its initial state.
     pub(crate) fn restart(&mut self) -> Result<(), CallFault>
         ensures { IfErr result J.resetting }
