@@ -3,7 +3,7 @@ use Rattle.std.specs.List.{AllZip}
 use Rattle.rayon.proofs.ToStd.{slice-AllZip}
 use Rattle.pst_judge.specs.Judgement.{IsJudgement}
 use Rattle.pst_rejudge.proofs.Collected.{collected}
-use Rattle.pst_rejudge.proofs.rejudge_counting.Goals as goal
+use Rattle.pst_rejudge.proofs.rejudge_with_progress.Goals as goal
 
 pub returns : goal.returns
 returns g c =
