@@ -86,34 +86,10 @@ pub fn in_expr<'a>(
                 _ => faulty_part_here(expr, site, env, turns),
             }
         }
-        Expr::Fold(name, list, acc, first, body) => {
-            match try_evaluate(list.get(), context, env, turns)? {
-                Tried::Faults(_) => in_expr(list.get(), site, env, turns),
-                Tried::Gives(value, left) => match items_of(value) {
-                    Ok(items) => match try_evaluate(first.get(), context, env, left)? {
-                        Tried::Faults(_) => in_expr(first.get(), site, env, left),
-                        Tried::Gives(first, left) => {
-                            match in_items(
-                                body.get(),
-                                name.as_bytes(),
-                                acc.as_bytes(),
-                                items.as_slice(),
-                                first,
-                                site,
-                                env,
-                                left,
-                            )? {
-                                Some(part) => Ok(part),
-                                None => faulty_part_here(expr, site, env, turns),
-                            }
-                        }
-                        Tried::Stuck => faulty_part_here(expr, site, env, turns),
-                    },
-                    Err(_) => faulty_part_here(expr, site, env, turns),
-                },
-                Tried::Stuck => faulty_part_here(expr, site, env, turns),
-            }
-        }
+        Expr::Fold(_, _, _, _, _) => match in_fold(expr, site, env, turns)? {
+            Some(part) => Ok(part),
+            None => faulty_part_here(expr, site, env, turns),
+        },
         _ => match deciding_part(expr, context, env, turns)? {
             Some((part, left)) => in_expr(part, site, env, left),
             None => faulty_part_here(expr, site, env, turns),
@@ -154,6 +130,46 @@ fn in_body<'a>(
     };
     let frame = Env::Frame(function.params.as_slice(), arguments);
     Ok(Some(in_expr(&function.body, &inner, &frame, left)?))
+}
+
+/// The part of a fold that has no value by itself, if it is not the whole fold. `None` of any other form.
+#[cycle(descent)]
+fn in_fold<'a>(
+    expr: &'a Expr,
+    site: &Site<'a>,
+    env: &Env<'_>,
+    turns: u32,
+) -> Result<Option<FaultyPart<'a>>, AllocError>
+    ensures { IfOk result
+        (SameIfSome site.now.context.items.now (mean_in site.now.context expr.now (env_of env.now) turns)) }
+{
+    let Expr::Fold(name, list, acc, first, body) = expr else {
+        return Ok(None);
+    };
+    let context = &site.context;
+    match try_evaluate(list.get(), context, env, turns)? {
+        Tried::Faults(_) => Ok(Some(in_expr(list.get(), site, env, turns)?)),
+        Tried::Gives(value, left) => match items_of(value) {
+            Ok(items) => match try_evaluate(first.get(), context, env, left)? {
+                Tried::Faults(_) => Ok(Some(in_expr(first.get(), site, env, left)?)),
+                Tried::Gives(first, left) => {
+                    in_items(
+                        body.get(),
+                        name.as_bytes(),
+                        acc.as_bytes(),
+                        items.as_slice(),
+                        first,
+                        site,
+                        env,
+                        left,
+                    )
+                }
+                Tried::Stuck => Ok(None),
+            },
+            Err(_) => Ok(None),
+        },
+        Tried::Stuck => Ok(None),
+    }
 }
 
 /// The part of the body of a fold that has no value by itself, of the first item for which it has none.

@@ -38,9 +38,10 @@ impl Cell {
     }
 }
 
-/// Where a cell of a table ends in the text of the table.
+/// The end of a cell of a table.
 #[derive(Clone, Copy, Drop)]
 struct CellEnd {
+    /// The offset in the text of the table after the last byte of the cell.
     end: usize,
     /// The cell's column, from 0.
     column: usize,
@@ -55,7 +56,7 @@ pub struct Table {
     cells: Vec<CellEnd>,
     /// The width of the widest cell of each column.
     widths: Vec<usize>,
-    /// Where the last cell ends.
+    /// The end of the last cell in `text`.
     end: usize,
     /// The column of the next cell.
     column: usize,
