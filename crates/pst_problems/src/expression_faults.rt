@@ -9,29 +9,28 @@ ghost use Rattle.pst_syntax.specs.Faults.{Clause, Expression};
 ghost use Rattle.pst_syntax.specs.Shape.{At, Call, Fold, For, Let, ListOf};
 ghost use Rattle.pst_syntax.specs.Shown.{shown};
 
-use crate::fault::{FormFault, Role};
+use crate::fault::Role;
 use crate::part_faults::{
     add_bound_faults, add_map_faults, add_operation_name_faults, add_tuple_place_faults,
     is_within_limits,
 };
 use crate::problem::below;
-use crate::telling::{Walk, push_fault, push_fault_unless};
+use crate::telling::{Added, Faults, Walk, push_fault, push_fault_unless};
 use crate::type_faults::add_ty_part_faults;
 use pst_sexpr::Form;
 use pst_syntax::{ClauseShape, FaultKind, FoldShape, MAX_TY_LEVELS, Shape, clause_shape, shape_of};
-use pst_value::{Items, Text};
-use std::alloc::AllocError;
+use pst_value::Text;
 
 /// Adds the faults of an expression with `room` levels of room.
 #[cycle(expr)]
 #[tactic(auto, using(crate::proofs::Keeping::keeping, crate::proofs::Levels::expr_levels))]
 pub fn add_expr_faults(
     walk: Walk,
-    faults: &mut Items<FormFault>,
+    faults: &mut Faults,
     path: &[usize],
     form: &Form,
     room: usize,
-) -> Result<(), AllocError>
+) -> Added
     ensures { OnOk result (faults.new ≡ keep walk.limit faults.old
         (expr_faults_at walk.has_maps room role.Expression path.now form.now)) }
 {
@@ -63,11 +62,11 @@ pub fn add_expr_faults(
 #[tactic(auto, using(crate::proofs::Keeping::keeping))]
 fn add_expr_parts_faults(
     walk: Walk,
-    faults: &mut Items<FormFault>,
+    faults: &mut Faults,
     path: &[usize],
     shape: &Shape<'_>,
     room: usize,
-) -> Result<(), AllocError>
+) -> Added
     ensures { OnOk result (faults.new ≡ keep walk.limit faults.old
         (all_at (spec.spot_in walk.has_maps (expr_faults_at walk.has_maps room))
         (spec.spots walk.has_maps path.now (shown shape.now)))) }
@@ -98,12 +97,12 @@ fn add_expr_parts_faults(
 #[cycle(expr)]
 pub fn add_expr_part_faults(
     walk: Walk,
-    faults: &mut Items<FormFault>,
+    faults: &mut Faults,
     path: &[usize],
     number: usize,
     form: &Form,
     room: usize,
-) -> Result<(), AllocError>
+) -> Added
     ensures { OnOk result (faults.new ≡ keep walk.limit faults.old
         (expr_faults_at walk.has_maps room role.Expression (spec.below path.now number) form.now)) }
 {
@@ -114,13 +113,7 @@ pub fn add_expr_part_faults(
 /// Adds the faults of an expression that is part 1 of the tree at `path`.
 #[cycle(expr)]
 #[tactic(auto, using(crate::proofs::Keeping::keeping))]
-fn add_unary_faults(
-    walk: Walk,
-    faults: &mut Items<FormFault>,
-    path: &[usize],
-    a: &Form,
-    room: usize,
-) -> Result<(), AllocError>
+fn add_unary_faults(walk: Walk, faults: &mut Faults, path: &[usize], a: &Form, room: usize) -> Added
     ensures { OnOk result (faults.new ≡ keep walk.limit faults.old
         (all_at (spec.spot_in walk.has_maps (expr_faults_at walk.has_maps room))
         (spots_from path.now 1 (Expression a.now ∷ [])))) }
@@ -134,12 +127,12 @@ fn add_unary_faults(
 #[tactic(auto, using(crate::proofs::Keeping::keeping))]
 fn add_binary_faults(
     walk: Walk,
-    faults: &mut Items<FormFault>,
+    faults: &mut Faults,
     path: &[usize],
     a: &Form,
     b: &Form,
     room: usize,
-) -> Result<(), AllocError>
+) -> Added
     ensures { OnOk result (faults.new ≡ keep walk.limit faults.old
         (all_at (spec.spot_in walk.has_maps (expr_faults_at walk.has_maps room))
         (spots_from path.now 1 (Expression a.now ∷ Expression b.now ∷ [])))) }
@@ -154,13 +147,13 @@ fn add_binary_faults(
 #[tactic(auto, using(crate::proofs::Keeping::keeping))]
 fn add_ternary_faults(
     walk: Walk,
-    faults: &mut Items<FormFault>,
+    faults: &mut Faults,
     path: &[usize],
     a: &Form,
     b: &Form,
     c: &Form,
     room: usize,
-) -> Result<(), AllocError>
+) -> Added
     ensures { OnOk result (faults.new ≡ keep walk.limit faults.old
         (all_at (spec.spot_in walk.has_maps (expr_faults_at walk.has_maps room))
         (spots_from path.now 1 (Expression a.now ∷ Expression b.now ∷ Expression c.now ∷ [])))) }
@@ -176,13 +169,13 @@ fn add_ternary_faults(
 #[tactic(auto, using(crate::proofs::Keeping::keeping))]
 fn add_let_faults(
     walk: Walk,
-    faults: &mut Items<FormFault>,
+    faults: &mut Faults,
     path: &[usize],
     name: &Text,
     value: &Form,
     body: &Form,
     room: usize,
-) -> Result<(), AllocError>
+) -> Added
     ensures { OnOk result (faults.new ≡ keep walk.limit faults.old
         (all_at (spec.spot_in walk.has_maps (expr_faults_at walk.has_maps room))
         (spec.spots walk.has_maps path.now (Let name.now value.now body.now)))) }
@@ -198,12 +191,12 @@ fn add_let_faults(
 #[tactic(auto, using(crate::proofs::Keeping::keeping))]
 fn add_at_faults(
     walk: Walk,
-    faults: &mut Items<FormFault>,
+    faults: &mut Faults,
     path: &[usize],
     tuple: &Form,
     number: &Text,
     room: usize,
-) -> Result<(), AllocError>
+) -> Added
     ensures { OnOk result (faults.new ≡ keep walk.limit faults.old
         (all_at (spec.spot_in walk.has_maps (expr_faults_at walk.has_maps room))
         (spec.spots walk.has_maps path.now (At tuple.now number.now)))) }
@@ -218,12 +211,12 @@ fn add_at_faults(
 #[tactic(auto, using(crate::proofs::Keeping::keeping))]
 fn add_list_faults(
     walk: Walk,
-    faults: &mut Items<FormFault>,
+    faults: &mut Faults,
     path: &[usize],
     item: &Form,
     items: &[Form],
     room: usize,
-) -> Result<(), AllocError>
+) -> Added
     ensures { OnOk result (faults.new ≡ keep walk.limit faults.old
         (all_at (spec.spot_in walk.has_maps (expr_faults_at walk.has_maps room))
         (spec.spots walk.has_maps path.now (ListOf item.now items.now)))) }
@@ -238,12 +231,12 @@ fn add_list_faults(
 #[tactic(auto, using(crate::proofs::Keeping::keeping))]
 fn add_for_faults(
     walk: Walk,
-    faults: &mut Items<FormFault>,
+    faults: &mut Faults,
     path: &[usize],
     parts: &[Form],
     body: &Form,
     room: usize,
-) -> Result<(), AllocError>
+) -> Added
     ensures { OnOk result (faults.new ≡ keep walk.limit faults.old
         (all_at (spec.spot_in walk.has_maps (expr_faults_at walk.has_maps room))
         (spec.spots walk.has_maps path.now (For parts.now body.now)))) }
@@ -258,12 +251,12 @@ fn add_for_faults(
 #[tactic(auto, using(crate::proofs::Keeping::keeping))]
 fn add_call_faults(
     walk: Walk,
-    faults: &mut Items<FormFault>,
+    faults: &mut Faults,
     path: &[usize],
     name: &Text,
     arguments: &[Form],
     room: usize,
-) -> Result<(), AllocError>
+) -> Added
     ensures { OnOk result (faults.new ≡ keep walk.limit faults.old
         (all_at (spec.spot_in walk.has_maps (expr_faults_at walk.has_maps room))
         (spec.spots walk.has_maps path.now (Call name.now arguments.now)))) }
@@ -278,12 +271,12 @@ fn add_call_faults(
 #[tactic(auto, using(crate::proofs::Keeping::keeping))]
 fn add_exprs_faults(
     walk: Walk,
-    faults: &mut Items<FormFault>,
+    faults: &mut Faults,
     path: &[usize],
     from: usize,
     forms: &[Form],
     room: usize,
-) -> Result<(), AllocError>
+) -> Added
     requires { from ≤ 2 }
     ensures { OnOk result (faults.new ≡ keep walk.limit faults.old
         (all_at (spec.spot_in walk.has_maps (expr_faults_at walk.has_maps room))
@@ -302,11 +295,11 @@ fn add_exprs_faults(
 #[tactic(auto, using(crate::proofs::Keeping::keeping))]
 fn add_fold_faults(
     walk: Walk,
-    faults: &mut Items<FormFault>,
+    faults: &mut Faults,
     path: &[usize],
     shape: &FoldShape<'_>,
     room: usize,
-) -> Result<(), AllocError>
+) -> Added
     ensures { OnOk result (faults.new ≡ keep walk.limit faults.old
         (all_at (spec.spot_in walk.has_maps (expr_faults_at walk.has_maps room))
         (spec.spots walk.has_maps path.now
@@ -327,11 +320,11 @@ fn add_fold_faults(
 #[tactic(auto, using(crate::proofs::Keeping::keeping))]
 fn add_clauses_faults(
     walk: Walk,
-    faults: &mut Items<FormFault>,
+    faults: &mut Faults,
     path: &[usize],
     forms: &[Form],
     room: usize,
-) -> Result<(), AllocError>
+) -> Added
     ensures { OnOk result (faults.new ≡ keep walk.limit faults.old
         (all_at (spec.spot_in walk.has_maps (expr_faults_at walk.has_maps room))
         (spots_from (spec.below path.now 1) 0 (map Clause forms.now)))) }
@@ -350,12 +343,12 @@ fn add_clauses_faults(
 #[tactic(auto, using(crate::proofs::Keeping::keeping))]
 fn add_clause_faults(
     walk: Walk,
-    faults: &mut Items<FormFault>,
+    faults: &mut Faults,
     path: &[usize],
     number: usize,
     form: &Form,
     room: usize,
-) -> Result<(), AllocError>
+) -> Added
     ensures { OnOk result (faults.new ≡ keep walk.limit faults.old
         (spec.clause_faults_at walk.has_maps (expr_faults_at walk.has_maps room) role.Clause
         (spec.below path.now number) form.now)) }

@@ -3,7 +3,8 @@
 use crate::forms::{HeadedForm, expression_form, in_place_of, nearest_head, type_form};
 use crate::found_problem::{
     FoundProblem, foreign_word_problem, missing_name_problem, missing_operation_problem,
-    problem_at, problem_at_part, problem_with_note, problem_with_note_at_part, with_quotes_hint,
+    problem_at, problem_at_part, problem_with_note, problem_with_note_at_part, with_note,
+    with_quotes_hint,
 };
 use crate::problem::below;
 use crate::tree::head_of;
@@ -89,6 +90,14 @@ impl fmt::Display for Written {
                 write!(f, "hint: write `({word} a ({word} b c))`")
             }
             "-" if self.parts == 1 => f.write_str("hint: write `(- 0 a)`"),
+            "list" if self.parts == 0 && self.form.most > 1 => {
+                f.write_str("hint: an empty list has the type of its items: `(list int)`")
+            }
+            "map" if self.parts == 0 => {
+                f.write_str(
+                    "hint: a map has the types of its keys and its values: `(map text int)`",
+                )
+            }
             _ => {
                 let written = self.form.written;
                 write!(f, "it is written `{written}`")
@@ -189,7 +198,11 @@ fn clause_list_problem(alloc: Global, path: &[usize]) -> FoundProblem {
 fn wrong_part_problem(alloc: Global, path: &[usize], word: &str, parts: &[Form]) -> FoundProblem {
     match (word, parts) {
         ("at", [_, place]) => tuple_place_problem(alloc, below(path, alloc, 2)?.as_slice(), place),
-        ("map", _) => map_keys_problem(alloc, below(path, alloc, 1)?.as_slice()),
+        ("map", _) => with_note(
+            alloc,
+            map_keys_problem(alloc, below(path, alloc, 1)?.as_slice())?,
+            "hint: an empty map is `(map text int)`, and `(put m k v)` adds to it",
+        ),
         ("for", _) => clause_list_problem(alloc, below(path, alloc, 1)?.as_slice()),
         ("call", _) => missing_operation_problem(alloc, below(path, alloc, 1)?.as_slice()),
         ("fold", [Form::Word(_), ..]) => missing_name_problem(

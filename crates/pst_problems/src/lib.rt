@@ -25,6 +25,7 @@ mod param_faults;
 mod part_faults;
 mod problem;
 mod seen_items;
+mod slips;
 mod syntax;
 mod telling;
 mod tree;

@@ -14,6 +14,7 @@ use crate::items::{
 use crate::model_faults::faults_of;
 use crate::names::{DidYouMean, NearestName, push_name};
 use crate::problem::{MOST_PROBLEMS, Problem};
+use crate::slips::{with_expression_hint, with_word_hint};
 use crate::tree::{has_head, head_of, part_at};
 use crate::types::{deep_type_problem, item_type_problem, type_problem};
 use crate::writing::Listed;
@@ -164,6 +165,19 @@ fn fault_problem(alloc: Global, model: &Form, form: &Form, fault: &FormFault) ->
     }
 }
 
+/// The problem of `fault`, whose part is `form`, with a hint if it is written as in another language.
+fn hinted_problem(alloc: Global, model: &Form, form: &Form, fault: &FormFault) -> FoundProblem {
+    let found = fault_problem(alloc, model, form, fault)?;
+    match (fault.kind, fault.role) {
+        (FaultKind::UnknownForm, Role::Expression) => {
+            let has_maps = has_head(model, "model2");
+            with_expression_hint(alloc, has_maps, model, fault.path.as_slice(), form, found)
+        }
+        (FaultKind::UnknownForm, Role::Item | Role::Callback) => with_word_hint(alloc, form, found),
+        _ => Ok(found),
+    }
+}
+
 /// Whether something is missing that the faults before may account for, since they are in the same tree.
 fn may_follow(fault: &FormFault, before: &[FormFault]) -> bool {
     let path = fault.path.as_slice();
@@ -204,7 +218,7 @@ pub fn form_problems(alloc: Global, trees: &[Tree]) -> Result<Vec<Problem>, Allo
         if may_follow(fault, before) {
             continue;
         }
-        if let Some(problem) = fault_problem(alloc, model, form, fault)? {
+        if let Some(problem) = hinted_problem(alloc, model, form, fault)? {
             add_problem(&mut problems, problem)?;
         }
         if fault.role == Role::Model {

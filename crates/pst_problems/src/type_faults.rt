@@ -7,13 +7,11 @@ ghost use Rattle.pst_problems.specs.Placed.{all_at, none_at, spots_from, ty_faul
 ghost use Rattle.pst_syntax.specs.Faults.{OfType, ty_fits};
 ghost use Rattle.pst_syntax.specs.Shown.{shown_ty};
 
-use crate::fault::{FormFault, Role};
+use crate::fault::Role;
 use crate::problem::below;
-use crate::telling::{Walk, push_fault, push_fault_unless};
+use crate::telling::{Added, Faults, Walk, push_fault, push_fault_unless};
 use pst_sexpr::Form;
 use pst_syntax::{FaultKind, MAX_PARTS, TyShape, ty_shape};
-use pst_value::Items;
-use std::alloc::AllocError;
 
 /// Whether a type keeps to the limits besides that of its depth.
 fn ty_fits(shape: &TyShape<'_>) -> bool
@@ -30,12 +28,12 @@ fn ty_fits(shape: &TyShape<'_>) -> bool
 #[tactic(auto, using(crate::proofs::Keeping::keeping, crate::proofs::Levels::ty_levels))]
 pub fn add_ty_faults(
     walk: Walk,
-    faults: &mut Items<FormFault>,
+    faults: &mut Faults,
     role: Role,
     path: &[usize],
     form: &Form,
     room: usize,
-) -> Result<(), AllocError>
+) -> Added
     ensures { OnOk result (faults.new ≡ keep walk.limit faults.old
         (ty_faults_at walk.has_maps room role path.now form.now)) }
 {
@@ -61,12 +59,12 @@ pub fn add_ty_faults(
 #[tactic(auto, using(crate::proofs::Keeping::keeping))]
 fn add_ty_parts_faults(
     walk: Walk,
-    faults: &mut Items<FormFault>,
+    faults: &mut Faults,
     role: Role,
     path: &[usize],
     shape: &TyShape<'_>,
     room: usize,
-) -> Result<(), AllocError>
+) -> Added
     ensures { OnOk result (faults.new ≡ keep walk.limit faults.old
         (all_at (spec.spot_at none_at (λ inner. ty_faults_at walk.has_maps room role) none_at)
         (spec.ty_spots path.now (shown_ty shape.now)))) }
@@ -85,13 +83,13 @@ fn add_ty_parts_faults(
 #[tactic(auto, using(crate::proofs::Keeping::keeping))]
 fn add_inner_ty_faults(
     walk: Walk,
-    faults: &mut Items<FormFault>,
+    faults: &mut Faults,
     role: Role,
     path: &[usize],
     number: usize,
     form: &Form,
     room: usize,
-) -> Result<(), AllocError>
+) -> Added
     ensures { OnOk result (faults.new ≡ keep walk.limit faults.old
         (all_at (spec.spot_at none_at (λ inner. ty_faults_at walk.has_maps room role) none_at)
         (spots_from path.now number (OfType form.now ∷ [])))) }
@@ -104,13 +102,13 @@ fn add_inner_ty_faults(
 #[cycle(ty)]
 pub fn add_ty_part_faults(
     walk: Walk,
-    faults: &mut Items<FormFault>,
+    faults: &mut Faults,
     role: Role,
     path: &[usize],
     number: usize,
     form: &Form,
     room: usize,
-) -> Result<(), AllocError>
+) -> Added
     ensures { OnOk result (faults.new ≡ keep walk.limit faults.old
         (ty_faults_at walk.has_maps room role (spec.below path.now number) form.now)) }
 {
@@ -123,12 +121,12 @@ pub fn add_ty_part_faults(
 #[tactic(auto, using(crate::proofs::Keeping::keeping))]
 fn add_tys_faults(
     walk: Walk,
-    faults: &mut Items<FormFault>,
+    faults: &mut Faults,
     role: Role,
     path: &[usize],
     forms: &[Form],
     room: usize,
-) -> Result<(), AllocError>
+) -> Added
     ensures { OnOk result (faults.new ≡ keep walk.limit faults.old
         (all_at (spec.spot_at none_at (λ inner. ty_faults_at walk.has_maps room role) none_at)
         (spots_from path.now 1 (map OfType forms.now)))) }

@@ -7,22 +7,20 @@ ghost use Rattle.pst_problems.specs.PlacedModel as spec;
 ghost use Rattle.pst_syntax.specs.declared.fault.FaultKind.TheVariants.{DoubleName};
 
 use crate::expression_faults::add_expr_part_faults;
-use crate::fault::{FormFault, Role};
-use crate::telling::{Walk, push_fault_unless};
+use crate::fault::Role;
+use crate::telling::{Added, Faults, Walk, push_fault_unless};
 use crate::type_faults::add_ty_part_faults;
 use pst_sexpr::Form;
 use pst_syntax::{FaultKind, MAX_EXPR_LEVELS, MAX_TY_LEVELS};
-use pst_value::Items;
-use std::alloc::AllocError;
 
 /// Adds the faults of a type that is part `number` of the tree at `path`, and of no other type.
 pub fn add_whole_ty_faults(
     walk: Walk,
-    faults: &mut Items<FormFault>,
+    faults: &mut Faults,
     path: &[usize],
     number: usize,
     form: &Form,
-) -> Result<(), AllocError>
+) -> Added
     ensures { OnOk result (faults.new ≡ keep walk.limit faults.old
         (spec.whole_ty_at walk.has_maps (below path.now number) form.now)) }
 {
@@ -32,11 +30,11 @@ pub fn add_whole_ty_faults(
 /// Adds the faults of an expression that is part `number` of the tree at `path`, and of no other expression.
 pub fn add_whole_expr_faults(
     walk: Walk,
-    faults: &mut Items<FormFault>,
+    faults: &mut Faults,
     path: &[usize],
     number: usize,
     form: &Form,
-) -> Result<(), AllocError>
+) -> Added
     ensures { OnOk result (faults.new ≡ keep walk.limit faults.old
         (spec.whole_expr_at walk.has_maps (below path.now number) form.now)) }
 {
@@ -47,12 +45,12 @@ pub fn add_whole_expr_faults(
 /// already.
 pub fn add_single_expression_faults(
     walk: Walk,
-    faults: &mut Items<FormFault>,
+    faults: &mut Faults,
     role: Role,
     path: &[usize],
     stands: bool,
     form: &Form,
-) -> Result<(), AllocError>
+) -> Added
     ensures { OnOk result (faults.new ≡ keep walk.limit faults.old
         (unless_at path.now role (not stands) DoubleName
         (spec.whole_expr_at walk.has_maps (below path.now 1) form.now))) }

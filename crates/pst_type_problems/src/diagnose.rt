@@ -50,6 +50,8 @@ fn fixed_hint(name: &str) -> Option<&'static str> {
     match name {
         "s" => Some("hint: only callbacks see the state `s`: give it as a parameter"),
         "r" => Some("hint: only next and post see the result `r`"),
+        "state" | "self" => Some("hint: callbacks see the state as `s`"),
+        "result" => Some("hint: next and post see the result as `r`"),
         "null" => Some("hint: there is no null; an option is a list: `(list int)`"),
         _ => None,
     }
@@ -93,13 +95,30 @@ fn unknown_name_problem(leaf: &BlamedPart<'_>, name: &str) -> FoundProblem {
     }
 }
 
+/// The problem `found` of a part of the form `head`, with a hint if the part is a text or a list to add.
+fn with_join_hint(alloc: Global, found: Option<Problem>, head: &str, kind: &Kind) -> FoundProblem {
+    match kind.form(alloc)? {
+        KindForm::Text | KindForm::List(_) if head == "+" => {
+            with_note(alloc, found, "hint: `(++ a b)` joins texts or lists")
+        }
+        _ => Ok(found),
+    }
+}
+
 /// The problem of the first part that has another type than `wanted`.
 fn each_of(leaf: &BlamedPart<'_>, head: &str, wanted: &Ty) -> FoundProblem {
     let wanted = Kind::of(leaf.alloc, wanted)?;
     for (place, kind) in leaf.kinds.iter().enumerate() {
         if !kind.same(leaf.alloc, &wanted)? {
             let part = place.saturating_add(1);
-            return wanted_type_of_operand(leaf, format_args!("`{head}`"), part, &wanted, kind);
+            let found = wanted_type_of_operand(
+                leaf,
+                format_args!("`{head}`"),
+                part,
+                &wanted,
+                kind,
+            )?;
+            return with_join_hint(leaf.alloc, found, head, kind);
         }
     }
     Ok(None)
@@ -180,15 +199,33 @@ fn deref_problem(leaf: &BlamedPart<'_>) -> FoundProblem {
     }
 }
 
+/// The problem of a `++` of a list of the kind `list` and something else, if it has one, with a hint if that
+/// is an item.
+fn list_join_problem(
+    leaf: &BlamedPart<'_>,
+    list: &Kind,
+    item: &Kind,
+    other: &Kind,
+) -> FoundProblem {
+    let refused = wanted_type_of_operand(leaf, "`++` joins values of one type", 2, list, other)?;
+    if !item.same(leaf.alloc, other)? {
+        return Ok(refused);
+    }
+    let shown = spelled(leaf.alloc, item)?;
+    let hint = format_args!("hint: a list of one item is `(list {shown} x)`");
+    with_note(leaf.alloc, refused, hint)
+}
+
 /// The problem of a `len` or a `++`, if it has one.
 fn sequence_problem(leaf: &BlamedPart<'_>, head: &str) -> FoundProblem {
     let Some(first) = leaf.kinds.first() else {
         return Ok(None);
     };
     match (first.form(leaf.alloc)?, leaf.kinds.get(1)) {
-        (KindForm::Text | KindForm::List(_), Some(second)) => {
+        (KindForm::Text, Some(second)) => {
             wanted_type_of_operand(leaf, "`++` joins values of one type", 2, first, second)
         }
+        (KindForm::List(item), Some(second)) => list_join_problem(leaf, first, &item, second),
         _ => sequence_wanted_problem(leaf, head, first),
     }
 }

@@ -6,7 +6,7 @@ use crate::trees::{enter_part, head_word, tree_in};
 use crate::walk::{names_in, part_at};
 use pst_model::{Expr, Fun, Item, Op, Source, state_of};
 use pst_problems::{
-    FoundProblem, MOST_PROBLEMS, Problem, problem_at, problem_with_note, push_problem,
+    FoundProblem, MOST_PROBLEMS, Problem, problem_at, problem_with_note, push_problem, with_note,
 };
 use pst_sexpr::{Form, node_of};
 use pst_typing::{Blame, Context, Found, Kind, Scope, holds_call, holds_ref, infer};
@@ -83,7 +83,15 @@ fn wanted_type_problem(alloc: Global, site: &Site<'_>, found: &Kind) -> FoundPro
     if found.same(alloc, site.wanted)? {
         return Ok(None);
     }
-    other_type_problem(alloc, site.path, site.called, site.wanted, found)
+    let refused = other_type_problem(alloc, site.path, site.called, site.wanted, found)?;
+    if site.called == "next" && head_word(site.form) == "=" {
+        return with_note(
+            alloc,
+            refused,
+            "hint: `=` compares: write the new state alone",
+        );
+    }
+    Ok(refused)
 }
 
 /// Adds what is wrong with the type of an expression: one problem for each part that is to blame.

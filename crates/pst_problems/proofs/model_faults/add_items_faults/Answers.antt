@@ -1,52 +1,22 @@
-use Rattle.std.proofs.Common.{◌≡◌, ℕ, Bool, List, [], sym, ap, ◌∙◌, refl, arith}
-use Rattle.std.specs.Prelude.{◌&&◌}
-use Rattle.std.specs.List.{list_any}
-use Rattle.pst_syntax.specs.declared.fault.FaultKind.TheVariants.{Missing}
+use Rattle.std.proofs.Common.{refl, ◌∙◌, arith}
 use Rattle.pst_syntax.specs.ItemShape.{item_shape}
-use Rattle.pst_syntax.specs.ModelFaults.{seen_with, is_state, is_init, is_command}
-use Rattle.pst_problems.specs.Kept.{keep}
-use Rattle.pst_problems.specs.Placed.{below, known_at, unless_at}
-use Rattle.pst_problems.specs.PlacedModel.{item_faults_at, items_faults_at}
+use Rattle.pst_syntax.specs.ModelFaults.{is_state, is_init, is_command}
 use Rattle.pst_syntax.specs.ShownItems.{shown_item_option}
-use Rattle.pst_problems.specs.SeenShapes.{items_in, holds}
+use Rattle.pst_problems.specs.PlacedModel.{item_faults_at, items_faults_at}
 use Rattle.pst_problems.specs.declared.fault.Role.TheVariants as role
-use Rattle.pst_problems.proofs.Seen.{shown_more, all_shown}
-use Rattle.pst_problems.proofs.Walks.{next, last}
+use Rattle.pst_problems.proofs.Walks.{next, complete}
 use Rattle.pst_problems.proofs.model_faults.add_items_faults.Goals as goal
 
 pub loop-form-preserved : goal.loop-form-preserved
-loop-form-preserved c =
-    let limit = c.args.walk.limit in
-    let maps = c.args.walk.has_maps in
-    let path = c.args.path.now in
-    let told : c.add_known_item_faults.new.faults ≡ keep limit c.loop-form.faults (known_at (below path c.loop-form.number) role.Item (item_shape c.form-item.result) (item_faults_at maps (items_in c.loop-form.seen) (below path c.loop-form.number))) =
-    c.in_ok-add_known_item_faults.ensures
-    ∙ ap (λ seen. keep limit c.loop-form.faults (known_at (below path c.loop-form.number) role.Item (shown_item_option c.item_shape-shape.result) (item_faults_at maps (items_in seen) (below path c.loop-form.number)))) c.as_slice.ensures
-    ∙ ap (λ shape. keep limit c.loop-form.faults (known_at (below path c.loop-form.number) role.Item shape (item_faults_at maps (items_in c.loop-form.seen) (below path c.loop-form.number)))) c.item_shape-shape.ensures in
-    let more : items_in c.push.new.self ≡ seen_with (items_in c.loop-form.seen) (item_shape c.form-item.result) =
-    ap items_in c.in_ok-push.ensures.ok ∙ shown_more shown_item_option c.loop-form.seen c.item_shape-shape.result
-    ∙ ap (seen_with (items_in c.loop-form.seen)) c.item_shape-shape.ensures in
-    record {
-      number = omega arith;
-      same =
-          next (λ seen number forms. items_faults_at maps seen path number forms)
-          (λ seen number form. known_at (below path number) role.Item (item_shape form) (item_faults_at maps seen (below path number)))
-          item_shape (λ seen number form forms. refl)
-          limit c.loop-form.number c.loop-form.form-index c.args.forms.now c.form-item.result (items_in c.loop-form.seen) (items_in c.push.new.self) _ c.loop-form.faults c.add_known_item_faults.new.faults
-          c.loop-form-test.true c.form-item.is c.loop-form.invariant.same told more;
-    }
+loop-form-preserved c = record {
+  number = omega arith;
+  same = next shown_item_option role.Item item_shape (item_faults_at c.args.walk.has_maps) (λ seen. items_faults_at c.args.walk.has_maps seen c.args.path.now) c.args.path.now (λ seen number form forms. refl)
+      c.args.walk.limit c.loop-form.number c.loop-form.form-index c.args.forms.now c.form-add_item_faults.result c.loop-form.seen _ _ _ c.item_shape-shape.result _ c.loop-form.faults c.add_item_faults.new.faults
+      c.loop-form-test.true c.form-add_item_faults.is c.loop-form.invariant.same c.in_ok-add_item_faults.ensures (c.as_slice-in-loop-form.ensures.value ∙ c.in_ok-at.ensures) c.as_slice.ensures c.item_shape-shape.ensures c.in_ok-push.ensures.ok;
+}
 
 pub returns : goal.returns
 returns c =
-    let limit = c.args.walk.limit in
-    let maps = c.args.walk.has_maps in
-    let path = c.args.path.now in
-    let seen = c.loop-form.seen in
-    let there : c.has_items-are_there.result ≡ (list_any is_state (items_in seen) && list_any is_init (items_in seen) && list_any is_command (items_in seen)) =
-    c.has_items-are_there.ensures
-    ∙ ap (λ seen. list_any (λ shape. holds is_state (shown_item_option shape)) seen && list_any (λ shape. holds is_init (shown_item_option shape)) seen && list_any (λ shape. holds is_command (shown_item_option shape)) seen) c.as_slice-seen.ensures
-    ∙ sym (all_shown is_state is_init is_command shown_item_option seen) in
-    c.in_ok-push_fault_unless.ensures
-    ∙ ap (λ (b : Bool). keep limit c.loop-form.faults (unless_at path role.Model b Missing [])) there
-    ∙ sym (last (λ seen number forms. items_faults_at maps seen path number forms) limit c.loop-form.number c.loop-form.form-index c.args.forms.now
-    (items_in seen) _ c.loop-form.faults c.loop-form-test.false c.loop-form.invariant.same)
+    complete shown_item_option role.Model is_state is_init is_command (λ seen. items_faults_at c.args.walk.has_maps seen c.args.path.now) c.args.path.now (λ seen number. refl)
+    c.args.walk.limit c.loop-form.number c.loop-form.form-index c.args.forms.now c.loop-form.seen _ c.has_items-are_there.result _ c.loop-form.faults c.push_fault_unless.new.faults
+    c.loop-form-test.false c.loop-form.invariant.same c.has_items-are_there.ensures c.as_slice-2.ensures c.in_ok-push_fault_unless.ensures

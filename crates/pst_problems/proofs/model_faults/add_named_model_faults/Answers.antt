@@ -1,4 +1,4 @@
-use Rattle.std.proofs.Common.{◌≡◌, false, [], map, Option, Some, sym, ap, ◌∙◌}
+use Rattle.std.proofs.Common.{◌≡◌, Bool, false, [], map, Option, Some, sym, ap, ◌∙◌}
 use Rattle.pst_model.specs.Names.{is_name}
 use Rattle.pst_syntax.specs.Faults.{name_faults}
 use Rattle.pst_syntax.specs.ItemShape.{ModelShape, model_shape}
@@ -16,7 +16,7 @@ returns c =
     let path = c.args.path.now in
     let m = shown_model c.in-Some.shape in
     let e : model_shape c.args.form.now ≡ Some m = sym c.model_shape.ensures ∙ ap shown_model_option c.in-Some.is in
-    both limit c.args.faults.now c.model_name.new.faults c.add_items_faults.new.faults
+    both limit c.args.faults.now c.push_name_faults_at_part.new.faults c.add_items_faults.new.faults
     (map (placed (below path 1) role.ModelName) (name_faults (is_name m.name) false m.name)) (items_faults_at m.has_maps [] path 2 m.items)
-    c.in_ok-model_name.ensures c.in_ok-add_items_faults.ensures
+    (c.in_ok-push_name_faults_at_part.ensures ∙ ap (λ (is_lawful : Bool). keep limit c.args.faults.now (map (placed (below path 1) role.ModelName) (name_faults is_lawful false m.name))) c.is_name.ensures) c.in_ok-add_items_faults.ensures
     ∙ ap (λ (shape : Option ModelShape). keep limit c.args.faults.now (named_faults_at path shape)) (sym e)
