@@ -9,6 +9,19 @@ use pst_sexpr::{Form, is_integer, node_of, word_of};
 use pst_value::Text;
 use std::alloc::{AllocError, Global};
 
+/// The operator of this language that `operator` means.
+fn operator_meant(operator: &str) -> Option<&str> {
+    match operator {
+        "+" | "-" | "*" | "++" | "<" | "<=" | "=" | "and" | "or" | "div" | "rem" => Some(operator),
+        "==" => Some("="),
+        "&&" => Some("and"),
+        "||" => Some("or"),
+        "/" => Some("div"),
+        "%" => Some("rem"),
+        _ => None,
+    }
+}
+
 /// How `operator` is applied to `left` and `right`, if it is an operator of this or of another language.
 fn application(
     alloc: Global,
@@ -16,19 +29,15 @@ fn application(
     left: &str,
     right: &str,
 ) -> Result<Option<String>, AllocError> {
-    let head = match operator {
-        "+" | "-" | "*" | "++" | "<" | "<=" | "=" | "and" | "or" | "div" | "rem" => operator,
-        "==" => "=",
-        "&&" => "and",
-        "||" => "or",
-        "/" => "div",
-        "%" => "rem",
-        ">" => return Ok(Some(format!(in alloc; "(< {right} {left})")?)),
-        ">=" => return Ok(Some(format!(in alloc; "(<= {right} {left})")?)),
-        "!=" => return Ok(Some(format!(in alloc; "(not (= {left} {right}))")?)),
-        _ => return Ok(None),
-    };
-    Ok(Some(format!(in alloc; "({head} {left} {right})")?))
+    match operator {
+        ">" => Ok(Some(format!(in alloc; "(< {right} {left})")?)),
+        ">=" => Ok(Some(format!(in alloc; "(<= {right} {left})")?)),
+        "!=" => Ok(Some(format!(in alloc; "(not (= {left} {right}))")?)),
+        _ => match operator_meant(operator) {
+            Some(head) => Ok(Some(format!(in alloc; "({head} {left} {right})")?)),
+            None => Ok(None),
+        },
+    }
 }
 
 /// Whether a tree is a word that heads a form of expressions.

@@ -1,5 +1,4 @@
-use Rattle.std.proofs.Common.{◌≡◌, sym, ◌∙◌, ap, ◌∷◌, [], ◌++◌, length, arith, ◌<◌, ◌≤◌, List, ℕ}
-use Rattle.pst_problems.specs.Kept.{keep}
+use Rattle.std.proofs.Common.{◌≡◌, sym, ◌∙◌, ap, ◌∷◌, [], ◌++◌, length, arith, ◌<◌, List, ℕ}
 use Rattle.pst_problems.specs.Placed.{placed}
 use Rattle.pst_problems.proofs.Keeping.{keep_full, keep_one}
 use Rattle.pst_problems.proofs.telling.push_fault.Goals as goal
