@@ -2,7 +2,7 @@
 # a right counter, which all branches keep in a file, by a client that prints lines too many, as its argument says:
 #   second   answers its third call twice, in one write
 #   later    answers its third call twice, the second time a little later
-#   slow     answers its third call twice, and takes 20 ms for each call
+#   slow     answers its third call twice, the second time a little later, and takes 20 ms for each call
 #   before   prints a number before each answer, in a write of its own
 #   reset    prints a line after the answer to each reset but the first
 #   start    prints a line when it starts
@@ -40,9 +40,8 @@ for line in sys.stdin:
     if is_third and kind == "second":
         text += text
     print(text, end="", flush=True)
-    if is_third and kind == "later":
-        time.sleep(0.0002)
     if is_third and kind in ("later", "slow"):
+        time.sleep(0.0005)
         print(text, end="", flush=True)
     if name == "reset" and resets > 1 and kind == "reset":
         print("done", flush=True)

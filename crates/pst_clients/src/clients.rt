@@ -263,6 +263,20 @@ impl<R: Wait + Files, I: Read + Ahead + Drop, O: Write + Drop> Clients<R, I, O> 
         Ok(())
     }
 
+    /// Asks a branch's client for a reset after it gave no answer, once it is started again. One that printed
+    /// several lines is not asked again.
+    fn ask_again(&mut self, branch: u32, lost: &LostAnswer) -> Result<String, CallFault>
+        ensures { self.new.results ≡ self.old.results }
+    {
+        if let LostAnswer::MoreLines(_) = lost {
+            self.note_lost(branch, RESET.as_bytes(), lost);
+            let _ = self.drop_strays_of(branch);
+            return Err(CallFault::Refused);
+        }
+        restart_ended_clients(&mut self.connections, self.is_shared);
+        self.ask(branch, RESET.as_bytes())
+    }
+
     /// Asks a branch's client for a reset, once more if it had to be started again.
     fn reset_client(&mut self, branch: u32) -> Result<(), CallFault>
         ensures { self.new.results ≡ self.old.results }
@@ -270,21 +284,7 @@ impl<R: Wait + Files, I: Read + Ahead + Drop, O: Write + Drop> Clients<R, I, O> 
         let line = RESET.as_bytes();
         let answer = match self.ask_client(branch, line) {
             Ok(answer) => answer,
-            Err(LostAnswer::MoreLines(first)) => {
-                self.note(
-                    branch,
-                    NoteKind::MoreLines,
-                    line,
-                    first.as_str(),
-                    STRAY_HINT,
-                );
-                let _ = self.drop_strays_of(branch);
-                return Err(CallFault::Refused);
-            }
-            Err(_) => {
-                restart_ended_clients(&mut self.connections, self.is_shared);
-                self.ask(branch, line)?
-            }
+            Err(lost) => self.ask_again(branch, &lost)?,
         };
         if answer.as_bytes().starts_with(b"failed") {
             self.note(branch, NoteKind::Failed, line, answer.as_str(), "");
