@@ -1,4 +1,7 @@
 //! The replies of a run.
+ghost use Rattle.std.specs.Prelude.{◌≡◌, ◌+◌, ◌<◌, ◌^◌, length};
+ghost use Rattle.pst_messages.specs.ItemReplies as spec;
+ghost use Rattle.pst_runs.specs.Replies.{listed_at};
 
 use crate::command::{Part, after_head, is_headed, place_of, trees_in};
 use crate::ill::{ValueFault, value_fault_problem};
@@ -17,7 +20,7 @@ struct Reply<'a> {
 }
 
 /// The number of the `(replies ..)` tree among the trees of a run, and its lists.
-pub fn lists_of(form: &Form) -> Option<(usize, &[Form])> {
+fn lists_of(form: &Form) -> Option<(usize, &[Form])> {
     for (place, part) in trees_in(form).iter().enumerate() {
         if is_headed(part, "replies") {
             return Some((place, after_head(part)));
@@ -27,7 +30,9 @@ pub fn lists_of(form: &Form) -> Option<(usize, &[Form])> {
 }
 
 /// The replies of list `number`, counted from 0.
-fn replies_in(lists: &[Form], number: usize) -> &[Form] {
+fn replies_in(lists: &[Form], number: usize) -> &[Form]
+    ensures { result.now ≡ listed_at lists.now number }
+{
     match lists.get(number) {
         Some(list) => trees_in(list),
         None => &[],
@@ -65,6 +70,19 @@ fn list_count_problem(alloc: Global, path: &[usize], lists: usize, parts: usize)
     )
 }
 
+/// The number of the first of `parts` with another number of replies than of commands. The first part has list `number`.
+fn first_other(lists: &[Form], number: usize, parts: &[Part<'_>]) -> Option<usize>
+    requires { number + length parts.now < 2 ^ 64 }
+    ensures { result ≡ spec.first_other lists.now number parts.now }
+{
+    let (part, others) = parts.split_first()?;
+    if replies_in(lists, number).len() == part.commands.len() {
+        first_other(lists, number + 1, others)
+    } else {
+        Some(number)
+    }
+}
+
 /// The problem of the first part with another number of replies than of commands. Each part has a list of replies.
 /// `place` is the number of the `(replies ..)` tree.
 fn list_problem(
@@ -74,14 +92,14 @@ fn list_problem(
     lists: &[Form],
     parts: &[Part<'_>],
 ) -> FoundProblem {
-    for (number, part) in parts.iter().enumerate() {
-        let replies = replies_in(lists, number).len();
-        if part.commands.len() != replies {
-            let path = [item, place, number.saturating_add(1)];
-            return reply_count_problem(alloc, &path, part, replies);
-        }
+    let Some(number) = first_other(lists, 0, parts) else {
+        return Ok(None);
+    };
+    let path = [item, place, number.saturating_add(1)];
+    match parts.get(number) {
+        Some(part) => reply_count_problem(alloc, &path, part, replies_in(lists, number).len()),
+        None => Ok(None),
     }
-    Ok(None)
 }
 
 /// The problem of a run whose replies do not fit its parts and commands.

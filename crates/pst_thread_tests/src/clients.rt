@@ -32,7 +32,12 @@ fn one_client<'a, H: Wait + Files + Send + Sync + Drop>(
     notes: &Arc<Notes, Global>,
     lines: &'a str,
 ) -> Result<KnownClients<'a, H>, AllocError> {
-    client_at(rt, alloc, notes, Connection::new(alloc, lines.as_bytes(), Vec::new(alloc)))
+    client_at(
+        rt,
+        alloc,
+        notes,
+        Connection::new(alloc, lines.as_bytes(), Vec::new(alloc)),
+    )
 }
 
 /// The call `(put ARG)`.
@@ -135,10 +140,10 @@ fn a_reset_fails_after_a_line_too_many(rt: HostRuntime) -> Result<(), Fail> {
     for calls in [1u32, 0, 1, 0, 0, 0] {
         text.push_str(answers(alloc, &mut clients, calls)?.as_str())?;
     }
-    let wanted =
-        " Ok(()) Ok(Int(7)) Err(Refused) Ok(()) Ok(Int(8)) Err(Refused) Ok(()) Ok(())";
+    let wanted = " Ok(()) Ok(Int(7)) Err(Refused) Ok(()) Ok(Int(8)) Err(Refused) Ok(()) Ok(())";
     assert_eq!(rt; text.as_str(), wanted);
-    let wanted = "client 1-1: [\"put\",1] was followed by a line too many: debug; print one line for each line, and log lines to standard error
+    let wanted =
+        "client 1-1: [\"put\",1] was followed by a line too many: debug; print one line for each line, and log lines to standard error
 client 1-1: [\"reset\"] was followed by a line too many: true; print one line for each line, and log lines to standard error
 client 1-1: [\"reset\"] was followed by a line too many: late; print one line for each line, and log lines to standard error
 ";
