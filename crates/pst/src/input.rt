@@ -7,7 +7,7 @@ use pst_sources::SourceFile;
 use std::io::{self, ErrorKind, Read};
 use std::rt::Files;
 
-/// The name of standard input.
+/// The name of standard input; for `-o`, of standard output.
 pub const STANDARD_INPUT: &str = "-";
 
 /// How the input is read.

@@ -18,6 +18,7 @@ mod interrupting;
 mod json_items;
 mod judging;
 mod least;
+mod line_messages;
 mod noticed;
 mod outputs;
 mod overheard;

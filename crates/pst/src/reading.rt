@@ -1,6 +1,6 @@
 //! The reading of the input, and what is refused before it.
 
-use crate::input::Reading;
+use crate::input::{Reading, STANDARD_INPUT};
 use crate::terminal::Terminals;
 use crate::{
     formatting, generating, input, json_items, outputs, page, refused, saving, streaming, systems,
@@ -20,10 +20,13 @@ pub fn is_quiet(matches: &ArgMatches<'_>) -> bool {
     }
 }
 
-/// Returns the name of the output file in the arguments, if there is one.
+/// Returns the name of the output file in the arguments. `None` is standard output, which `-` also names.
 pub fn output_name<'a>(matches: &ArgMatches<'a>) -> Option<&'a str> {
     let (_, words) = matches.subcommand()?;
-    words.get_str("output")
+    match words.get_str("output") {
+        Some(STANDARD_INPUT) => None,
+        name => name,
+    }
 }
 
 /// Returns the file names in the arguments.
@@ -35,7 +38,7 @@ fn input_names<'a>(matches: &'a ArgMatches<'_>) -> &'a [&'a str] {
 }
 
 /// Refuses an unknown system, a stream whose model is not in a file of its own, output to a file of the
-/// input, a file as the folder of failures, trials that have no number, and a page that cannot be written.
+/// input, a file or `-` as the folder of failures, trials that have no number, and a page that cannot be written.
 /// The error is the status that the program ends with.
 fn refuse_arguments<R: Runtime + AllocGlobal>(
     rt: &R,

@@ -17,6 +17,7 @@ pub fn report_out_of_memory<R: Runtime>(rt: &R) -> Status {
 /// Returns what to write messages for, by the command `word` and its arguments.
 fn messages_asked(word: &str, words: &ArgMatches<'_>) -> Asked {
     match word {
+        "judge" if words.get_flag("stream") => Asked::Model,
         "judge" if words.get_flag("keep-going") || is_json(words) => {
             if words.get_flag("all-messages") {
                 Asked::AllItems
