@@ -9,9 +9,9 @@ ghost use Rattle.pst_system.specs.Kept.{AreKept};
 ghost use Rattle.std.specs.Coded.{codes};
 
 use crate::ending::StopCondition;
-use crate::plans::cause_of;
+use crate::plans::{Watched, cause_of};
 use crate::runner::TrialRunner;
-use crate::working::work_with;
+use crate::working::work_alone;
 use pst_driver::{Crew, KeptSystem, Relations, Subject, start_crew};
 use pst_ledger::{Cause, Ledger, Seat};
 use pst_system::{BoxedSystem, System};
@@ -20,7 +20,7 @@ use std::alloc::Global;
 use std::marker::Brand;
 use std::sync::{Arc, Wait};
 use std::thread;
-use std::thread::Threads;
+use std::thread::{Scope, Threads};
 
 /// Runs trial `number` with the threads of a crew, with its fault as a cause. `shrinking` counts the candidates
 /// that it drives.
@@ -96,14 +96,15 @@ impl<'p, 'w, 'c, K: StopCondition, J: Relations, S: Subject> TrialRunner<Record,
     ghost moves = { λ w s t kept k e h. h };
 }
 
-/// Works at a fresh seat with the threads of a crew until no number is left or the plan is over.
+/// Works at a fresh seat with the threads of a crew until no number is left or the plan is over, and returns the
+/// seat.
 fn work_with_threads<K: StopCondition, J: Relations, S: Subject, H: Threads + Wait>(
     rt: &H,
     alloc: Global,
     plan: &Arc<Plan>,
     watch: &K,
     ledger: &Ledger<Record>,
-    mut seat: Seat<Record>,
+    seat: Seat<Record>,
     crew: &Crew<J, S>,
 ) -> Seat<Record>
     requires fresh { IsFresh ledger.now.table seat }
@@ -113,13 +114,50 @@ fn work_with_threads<K: StopCondition, J: Relations, S: Subject, H: Threads + Wa
         (MayGive J.answering J.failing J.resetting (arc_value plan.now)) ledger.now.table result }
 {
     may_share_records();
-    let runner = CrewRunner { plan, watch, crew };
-    work_with(rt, alloc, &runner, ledger, &mut seat, &mut ());
-    seat
+    work_alone(
+        rt,
+        alloc,
+        &CrewRunner { plan, watch, crew },
+        ledger,
+        seat,
+        (),
+    )
 }
 
-/// Starts the threads of a crew, works at a fresh seat with them until no number is left or the plan is over,
-/// and sends them home.
+/// Starts the threads of a crew in a scope, and works at a fresh seat with them until no number is left or the
+/// plan is over. If they do not all start, it does no work and returns the seat as it is, as an `Err`.
+fn start_and_work<
+    's,
+    E,
+    K: StopCondition,
+    J: Relations + Send + Sync,
+    S: Subject + Send + Sync,
+    H: Threads + Wait,
+>(
+    rt: &'s H,
+    alloc: Global,
+    scope: &Scope<'s, E>,
+    plan: &'s Arc<Plan>,
+    watch: &K,
+    ledger: &Ledger<Record>,
+    seat: Seat<Record>,
+    crew: &'s Crew<J, S>,
+) -> Result<Seat<Record>, Seat<Record>>
+    requires fresh { IsFresh ledger.now.table seat }
+    requires trials { ledger.now.table.slots ≡ (arc_value plan.now).settings.trials }
+    requires model { (arc_value plan.now).model ≡ J.model }
+    ensures worked { IfOk result (IsWorked (K.may_end watch.now)
+        (MayGive J.answering J.failing J.resetting (arc_value plan.now)) ledger.now.table) }
+    ensures unused { IfErr result (IsFresh ledger.now.table) }
+{
+    let branches = plan.settings().branches;
+    if !start_crew(rt, alloc, scope, plan.typed(), crew, branches) {
+        return Err(seat);
+    }
+    Ok(work_with_threads(rt, alloc, plan, watch, ledger, seat, crew))
+}
+
+/// Does what `start_and_work` does in a scope of its own, and sends the threads home.
 fn work_with_crew<
     K: StopCondition,
     J: Relations + Send + Sync,
@@ -133,40 +171,35 @@ fn work_with_crew<
     ledger: &Ledger<Record>,
     seat: Seat<Record>,
     crew: &Crew<J, S>,
-) -> Seat<Record>
+) -> Result<Seat<Record>, Seat<Record>>
     requires fresh { IsFresh ledger.now.table seat }
     requires trials { ledger.now.table.slots ≡ (arc_value plan.now).settings.trials }
     requires model { (arc_value plan.now).model ≡ J.model }
-    ensures { IsWorked (K.may_end watch.now)
-        (MayGive J.answering J.failing J.resetting (arc_value plan.now)) ledger.now.table result }
+    ensures worked { IfOk result (IsWorked (K.may_end watch.now)
+        (MayGive J.answering J.failing J.resetting (arc_value plan.now)) ledger.now.table) }
+    ensures unused { IfErr result (IsFresh ledger.now.table) }
 {
     thread::scope(
         thread::scope_env(),
         rt,
-        |scope| -> Seat<Record>
+        |scope| -> Result<Seat<Record>, Seat<Record>>
             requires { IsFresh ledger.now.table seat
                 × (ledger.now.table.slots ≡ (arc_value plan.now).settings.trials)
                 × ((arc_value plan.now).model ≡ J.model) }
-            ensures { IsWorked (K.may_end watch.entry.now)
+            ensures { IfOk result (IsWorked (K.may_end watch.entry.now)
                 (MayGive J.answering J.failing J.resetting (arc_value plan.entry.now))
-                ledger.entry.now.table result }
+                ledger.entry.now.table)
+                × IfErr result (IsFresh ledger.entry.now.table) }
         {
-            start_crew(
-                rt,
-                alloc,
-                scope,
-                plan.typed(),
-                crew,
-                plan.settings().branches,
-            );
-            let worked = work_with_threads(rt, alloc, plan, watch, ledger, seat, crew);
+            let ended = start_and_work(rt, alloc, scope, plan, watch, ledger, seat, crew);
             crew.dismiss();
-            worked
+            ended
         },
     )
 }
 
-/// Works at a fresh seat with a crew on the system, whose relations are those that `J` names.
+/// Works at a fresh seat with a crew on the system, whose relations are those that `J` names. If the threads of
+/// the crew do not all start, it does no work and returns the seat and the system, as an `Err`.
 fn work_named<
     K: StopCondition,
     J: Relations + Send + Sync,
@@ -180,20 +213,27 @@ fn work_named<
     ledger: &Ledger<Record>,
     seat: Seat<Record>,
     system: S,
-) -> Seat<Record>
+) -> Result<Seat<Record>, (Seat<Record>, S)>
     requires fresh { IsFresh ledger.now.table seat }
     requires trials { ledger.now.table.slots ≡ (arc_value plan.now).settings.trials }
     requires model { (arc_value plan.now).model ≡ J.model }
     requires kept { AreKept (S.may_answer system) J.answering (S.may_fail system) J.failing
         (S.may_refuse_reset system) J.resetting }
-    ensures { IsWorked (K.may_end watch.now)
-        (MayGive J.answering J.failing J.resetting (arc_value plan.now)) ledger.now.table result }
+    ensures worked { IfOk result (IsWorked (K.may_end watch.now)
+        (MayGive J.answering J.failing J.resetting (arc_value plan.now)) ledger.now.table) }
+    ensures unused { IfErr result (λ back. IsFresh ledger.now.table back.0) }
+    ensures kept { IfErr result (λ back. AreKept (S.may_answer back.1) J.answering
+        (S.may_fail back.1) J.failing (S.may_refuse_reset back.1) J.resetting) }
 {
     let crew: Crew<J, S> = Crew::new(KeptSystem::new(system));
-    work_with_crew(rt, alloc, plan, watch, ledger, seat, &crew)
+    match work_with_crew(rt, alloc, plan, watch, ledger, seat, &crew) {
+        Ok(seat) => Ok(seat),
+        Err(seat) => Err((seat, crew.into_system())),
+    }
 }
 
-/// Works at a fresh seat with a crew on the system, whose relations get names for this call.
+/// Works at a fresh seat with a crew on the system, whose relations get names for this call. If the threads of
+/// the crew do not all start, it does no work and returns the seat and the system, as an `Err`.
 fn work_on<K: StopCondition, S: Subject + Send + Sync + Drop, H: Threads + Wait>(
     rt: &H,
     alloc: Global,
@@ -202,17 +242,23 @@ fn work_on<K: StopCondition, S: Subject + Send + Sync + Drop, H: Threads + Wait>
     ledger: &Ledger<Record>,
     seat: Seat<Record>,
     system: S,
-) -> Seat<Record>
+) -> Result<Seat<Record>, (Seat<Record>, S)>
     requires fresh { IsFresh ledger.now.table seat }
     requires trials { ledger.now.table.slots ≡ (arc_value plan.now).settings.trials }
-    ensures { IsWorked (K.may_end watch.now)
+    ensures worked { IfOk result (IsWorked (K.may_end watch.now)
         (MayGive (S.may_answer system) (S.may_fail system) (S.may_refuse_reset system)
-        (arc_value plan.now)) ledger.now.table result }
+        (arc_value plan.now)) ledger.now.table) }
+    ensures unused { IfErr result (λ back. IsFresh ledger.now.table back.0) }
+    ensures kept { IfErr result (λ back. AreKept (S.may_answer back.1) (S.may_answer system)
+        (S.may_fail back.1) (S.may_fail system)
+        (S.may_refuse_reset back.1) (S.may_refuse_reset system)) }
 {
     work_named::<K, Brand, S, H>(rt, alloc, plan, watch, ledger, seat, system)
 }
 
-/// Works at a fresh seat with a crew on the system in a box, until no number is left or the plan is over.
+/// Works at a fresh seat on the system in a box until no number is left or the plan is over, and returns the
+/// seat. It keeps a thread for each branch from drive to drive. If these cannot all be started, each drive
+/// starts its own.
 pub(crate) fn work_on_boxed_system<K: StopCondition, H: Threads + Wait>(
     rt: &H,
     alloc: Global,
@@ -228,5 +274,11 @@ pub(crate) fn work_on_boxed_system<K: StopCondition, H: Threads + Wait>(
         (MayGive (answers system) (fails system) (reset_fails system) (arc_value plan.now))
         ledger.now.table result }
 {
-    work_on(rt, alloc, plan, watch, ledger, seat, system)
+    match work_on(rt, alloc, plan, watch, ledger, seat, system) {
+        Ok(seat) => seat,
+        Err((seat, system)) => {
+            may_share_records();
+            work_alone(rt, alloc, &Watched { plan, watch }, ledger, seat, system)
+        }
+    }
 }

@@ -2,7 +2,6 @@
 ghost use Rattle.std.specs.Prelude.{◌≡◌, ◌<◌, IsTrue, IfOk, IfErr};
 ghost use Rattle.std.specs.Arc.{arc_value};
 ghost use Rattle.pst_campaign.specs.Entries.{MayGive, cause_of};
-ghost use Rattle.pst_campaign.specs.Workers.{IsFresh, IsWorked};
 ghost use Rattle.pst_ledger.specs.declared.entry.Entry.TheVariants.{Done, Lost};
 ghost use Rattle.pst_system.specs.Kept.{AreKept};
 
@@ -122,15 +121,13 @@ impl<'a, K: StopCondition> Worker<BoxedSystem> for Watched<'a, K> {
         alloc: Global,
         ledger: &Ledger<Record>,
         seat: Seat<Record>,
-        system: BoxedSystem,
-    ) -> Seat<Record>
-        requires fresh { IsFresh ledger.now.table seat }
-        requires trials { ledger.now.table.slots ≡ (arc_value self.now.plan.now).settings.trials }
-        ensures { IsWorked (K.may_end self.now.watch.now)
-            (MayGive ((System-box system).answers system.value) ((System-box system).fails system.value)
-            ((System-box system).reset_fails system.value) (arc_value self.now.plan.now))
-            ledger.now.table result }
-    {
-        work_on_boxed_system(rt, alloc, self.plan, self.watch, ledger, seat, system)
+        system: &mut Option<BoxedSystem>,
+    ) -> Seat<Record> {
+        match system.take() {
+            Some(own) => {
+                work_on_boxed_system(rt, alloc, self.plan, self.watch, ledger, seat, own)
+            }
+            None => seat,
+        }
     }
 }

@@ -1,5 +1,5 @@
 //! What a worker does for a number.
-ghost use Rattle.std.specs.Prelude.{◌≡◌, ◌<◌, ℕ, IfOk, IfErr};
+ghost use Rattle.std.specs.Prelude.{◌≡◌, ◌<◌, ℕ, IfOk, IfErr, IfSome};
 ghost use Rattle.pst_campaign.specs.Workers.{IsFresh, IsWorked};
 ghost use Rattle.pst_ledger.specs.declared.entry.Entry.{Entry};
 ghost use Rattle.pst_ledger.specs.declared.entry.Entry.TheVariants.{Done, Lost};
@@ -71,16 +71,18 @@ pub(crate) trait Worker<S> {
     /// That its trials may end before all numbers are drawn.
     ghost may_end: { Self → Type 0 };
 
-    /// Works at a fresh seat, on a system of its own, and returns the seat.
+    /// Takes the system, works with it at a fresh seat, and returns the seat. If there is no system, the seat is
+    /// returned as it is.
     fn work<H: Threads + Wait>(
         &self,
         rt: &H,
         alloc: Global,
         ledger: &Ledger<Record>,
         seat: Seat<Record>,
-        system: S,
+        system: &mut Option<S>,
     ) -> Seat<Record>
         requires fresh { IsFresh ledger.now.table seat }
         requires trials { ledger.now.table.slots ≡ trials self.now }
-        ensures { IsWorked (may_end self.now) (may_give self.now system) ledger.now.table result };
+        ensures { IfSome system.old
+            (λ s. IsWorked (may_end self.now) (may_give self.now s) ledger.now.table result) };
 }

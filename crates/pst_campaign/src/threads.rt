@@ -61,7 +61,10 @@ fn work_in_threads<'s, E, S: Drop + Send + 's, P: Worker<S> + Sync + 's, H: Thre
     let run = move || -> Seat<Record>
         requires { IsFresh ledger.now.table seat × (ledger.now.table.slots ≡ P.trials plan.now) }
         ensures { IsWorked (P.may_end plan.entry.now) (P.may_give plan.entry.now system) ledger.entry.now.table result }
-    { plan.work(rt, alloc, ledger, seat, system) };
+    {
+        let mut system = Some(system);
+        plan.work(rt, alloc, ledger, seat, &mut system)
+    };
     match scope.spawn_with(promise, run) {
         Ok(child) => {
             let mut worked = work_in_threads(rt, scope, alloc, plan, ledger, seats, systems);

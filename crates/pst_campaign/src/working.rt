@@ -2,7 +2,7 @@
 ghost use Rattle.std.specs.Prelude.{◌≡◌, true, None};
 ghost use Rattle.std.specs.Arc.{arc_value};
 ghost use Rattle.pst_campaign.specs.Entries.{MayGive};
-ghost use Rattle.pst_campaign.specs.Workers.{IsMarked};
+ghost use Rattle.pst_campaign.specs.Workers.{IsFresh, IsMarked, IsWorked};
 ghost use Rattle.pst_campaign.specs.Working.{Adds};
 ghost use Rattle.pst_system.specs.Kept.{AreKept};
 
@@ -53,6 +53,23 @@ pub(crate) fn work_with<R: Numbered, S: Drop, P: TrialRunner<R, S>, H: Threads +
         }
     }
     unreachable!()
+}
+
+/// Does what `work_with` does, with a fresh seat and a system of its own for a thread, and returns the seat.
+pub(crate) fn work_alone<R: Numbered, S: Drop, P: TrialRunner<R, S>, H: Threads + Wait>(
+    rt: &H,
+    alloc: Global,
+    plan: &P,
+    ledger: &Ledger<R>,
+    mut seat: Seat<R>,
+    mut system: S,
+) -> Seat<R>
+    requires fresh { IsFresh ledger.now.table seat }
+    requires trials { ledger.now.table.slots ≡ P.trials plan.now }
+    ensures { IsWorked (P.may_end plan.now) (P.may_give plan.now system) ledger.now.table result }
+{
+    work_with(rt, alloc, plan, ledger, &mut seat, &mut system);
+    seat
 }
 
 /// Works at a seat of a ledger until no number is left: claims a number, runs its trial of the plan on the

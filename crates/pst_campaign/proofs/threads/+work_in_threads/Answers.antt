@@ -29,7 +29,7 @@ run-own-requires g t c κs within =
     let P = IsFresh c.args.ledger.now.table in
     let fresh : IsFresh c.args.ledger.now.table c.in-Some.seat
     = all_head P c.in-Some.seat [] (all_back P c.pop.new.self.items (c.in-Some.seat ∷ []) (subst (All P) c.in-Some.ensures.items c.requires.fresh)) in
-    rw c.in-Err.ensures.err (fresh, c.requires.trials)
+    (within.0, (within.1.0, (within.1.1, rw c.in-Err.ensures.err (fresh, c.requires.trials))))
 
 pub returns-in-Ok-clause-worked : goal.returns-in-Ok-clause-worked
 returns-in-Ok-clause-worked g t c =
