@@ -63,7 +63,7 @@ impl<'r, 'c, 's, J: Relations, S: Subject, R: Wait> Driver for CrewDriver<'r, 'c
     ghost steady = { λ a b p. steady_same _ _ };
 }
 
-/// Does what `trial_counting` does, on the system of a crew and with its threads, which run by the model of the
+/// Does what `trial_with_progress` does, on the system of a crew and with its threads, which run by the model of the
 /// plan.
 pub fn trial_with<J: Relations, S: Subject, R: Wait>(
     rt: &R,
