@@ -22,7 +22,7 @@ use pst_syntax::{ClauseShape, FaultKind, FoldShape, MAX_TY_LEVELS, Shape, clause
 use pst_value::Text;
 
 /// Adds the faults of an expression with `room` levels of room.
-#[cycle(expr)]
+#[cycle(add_expr_faults)]
 #[tactic(auto, using(crate::proofs::Keeping::keeping, crate::proofs::Levels::expr_levels))]
 pub fn add_expr_faults(
     walk: Walk,
@@ -58,7 +58,7 @@ pub fn add_expr_faults(
     Ok(())
 }
 
-#[cycle(expr)]
+#[cycle(add_expr_faults)]
 #[tactic(auto, using(crate::proofs::Keeping::keeping))]
 fn add_expr_parts_faults(
     walk: Walk,
@@ -94,7 +94,7 @@ fn add_expr_parts_faults(
 }
 
 /// Adds the faults of an expression that is part `number` of the tree at `path`.
-#[cycle(expr)]
+#[cycle(add_expr_faults)]
 pub fn add_expr_part_faults(
     walk: Walk,
     faults: &mut Faults,
@@ -111,7 +111,7 @@ pub fn add_expr_part_faults(
 }
 
 /// Adds the faults of an expression that is part 1 of the tree at `path`.
-#[cycle(expr)]
+#[cycle(add_expr_faults)]
 #[tactic(auto, using(crate::proofs::Keeping::keeping))]
 fn add_unary_faults(walk: Walk, faults: &mut Faults, path: &[usize], a: &Form, room: usize) -> Added
     ensures { OnOk result (faults.new ≡ keep walk.limit faults.old
@@ -123,7 +123,7 @@ fn add_unary_faults(walk: Walk, faults: &mut Faults, path: &[usize], a: &Form, r
 }
 
 /// Adds the faults of expressions that are the parts 1 and 2 of the tree at `path`.
-#[cycle(expr)]
+#[cycle(add_expr_faults)]
 #[tactic(auto, using(crate::proofs::Keeping::keeping))]
 fn add_binary_faults(
     walk: Walk,
@@ -143,7 +143,7 @@ fn add_binary_faults(
 }
 
 /// Adds the faults of expressions that are the parts 1, 2 and 3 of the tree at `path`.
-#[cycle(expr)]
+#[cycle(add_expr_faults)]
 #[tactic(auto, using(crate::proofs::Keeping::keeping))]
 fn add_ternary_faults(
     walk: Walk,
@@ -165,7 +165,7 @@ fn add_ternary_faults(
 }
 
 /// Adds the faults of a body that sees a value under a name.
-#[cycle(expr)]
+#[cycle(add_expr_faults)]
 #[tactic(auto, using(crate::proofs::Keeping::keeping))]
 fn add_let_faults(
     walk: Walk,
@@ -187,7 +187,7 @@ fn add_let_faults(
 }
 
 /// Adds the faults of an item of a tuple.
-#[cycle(expr)]
+#[cycle(add_expr_faults)]
 #[tactic(auto, using(crate::proofs::Keeping::keeping))]
 fn add_at_faults(
     walk: Walk,
@@ -207,7 +207,7 @@ fn add_at_faults(
 }
 
 /// Adds the faults of a list that is written out.
-#[cycle(expr)]
+#[cycle(add_expr_faults)]
 #[tactic(auto, using(crate::proofs::Keeping::keeping))]
 fn add_list_faults(
     walk: Walk,
@@ -227,7 +227,7 @@ fn add_list_faults(
 }
 
 /// Adds the faults of a comprehension.
-#[cycle(expr)]
+#[cycle(add_expr_faults)]
 #[tactic(auto, using(crate::proofs::Keeping::keeping))]
 fn add_for_faults(
     walk: Walk,
@@ -247,7 +247,7 @@ fn add_for_faults(
 }
 
 /// Adds the faults of a call of an operation.
-#[cycle(expr)]
+#[cycle(add_expr_faults)]
 #[tactic(auto, using(crate::proofs::Keeping::keeping))]
 fn add_call_faults(
     walk: Walk,
@@ -267,7 +267,7 @@ fn add_call_faults(
 }
 
 /// Adds the faults of expressions that are the parts from `from` on of the tree at `path`.
-#[cycle(expr)]
+#[cycle(add_expr_faults)]
 #[tactic(auto, using(crate::proofs::Keeping::keeping))]
 fn add_exprs_faults(
     walk: Walk,
@@ -291,7 +291,7 @@ fn add_exprs_faults(
 }
 
 /// Adds the faults of a fold over a list.
-#[cycle(expr)]
+#[cycle(add_expr_faults)]
 #[tactic(auto, using(crate::proofs::Keeping::keeping))]
 fn add_fold_faults(
     walk: Walk,
@@ -316,7 +316,7 @@ fn add_fold_faults(
 }
 
 /// Adds the faults of the clauses of the comprehension at `path`.
-#[cycle(expr)]
+#[cycle(add_expr_faults)]
 #[tactic(auto, using(crate::proofs::Keeping::keeping))]
 fn add_clauses_faults(
     walk: Walk,
@@ -339,7 +339,7 @@ fn add_clauses_faults(
 }
 
 /// Adds the faults of a clause that is part `number` of the tree at `path`.
-#[cycle(expr)]
+#[cycle(add_expr_faults)]
 #[tactic(auto, using(crate::proofs::Keeping::keeping))]
 fn add_clause_faults(
     walk: Walk,

@@ -24,7 +24,7 @@ fn ty_fits(shape: &TyShape<'_>) -> bool
 }
 
 /// Adds the faults of a type with `room` levels of room.
-#[cycle(ty)]
+#[cycle(add_ty_faults)]
 #[tactic(auto, using(crate::proofs::Keeping::keeping, crate::proofs::Levels::ty_levels))]
 pub fn add_ty_faults(
     walk: Walk,
@@ -55,7 +55,7 @@ pub fn add_ty_faults(
     Ok(())
 }
 
-#[cycle(ty)]
+#[cycle(add_ty_faults)]
 #[tactic(auto, using(crate::proofs::Keeping::keeping))]
 fn add_ty_parts_faults(
     walk: Walk,
@@ -79,7 +79,7 @@ fn add_ty_parts_faults(
 }
 
 /// Adds the faults of the type in the type at `path`, of which it is part `number`.
-#[cycle(ty)]
+#[cycle(add_ty_faults)]
 #[tactic(auto, using(crate::proofs::Keeping::keeping))]
 fn add_inner_ty_faults(
     walk: Walk,
@@ -99,7 +99,7 @@ fn add_inner_ty_faults(
 }
 
 /// Adds the faults of a type that is part `number` of the tree at `path`.
-#[cycle(ty)]
+#[cycle(add_ty_faults)]
 pub fn add_ty_part_faults(
     walk: Walk,
     faults: &mut Faults,
@@ -117,7 +117,7 @@ pub fn add_ty_part_faults(
 }
 
 /// Adds the faults of types that are the parts from 1 on of the tree at `path`.
-#[cycle(ty)]
+#[cycle(add_ty_faults)]
 #[tactic(auto, using(crate::proofs::Keeping::keeping))]
 fn add_tys_faults(
     walk: Walk,
