@@ -11,8 +11,8 @@ pub loop-form-preserved : goal.loop-form-preserved
 loop-form-preserved c = record {
   number = omega arith;
   same = next shown_item_option role.Item item_shape (item_faults_at c.args.walk.has_maps) (λ seen. items_faults_at c.args.walk.has_maps seen c.args.path.now) c.args.path.now (λ seen number form forms. refl)
-      c.args.walk.limit c.loop-form.number c.loop-form.form-index c.args.forms.now c.form-add_item_faults.result c.loop-form.seen _ _ _ c.item_shape-shape.result _ c.loop-form.faults c.add_item_faults.new.faults
-      c.loop-form-test.true c.form-add_item_faults.is c.loop-form.invariant.same c.in_ok-add_item_faults.ensures (c.as_slice-in-loop-form.ensures.value ∙ c.in_ok-at.ensures) c.as_slice.ensures c.item_shape-shape.ensures c.in_ok-push.ensures.ok;
+      c.args.walk.limit c.loop-form.number c.loop-form.form-index c.args.forms.now c.form-item.result c.loop-form.seen _ _ _ c.item_shape-shape.result _ c.loop-form.faults c.add_item_faults.new.faults
+      c.loop-form-test.true c.form-item.is c.loop-form.invariant.same c.in_ok-add_item_faults.ensures (c.as_slice-in-loop-form.ensures.value ∙ c.in_ok-at.ensures) c.as_slice.ensures c.item_shape-shape.ensures c.in_ok-push.ensures.ok;
 }
 
 pub returns : goal.returns
