@@ -19,7 +19,7 @@ const TWO_MISFITS: &str =
 fn misfits_over(alloc: Global, model: &str) -> Result<Arc<Misfits, Global>, AllocError> {
     let misfits = Misfits::new(alloc)?;
     if let Ok(file) = load(alloc, model.as_bytes())? {
-        misfits.compare_with(file.typed);
+        misfits.set_model(file.typed);
     }
     Ok(Arc::new(alloc, misfits)?)
 }
