@@ -22,12 +22,12 @@ pub fn output_is_unique()
     judgement_is_unique();
 }
 
-/// If no item is refused, `judge_text_keeping_on` writes and returns what `judge_text` does.
+/// If no item is refused, `judge_text_keep_going` writes and returns what `judge_text` does.
 pub fn keeps_judgements()
     ensures { KeepsJudgements }
 {}
 
-/// A stream with one item on each line has the lines and the status of `judge_text_keeping_on` for a file of these
+/// A stream with one item on each line has the lines and the status of `judge_text_keep_going` for a file of these
 /// items.
 pub fn streams_are_files()
     ensures { StreamsAreFiles }

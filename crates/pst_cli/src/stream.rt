@@ -175,7 +175,7 @@ fn write_stream<I: Read, W: Sink, R: Threads + Sync, L: RefusedLines>(
 /// once, and writes their verdicts before the next read; keeps no more of the reader in memory. `refused` then gets the
 /// refused lines. Ignores the items after the model in the input.
 ///
-/// The status is the worst of all lines, as in `judge_text_keeping_on`. If the model is refused, writes its refusal
+/// The status is the worst of all lines, as in `judge_text_keep_going`. If the model is refused, writes its refusal
 /// alone. If the reader fails, writes `refused file` after the lines so far, with the status `Refused`. If an
 /// allocation fails, writes `refused memory` after them, with the status `Lost`. The status is also `Lost` if the
 /// writer fails.
