@@ -98,7 +98,7 @@ fn report_parse_error<R: Runtime + AllocGlobal>(
     if !error.use_stderr() {
         return match error.print(rt) {
             Ok(()) => Status::Accepted,
-            Err(error) => outputs::lost(rt, rt.alloc(), None, &error),
+            Err(error) => outputs::report_lost_output(rt, rt.alloc(), None, &error),
         };
     }
     let Ok(text) = error_text(rt.alloc(), started, error) else {
@@ -114,7 +114,7 @@ fn report_parse_error<R: Runtime + AllocGlobal>(
 fn print_text<R: Runtime + AllocGlobal>(rt: &R, text: &str) -> Status {
     match print!(rt; "{text}") {
         Ok(()) => Status::Accepted,
-        Err(error) => outputs::lost(rt, rt.alloc(), None, &error),
+        Err(error) => outputs::report_lost_output(rt, rt.alloc(), None, &error),
     }
 }
 
@@ -141,7 +141,7 @@ pub fn parse_arguments<'a, R: Runtime + AllocGlobal>(
         Ok(matches) if matches.subcommand_name() == Some("verdicts") => {
             Err(print_text(rt, help::VERDICTS))
         }
-        Ok(matches) if words::starts_clients(&matches) => Err(refuse_client(rt)),
+        Ok(matches) if words::names_client(&matches) => Err(refuse_client(rt)),
         Ok(matches) => Ok(matches),
         Err(error) => Err(report_parse_error(rt, started, &error)),
     }

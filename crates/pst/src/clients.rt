@@ -30,7 +30,7 @@ fn types_in(alloc: Global, input: &[u8]) -> Result<Items<Ty>, AllocError> {
 
 /// Opens the clients of worker number `worker`, from 0, whose pipes are in `folder`. They answer calls of the model at
 /// the beginning of `input`. If the pipes cannot be opened, standard error says why.
-pub fn open_for_worker<H: Wait + Drop, R: Files + Eprint + AllocGlobal>(
+pub fn open_for_worker<H: Wait + Files + Drop, R: Files + Eprint + AllocGlobal>(
     handle: H,
     rt: &R,
     folder: Folder<'_>,

@@ -7,7 +7,8 @@ use crate::{explained, overheard};
 use clap::ArgMatches;
 use pst_case::Run;
 use pst_cli::{
-    Absence, Counts, Status, Steps, refuse_text, run_counting, run_json, run_repeatedly,
+    Absence, Counts, ProgressCounter, Status, refuse_text, run_json, run_repeatedly,
+    run_with_progress,
 };
 use pst_driver::Misfits;
 use pst_sexpr::{Out, Sink, put_all};
@@ -61,7 +62,7 @@ fn run_items<W: Sink, R: Threads + Wait>(
     how: DriveOptions,
     input: &[u8],
     counts: &mut Counts,
-    steps: &Steps,
+    steps: &ProgressCounter,
     out: &mut W,
 ) -> Status
     requires { W.broken out.old ≡ false }
@@ -73,7 +74,7 @@ fn run_items<W: Sink, R: Threads + Wait>(
         Some(repeats) if repeats >= 1 => {
             run_repeatedly(rt, alloc, input, system, repeats, counts, steps, out)
         }
-        _ => run_counting(rt, alloc, input, system, counts, steps, out),
+        _ => run_with_progress(rt, alloc, input, system, counts, steps, out),
     }
 }
 
@@ -155,7 +156,7 @@ pub fn drive<W: Sink, R: Threads + Wait + Sync + Eprint + Copy + Drop + Send + '
             how,
             input,
             counts,
-            &Steps::new(),
+            &ProgressCounter::new(),
             out,
         ),
     }

@@ -8,7 +8,7 @@ use crate::{help, words};
 use clap::builder::ValueParser;
 use clap::{Arg, ArgAction, ArgMatches, Command};
 use pst_cli::{
-    Absence, Chosen, ExplainOptions, ExplanationForm, Status, explain_counting, graph_text,
+    Absence, Chosen, ExplainOptions, ExplanationForm, Status, explain_with_progress, graph_text,
     refuse_text,
 };
 use pst_sexpr::{MAX_BYTES, Out, Sink, put_all};
@@ -180,7 +180,7 @@ fn explain_telling<
         return refuse_text(Absence::NoMemory, out);
     };
     let mut text = Out::new(Vec::new(alloc));
-    let status = explain_counting(rt, alloc, input, asked, telling.steps(), &mut text);
+    let status = explain_with_progress(rt, alloc, input, asked, telling.steps(), &mut text);
     telling.end(rt);
     let text = text.into_inner();
     // Each status but `Accepted` has a text: there is none only if an allocation of the buffer failed.

@@ -5,7 +5,7 @@ use crate::{help, json_items, outputs, refused, words};
 use clap::{Arg, ArgAction, ArgMatches, Command};
 use pst_cli::{Status, refuse_text};
 use pst_messages::{Asked, message_of};
-use pst_print::laid_out;
+use pst_print::format_file;
 use pst_sexpr::{FaultKind, Out, SexprFault};
 use pst_sources::SourceFile;
 use pst_typing::Refusal;
@@ -40,10 +40,10 @@ struct FormatOptions {
 }
 
 /// Prints a text on standard output. If it cannot be printed, standard error says so.
-fn print<R: Runtime + AllocGlobal>(rt: &R, text: &[u8]) -> Status {
+fn print_text<R: Runtime + AllocGlobal>(rt: &R, text: &[u8]) -> Status {
     match io::writer(rt).write_all(text) {
         Ok(()) => Status::Accepted,
-        Err(error) => outputs::lost(rt, rt.alloc(), None, &error),
+        Err(error) => outputs::report_lost_output(rt, rt.alloc(), None, &error),
     }
 }
 
@@ -88,7 +88,13 @@ fn write_both<R: Files>(rt: &R, name: &str, copy: &str, text: &[u8]) -> Result<(
 }
 
 /// Says why a file was not rewritten.
-fn report<R: Eprint>(rt: &R, alloc: Global, name: &str, copy: &str, why: &Unwritten) {
+fn report_unwritten_file<R: Eprint>(
+    rt: &R,
+    alloc: Global,
+    name: &str,
+    copy: &str,
+    why: &Unwritten,
+) {
     match why {
         Unwritten::Kept(error) => {
             outputs::report_unwritten(rt, alloc, name, error);
@@ -104,14 +110,14 @@ fn report<R: Eprint>(rt: &R, alloc: Global, name: &str, copy: &str, why: &Unwrit
 }
 
 /// Rewrites a file.
-fn rewrite<R: Runtime + AllocGlobal>(rt: &R, name: &str, text: &[u8]) -> Status {
+fn rewrite_file<R: Runtime + AllocGlobal>(rt: &R, name: &str, text: &[u8]) -> Status {
     let Ok(copy) = format!(in rt.alloc(); "{name}.pst-fmt") else {
         return refused::report_out_of_memory(rt);
     };
     match write_both(rt, name, copy.as_str(), text) {
         Ok(()) => Status::Accepted,
         Err(why) => {
-            report(rt, rt.alloc(), name, copy.as_str(), &why);
+            report_unwritten_file(rt, rt.alloc(), name, copy.as_str(), &why);
             Status::Lost
         }
     }
@@ -119,7 +125,7 @@ fn rewrite<R: Runtime + AllocGlobal>(rt: &R, name: &str, text: &[u8]) -> Status 
 
 /// Handles the new text of a file. If `how` only checks, it prints the file's name if the text differs. Otherwise it
 /// prints the text, for standard input, or rewrites the file if the text differs.
-fn finish<R: Runtime + AllocGlobal>(
+fn finish_file<R: Runtime + AllocGlobal>(
     rt: &R,
     file: &SourceFile<'_>,
     text: &[u8],
@@ -133,20 +139,20 @@ fn finish<R: Runtime + AllocGlobal>(
         }
         return match println!(rt; "{name}") {
             Ok(()) => Status::Failed,
-            Err(error) => outputs::lost(rt, rt.alloc(), None, &error),
+            Err(error) => outputs::report_lost_output(rt, rt.alloc(), None, &error),
         };
     }
     if name == STANDARD_INPUT {
-        print(rt, text)
+        print_text(rt, text)
     } else if is_same {
         Status::Accepted
     } else {
-        rewrite(rt, name, text)
+        rewrite_file(rt, name, text)
     }
 }
 
 /// Refuses a file that cannot be read, with a message unless `how` is quiet.
-fn refuse<R: Runtime + AllocGlobal>(
+fn refuse_unread<R: Runtime + AllocGlobal>(
     rt: &R,
     files: &[SourceFile<'_>],
     bytes: &[u8],
@@ -158,7 +164,7 @@ fn refuse<R: Runtime + AllocGlobal>(
     }
     let refusal = Refusal::Unread(fault);
     if let Err(error) = println!(rt; "refused {refusal}") {
-        return outputs::lost(rt, rt.alloc(), None, &error);
+        return outputs::report_lost_output(rt, rt.alloc(), None, &error);
     }
     if !how.reading.is_quiet {
         if let Ok(Some(message)) = message_of(rt.alloc(), files, bytes, Asked::Model) {
@@ -182,11 +188,11 @@ fn lay_out_file<R: Runtime + AllocGlobal>(rt: &R, name: &str, how: FormatOptions
         if !how.reading.is_quiet {
             let _ = eprintln!(rt; "pst: there are items as JSON in {name}, so it stays as it is");
         }
-        return finish(rt, file, bytes, how);
+        return finish_file(rt, file, bytes, how);
     }
-    match laid_out(rt.alloc(), bytes) {
-        Ok(text) => finish(rt, file, text.as_slice(), how),
-        Err(fault) => refuse(rt, files.as_slice(), bytes, fault, how),
+    match format_file(rt.alloc(), bytes) {
+        Ok(text) => finish_file(rt, file, text.as_slice(), how),
+        Err(fault) => refuse_unread(rt, files.as_slice(), bytes, fault, how),
     }
 }
 

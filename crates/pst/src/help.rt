@@ -41,7 +41,8 @@ Examples:
   tail -f cache.runs | pst judge --stream cache.model
 
 With --stream standard input has one item on each line, and the line of its verdict is printed before more is read. A line with
-no item, or longer than 1 MiB, is refused as BadForm.
+no item, or longer than 1 MiB, is refused as BadForm. Standard error says why a line is refused, for the first 20 of them or,
+with --all-messages, for each.
 
 Exit status: 0 if all items are explained or valid, 1 if some item is not, 2 if the input is refused
 (with --keep-going, --stream or --format json: if some item is), 3 if an allocation failed or the output cannot be written.";
@@ -159,8 +160,10 @@ The report of a campaign:
   undrawn N             trials that no worker has begun, since the campaign ended early
   least K VERDICT       the failed trial with the smallest number; `least none` if no trial failed
   from RUN              the run that this trial failed by
-  steps N minimal       how many smaller cases shrinking took; `stopped` in place of `minimal` if --limit ended it
-  to RUN                the run that the smallest of them failed by, and on the last line the verdict on it
+  steps N minimal       how many smaller cases shrinking took. `minimal`: no smaller case that it tried after the last one
+                        failed in its --repeats drives. A race that shows seldom may leave calls that it does not need.
+                        `stopped` in place of `minimal`: --limit ended shrinking.
+  to RUN                the run that the last of these cases failed by, and on the last line the verdict on it
 
 Refusals:
   refused file          A file cannot be opened or read, or the output would overwrite an input.

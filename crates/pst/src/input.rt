@@ -7,7 +7,7 @@ use pst_sources::SourceFile;
 use std::io::{self, ErrorKind, Read};
 use std::rt::Files;
 
-/// The name of standard input.
+/// The name of standard input; for `-o`, of standard output.
 pub const STANDARD_INPUT: &str = "-";
 
 /// How the input is read.
@@ -86,7 +86,7 @@ fn report_unread<R: Eprint + AllocGlobal>(rt: &R, name: &str, unread: &Unread, i
 }
 
 /// Returns why there is no input if a file cannot be read. Standard error says which file it is, unless `is_quiet`.
-fn absence<R: Eprint + AllocGlobal>(
+fn report_absence<R: Eprint + AllocGlobal>(
     rt: &R,
     name: &str,
     unread: &Unread,
@@ -120,7 +120,7 @@ pub fn try_to_open<R: Files + Eprint + AllocGlobal>(
                 was_opened: false,
                 error,
             };
-            return Err(absence(rt, name, &unread, is_quiet));
+            return Err(report_absence(rt, name, &unread, is_quiet));
         }
     }
     Ok(())
@@ -149,7 +149,7 @@ pub fn read_files<'a, R: Files + Input + Eprint + AllocGlobal>(
         };
         let bytes = match found {
             Ok(bytes) => bytes,
-            Err(unread) => return Err(absence(rt, name, &unread, reading.is_quiet)),
+            Err(unread) => return Err(report_absence(rt, name, &unread, reading.is_quiet)),
         };
         limit = limit.saturating_sub(bytes.len() as u64);
         if files.push(SourceFile { name, bytes }).is_err() {

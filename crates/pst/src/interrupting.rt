@@ -23,7 +23,7 @@ pub struct Watched {
 }
 
 /// Looks for the file until it is there or the campaign is over.
-pub fn look<R: Wait + Files>(rt: &R, watched: &Watched) {
+pub fn watch_for_stop_file<R: Wait + Files>(rt: &R, watched: &Watched) {
     for _ in rt.forever() {
         if input::can_be_opened(rt, watched.name.as_str()) {
             watched.has_appeared.store(true, Ordering::SeqCst);
@@ -54,7 +54,7 @@ pub fn stop_file<'a>(matches: &ArgMatches<'a>) -> Option<&'a str> {
 }
 
 /// Whether the file is there that ends a campaign, in a place that threads share. None if the arguments name no file.
-pub fn first_look<R: Files>(
+pub fn initial_stop_flag<R: Files>(
     rt: &R,
     alloc: Global,
     matches: &ArgMatches<'_>,

@@ -6,9 +6,10 @@ use crate::telling::StepsDisplay;
 use crate::words::is_json;
 use clap::ArgMatches;
 use pst_cli::{
-    AnsweredFile, Counts, JudgedFile, MEMORY_OBJECT, Shown, Status, Steps, item_count, judge_file,
-    judge_file_counting, judge_file_keeping_on, judge_file_keeping_on_counting, judge_json,
-    judge_json_counting, judge_text, judge_text_keeping_on,
+    AnsweredFile, Counts, JudgedFile, MEMORY_OBJECT, ProgressCounter, Shown, Status, item_count,
+    judge_file, judge_file_keep_going, judge_file_keep_going_with_progress,
+    judge_file_with_progress, judge_json, judge_json_with_progress, judge_text,
+    judge_text_keep_going,
 };
 use pst_sexpr::{Out, Sink, put_all};
 use pst_sources::{Input, SourceFile};
@@ -20,7 +21,7 @@ use std::thread::Threads;
 
 /// Writes `messages` to standard error. It does nothing if an allocation for them failed, and ignores failures to
 /// write.
-fn say<R: Eprint>(rt: &R, messages: Result<Option<String>, AllocError>) {
+fn write_messages<R: Eprint>(rt: &R, messages: Result<Option<String>, AllocError>) {
     if let Ok(Some(messages)) = messages {
         let _ = eprint!(rt; "{messages}");
     }
@@ -49,7 +50,7 @@ fn warn_on_runs<R: Eprint>(
     {
         let input = Input { files, bytes };
         let typed = compiled.typed();
-        say(rt, broken_run(alloc, typed, input, judged.as_slice()));
+        write_messages(rt, broken_run(alloc, typed, input, judged.as_slice()));
         let warnings = warnings_on_runs(
             &compiled,
             alloc,
@@ -58,7 +59,7 @@ fn warn_on_runs<R: Eprint>(
             runs.as_slice(),
             judged.as_slice(),
         );
-        say(rt, warnings);
+        write_messages(rt, warnings);
         forget((compiled, runs, judged));
     }
 }
@@ -75,7 +76,7 @@ fn warn_on_answers<R: Eprint>(
         let input = Input { files, bytes };
         let typed = file.compiled.typed();
         let trees = file.trees.as_slice();
-        say(
+        write_messages(
             rt,
             broken_answer(alloc, typed, input, trees, answers.as_slice()),
         );
@@ -87,12 +88,12 @@ fn warn_on_answers<R: Eprint>(
             trees,
             answers.as_slice(),
         );
-        say(rt, warnings)
+        write_messages(rt, warnings)
     }
 }
 
 /// Returns the items whose lines are written, by the arguments.
-fn shown(words: &ArgMatches<'_>) -> Shown {
+fn shown_items(words: &ArgMatches<'_>) -> Shown {
     if words.get_flag("failures") {
         Shown::Failures
     } else {
@@ -125,15 +126,15 @@ fn judge_quietly<W: Sink, R: Threads + Sync>(
 ) -> Status
     requires { W.broken out.old ≡ false }
 {
-    let shown = shown(words);
+    let shown = shown_items(words);
     if is_json(words) {
         return judge_json(rt, alloc, input, shown, out).0;
     }
     match (words.get_flag("keep-going"), shown) {
         (false, Shown::All) => judge_text(rt, alloc, input, out),
-        (true, Shown::All) => judge_text_keeping_on(rt, alloc, input, out),
+        (true, Shown::All) => judge_text_keep_going(rt, alloc, input, out),
         (false, _) => judge_file(rt, alloc, input, shown, out).0,
-        (true, _) => judge_file_keeping_on(rt, alloc, input, shown, out).0,
+        (true, _) => judge_file_keep_going(rt, alloc, input, shown, out).0,
     }
 }
 
@@ -143,16 +144,16 @@ fn judge_all<W: Sink, R: Threads + Sync>(
     alloc: Global,
     words: &ArgMatches<'_>,
     input: &[u8],
-    steps: &Steps,
+    steps: &ProgressCounter,
     out: &mut W,
 ) -> (Status, Option<AnsweredFile>)
     requires { W.broken out.old ≡ false }
 {
-    let shown = shown(words);
+    let shown = shown_items(words);
     if is_json(words) {
-        judge_json_counting(rt, alloc, input, shown, steps, out)
+        judge_json_with_progress(rt, alloc, input, shown, steps, out)
     } else {
-        judge_file_keeping_on_counting(rt, alloc, input, shown, steps, out)
+        judge_file_keep_going_with_progress(rt, alloc, input, shown, steps, out)
     }
 }
 
@@ -187,7 +188,7 @@ fn begin<R: Threads + Wait + Eprint + Copy + Drop + Send + 'static>(
 ) -> Result<StepsDisplay, AllocError> {
     let telling = StepsDisplay::begin(rt, alloc, is_told, "judged")?;
     if is_told {
-        telling.steps().expect(item_count(alloc, input)?);
+        telling.steps().set_total(item_count(alloc, input)?);
     }
     Ok(telling)
 }
@@ -221,8 +222,8 @@ pub fn judge<W: Sink, R: Threads + Wait + Sync + Eprint + Copy + Drop + Send + '
         count_and_warn(rt, alloc, files, bytes, counts, answered);
         return status;
     }
-    let (shown, steps) = (shown(words), telling.steps());
-    let (status, judged) = judge_file_counting(rt, alloc, bytes, shown, steps, &mut lines);
+    let (shown, steps) = (shown_items(words), telling.steps());
+    let (status, judged) = judge_file_with_progress(rt, alloc, bytes, shown, steps, &mut lines);
     telling.end(rt);
     let status = write_lines(words, lines, status, out);
     if let Some(judged) = &judged {

@@ -18,6 +18,7 @@ mod interrupting;
 mod json_items;
 mod judging;
 mod least;
+mod line_messages;
 mod noticed;
 mod outputs;
 mod overheard;
@@ -39,7 +40,7 @@ mod words;
 
 use interrupting::StopFile;
 use pst_cli::KnownSystem;
-use pst_driver::Overheard;
+use pst_driver::MisfitRecorder;
 use pst_samples::{Counter, Meet, Queue, Racy, Registry, Stuck};
 use pst_sources::{Input, joined};
 use pst_system::BoxedSystem;
@@ -52,7 +53,7 @@ use systems::{ChosenSystems, Unmade};
 use terminal::Terminals;
 
 /// Adds a system to the systems.
-fn and_one(systems: Systems, system: Result<BoxedSystem, Unmade>) -> Systems {
+fn add_system(systems: Systems, system: Result<BoxedSystem, Unmade>) -> Systems {
     let mut systems = systems?;
     let system = system?;
     match systems.push(system) {
@@ -74,7 +75,7 @@ macro_rules! boxed {
 /// A system in a box, which records its misfits if there is a list for them.
 macro_rules! overheard {
     ($alloc:expr, $misfits:expr, $system:expr) => {
-        boxed!($alloc, Overheard::new($system, overheard::share_misfits(&$misfits)))
+        boxed!($alloc, MisfitRecorder::new($system, overheard::share_misfits(&$misfits)))
     };
 }
 
@@ -115,7 +116,7 @@ fn main(rt: HostRuntime) -> ExitCode {
                 Ok(matches) => matches,
                 Err(status) => return status.code(),
             };
-            let files = match reading::read(&rt, &matches, terminals) {
+            let files = match reading::prepare_input(&rt, &matches, terminals) {
                 Ok(files) => files,
                 Err(status) => return status.code(),
             };
@@ -148,10 +149,10 @@ fn main(rt: HostRuntime) -> ExitCode {
                             Err(why) => Err(why),
                         },
                     };
-                    systems = and_one(systems, system);
+                    systems = add_system(systems, system);
                 }
             }
-            let Ok(has_appeared) = interrupting::first_look(&rt, alloc, &matches) else {
+            let Ok(has_appeared) = interrupting::initial_stop_flag(&rt, alloc, &matches) else {
                 return refused::report_out_of_memory(&rt).code();
             };
             let watched = match &has_appeared {
@@ -161,7 +162,7 @@ fn main(rt: HostRuntime) -> ExitCode {
             let stop_file = match watched {
                 Some(watched) => match Arc::try_clone(&watched) {
                     Ok(own) => match Builder::new()
-                        .spawn(&rt, move || interrupting::look(&rt, &own))
+                        .spawn(&rt, move || interrupting::watch_for_stop_file(&rt, &own))
                         .ok()
                     {
                         Some(thread) => Some(StopFile::new(watched, thread)),

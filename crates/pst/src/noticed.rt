@@ -10,7 +10,7 @@ use pst_warnings::warnings_in;
 use std::alloc::{AllocError, Global};
 
 /// Returns the strings as texts.
-fn texts(alloc: Global, strings: Vec<String>) -> Result<Vec<Text>, AllocError> {
+fn texts_of(alloc: Global, strings: Vec<String>) -> Result<Vec<Text>, AllocError> {
     let mut texts = Vec::new(alloc);
     for string in strings {
         texts.push(Text::from_string(string))?;
@@ -41,7 +41,7 @@ fn notice_object(alloc: Global, input: &Input<'_>, notice: Notice) -> Result<Vec
         lines,
     } = notice;
     fields.push(Field::Words(Name::Message, Text::from_string(what)))?;
-    fields.push(Field::Lines(Name::Notes, texts(alloc, notes)?))?;
+    fields.push(Field::Lines(Name::Notes, texts_of(alloc, notes)?))?;
     if !lines.is_empty() {
         fields.push(Field::Words(Name::Explanation, Text::from_string(lines)))?;
     }

@@ -55,7 +55,7 @@ fn without_number(text: &str) -> &str {
 }
 
 /// Returns what an error says, as `no space left on device`: in lower case, and without its number.
-fn reason(alloc: Global, error: &io::Error) -> Result<String, AllocError> {
+fn error_reason(alloc: Global, error: &io::Error) -> Result<String, AllocError> {
     let whole = format!(in alloc; "{error}")?;
     let mut reason = String::new(alloc);
     for character in without_number(whole.as_str()).chars() {
@@ -70,7 +70,7 @@ fn reason(alloc: Global, error: &io::Error) -> Result<String, AllocError> {
 
 /// Writes to standard error what cannot be done to `name`, as `write`, and why.
 pub fn report_failure<R: Eprint>(rt: &R, alloc: Global, verb: &str, name: &str, error: &io::Error) {
-    let _ = match reason(alloc, error) {
+    let _ = match error_reason(alloc, error) {
         Ok(reason) => eprintln!(rt; "pst: cannot {verb} {name}: {reason}"),
         Err(AllocError) => eprintln!(rt; "pst: cannot {verb} {name}"),
     };
@@ -83,7 +83,12 @@ pub fn report_unwritten<R: Eprint>(rt: &R, alloc: Global, name: &str, error: &io
 
 /// Returns the status of a command whose output, to the file `name` or to standard output, cannot be written.
 /// Standard error says why, but not for a closed pipe, as in `pst judge c.runs | head -n 1`.
-pub fn lost<R: Eprint>(rt: &R, alloc: Global, name: Option<&str>, error: &io::Error) -> Status {
+pub fn report_lost_output<R: Eprint>(
+    rt: &R,
+    alloc: Global,
+    name: Option<&str>,
+    error: &io::Error,
+) -> Status {
     if error.kind() != ErrorKind::BrokenPipe {
         match name {
             Some(name) => report_unwritten(rt, alloc, name, error),
@@ -105,7 +110,7 @@ fn is_same_file<R: Files + AllocGlobal>(rt: &R, first: &str, second: &str) -> bo
 }
 
 /// Returns the name among `inputs` that is one of the file `output`, if there is one.
-fn overwritten<'a, R: Files + AllocGlobal>(
+fn overwritten_input<'a, R: Files + AllocGlobal>(
     rt: &R,
     inputs: &[&'a str],
     output: &str,
@@ -130,7 +135,7 @@ pub fn refuse_input<R: Runtime + AllocGlobal>(
     let Some(output) = output else {
         return Ok(());
     };
-    let Some(input) = overwritten(rt, inputs, output) else {
+    let Some(input) = overwritten_input(rt, inputs, output) else {
         return Ok(());
     };
     if !is_quiet {

@@ -27,7 +27,7 @@ pub fn share_misfits(misfits: &Option<SharedMisfits>) -> Option<SharedMisfits> {
 /// Compares answers from now on with the model at the beginning of `input`, if it can be loaded.
 pub fn compare_with_model(alloc: Global, misfits: &Misfits, input: &[u8]) {
     if let Ok(Ok(file)) = load(alloc, input) {
-        misfits.compare_with(file.typed);
+        misfits.set_model(file.typed);
     }
 }
 

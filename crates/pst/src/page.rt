@@ -58,7 +58,9 @@ pub fn refuse_page<R: Files + Eprint + AllocGlobal>(
         return Ok(());
     };
     if name == STANDARD_INPUT {
-        let _ = eprintln!(rt; "error: --html takes the name of a file, and `-` is none");
+        let _ = eprintln!(rt;
+            "error: --html takes the name of a file, and `-` is none: name one, as in --html failures.html"
+        );
         return Err(Status::Refused);
     }
     match try_to_write(rt, name) {

@@ -3,7 +3,7 @@
 use crate::telling::Rate;
 use pst_campaign::Watch;
 use pst_ledger::Cause;
-use pst_trial::{Record, Shrinking, TrialOutcome};
+use pst_trial::{Record, ShrinkProgress, TrialOutcome};
 use std::alloc::{AllocError, Global};
 use std::fmt;
 use std::sync::atomic::{AtomicBool, AtomicU64, Ordering};
@@ -22,7 +22,7 @@ pub struct Progress {
     done: AtomicU64,
     failed: AtomicU64,
     lost: AtomicU64,
-    shrinking: Shrinking,
+    shrinking: ShrinkProgress,
 }
 
 /// Returns whether the trial did not pass.
@@ -83,7 +83,7 @@ impl Progress {
             done: AtomicU64::new(0),
             failed: AtomicU64::new(0),
             lost: AtomicU64::new(0),
-            shrinking: Shrinking::new(),
+            shrinking: ShrinkProgress::new(),
         }
     }
 
@@ -150,7 +150,7 @@ impl Watch for Progress {
         }
     }
 
-    fn shrinking(&self) -> Option<&Shrinking> {
+    fn shrinking(&self) -> Option<&ShrinkProgress> {
         Some(&self.shrinking)
     }
 

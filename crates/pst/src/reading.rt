@@ -1,6 +1,6 @@
 //! The reading of the input, and what is refused before it.
 
-use crate::input::Reading;
+use crate::input::{Reading, STANDARD_INPUT};
 use crate::terminal::Terminals;
 use crate::{
     formatting, generating, input, json_items, outputs, page, refused, saving, streaming, systems,
@@ -20,14 +20,17 @@ pub fn is_quiet(matches: &ArgMatches<'_>) -> bool {
     }
 }
 
-/// Returns the name of the output file in the arguments, if there is one.
+/// Returns the name of the output file in the arguments. `None` is standard output, which `-` also names.
 pub fn output_name<'a>(matches: &ArgMatches<'a>) -> Option<&'a str> {
     let (_, words) = matches.subcommand()?;
-    words.get_str("output")
+    match words.get_str("output") {
+        Some(STANDARD_INPUT) => None,
+        name => name,
+    }
 }
 
 /// Returns the file names in the arguments.
-fn names<'a>(matches: &'a ArgMatches<'_>) -> &'a [&'a str] {
+fn input_names<'a>(matches: &'a ArgMatches<'_>) -> &'a [&'a str] {
     match matches.subcommand() {
         Some((_, words)) => words.get_strs("FILE").unwrap_or(&[]),
         None => &[],
@@ -35,7 +38,7 @@ fn names<'a>(matches: &'a ArgMatches<'_>) -> &'a [&'a str] {
 }
 
 /// Refuses an unknown system, a stream whose model is not in a file of its own, output to a file of the
-/// input, a file as the folder of failures, trials that have no number, and a page that cannot be written.
+/// input, a file or `-` as the folder of failures, trials that have no number, and a page that cannot be written.
 /// The error is the status that the program ends with.
 fn refuse_arguments<R: Runtime + AllocGlobal>(
     rt: &R,
@@ -43,7 +46,7 @@ fn refuse_arguments<R: Runtime + AllocGlobal>(
 ) -> Result<(), Status> {
     let mut out = Out::new(io::writer(rt));
     let is_quiet = is_quiet(matches);
-    let inputs = names(matches);
+    let inputs = input_names(matches);
     if let Some(name) = systems::unknown_system(matches) {
         return Err(systems::refuse_system(rt, name, inputs, is_quiet, &mut out));
     }
@@ -83,7 +86,7 @@ impl<'a> InputFiles<'a> {
 
 /// Reads the files that the arguments name. If that fails, or the arguments are refused, or files are only laid out, the
 /// error is the status that the program ends with.
-pub fn read<'a, R: Runtime + AllocGlobal>(
+pub fn prepare_input<'a, R: Runtime + AllocGlobal>(
     rt: &R,
     matches: &'a ArgMatches<'_>,
     terminals: Terminals,
@@ -96,7 +99,7 @@ pub fn read<'a, R: Runtime + AllocGlobal>(
     if let Some(("fmt", words)) = matches.subcommand() {
         return Err(formatting::lay_out(rt, words, reading));
     }
-    let read = match input::read_files(rt, names(matches), reading) {
+    let read = match input::read_files(rt, input_names(matches), reading) {
         Ok(read) => read,
         Err(why) => return Err(refuse_text(why, &mut Out::new(io::writer(rt)))),
     };

@@ -15,8 +15,9 @@ pub fn report_out_of_memory<R: Runtime>(rt: &R) -> Status {
 }
 
 /// Returns what to write messages for, by the command `word` and its arguments.
-fn asked(word: &str, words: &ArgMatches<'_>) -> Asked {
+fn messages_asked(word: &str, words: &ArgMatches<'_>) -> Asked {
     match word {
+        "judge" if words.get_flag("stream") => Asked::Model,
         "judge" if words.get_flag("keep-going") || is_json(words) => {
             if words.get_flag("all-messages") {
                 Asked::AllItems
@@ -45,7 +46,7 @@ pub fn report_refusals<R: Eprint + AllocGlobal>(
     words: &ArgMatches<'_>,
     files: &[SourceFile<'_>],
 ) {
-    let asked = asked(word, words);
+    let asked = messages_asked(word, words);
     let Ok(text) = joined(rt.alloc(), files) else {
         return;
     };

@@ -88,7 +88,10 @@ fn with_systems<
 }
 
 /// Runs the subcommand, writes its output to `out`, and counts the results of its items.
-fn answer<W: Sink, R: Runtime + Threads + Wait + Sync + AllocGlobal + Copy + Drop + Send + 'static>(
+fn run_subcommand<
+    W: Sink,
+    R: Runtime + Threads + Wait + Sync + AllocGlobal + Copy + Drop + Send + 'static,
+>(
     rt: &R,
     work: Work<'_, '_>,
     input: Input<'_>,
@@ -123,7 +126,7 @@ fn answer<W: Sink, R: Runtime + Threads + Wait + Sync + AllocGlobal + Copy + Dro
 
 /// Writes messages on refusals, warnings on a model that `check` accepts, and a line that sums up the items,
 /// to standard error, unless the arguments forbid it.
-fn say<R: Eprint + AllocGlobal>(
+fn report_outcome<R: Eprint + AllocGlobal>(
     rt: &R,
     work: Work<'_, '_>,
     input: Input<'_>,
@@ -154,11 +157,11 @@ fn run_to<
 >(rt: &R, work: Work<'_, '_>, input: Input<'_>, systems: Systems, writer: W) -> Status {
     let mut out = Out::new(FailureKeeper::new(writer));
     let mut counts = Counts::new();
-    let status = answer(rt, work, input, systems, &mut counts, &mut out);
-    say(rt, work, input, status, &counts);
+    let status = run_subcommand(rt, work, input, systems, &mut counts, &mut out);
+    report_outcome(rt, work, input, status, &counts);
     if out.has_failed() {
         if let Some(error) = out.into_inner().failure() {
-            return outputs::lost(rt, rt.alloc(), output_name(work.matches), &error);
+            return outputs::report_lost_output(rt, rt.alloc(), output_name(work.matches), &error);
         }
     }
     status

@@ -85,7 +85,7 @@ fn failure_file(
     Ok(text)
 }
 
-/// Refuses a folder for failures that is a file. The error is the status that the program ends with, and
+/// Refuses a folder for failures that is a file, or `-`. The error is the status that the program ends with, and
 /// standard error says why.
 pub fn refuse_file<R: Files + Eprint>(rt: &R, matches: &ArgMatches<'_>) -> Result<(), Status> {
     let Some(("campaign", words)) = matches.subcommand() else {
@@ -94,6 +94,12 @@ pub fn refuse_file<R: Files + Eprint>(rt: &R, matches: &ArgMatches<'_>) -> Resul
     let Some(folder) = words.get_str("save") else {
         return Ok(());
     };
+    if folder == STANDARD_INPUT {
+        let _ = eprintln!(rt;
+            "error: --save takes the name of a folder, and `-` is none: name one, as in --save failures"
+        );
+        return Err(Status::Refused);
+    }
     match std::fs::metadata(rt, folder) {
         Ok(found) if found.is_file() => {
             let _ = eprintln!(rt; "pst: {folder} is a file: --save takes a folder");

@@ -2,6 +2,7 @@
 ghost use Rattle.std.specs.Prelude.{◌≡◌, false};
 
 use crate::input::STANDARD_INPUT;
+use crate::line_messages::{LineMessages, MOST_LINES};
 use crate::telling::StepsDisplay;
 use crate::terminal::Terminals;
 use clap::ArgMatches;
@@ -61,10 +62,30 @@ fn report_unjudged<R: Eprint>(rt: &R, alloc: Global, input: &[u8]) {
     }
 }
 
+/// Returns how many refused lines get messages, by the arguments.
+fn most_messages(words: &ArgMatches<'_>) -> usize {
+    if words.get_flag("quiet") {
+        0
+    } else if words.get_flag("all-messages") {
+        usize::MAX
+    } else {
+        MOST_LINES
+    }
+}
+
+/// Writes to standard error how many of the refused lines have no message, if there are some and others have one.
+fn report_more<R: Eprint>(rt: &R, refused: usize, most: usize) {
+    let more = refused.saturating_sub(most);
+    if most > 0 && more > 0 {
+        let items = if more == 1 { "item is" } else { "items are" };
+        let _ = eprintln!(rt; "{more} more {items} refused: --all-messages shows each");
+    }
+}
+
 /// Judges the items of standard input, one on each line, by the model at the beginning of `input`. If
 /// standard error is a terminal, and standard output, on which the verdicts come meanwhile, is none, a line
-/// says how many are judged. Items after the model are not judged; standard error says so unless the
-/// arguments forbid messages.
+/// says how many are judged. Unless the arguments forbid messages, standard error has a message on each of the
+/// first refused lines, and says if there are items after the model, which are not judged.
 pub fn judge_standard_input<
     W: Sink,
     R: Threads + Wait + Sync + Input + Eprint + AllocGlobal + Copy + Drop + Send + 'static,
@@ -88,7 +109,21 @@ pub fn judge_standard_input<
         return refuse_text(Absence::NoMemory, out);
     };
     let steps = telling.steps();
-    let status = judge_stream(rt, alloc, input, &mut rt.reader(), counts, steps, out);
+    let most = most_messages(words);
+    let name = words.get_str("FILE").unwrap_or(STANDARD_INPUT);
+    let mut messages = LineMessages::new(rt, name, input, most, is_told);
+    let mut reader = rt.reader();
+    let status = judge_stream(
+        rt,
+        alloc,
+        input,
+        &mut reader,
+        counts,
+        steps,
+        &mut messages,
+        out,
+    );
     telling.end(rt);
+    report_more(rt, counts.refused, most);
     status
 }

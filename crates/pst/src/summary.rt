@@ -38,7 +38,7 @@ pub fn add_grouped_number(
 }
 
 /// Returns how many items there are.
-fn total(counts: &Counts) -> usize {
+fn count_items(counts: &Counts) -> usize {
     let mut total = 0usize;
     for (count, _) in &each_count(counts) {
         total = total.saturating_add(*count);
@@ -50,7 +50,7 @@ fn total(counts: &Counts) -> usize {
 /// items.
 fn summary_line(alloc: Global, counts: &Counts) -> Result<Option<String>, AllocError> {
     let each = each_count(counts);
-    let total = total(counts);
+    let total = count_items(counts);
     if total < 2 {
         return Ok(None);
     }
@@ -97,7 +97,7 @@ pub fn report_no_items<R: Eprint + AllocGlobal>(
     status: Status,
     counts: &Counts,
 ) {
-    if status != Status::Accepted || total(counts) > 0 || !takes_items(word, words) {
+    if status != Status::Accepted || count_items(counts) > 0 || !takes_items(word, words) {
         return;
     }
     if item_count(rt.alloc(), input) == Ok(0) {

@@ -33,7 +33,7 @@ pub enum Unmade {
 }
 
 /// Returns the systems with the name `name`, if there are some.
-fn named(name: &str) -> Option<ChosenSystems<'_>> {
+fn systems_named(name: &str) -> Option<ChosenSystems<'_>> {
     if let Some(folder) = Folder::from_word(name) {
         return Some(ChosenSystems::Clients(folder));
     }
@@ -43,7 +43,7 @@ fn named(name: &str) -> Option<ChosenSystems<'_>> {
 /// Returns the systems that the arguments name, and how many of them are needed.
 pub fn chosen_systems<'a>(matches: &ArgMatches<'a>) -> Option<(ChosenSystems<'a>, u64)> {
     let (word, words) = matches.subcommand()?;
-    let wanted = named(words.get_str("SYSTEM")?)?;
+    let wanted = systems_named(words.get_str("SYSTEM")?)?;
     match word {
         "campaign" => Some((wanted, words.get_one("workers")?)),
         _ => Some((wanted, 1)),
@@ -54,7 +54,7 @@ pub fn chosen_systems<'a>(matches: &ArgMatches<'a>) -> Option<(ChosenSystems<'a>
 pub fn unknown_system<'a>(matches: &ArgMatches<'a>) -> Option<&'a str> {
     let (_, words) = matches.subcommand()?;
     let name = words.get_str("SYSTEM")?;
-    if named(name).is_some() {
+    if systems_named(name).is_some() {
         None
     } else {
         Some(name)
@@ -62,7 +62,10 @@ pub fn unknown_system<'a>(matches: &ArgMatches<'a>) -> Option<&'a str> {
 }
 
 /// Returns a hint on a name that no system has: what a file of that name needs, or the nearest name.
-fn hint<R: Files + AllocGlobal>(rt: &R, name: &str) -> Result<Option<String>, AllocError> {
+fn unknown_system_hint<R: Files + AllocGlobal>(
+    rt: &R,
+    name: &str,
+) -> Result<Option<String>, AllocError> {
     let alloc = rt.alloc();
     if input::can_be_opened(rt, name) {
         let hint = format!(in alloc;
@@ -101,7 +104,7 @@ pub fn refuse_system<W: Sink, R: Files + Eprint + AllocGlobal>(
     let _ = eprintln!(rt;
         "pst: there is no system `{name}`: the systems are counter, racy, stuck, registry, queue and meet"
     );
-    if let Ok(Some(hint)) = hint(rt, name) {
+    if let Ok(Some(hint)) = unknown_system_hint(rt, name) {
         let _ = eprintln!(rt; "  {hint}");
     }
     status

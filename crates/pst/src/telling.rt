@@ -1,7 +1,7 @@
 //! A line on a terminal that says how far a command is.
 
 use crate::summary::add_grouped_number;
-use pst_cli::Steps;
+use pst_cli::ProgressCounter;
 use std::alloc::{AllocError, Global};
 use std::sync::atomic::{AtomicBool, Ordering};
 use std::sync::{Arc, Wait};
@@ -14,7 +14,7 @@ const PAUSE: u64 = 250;
 /// What the thread that writes the line shares with the one that does the work.
 #[derive(Drop)]
 struct DisplayedSteps {
-    steps: Steps,
+    steps: ProgressCounter,
     /// What is done with an item, as `explained`.
     word: &'static str,
     is_over: AtomicBool,
@@ -68,7 +68,7 @@ fn add_rest(
 /// The line after some milliseconds, as `1,204 of 10,000 explained, 512 a second, 17 s left`. It leaves out what is not known.
 fn progress_line(
     alloc: Global,
-    steps: &Steps,
+    steps: &ProgressCounter,
     word: &str,
     milliseconds: u64,
 ) -> Result<String, AllocError> {
@@ -134,7 +134,7 @@ impl StepsDisplay {
         word: &'static str,
     ) -> Result<StepsDisplay, AllocError> {
         let told = DisplayedSteps {
-            steps: Steps::new(),
+            steps: ProgressCounter::new(),
             word,
             is_over: AtomicBool::new(false),
             parker: Parker::new(),
@@ -152,7 +152,7 @@ impl StepsDisplay {
     }
 
     /// The steps.
-    pub fn steps(&self) -> &Steps {
+    pub fn steps(&self) -> &ProgressCounter {
         &self.told.steps
     }
 

@@ -2,7 +2,7 @@
 
 use pst_campaign::{StopCondition, Watch};
 use pst_ledger::Cause;
-use pst_trial::{Record, Shrinking};
+use pst_trial::{Record, ShrinkProgress};
 
 /// Two watchers of a campaign.
 #[derive(Clone, Copy, Drop)]
@@ -17,7 +17,7 @@ impl<'a, J: Watch, K: Watch> Watch for BothWatchers<'a, J, K> {
         self.second.trial_ended(ended);
     }
 
-    fn shrinking(&self) -> Option<&Shrinking> {
+    fn shrinking(&self) -> Option<&ShrinkProgress> {
         match self.first.shrinking() {
             Some(shrinking) => Some(shrinking),
             None => self.second.shrinking(),

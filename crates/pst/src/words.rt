@@ -6,7 +6,7 @@ mod plan;
 use crate::{converting, explaining, formatting, help, page};
 use clap::Command;
 pub use options::{
-    failures_option, files_argument, is_json, output_option, quiet_option, starts_clients,
+    failures_option, files_argument, is_json, names_client, output_option, quiet_option,
 };
 pub use plan::{case_settings, settings};
 use std::alloc::{AllocError, Global};

@@ -1,3 +1,4 @@
 pub mod Zips
 pub mod Given
 pub mod Adding
+pub mod Before

@@ -7,10 +7,10 @@ ghost use Rattle.pst_campaign.specs.Working.{AllGiven, AllGivenUnless, HasWorker
 use crate::ending::{NeverStops, StopCondition};
 use crate::fault::CampaignFault;
 use crate::plans::Watched;
-use crate::runner::TrialRunner;
+use crate::runner::Worker;
 use crate::threads::work_at_once;
 use crate::watch::Watch;
-use pst_ledger::{Closed, Ledger, Numbered};
+use pst_ledger::{Closed, Ledger};
 use pst_system::{BoxedSystem, System};
 use pst_trial::{Plan, Record, may_share_records};
 use std::alloc::Global;
@@ -21,12 +21,13 @@ use std::thread::Threads;
 const MAX_SYSTEMS: usize = 16;
 
 /// Runs all trials, with one worker for each system, unless they are over before.
-pub(crate) fn campaign_with<
-    R: Numbered + Sync,
-    S: Drop + Send,
-    P: TrialRunner<R, S> + Sync,
-    H: Threads + Wait + Sync,
->(rt: &H, alloc: Global, plan: &P, trials: u64, systems: Vec<S>) -> Result<Closed<R>, CampaignFault>
+pub(crate) fn campaign_with<S: Drop + Send, P: Worker<S> + Sync, H: Threads + Wait + Sync>(
+    rt: &H,
+    alloc: Global,
+    plan: &P,
+    trials: u64,
+    systems: Vec<S>,
+) -> Result<Closed<Record>, CampaignFault>
     requires { (trials ≤ 100000) × (trials ≡ P.trials plan.now) }
     ensures number { IfOk result (λ closed. HasWorkers (length systems.items)) }
     ensures count { IfOk result (λ closed. length closed ≡ trials) }
@@ -41,6 +42,7 @@ pub(crate) fn campaign_with<
     if workers > MAX_SYSTEMS {
         return Err(CampaignFault::TooMany);
     }
+    may_share_records();
     let (ledger, seats) = Ledger::open(alloc, trials, workers as u64)?;
     let worked = work_at_once(rt, alloc, plan, &ledger, seats, systems);
     match ledger.close(worked) {

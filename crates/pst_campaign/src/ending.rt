@@ -2,7 +2,7 @@
 
 use crate::watch::Watch;
 use pst_ledger::Cause;
-use pst_trial::{Record, Shrinking, TrialOutcome};
+use pst_trial::{Record, ShrinkProgress, TrialOutcome};
 use std::alloc::Global;
 use std::sync::Arc;
 use std::sync::atomic::{AtomicBool, AtomicU64, Ordering};
@@ -30,7 +30,7 @@ impl<'a, K: Watch> Watch for NeverStops<'a, K> {
         self.watch.trial_ended(ended);
     }
 
-    fn shrinking(&self) -> Option<&Shrinking> {
+    fn shrinking(&self) -> Option<&ShrinkProgress> {
         self.watch.shrinking()
     }
 

@@ -2,6 +2,7 @@
 #![tactic(auto)]
 
 mod campaigns;
+mod crews;
 mod ending;
 mod fault;
 mod plans;

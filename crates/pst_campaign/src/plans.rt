@@ -5,17 +5,18 @@ ghost use Rattle.pst_campaign.specs.Entries.{MayGive, cause_of};
 ghost use Rattle.pst_ledger.specs.declared.entry.Entry.TheVariants.{Done, Lost};
 ghost use Rattle.pst_system.specs.Kept.{AreKept};
 
+use crate::crews::work_on_boxed_system;
 use crate::ending::StopCondition;
-use crate::runner::TrialRunner;
-use pst_ledger::Cause;
+use crate::runner::{TrialRunner, Worker};
+use pst_ledger::{Cause, Ledger, Seat};
 use pst_system::{BoxedSystem, System};
-use pst_trial::{Plan, Record, Shrinking, TrialFault, trial_counting};
+use pst_trial::{Plan, Record, ShrinkProgress, TrialFault, trial_with_progress};
 use std::alloc::Global;
 use std::sync::{Arc, Wait};
 use std::thread::Threads;
 
 /// The cause that has the name of a trial's fault.
-fn cause_of(fault: TrialFault) -> Cause
+pub(crate) fn cause_of(fault: TrialFault) -> Cause
     ensures { result ≡ cause_of fault }
 {
     match fault {
@@ -33,7 +34,7 @@ fn run_trial<H: Threads + Wait>(
     plan: &Arc<Plan>,
     number: u64,
     system: &mut BoxedSystem,
-    shrinking: &Shrinking,
+    shrinking: &ShrinkProgress,
 ) -> Result<Record, Cause>
     requires below { number < (arc_value plan.now).settings.trials }
     ensures number { IfOk result (λ r. r.number ≡ number) }
@@ -44,7 +45,7 @@ fn run_trial<H: Threads + Wait>(
     ensures kept { AreKept (answers system.new) (answers system.old) (fails system.new) (fails system.old)
         (reset_fails system.new) (reset_fails system.old) }
 {
-    match trial_counting(rt, alloc, plan, number, system, shrinking) {
+    match trial_with_progress(rt, alloc, plan, number, system, shrinking) {
         Ok(record) => Ok(record),
         Err(fault) => Err(cause_of(fault)),
     }
@@ -75,14 +76,14 @@ impl<'a, K: StopCondition> TrialRunner<Record, BoxedSystem> for Watched<'a, K> {
         ((System-box t).fails t.value) ((System-box s).fails s.value)
         ((System-box t).reset_fails t.value) ((System-box s).reset_fails s.value) };
 
-    fn run<H: Threads + Wait + Sync>(
+    fn run<H: Threads + Wait>(
         &self,
         rt: &H,
         alloc: Global,
         number: u64,
         system: &mut BoxedSystem,
     ) -> Result<Record, Cause> {
-        let own = Shrinking::new();
+        let own = ShrinkProgress::new();
         let shrinking = self.watch.shrinking().unwrap_or(&own);
         let ended = run_trial(rt, alloc, self.plan, number, system, shrinking);
         shrinking.end_trial(number);
@@ -101,4 +102,32 @@ impl<'a, K: StopCondition> TrialRunner<Record, BoxedSystem> for Watched<'a, K> {
     ghost keeps_trans = { λ s t u p q. kept_on q p };
 
     ghost moves = { λ w s t kept k e. gives_before kept (arc_value w.plan.now) k e };
+}
+
+impl<'a, K: StopCondition> Worker<BoxedSystem> for Watched<'a, K> {
+    ghost use Rattle.std.specs.Arc.{arc_value};
+    ghost use Rattle.pst_campaign.specs.Entries.{MayGive};
+
+    ghost trials = { λ w. (arc_value w.plan.now).settings.trials };
+
+    ghost may_give = { λ w s k e. MayGive ((System-box s).answers s.value) ((System-box s).fails s.value)
+        ((System-box s).reset_fails s.value) (arc_value w.plan.now) k e };
+
+    ghost may_end = { λ w. K.may_end w.watch.now };
+
+    fn work<H: Threads + Wait>(
+        &self,
+        rt: &H,
+        alloc: Global,
+        ledger: &Ledger<Record>,
+        seat: Seat<Record>,
+        system: &mut Option<BoxedSystem>,
+    ) -> Seat<Record> {
+        match system.take() {
+            Some(own) => {
+                work_on_boxed_system(rt, alloc, self.plan, self.watch, ledger, seat, own)
+            }
+            None => seat,
+        }
+    }
 }

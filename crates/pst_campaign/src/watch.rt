@@ -1,6 +1,6 @@
 //! Those who watch a campaign while it runs.
 use pst_ledger::Cause;
-use pst_trial::{Record, Shrinking};
+use pst_trial::{Record, ShrinkProgress};
 
 /// One who watches a campaign while it runs. It changes nothing of what the campaign gives.
 pub trait Watch {
@@ -8,7 +8,7 @@ pub trait Watch {
     fn trial_ended(&self, ended: &Result<Record, Cause>);
 
     /// Counts the candidates of the trial that is shrunk, if the watcher displays them.
-    fn shrinking(&self) -> Option<&Shrinking> {
+    fn shrinking(&self) -> Option<&ShrinkProgress> {
         None
     }
 

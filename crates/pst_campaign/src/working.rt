@@ -19,7 +19,7 @@ use std::thread::Threads;
 
 /// Claims numbers until none is left or the plan is over, runs the trial of each, and deposits its record or gives the
 /// number up.
-pub(crate) fn work_with<R: Numbered, S: Drop, P: TrialRunner<R, S>, H: Threads + Wait + Sync>(
+pub(crate) fn work_with<R: Numbered, S: Drop, P: TrialRunner<R, S>, H: Threads + Wait>(
     rt: &H,
     alloc: Global,
     plan: &P,
@@ -56,7 +56,7 @@ pub(crate) fn work_with<R: Numbered, S: Drop, P: TrialRunner<R, S>, H: Threads +
 }
 
 /// Does what `work_with` does, with a fresh seat and a system of its own for a thread, and returns the seat.
-pub(crate) fn work_alone<R: Numbered, S: Drop, P: TrialRunner<R, S>, H: Threads + Wait + Sync>(
+pub(crate) fn work_alone<R: Numbered, S: Drop, P: TrialRunner<R, S>, H: Threads + Wait>(
     rt: &H,
     alloc: Global,
     plan: &P,

@@ -38,7 +38,7 @@ fn split_first(branches: &[Items<Reply>]) -> Option<(&Items<Reply>, &[Items<Repl
 }
 
 /// Appends the results that the replies of the branches record to `results`.
-fn with_branches(
+fn append_branches(
     alloc: Global,
     results: Vec<Option<Value>>,
     branches: &[Items<Reply>],
@@ -49,7 +49,7 @@ fn with_branches(
         return Ok(results);
     };
     let results = with_part(alloc, results, branch.as_slice())?;
-    with_branches(alloc, results, branches)
+    append_branches(alloc, results, branches)
 }
 
 impl History {
@@ -58,7 +58,7 @@ impl History {
         ensures { IfOk result (λ results. results.items ≡ recorded self.now) }
     {
         let results = with_part(alloc, Vec::new(alloc), self.prefix.as_slice())?;
-        let results = with_branches(alloc, results, self.branches.as_slice())?;
+        let results = append_branches(alloc, results, self.branches.as_slice())?;
         with_part(alloc, results, self.suffix.as_slice())
     }
 }

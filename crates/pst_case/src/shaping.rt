@@ -7,7 +7,7 @@ ghost use Rattle.pst_case.specs.Shape as spec;
 ghost use Rattle.pst_case.specs.Refusal.{no_memory};
 ghost use Rattle.pst_model.specs.WellTyped.{WellModel};
 
-use crate::banned::{Banned, any_banned, any_refers};
+use crate::banned::{BannedVariables, any_banned, any_has_reference};
 use crate::case::{Case, Command, Shaped};
 use crate::fault::{CaseFault, CaseFaultKind};
 use crate::limits::{are_over_limit, joined_len};
@@ -38,7 +38,7 @@ fn is_over_limit(case: &Case) -> bool
 
 /// Whether the arguments do not fit the operation, or hold a reference.
 #[tactic(auto, using(crate::proofs::Operations::args_fit_known))]
-fn is_bad(rules: &Rules<'_>, operation: &Op, command: &Command) -> bool
+fn has_bad_arguments(rules: &Rules<'_>, operation: &Op, command: &Command) -> bool
     requires well { WellModel rules.now.model.now }
     requires known { operation_of rules.now.model.now.items command.now.op ≡ Some operation.now }
     ensures { result ≡
@@ -47,7 +47,7 @@ fn is_bad(rules: &Rules<'_>, operation: &Op, command: &Command) -> bool
         || list_any spec.holds_reference command.now.args) }
 {
     let args = command.args.as_slice();
-    !each_has_type(args, operation.params.as_slice(), rules.vars) || any_refers(args)
+    !each_has_type(args, operation.params.as_slice(), rules.vars) || any_has_reference(args)
 }
 
 /// The fault of command `number`. `before` is the number of commands before its branch, and 0 in the prefix and the
@@ -67,13 +67,13 @@ fn command_fault(
     let Some(operation) = operation_of(items, command.op as usize) else {
         return Some(CaseFaultKind::UnknownOp);
     };
-    if any_banned(args, &Banned::Forward(number)) {
+    if any_banned(args, &BannedVariables::Forward(number)) {
         return Some(CaseFaultKind::ForwardVar);
     }
-    if any_banned(args, &Banned::Cross(rules.prefix, before)) {
+    if any_banned(args, &BannedVariables::Cross(rules.prefix, before)) {
         return Some(CaseFaultKind::CrossVar);
     }
-    if is_bad(rules, operation, command) {
+    if has_bad_arguments(rules, operation, command) {
         return Some(CaseFaultKind::BadArgument);
     }
     None

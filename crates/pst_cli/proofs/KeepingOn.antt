@@ -9,7 +9,7 @@ use Rattle.pst_cli.specs.Status.{or_worse}
 use Rattle.pst_cli.specs.declared.status.Status.{Status}
 use Rattle.pst_cli.specs.declared.status.Status.TheVariants.{Accepted, Failed}
 use Rattle.pst_rejudge.specs.Answers.{IsAnswer}
-use Rattle.pst_rejudge.specs.declared.each.Answer.TheVariants as answer
+use Rattle.pst_rejudge.specs.declared.each.ItemResult.TheVariants as answer
 use Rattle.pst_judge.specs.declared.judgement.Judged.{Judged}
 use Rattle.pst_typing.specs.Loading.{items_of}
 use Rattle.pst_model.specs.declared.model.Source.{Source}

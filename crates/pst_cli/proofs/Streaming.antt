@@ -13,7 +13,7 @@ use Rattle.pst_cli.specs.declared.status.Status.TheVariants.{Accepted}
 use Rattle.pst_cli.specs.declared.stream.Cut.{Cut}
 use Rattle.pst_cli.specs.declared.stream.Cut.TheVariants as cut
 use Rattle.pst_cli.specs.declared.stream.Written.{Written}
-use Rattle.pst_rejudge.specs.declared.each.Answer.{Answer}
+use Rattle.pst_rejudge.specs.declared.each.ItemResult.{ItemResult}
 use Rattle.pst_model.specs.declared.model.Source.{Source}
 use Rattle.pst_sexpr.specs.Reading.{max_bytes}
 use Rattle.pst_sexpr.specs.Writing.{WritesAll, WritesPart}
@@ -59,7 +59,7 @@ lines_behind xs ys =
 
 -- ---- lines and statuses of answers that follow others
 
-pub answer_lines_behind : (number : ℕ) (js bs : List Answer)
+pub answer_lines_behind : (number : ℕ) (js bs : List ItemResult)
     → answer_lines number (js ++ bs) ≡ answer_lines number js ++ answer_lines (length js + number) bs
 answer_lines_behind number [] bs = let same : number ≡ 0 + number = omega arith in ap (λ n. answer_lines n bs) same
 answer_lines_behind number (a ∷ js) bs =
@@ -67,7 +67,7 @@ answer_lines_behind number (a ∷ js) bs =
     ap (λ t. answer_line number a ++ t) (answer_lines_behind (number + 1) js bs ∙ ap (λ n. answer_lines (number + 1) js ++ answer_lines n bs) same)
     ∙ sym (append_assoc (answer_line number a) (answer_lines (number + 1) js) (answer_lines (suc (length js) + number) bs))
 
-pub worst_behind : (status : Status) (js bs : List Answer) → worst_status status (js ++ bs) ≡ worst_status (worst_status status js) bs
+pub worst_behind : (status : Status) (js bs : List ItemResult) → worst_status status (js ++ bs) ≡ worst_status (worst_status status js) bs
 worst_behind status [] bs = refl
 worst_behind status (a ∷ js) bs = worst_behind (or_worse status (answer_status a)) js bs
 
@@ -78,7 +78,7 @@ pub record HasCome (m : Source) (stream left before after : Option (List ℕ)) (
   pub bytes : List ℕ
   pub read : Consumes stream left bytes
   pub kept_line : kept ≡ take (suc max_bytes) (begun [] bytes)
-  pub answers : List Answer
+  pub answers : List ItemResult
   pub answered : AllZip (IsLineAnswer m) (ended [] bytes) answers
   pub count : written.count ≡ length answers
   pub worst : written.status ≡ worst_status Accepted answers
@@ -98,7 +98,7 @@ nothing_left None ys h e = absurd (cc)
 nothing_left (Some xs) ys h e = let same : xs ≡ ys = cc in sym same ∙ h
 
 -- the lines of the answers so far and of more were written
-more_lines : (before mid after : Option (List ℕ)) (mid_broken broken : Bool) (count : ℕ) (js bs : List Answer) → count ≡ length js
+more_lines : (before mid after : Option (List ℕ)) (mid_broken broken : Bool) (count : ℕ) (js bs : List ItemResult) → count ≡ length js
     → WritesAll before mid mid_broken (answer_lines 1 js) → WritesAll mid after broken (answer_lines (count + 1) bs)
     → WritesAll before after broken (answer_lines 1 (js ++ bs))
 more_lines before mid after mid_broken broken count js bs e w v =
@@ -111,7 +111,7 @@ more_lines before mid after mid_broken broken count js bs e w v =
     }
 
 -- the lines of the answers so far were written, and a beginning of those of more
-part_of_lines : (before mid after : Option (List ℕ)) (mid_broken : Bool) (count : ℕ) (js bs : List Answer) → count ≡ length js
+part_of_lines : (before mid after : Option (List ℕ)) (mid_broken : Bool) (count : ℕ) (js bs : List ItemResult) → count ≡ length js
     → WritesAll before mid mid_broken (answer_lines 1 js) → WritesPart mid after (answer_lines (count + 1) bs)
     → WritesPart before after (answer_lines 1 (js ++ bs))
 part_of_lines before mid after mid_broken count js bs e w v =
@@ -142,7 +142,7 @@ module _ (m : Source) (stream before : Option (List ℕ)) where
   module _ (left mid : Option (List ℕ)) (mid_broken : Bool) (kept : List ℕ) (written : Written)
       (come : HasCome m stream left before mid mid_broken kept written) where
     -- a block that is not the last was read, judged and written
-    pub goes_on : (next after : Option (List ℕ)) (broken : Bool) (new_kept : List ℕ) (answers : List Answer) (new : Written)
+    pub goes_on : (next after : Option (List ℕ)) (broken : Bool) (new_kept : List ℕ) (answers : List ItemResult) (new : Written)
         → IsMiddleBlock m left next (begun [] come.bytes) new_kept answers
         → AreCounted written answers new → WritesAll mid after broken (answer_lines (written.count + 1) answers)
         → HasCome m stream next before after broken new_kept new
@@ -159,7 +159,7 @@ module _ (m : Source) (stream before : Option (List ℕ)) where
     }
 
     -- the last block was read, judged and written
-    pub ends : (next after : Option (List ℕ)) (broken : Bool) (new_kept : List ℕ) (answers : List Answer) (new : Written)
+    pub ends : (next after : Option (List ℕ)) (broken : Bool) (new_kept : List ℕ) (answers : List ItemResult) (new : Written)
         → IsLastBlock m left next (begun [] come.bytes) new_kept answers
         → AreCounted written answers new → WritesAll mid after broken (answer_lines (written.count + 1) answers)
         → IsWhole m stream before after broken new.status
@@ -188,12 +188,12 @@ module _ (m : Source) (stream before : Option (List ℕ)) where
     stops_by fault.NoMemory = stops cut.NoMemory come.lines
 
     -- the lines that end in one more block
-    abbrev lines_with : (next : Option (List ℕ)) (new_kept : List ℕ) (is_last : Bool) (answers : List Answer)
+    abbrev lines_with : (next : Option (List ℕ)) (new_kept : List ℕ) (is_last : Bool) (answers : List ItemResult)
         → IsBlock m left next (begun [] come.bytes) new_kept is_last answers → List (List ℕ)
     lines_with next new_kept true answers block = ended [] come.bytes ++ last_line (begun [] come.bytes)
     lines_with next new_kept false answers block = ended [] (come.bytes ++ block.bytes)
 
-    answered_with : (next : Option (List ℕ)) (new_kept : List ℕ) (is_last : Bool) (answers : List Answer)
+    answered_with : (next : Option (List ℕ)) (new_kept : List ℕ) (is_last : Bool) (answers : List ItemResult)
         (block : IsBlock m left next (begun [] come.bytes) new_kept is_last answers)
         → AllZip (IsLineAnswer m) (lines_with next new_kept is_last answers block) (come.answers ++ answers)
     answered_with next new_kept true answers block =
@@ -202,7 +202,7 @@ module _ (m : Source) (stream before : Option (List ℕ)) where
         subst (λ ls. AllZip (IsLineAnswer m) ls (come.answers ++ answers)) (sym (ended_behind [] come.bytes block.bytes))
         (AllZip-append (IsLineAnswer m) (ended [] come.bytes) (ended (begun [] come.bytes) block.bytes) come.answers answers come.answered block.answered)
 
-    front_with : (next : Option (List ℕ)) (new_kept : List ℕ) (is_last : Bool) (answers : List Answer)
+    front_with : (next : Option (List ℕ)) (new_kept : List ℕ) (is_last : Bool) (answers : List ItemResult)
         (block : IsBlock m left next (begun [] come.bytes) new_kept is_last answers) (bs : List ℕ) → stream ≡ Some bs
         → (rest : List (List ℕ)) × (lines_of bs ≡ lines_with next new_kept is_last answers block ++ rest)
     front_with next new_kept true answers block bs e = elim (left_of stream left come.bytes bs come.read e) [
@@ -218,7 +218,7 @@ module _ (m : Source) (stream before : Option (List ℕ)) where
         ]
 
     -- a block was read and judged, and not written
-    pub stops_in : (next : Option (List ℕ)) (new_kept : List ℕ) (after : Option (List ℕ)) (broken : Bool) (is_last : Bool) (answers : List Answer) (why : Cut)
+    pub stops_in : (next : Option (List ℕ)) (new_kept : List ℕ) (after : Option (List ℕ)) (broken : Bool) (is_last : Bool) (answers : List ItemResult) (why : Cut)
         → IsBlock m left next (begun [] come.bytes) new_kept is_last answers
         → IsUnwritten mid after broken (answer_lines (written.count + 1) answers) why
         → IsCutShort m stream before after broken why

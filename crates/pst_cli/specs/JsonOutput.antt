@@ -8,8 +8,8 @@ use Rattle.pst_cli.specs.declared.shown.Shown.TheVariants as shown
 use Rattle.pst_cli.specs.declared.status.Status.{Status}
 use Rattle.pst_cli.specs.declared.status.Status.TheVariants.{Accepted, Refused}
 use Rattle.pst_rejudge.specs.Answers.{IsAnswer}
-use Rattle.pst_rejudge.specs.declared.each.Answer.{Answer}
-use Rattle.pst_rejudge.specs.declared.each.Answer.TheVariants as answer
+use Rattle.pst_rejudge.specs.declared.each.ItemResult.{ItemResult}
+use Rattle.pst_rejudge.specs.declared.each.ItemResult.TheVariants as answer
 use Rattle.pst_rejudge.specs.Objects.{object_line}
 use Rattle.pst_rejudge.specs.Verdicts.{accepted_fields, judged_fields, refusal_fields, refused_fields}
 use Rattle.pst_typing.specs.Loading.{Holds, items_of, IsRefusal}
@@ -28,24 +28,24 @@ memory_object = codes "{\"verdict\":\"refused\",\"stage\":\"memory\"}" ++ line_e
 -- ---- `pst judge --format json`
 
 -- the object of an item, on its line: its verdict, or why it is refused
-abbrev pub answer_object : ℕ → Answer → List ℕ
+abbrev pub answer_object : ℕ → ItemResult → List ℕ
 answer_object number (answer.Judged judged) = object_line (judged_fields number judged)
 answer_object number (answer.Refused kind command) = object_line (refused_fields number kind command)
 
 -- the object of an item if it is shown, else nothing
-abbrev pub shown_object : Shown → ℕ → Answer → List ℕ
+abbrev pub shown_object : Shown → ℕ → ItemResult → List ℕ
 shown_object shown.All number a = answer_object number a
 shown_object shown.Failures number a = if is_good_answer a then [] else answer_object number a
 
 -- the objects of the items that are shown, in their order, where the first of all items has the number
-abbrev pub shown_objects : Shown → ℕ → List Answer → List ℕ
+abbrev pub shown_objects : Shown → ℕ → List ItemResult → List ℕ
 shown_objects which number [] = []
 shown_objects which number (a ∷ answers) = shown_object which number a ++ shown_objects which (number + 1) answers
 
 -- the objects of the items, each with its number from 1, and the worst of the statuses of all items; or the object of the
 -- model's refusal
 pub data IsJudgeJson (which : Shown) (input text : List ℕ) (status : Status) : Type 0 where
-  answered : (m : Source) (trees : List Form) (answers : List Answer) → Holds input m trees
+  answered : (m : Source) (trees : List Form) (answers : List ItemResult) → Holds input m trees
       → AllZip (IsAnswer m) (items_of trees) answers
       → text ≡ shown_objects which 1 answers → status ≡ worst_status Accepted answers
       → IsJudgeJson which input text status

@@ -6,7 +6,7 @@ use Rattle.pst_cli.specs.KeepingOn.{IsKeepingOnOutput, answer_lines, worst_statu
 use Rattle.pst_cli.specs.Sending.{memory_line}
 use Rattle.pst_cli.specs.declared.status.Status.{Status}
 use Rattle.pst_cli.specs.declared.status.Status.TheVariants.{Accepted, Refused, Lost}
-use Rattle.pst_rejudge.specs.declared.each.Answer.{Answer}
+use Rattle.pst_rejudge.specs.declared.each.ItemResult.{ItemResult}
 use Rattle.pst_typing.specs.Loading.{Holds, IsRefusal, items_of}
 use Rattle.pst_typing.specs.declared.load_refusal.Refusal.{Refusal}
 use Rattle.pst_model.specs.declared.model.Source.{Source}
@@ -25,11 +25,11 @@ IsCutLine line status = ((line ≡ unread_line) × (status ≡ Refused)) ⊎ ((l
 -- a line for each line of the stream, from 1: the verdict on its item, or its refusal; the same of the first lines alone, and
 -- why the others were not judged; or the refusal of the model
 pub data IsStreamOutput (input bytes text : List ℕ) (status : Status) : Type 0 where
-  whole : (m : Source) (trees : List Form) (answers : List Answer) → Holds input m trees
+  whole : (m : Source) (trees : List Form) (answers : List ItemResult) → Holds input m trees
       → AllZip (IsLineAnswer m) (lines_of bytes) answers
       → text ≡ answer_lines 1 answers → status ≡ worst_status Accepted answers
       → IsStreamOutput input bytes text status
-  cut : (m : Source) (trees : List Form) (first rest : List (List ℕ)) (answers : List Answer) (line : List ℕ)
+  cut : (m : Source) (trees : List Form) (first rest : List (List ℕ)) (answers : List ItemResult) (line : List ℕ)
       → Holds input m trees → lines_of bytes ≡ first ++ rest → AllZip (IsLineAnswer m) first answers
       → IsCutLine line status → text ≡ answer_lines 1 answers ++ line
       → IsStreamOutput input bytes text status
@@ -39,7 +39,7 @@ pub data IsStreamOutput (input bytes text : List ℕ) (status : Status) : Type 0
 -- the lines and the status of a stream with one item on each line are those with `--keep-going` of an input with these items
 abbrev pub StreamsAreFiles : Type 0
 StreamsAreFiles =
-    (input bytes : List ℕ) (m : Source) (trees : List Form) (answers : List Answer)
+    (input bytes : List ℕ) (m : Source) (trees : List Form) (answers : List ItemResult)
     → Holds input m trees → AllZip (SpellsItem m) (lines_of bytes) (items_of trees)
     → AllZip (IsLineAnswer m) (lines_of bytes) answers
     → IsKeepingOnOutput input (answer_lines 1 answers) (worst_status Accepted answers)

@@ -7,7 +7,7 @@ use Rattle.pst_cli.specs.declared.status.Status.TheVariants.{Accepted}
 use Rattle.pst_cli.specs.declared.stream.Cut.{Cut}
 use Rattle.pst_cli.specs.declared.stream.Cut.TheVariants.{Unread, NoMemory, Unwritten}
 use Rattle.pst_cli.specs.declared.stream.Written.{Written}
-use Rattle.pst_rejudge.specs.declared.each.Answer.{Answer}
+use Rattle.pst_rejudge.specs.declared.each.ItemResult.{ItemResult}
 use Rattle.pst_model.specs.declared.model.Source.{Source}
 use Rattle.pst_sexpr.specs.Writing.{WritesAll, WritesPart}
 use Rattle.pst_rejudge.specs.StreamAnswers.{IsLineAnswer}
@@ -34,12 +34,12 @@ module _ (before after : Option (List ℕ)) (broken : Bool) (text : List ℕ) wh
   IsWrittenTo Unwritten = WritesPart before after text × (broken ≡ true)
 
 -- the answers were counted behind those before
-pub record AreCounted (old : Written) (answers : List Answer) (new : Written) : Type 0 where
+pub record AreCounted (old : Written) (answers : List ItemResult) (new : Written) : Type 0 where
   pub count : new.count ≡ old.count + length answers
   pub status : new.status ≡ worst_status old.status answers
 
 -- the lines of these answers were written behind those before, and counted; or they were not
-abbrev pub EndsBlock : Written → List Answer → (before after : Option (List ℕ)) → Bool → Result Written Cut → Type 0
+abbrev pub EndsBlock : Written → List ItemResult → (before after : Option (List ℕ)) → Bool → Result Written Cut → Type 0
 EndsBlock old answers before after broken result =
     MatchResult result
     (λ new. AreCounted old answers new × WritesAll before after broken (answer_lines (old.count + 1) answers))
@@ -50,7 +50,7 @@ module _ (m : Source) (stream before after : Option (List ℕ)) (broken : Bool) 
   pub record IsWhole (status : Status) : Type 0 where
     pub lines : List (List ℕ)
     pub whole : (bytes : List ℕ) → stream ≡ Some bytes → lines_of bytes ≡ lines
-    pub answers : List Answer
+    pub answers : List ItemResult
     pub answered : AllZip (IsLineAnswer m) lines answers
     pub written : WritesAll before after broken (answer_lines 1 answers)
     pub worst : status ≡ worst_status Accepted answers
@@ -59,7 +59,7 @@ module _ (m : Source) (stream before after : Option (List ℕ)) (broken : Bool) 
   pub record IsCutShort (cut : Cut) : Type 0 where
     pub first : List (List ℕ)
     pub front : (bytes : List ℕ) → stream ≡ Some bytes → (rest : List (List ℕ)) × (lines_of bytes ≡ first ++ rest)
-    pub answers : List Answer
+    pub answers : List ItemResult
     pub answered : AllZip (IsLineAnswer m) first answers
     pub written : IsWrittenTo before after broken (answer_lines 1 answers) cut
 

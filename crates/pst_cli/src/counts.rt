@@ -2,7 +2,7 @@
 
 use pst_case::Run;
 use pst_judge::{Judged, Verdict, Why};
-use pst_rejudge::Answer;
+use pst_rejudge::ItemResult;
 
 /// How many items had each result. The fields are named after the lines that the program writes.
 #[derive(Drop)]
@@ -89,11 +89,11 @@ impl Counts {
     }
 
     /// Counts the items by their answers.
-    pub fn add_answers(&mut self, answers: &[Answer]) {
+    pub fn add_answers(&mut self, answers: &[ItemResult]) {
         for answer in answers {
             match answer {
-                Answer::Judged(judged) => self.add(judged),
-                Answer::Refused { .. } => add_one(&mut self.refused),
+                ItemResult::Judged(judged) => self.add(judged),
+                ItemResult::Refused { .. } => add_one(&mut self.refused),
             }
         }
     }

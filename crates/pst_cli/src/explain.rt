@@ -9,7 +9,7 @@ ghost use Rattle.pst_runs.specs.Lawful.{AreLawful, IsLawful};
 use crate::chosen::{Chosen, has_item, refused_item};
 use crate::form::ExplanationForm;
 use crate::judge::status_of;
-use crate::judged::{JudgedFile, joined, judged_file};
+use crate::judged::{JudgedFile, join_parts, judged_file};
 use crate::kept::Keep;
 use crate::output::{Output, send};
 use crate::status::Status;
@@ -17,7 +17,7 @@ use pst_case::Run;
 use pst_compile::Compiled;
 use pst_explain::{TreePlace, explain_item, first_places, graph_item};
 use pst_judge::Judged;
-use pst_rejudge::Steps;
+use pst_rejudge::ProgressCounter;
 use pst_sexpr::Sink;
 use pst_sources::SourceFile;
 use std::alloc::{AllocError, Global};
@@ -79,14 +79,14 @@ fn explanations(
     places: &[TreePlace<'_>],
     runs: &[Run],
     all: &[Judged],
-    steps: &Steps,
+    steps: &ProgressCounter,
 ) -> Result<Vec<u8>, AllocError>
     requires lawful { AreLawful compiled.now runs.now }
     requires judged { AreJudged compiled.now runs.now all.now }
 {
     let typed = compiled.typed();
     let form = asked.form;
-    steps.expect(chosen_count(asked, all));
+    steps.set_total(chosen_count(asked, all));
     let mut text = form.start(alloc, asked.files, typed.source())?;
     let mut number: usize = 0;
     let mut count: usize = 0;
@@ -121,7 +121,7 @@ fn chosen_output(
     places: &[TreePlace<'_>],
     runs: &[Run],
     all: &[Judged],
-    steps: &Steps,
+    steps: &ProgressCounter,
 ) -> Result<Output, AllocError>
     requires lawful { AreLawful compiled.now runs.now }
     requires judged { AreJudged compiled.now runs.now all.now }
@@ -144,7 +144,7 @@ fn explain_output<R: Threads + Sync>(
     alloc: Global,
     input: &[u8],
     asked: ExplainOptions<'_>,
-    steps: &Steps,
+    steps: &ProgressCounter,
 ) -> Result<Output, AllocError>
     ensures { IfOk result (λ output. IsExplainOutput input.now asked.entry.chosen output.text.items output.status) }
 {
@@ -152,11 +152,11 @@ fn explain_output<R: Threads + Sync>(
         compiled,
         runs,
         judged,
-    } = match judged_file(rt, alloc, input, Keep::All, &Steps::new())? {
+    } = match judged_file(rt, alloc, input, Keep::All, &ProgressCounter::new())? {
         Ok(file) => file,
         Err(output) => return Ok(output),
     };
-    let runs = joined(alloc, runs)?;
+    let runs = join_parts(alloc, runs)?;
     let places = first_places(alloc, asked.files, input)?;
     chosen_output(
         alloc,
@@ -186,16 +186,16 @@ pub fn explain_text<W: Sink, R: Threads + Sync>(
     ensures { Prints (IsExplainOutput input.now asked.entry.chosen)
         (W.taken sink.old) (W.taken sink.new) (W.broken sink.new) result }
 {
-    explain_counting(rt, alloc, input, asked, &Steps::new(), sink)
+    explain_with_progress(rt, alloc, input, asked, &ProgressCounter::new(), sink)
 }
 
 /// Does what [`explain_text`] does, and counts the items that are explained in `steps`.
-pub fn explain_counting<W: Sink, R: Threads + Sync>(
+pub fn explain_with_progress<W: Sink, R: Threads + Sync>(
     rt: &R,
     alloc: Global,
     input: &[u8],
     asked: ExplainOptions<'_>,
-    steps: &Steps,
+    steps: &ProgressCounter,
     sink: &mut W,
 ) -> Status
     requires { W.broken sink.old ≡ false }

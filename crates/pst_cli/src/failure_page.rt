@@ -13,7 +13,7 @@ use pst_json::{
 };
 use pst_judge::{Judged, judge_one};
 use pst_ledger::Entry;
-use pst_shrink::Taken;
+use pst_shrink::FailingCase;
 use pst_sources::SourceFile;
 use pst_trial::{JudgedRun, Plan, Record, TrialOutcome};
 use std::alloc::{AllocError, Global};
@@ -40,7 +40,7 @@ pub struct CampaignFailures {
 }
 
 /// Whether one of the failures was shrunk to this run.
-fn has_run(failures: &[TrialFailure], taken: &Taken<JudgedRun>) -> bool {
+fn has_run(failures: &[TrialFailure], taken: &FailingCase<JudgedRun>) -> bool {
     for failure in failures {
         if failure.case == taken.case && failure.history == taken.history.history {
             return true;
@@ -50,7 +50,7 @@ fn has_run(failures: &[TrialFailure], taken: &Taken<JudgedRun>) -> bool {
 }
 
 /// The run that the case of a trial was shrunk to, if the trial failed.
-fn shrunk_run(entry: &Entry<Record>) -> Option<&Taken<JudgedRun>> {
+fn shrunk_run(entry: &Entry<Record>) -> Option<&FailingCase<JudgedRun>> {
     match entry {
         Entry::Done(record) => match record.outcome() {
             TrialOutcome::Failed { earlier: _, shrunk } => Some(&shrunk.last),

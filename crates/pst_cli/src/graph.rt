@@ -8,7 +8,7 @@ ghost use Rattle.pst_runs.specs.Lawful.{AreLawful};
 
 use crate::chosen::refused_item;
 use crate::judge::{is_good, status_of};
-use crate::judged::{JudgedFile, joined, judged_file};
+use crate::judged::{JudgedFile, join_parts, judged_file};
 use crate::kept::Keep;
 use crate::output::{Output, send};
 use crate::status::Status;
@@ -16,7 +16,7 @@ use pst_case::Run;
 use pst_compile::Compiled;
 use pst_explain::graph_item;
 use pst_judge::Judged;
-use pst_rejudge::Steps;
+use pst_rejudge::ProgressCounter;
 use pst_sexpr::Sink;
 use std::alloc::{AllocError, Global};
 use std::thread::Threads;
@@ -115,11 +115,11 @@ fn graph_output<R: Threads + Sync>(
         compiled,
         runs,
         judged,
-    } = match judged_file(rt, alloc, input, Keep::All, &Steps::new())? {
+    } = match judged_file(rt, alloc, input, Keep::All, &ProgressCounter::new())? {
         Ok(file) => file,
         Err(output) => return Ok(output),
     };
-    let runs = joined(alloc, runs)?;
+    let runs = join_parts(alloc, runs)?;
     chosen_graph(
         alloc,
         &compiled,

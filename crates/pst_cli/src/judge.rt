@@ -18,7 +18,7 @@ use crate::status::Status;
 use pst_case::{CaseFaultKind, Run};
 use pst_judge::{Judged, Verdict};
 use pst_model::Typed;
-use pst_rejudge::Steps;
+use pst_rejudge::ProgressCounter;
 use pst_runs::{RunFault, RunFaultKind, read_runs};
 use pst_sexpr::{Sink, Tree};
 use std::alloc::{AllocError, Global};
@@ -95,7 +95,7 @@ fn judge_output<R: Threads + Sync>(
     input: &[u8],
     shown: Shown,
     keep: Keep,
-    steps: &Steps,
+    steps: &ProgressCounter,
 ) -> Result<(Output, Option<JudgedFile>), AllocError>
     ensures output { IfOk result (λ r. IsShownOutput shown input.now r.0.text.items r.0.status) }
     ensures held { IfOk result (λ r. IfSome r.1 (λ file. HoldsJudged (keeps_all keep) input.now file.compiled
@@ -112,14 +112,14 @@ fn judge_output<R: Threads + Sync>(
     Ok((output, Some(file)))
 }
 
-/// Does what [`judge_file_counting`] does, and keeps the items as `keep` says.
+/// Does what [`judge_file_with_progress`] does, and keeps the items as `keep` says.
 fn judge_keeping<W: Sink, R: Threads + Sync>(
     rt: &R,
     alloc: Global,
     input: &[u8],
     shown: Shown,
     keep: Keep,
-    steps: &Steps,
+    steps: &ProgressCounter,
     sink: &mut W,
 ) -> (Status, Option<JudgedFile>)
     requires { W.broken sink.old ≡ false }
@@ -155,16 +155,16 @@ pub fn judge_file<W: Sink, R: Threads + Sync>(
     ensures lawful { IfSome result.1
         (λ judged. All (λ runs. AreLawful judged.compiled runs.items) judged.runs.items) }
 {
-    judge_file_counting(rt, alloc, input, shown, &Steps::new(), sink)
+    judge_file_with_progress(rt, alloc, input, shown, &ProgressCounter::new(), sink)
 }
 
 /// Does what [`judge_file`] does, and counts the items that are judged in `steps`.
-pub fn judge_file_counting<W: Sink, R: Threads + Sync>(
+pub fn judge_file_with_progress<W: Sink, R: Threads + Sync>(
     rt: &R,
     alloc: Global,
     input: &[u8],
     shown: Shown,
-    steps: &Steps,
+    steps: &ProgressCounter,
     sink: &mut W,
 ) -> (Status, Option<JudgedFile>)
     requires { W.broken sink.old ≡ false }
@@ -191,7 +191,7 @@ pub fn judge_text<W: Sink, R: Threads + Sync>(
     ensures { Prints (IsJudgeOutput input.now)
         (W.taken sink.old) (W.taken sink.new) (W.broken sink.new) result }
 {
-    let steps = Steps::new();
+    let steps = ProgressCounter::new();
     let (status, _) = judge_keeping(rt, alloc, input, Shown::All, Keep::Nothing, &steps, sink);
     status
 }

@@ -12,7 +12,9 @@ use crate::sharing::may_share_compiled;
 use pst_case::Run;
 use pst_compile::Compiled;
 use pst_judge::Judged;
-use pst_rejudge::{JudgedParts, Steps, head_and_rest, judge_in_parts, rejudge_counting};
+use pst_rejudge::{
+    JudgedParts, ProgressCounter, head_and_rest, judge_in_parts, rejudge_with_progress,
+};
 use pst_sexpr::MAX_BYTES;
 use std::alloc::{AllocError, Global};
 use std::thread::Threads;
@@ -37,7 +39,7 @@ fn judged_at_once<R: Threads + Sync>(
     alloc: Global,
     input: &[u8],
     keep: Keep,
-    steps: &Steps,
+    steps: &ProgressCounter,
 ) -> Result<Option<JudgedFile>, AllocError>
     ensures { IfOk result (λ read. IfSome read (λ file.
         HoldsJudged (keeps_all keep) input.now file.compiled (joined file.runs.items) file.judged.items)) }
@@ -76,7 +78,7 @@ fn in_one_part(alloc: Global, runs: Vec<Run>) -> Result<Vec<Vec<Run>>, AllocErro
 }
 
 /// The runs of all parts, in order.
-pub fn joined(alloc: Global, parts: Vec<Vec<Run>>) -> Result<Vec<Run>, AllocError>
+pub fn join_parts(alloc: Global, parts: Vec<Vec<Run>>) -> Result<Vec<Run>, AllocError>
     ensures { IfOk result (λ runs. runs.items ≡ joined parts.items) }
 {
     let mut runs = Vec::new(alloc);
@@ -92,7 +94,7 @@ fn judged_in_order<R: Threads + Sync>(
     rt: &R,
     alloc: Global,
     input: &[u8],
-    steps: &Steps,
+    steps: &ProgressCounter,
 ) -> Result<Result<JudgedFile, Output>, AllocError>
     ensures { IfOk result (λ read. MatchResult read
         (λ file. HoldsJudged true input.now file.compiled (joined file.runs.items) file.judged.items)
@@ -103,8 +105,8 @@ fn judged_in_order<R: Threads + Sync>(
         Err(output) => return Ok(Err(output)),
     };
     may_share_compiled();
-    steps.expect(runs.len());
-    let judged = rejudge_counting(rt, &compiled, alloc, runs.as_slice(), steps)?;
+    steps.set_total(runs.len());
+    let judged = rejudge_with_progress(rt, &compiled, alloc, runs.as_slice(), steps)?;
     let runs = in_one_part(alloc, runs)?;
     Ok(Ok(JudgedFile {
         compiled,
@@ -120,7 +122,7 @@ pub fn judged_file<R: Threads + Sync>(
     alloc: Global,
     input: &[u8],
     keep: Keep,
-    steps: &Steps,
+    steps: &ProgressCounter,
 ) -> Result<Result<JudgedFile, Output>, AllocError>
     ensures { IfOk result (λ read. MatchResult read
         (λ file. HoldsJudged (keeps_all keep) input.now file.compiled (joined file.runs.items) file.judged.items)

@@ -25,7 +25,7 @@ use crate::run::status_of_one;
 use crate::sharing::may_share_compiled;
 use crate::shown::Shown;
 use crate::status::Status;
-use pst_rejudge::{Answer, Steps, judge_each};
+use pst_rejudge::{ItemResult, ProgressCounter, judge_each};
 use pst_runs::RunFault;
 use pst_sexpr::Sink;
 use pst_typing::items_of;
@@ -37,13 +37,13 @@ pub(crate) fn add_answer_line(
     alloc: Global,
     text: &mut String,
     number: usize,
-    answer: &Answer,
+    answer: &ItemResult,
 ) -> Result<(), AllocError>
     ensures { OnOk result (string_bytes text.new ≡ string_bytes text.old ++ answer_line number answer.now) }
 {
     match answer {
-        Answer::Judged(judged) => add_item_line(text, number, judged),
-        Answer::Refused { kind, command } => {
+        ItemResult::Judged(judged) => add_item_line(text, number, judged),
+        ItemResult::Refused { kind, command } => {
             let fault = RunFault {
                 run: number,
                 command: *command,
@@ -56,7 +56,7 @@ pub(crate) fn add_answer_line(
 }
 
 /// The lines of all items, numbered from 1.
-fn answer_lines(alloc: Global, answers: &[Answer]) -> Result<String, AllocError>
+fn answer_lines(alloc: Global, answers: &[ItemResult]) -> Result<String, AllocError>
     ensures { IfOk result (λ text. string_bytes text ≡ answer_lines 1 answers.now) }
 {
     let mut text = String::new(alloc);
@@ -67,12 +67,12 @@ fn answer_lines(alloc: Global, answers: &[Answer]) -> Result<String, AllocError>
 }
 
 /// Whether the item is explained or valid.
-pub fn is_good_answer(answer: &Answer) -> bool
+pub fn is_good_answer(answer: &ItemResult) -> bool
     ensures { result ≡ is_good_answer answer.now }
 {
     match answer {
-        Answer::Judged(judged) => is_good(judged),
-        Answer::Refused { .. } => false,
+        ItemResult::Judged(judged) => is_good(judged),
+        ItemResult::Refused { .. } => false,
     }
 }
 
@@ -81,7 +81,7 @@ fn add_failed_line(
     alloc: Global,
     text: &mut String,
     number: usize,
-    answer: &Answer,
+    answer: &ItemResult,
 ) -> Result<(), AllocError>
     ensures { OnOk result
         (string_bytes text.new ≡ string_bytes text.old ++ failed_answer_line number answer.now) }
@@ -93,7 +93,7 @@ fn add_failed_line(
 }
 
 /// The lines of the items that are neither explained nor valid, each with its number among all of them, from 1.
-fn failed_lines(alloc: Global, answers: &[Answer]) -> Result<String, AllocError>
+fn failed_lines(alloc: Global, answers: &[ItemResult]) -> Result<String, AllocError>
     ensures { IfOk result (λ text. string_bytes text ≡ failed_answer_lines 1 answers.now) }
 {
     let mut text = String::new(alloc);
@@ -104,7 +104,7 @@ fn failed_lines(alloc: Global, answers: &[Answer]) -> Result<String, AllocError>
 }
 
 /// The lines of the displayed items, numbered from 1.
-fn shown_lines(alloc: Global, shown: Shown, answers: &[Answer]) -> Result<String, AllocError>
+fn shown_lines(alloc: Global, shown: Shown, answers: &[ItemResult]) -> Result<String, AllocError>
     ensures { IfOk result (λ text. string_bytes text ≡ shown_answer_lines shown answers.now) }
 {
     match shown {
@@ -114,17 +114,17 @@ fn shown_lines(alloc: Global, shown: Shown, answers: &[Answer]) -> Result<String
 }
 
 /// `Refused` if the item is refused, else the status of its judgement.
-pub(crate) fn answer_status(answer: &Answer) -> Status
+pub(crate) fn answer_status(answer: &ItemResult) -> Status
     ensures { result ≡ answer_status answer.now }
 {
     match answer {
-        Answer::Judged(judged) => status_of_one(judged),
-        Answer::Refused { .. } => Status::Refused,
+        ItemResult::Judged(judged) => status_of_one(judged),
+        ItemResult::Refused { .. } => Status::Refused,
     }
 }
 
 /// The worst of the statuses of all items.
-pub fn worst_status(answers: &[Answer]) -> Status
+pub fn worst_status(answers: &[ItemResult]) -> Status
     ensures { result ≡ worst_status Accepted answers.now }
 {
     let mut status = Status::Accepted;
@@ -140,16 +140,16 @@ pub struct AnsweredFile {
     /// The model, and all trees of the input.
     pub file: CompiledFile,
     /// The answers, in the order of the items.
-    pub answers: Vec<Answer>,
+    pub answers: Vec<ItemResult>,
 }
 
 /// The lines of the displayed items after the model, and all answers; or the refusal of the model.
-fn keeping_on_output<R: Threads + Sync>(
+fn keep_going_output<R: Threads + Sync>(
     rt: &R,
     alloc: Global,
     input: &[u8],
     shown: Shown,
-    steps: &Steps,
+    steps: &ProgressCounter,
 ) -> Result<(Output, Option<AnsweredFile>), AllocError>
     ensures output { IfOk result (λ r. IsShownKeepingOn shown input.now r.0.text.items r.0.status) }
     ensures held { IfOk result (λ r. IfSome r.1 (λ answered. HoldsAnswers input.now answered.file.compiled
@@ -161,7 +161,7 @@ fn keeping_on_output<R: Threads + Sync>(
     };
     let items = items_of(file.trees.as_slice());
     may_share_compiled();
-    steps.expect(items.len());
+    steps.set_total(items.len());
     let answers = judge_each(
         rt,
         &file.compiled,
@@ -175,9 +175,9 @@ fn keeping_on_output<R: Threads + Sync>(
     Ok((output, Some(AnsweredFile { file, answers })))
 }
 
-/// Does what [`judge_text_keeping_on`] does, but with [`Shown::Failures`] writes only the lines of items that are
+/// Does what [`judge_text_keep_going`] does, but with [`Shown::Failures`] writes only the lines of items that are
 /// refused, or neither explained nor valid, with the same status. Returns the answers if the items were judged.
-pub fn judge_file_keeping_on<W: Sink, R: Threads + Sync>(
+pub fn judge_file_keep_going<W: Sink, R: Threads + Sync>(
     rt: &R,
     alloc: Global,
     input: &[u8],
@@ -190,16 +190,16 @@ pub fn judge_file_keeping_on<W: Sink, R: Threads + Sync>(
     ensures held { IfSome result.1 (λ answered. HoldsAnswers input.now answered.file.compiled
         answered.file.trees.items answered.answers.items) }
 {
-    judge_file_keeping_on_counting(rt, alloc, input, shown, &Steps::new(), sink)
+    judge_file_keep_going_with_progress(rt, alloc, input, shown, &ProgressCounter::new(), sink)
 }
 
-/// Does what [`judge_file_keeping_on`] does, and counts the items that are judged in `steps`.
-pub fn judge_file_keeping_on_counting<W: Sink, R: Threads + Sync>(
+/// Does what [`judge_file_keep_going`] does, and counts the items that are judged in `steps`.
+pub fn judge_file_keep_going_with_progress<W: Sink, R: Threads + Sync>(
     rt: &R,
     alloc: Global,
     input: &[u8],
     shown: Shown,
-    steps: &Steps,
+    steps: &ProgressCounter,
     sink: &mut W,
 ) -> (Status, Option<AnsweredFile>)
     requires { W.broken sink.old ≡ false }
@@ -208,7 +208,7 @@ pub fn judge_file_keeping_on_counting<W: Sink, R: Threads + Sync>(
     ensures held { IfSome result.1 (λ answered. HoldsAnswers input.now answered.file.compiled
         answered.file.trees.items answered.answers.items) }
 {
-    match keeping_on_output(rt, alloc, input, shown, steps) {
+    match keep_going_output(rt, alloc, input, shown, steps) {
         Ok((output, answered)) => (send(output.text.as_slice(), output.status, sink), answered),
         Err(AllocError) => (send(b"refused memory\n", Status::Lost, sink), None),
     }
@@ -222,7 +222,7 @@ pub fn judge_file_keeping_on_counting<W: Sink, R: Threads + Sync>(
 /// The status is `Refused` if an item is refused, else `Failed` if one is not explained or not valid, else `Accepted`;
 /// `Refused` if the model is refused; `Lost` if an allocation or the writer failed. If no item is refused, the lines
 /// and the status are those of `judge_text`.
-pub fn judge_text_keeping_on<W: Sink, R: Threads + Sync>(
+pub fn judge_text_keep_going<W: Sink, R: Threads + Sync>(
     rt: &R,
     alloc: Global,
     input: &[u8],
@@ -232,6 +232,6 @@ pub fn judge_text_keeping_on<W: Sink, R: Threads + Sync>(
     ensures { Prints (IsKeepingOnOutput input.now)
         (W.taken sink.old) (W.taken sink.new) (W.broken sink.new) result }
 {
-    let (status, _) = judge_file_keeping_on(rt, alloc, input, Shown::All, sink);
+    let (status, _) = judge_file_keep_going(rt, alloc, input, Shown::All, sink);
     status
 }

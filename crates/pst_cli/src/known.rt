@@ -47,7 +47,7 @@ impl KnownSystem {
 }
 
 /// Whether the program can make a system of that name.
-pub fn known_system(name: &str) -> bool
+pub fn is_known_system(name: &str) -> bool
     ensures { IsTrue result ↔ IsKnown name.now }
 {
     KnownSystem::named(name).is_some()

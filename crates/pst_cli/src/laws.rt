@@ -4,30 +4,30 @@ ghost use Rattle.pst_cli.specs.KeepingOn.{KeepsJudgements};
 ghost use Rattle.pst_cli.specs.OneOutput.{OneCheckOutput, OneJudgeOutput};
 ghost use Rattle.pst_cli.specs.StreamOutput.{StreamsAreFiles};
 
-use pst_judge::one_judgement;
+use pst_judge::judgement_is_unique;
 use pst_rejudge::lines_are_items;
 use pst_sexpr::laws::{one_fault, one_reading, trees_have_no_fault};
-use pst_typing::{ill_is_not_well, one_is_ill};
+use pst_typing::{ill_is_not_well, ill_typed_item_is_unique};
 
 /// `check_text` and `judge_text` have at most one text and one status for an input, by their definitions.
-pub fn one_output()
+pub fn output_is_unique()
     ensures check { OneCheckOutput }
     ensures judge { OneJudgeOutput }
 {
     one_reading();
     one_fault();
     trees_have_no_fault();
-    one_is_ill();
+    ill_typed_item_is_unique();
     ill_is_not_well();
-    one_judgement();
+    judgement_is_unique();
 }
 
-/// If no item is refused, `judge_text_keeping_on` writes and returns what `judge_text` does.
+/// If no item is refused, `judge_text_keep_going` writes and returns what `judge_text` does.
 pub fn keeps_judgements()
     ensures { KeepsJudgements }
 {}
 
-/// A stream with one item on each line has the lines and the status of `judge_text_keeping_on` for a file of these
+/// A stream with one item on each line has the lines and the status of `judge_text_keep_going` for a file of these
 /// items.
 pub fn streams_are_files()
     ensures { StreamsAreFiles }

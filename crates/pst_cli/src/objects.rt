@@ -24,8 +24,8 @@ use crate::shown::Shown;
 use crate::status::Status;
 use pst_model::Typed;
 use pst_rejudge::{
-    Answer, Steps, accepted_fields, judge_each, judged_fields, object_line, refusal_fields,
-    refused_fields,
+    ItemResult, ProgressCounter, accepted_fields, judge_each, judged_fields, object_line,
+    refusal_fields, refused_fields,
 };
 use pst_sexpr::Sink;
 use pst_typing::{Refusal, items_of, load, model_name};
@@ -33,12 +33,12 @@ use std::alloc::{AllocError, Global};
 use std::thread::Threads;
 
 /// The object of an item: its verdict, or why it is refused.
-fn answer_object(alloc: Global, number: usize, answer: &Answer) -> Result<Vec<u8>, AllocError>
+fn answer_object(alloc: Global, number: usize, answer: &ItemResult) -> Result<Vec<u8>, AllocError>
     ensures { IfOk result (λ line. line.items ≡ answer_object number answer.now) }
 {
     let fields = match answer {
-        Answer::Judged(judged) => judged_fields(alloc, number, judged)?,
-        Answer::Refused { kind, command } => refused_fields(alloc, number, *kind, *command)?,
+        ItemResult::Judged(judged) => judged_fields(alloc, number, judged)?,
+        ItemResult::Refused { kind, command } => refused_fields(alloc, number, *kind, *command)?,
     };
     object_line(alloc, fields.as_slice())
 }
@@ -49,7 +49,7 @@ fn add_shown(
     text: &mut Vec<u8>,
     shown: Shown,
     number: usize,
-    answer: &Answer,
+    answer: &ItemResult,
 ) -> Result<(), AllocError>
     ensures { OnOk result (text.new.items ≡ text.old.items ++ shown_object shown number answer.now) }
 {
@@ -61,7 +61,7 @@ fn add_shown(
 }
 
 /// The objects of the displayed items, numbered from 1.
-fn shown_objects(alloc: Global, shown: Shown, answers: &[Answer]) -> Result<Vec<u8>, AllocError>
+fn shown_objects(alloc: Global, shown: Shown, answers: &[ItemResult]) -> Result<Vec<u8>, AllocError>
     ensures { IfOk result (λ text. text.items ≡ shown_objects shown 1 answers.now) }
 {
     let mut text = Vec::new(alloc);
@@ -89,7 +89,7 @@ fn judge_output<R: Threads + Sync>(
     alloc: Global,
     input: &[u8],
     shown: Shown,
-    steps: &Steps,
+    steps: &ProgressCounter,
 ) -> Result<(Output, Option<AnsweredFile>), AllocError>
     ensures output { IfOk result (λ r. IsJudgeJson shown input.now r.0.text.items r.0.status) }
     ensures held { IfOk result (λ r. IfSome r.1 (λ answered. HoldsAnswers input.now answered.file.compiled
@@ -101,7 +101,7 @@ fn judge_output<R: Threads + Sync>(
     };
     let items = items_of(file.trees.as_slice());
     may_share_compiled();
-    steps.expect(items.len());
+    steps.set_total(items.len());
     let answers = judge_each(
         rt,
         &file.compiled,
@@ -137,16 +137,16 @@ pub fn judge_json<W: Sink, R: Threads + Sync>(
     ensures held { IfSome result.1 (λ answered. HoldsAnswers input.now answered.file.compiled
         answered.file.trees.items answered.answers.items) }
 {
-    judge_json_counting(rt, alloc, input, shown, &Steps::new(), sink)
+    judge_json_with_progress(rt, alloc, input, shown, &ProgressCounter::new(), sink)
 }
 
 /// Does what [`judge_json`] does, and counts the items that are judged in `steps`.
-pub fn judge_json_counting<W: Sink, R: Threads + Sync>(
+pub fn judge_json_with_progress<W: Sink, R: Threads + Sync>(
     rt: &R,
     alloc: Global,
     input: &[u8],
     shown: Shown,
-    steps: &Steps,
+    steps: &ProgressCounter,
     sink: &mut W,
 ) -> (Status, Option<AnsweredFile>)
     requires { W.broken sink.old ≡ false }

@@ -15,7 +15,7 @@ use crate::status::Status;
 use pst_case::{Run, Shaped};
 use pst_compile::Compiled;
 use pst_judge::{Valid, valid};
-use pst_rejudge::Steps;
+use pst_rejudge::ProgressCounter;
 use pst_sexpr::Sink;
 use pst_system::{BoxedSystem, System};
 use pst_typing::items_of;
@@ -167,7 +167,7 @@ fn item_reports<R: Threads + Wait>(
     runs: &[Run],
     repeats: u32,
     counts: &mut Counts,
-    steps: &Steps,
+    steps: &ProgressCounter,
 ) -> Result<Vec<Output>, AllocError>
     requires lawful { AreLawful compiled.now runs.now }
     requires some { 1 ≤ repeats }
@@ -178,7 +178,7 @@ fn item_reports<R: Threads + Wait>(
         (reset_fails system.new) (reset_fails system.old) }
 {
     let mut reports = Vec::new(alloc);
-    steps.expect(runs.len());
+    steps.set_total(runs.len());
     for (index, run) in runs.iter().enumerate() {
         let report = item_report(
             rt,
@@ -205,7 +205,7 @@ fn all_reports<R: Threads + Wait>(
     runs: &[Run],
     repeats: u32,
     counts: &mut Counts,
-    steps: &Steps,
+    steps: &ProgressCounter,
 ) -> Result<Output, AllocError>
     requires lawful { AreLawful compiled.now runs.now }
     requires some { 1 ≤ repeats }
@@ -227,7 +227,7 @@ fn repeat_output<R: Threads + Wait>(
     system: &mut BoxedSystem,
     repeats: u32,
     counts: &mut Counts,
-    steps: &Steps,
+    steps: &ProgressCounter,
 ) -> Result<Output, AllocError>
     requires { 1 ≤ repeats }
     ensures output { IfOk result (λ output.
@@ -272,7 +272,7 @@ pub fn run_repeatedly<W: Sink, R: Threads + Wait>(
     system: &mut BoxedSystem,
     repeats: u32,
     counts: &mut Counts,
-    steps: &Steps,
+    steps: &ProgressCounter,
     sink: &mut W,
 ) -> Status
     requires some { 1 ≤ repeats }

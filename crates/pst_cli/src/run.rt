@@ -24,7 +24,7 @@ use pst_case::{Run, Shaped};
 use pst_compile::Compiled;
 use pst_judge::{Judged, Valid, Why, valid};
 use pst_model::Typed;
-use pst_rejudge::Steps;
+use pst_rejudge::ProgressCounter;
 use pst_runs::run_tree;
 use pst_sexpr::{Out, Sink, Tree, WriteFailed, put_all, write};
 use pst_system::{BoxedSystem, System};
@@ -134,7 +134,7 @@ fn item_reports<R: Threads + Wait>(
     system: &mut BoxedSystem,
     runs: &[Run],
     counts: &mut Counts,
-    steps: &Steps,
+    steps: &ProgressCounter,
 ) -> Result<Output, AllocError>
     requires { AreLawful compiled.now runs.now }
     ensures reported { IfOk result (λ output.
@@ -145,7 +145,7 @@ fn item_reports<R: Threads + Wait>(
 {
     let mut text = Vec::new(alloc);
     let mut status = Status::Accepted;
-    steps.expect(runs.len());
+    steps.set_total(runs.len());
     for (index, run) in runs.iter().enumerate() {
         let output = item_report(rt, alloc, compiled, system, index + 1, &run.shaped, counts)?;
         text.extend_from_slice(output.text.as_slice())?;
@@ -162,7 +162,7 @@ fn run_output<R: Threads + Wait>(
     input: &[u8],
     system: &mut BoxedSystem,
     counts: &mut Counts,
-    steps: &Steps,
+    steps: &ProgressCounter,
 ) -> Result<Output, AllocError>
     ensures output { IfOk result (λ output.
         IsRunOutput (answers system.old) (fails system.old) (reset_fails system.old)
@@ -212,26 +212,26 @@ pub fn run_text<W: Sink, R: Threads + Wait>(
     ensures kept { AreKept (answers system.new) (answers system.old) (fails system.new) (fails system.old)
         (reset_fails system.new) (reset_fails system.old) }
 {
-    run_counting(
+    run_with_progress(
         rt,
         alloc,
         input,
         system,
         &mut Counts::new(),
-        &Steps::new(),
+        &ProgressCounter::new(),
         sink,
     )
 }
 
 /// Does what [`run_text`] does, counts the items that are driven in `steps`, and adds the result of each reported item
 /// to `counts`. If an allocation outside the driver fails, sets all counts to zero.
-pub fn run_counting<W: Sink, R: Threads + Wait>(
+pub fn run_with_progress<W: Sink, R: Threads + Wait>(
     rt: &R,
     alloc: Global,
     input: &[u8],
     system: &mut BoxedSystem,
     counts: &mut Counts,
-    steps: &Steps,
+    steps: &ProgressCounter,
     sink: &mut W,
 ) -> Status
     requires { W.broken sink.old ≡ false }

@@ -14,7 +14,7 @@ use pst_case::{Run, Shaped};
 use pst_compile::Compiled;
 use pst_judge::{Judged, Valid, Why, valid};
 use pst_rejudge::{
-    Field, Name, Steps, add_number, add_words, judged_fields, object_line, refused_fields,
+    Field, Name, ProgressCounter, add_number, add_words, judged_fields, object_line, refused_fields,
 };
 use pst_runs::RunFault;
 use pst_sexpr::Sink;
@@ -94,7 +94,7 @@ fn drive_repeatedly<R: Threads + Wait>(
 }
 
 /// Drives a valid case, once or as often as `repeats` says.
-fn drive<R: Threads + Wait>(
+fn drive_valid<R: Threads + Wait>(
     rt: &R,
     alloc: Global,
     compiled: &Compiled,
@@ -118,7 +118,7 @@ fn drive<R: Threads + Wait>(
 }
 
 /// The report of an item whose case is not valid.
-fn invalid(why: Why, counts: &mut Counts) -> Result<Reported, AllocError> {
+fn report_invalid(why: Why, counts: &mut Counts) -> Result<Reported, AllocError> {
     counts.add_invalid(&why);
     match why {
         Why::NoMemory => Err(AllocError),
@@ -144,8 +144,8 @@ fn report_of<R: Threads + Wait>(
 {
     let copy = shaped.copy(alloc, compiled.typed().source())?;
     match valid(compiled, alloc, copy) {
-        Ok(valid) => drive(rt, alloc, compiled, system, number, valid, repeats, counts),
-        Err(refused) => invalid(refused.1, counts),
+        Ok(valid) => drive_valid(rt, alloc, compiled, system, number, valid, repeats, counts),
+        Err(refused) => report_invalid(refused.1, counts),
     }
 }
 
@@ -197,7 +197,7 @@ fn report_object(alloc: Global, number: usize, reported: Reported) -> Result<Vec
 }
 
 /// The objects of all items, numbered from 1, and the worst of their statuses. `steps` counts the items.
-fn objects<R: Threads + Wait>(
+fn item_objects<R: Threads + Wait>(
     rt: &R,
     alloc: Global,
     compiled: &Compiled,
@@ -205,13 +205,13 @@ fn objects<R: Threads + Wait>(
     runs: &[Run],
     repeats: Option<u32>,
     counts: &mut Counts,
-    steps: &Steps,
+    steps: &ProgressCounter,
 ) -> Result<Output, AllocError>
     requires { AreLawful compiled.now runs.now }
 {
     let mut text = Vec::new(alloc);
     let mut status = Status::Accepted;
-    steps.expect(runs.len());
+    steps.set_total(runs.len());
     for (index, run) in runs.iter().enumerate() {
         let number = index + 1;
         let reported = report_of(
@@ -249,7 +249,7 @@ fn json_output<R: Threads + Wait>(
     system: &mut BoxedSystem,
     repeats: Option<u32>,
     counts: &mut Counts,
-    steps: &Steps,
+    steps: &ProgressCounter,
 ) -> Result<Output, AllocError> {
     let file = match load_compiled(alloc, input)? {
         Ok(file) => file,
@@ -257,7 +257,7 @@ fn json_output<R: Threads + Wait>(
     };
     let items = items_of(file.trees.as_slice());
     match runs_in(alloc, file.compiled.typed(), items)? {
-        Ok(runs) => objects(
+        Ok(runs) => item_objects(
             rt,
             alloc,
             &file.compiled,
@@ -282,7 +282,7 @@ pub fn run_json<W: Sink, R: Threads + Wait>(
     system: &mut BoxedSystem,
     repeats: Option<u32>,
     counts: &mut Counts,
-    steps: &Steps,
+    steps: &ProgressCounter,
     sink: &mut W,
 ) -> Status
     requires { W.broken sink.old ≡ false }

@@ -10,10 +10,11 @@ use crate::counts::Counts;
 use crate::keep::{add_answer_line, answer_status};
 use crate::output::send;
 use crate::refusal::refusal_output;
+use crate::refused_lines::{EndedLines, RefusedLines, begun_line, pass_refused};
 use crate::sharing::may_share_compiled;
 use crate::status::Status;
 use pst_compile::Compiled;
-use pst_rejudge::{Answer, Steps, StreamFault, next_block};
+use pst_rejudge::{ItemResult, ProgressCounter, StreamFault, next_block};
 use pst_sexpr::{Sink, WriteFailed, put_all};
 use std::alloc::{AllocError, Global};
 use std::io::Read;
@@ -41,7 +42,7 @@ pub(crate) struct Written {
 }
 
 /// The lines of the answers, numbered from `count + 1` on.
-fn lines_after(alloc: Global, count: usize, answers: &[Answer]) -> Result<String, AllocError>
+fn lines_after(alloc: Global, count: usize, answers: &[ItemResult]) -> Result<String, AllocError>
     ensures { IfOk result (λ text. string_bytes text ≡ answer_lines (count + 1) answers.now) }
 {
     let mut text = String::new(alloc);
@@ -57,7 +58,7 @@ fn lines_after(alloc: Global, count: usize, answers: &[Answer]) -> Result<String
 }
 
 /// The worst of `so_far` and the statuses of the answers.
-fn worst_after(so_far: Status, answers: &[Answer]) -> Status
+fn worst_after(so_far: Status, answers: &[ItemResult]) -> Status
     ensures { result ≡ worst_status so_far answers.now }
 {
     let mut status = so_far;
@@ -71,7 +72,7 @@ fn worst_after(so_far: Status, answers: &[Answer]) -> Status
 fn write_block<W: Sink>(
     alloc: Global,
     written: Written,
-    answers: &[Answer],
+    answers: &[ItemResult],
     sink: &mut W,
 ) -> Result<Written, Cut>
     requires { W.broken sink.old ≡ false }
@@ -93,6 +94,11 @@ fn write_block<W: Sink>(
     }
 }
 
+/// The bytes that the lines of a block end in: those that were read, or none if the stream has ended.
+fn lines_read(buffer: &[u8], is_last: bool) -> &[u8] {
+    if is_last { &[] } else { buffer }
+}
+
 /// Why the lines end if no block can be read.
 fn cut_by(fault: StreamFault) -> Cut
     ensures { result ≡ cut_of fault }
@@ -104,14 +110,15 @@ fn cut_by(fault: StreamFault) -> Cut
 }
 
 /// Writes the line of each item of the reader as it comes, and returns the worst of their statuses; or why the lines
-/// end before the reader does.
-fn write_stream<I: Read, W: Sink, R: Threads + Sync>(
+/// end before the reader does. `refused` gets the refused lines.
+fn write_stream<I: Read, W: Sink, R: Threads + Sync, L: RefusedLines>(
     rt: &R,
     alloc: Global,
     compiled: &Compiled,
     reader: &mut I,
     counts: &mut Counts,
-    steps: &Steps,
+    steps: &ProgressCounter,
+    refused: &mut L,
     sink: &mut W,
 ) -> Result<Status, Cut>
     requires { W.broken sink.old ≡ false }
@@ -128,6 +135,7 @@ fn write_stream<I: Read, W: Sink, R: Threads + Sync>(
         status: Status::Accepted,
     };
     for _turn in 0..u64::MAX {
+        let begun = begun_line(alloc, refused, kept.as_slice());
         let block = match next_block(
             rt,
             compiled,
@@ -141,12 +149,19 @@ fn write_stream<I: Read, W: Sink, R: Threads + Sync>(
             Err(fault) => return Err(cut_by(fault)),
         };
         let answers = block.answers.as_slice();
+        let before = written.count;
         counts.add_answers(answers);
         steps.add(answers.len());
         written = match write_block(alloc, written, answers, sink) {
             Ok(written) => written,
             Err(cut) => return Err(cut),
         };
+        let ended = EndedLines {
+            before,
+            read: lines_read(buffer.as_slice(), block.is_last),
+            answers,
+        };
+        pass_refused(refused, begun, ended);
         if block.is_last {
             return Ok(written.status);
         }
@@ -157,20 +172,21 @@ fn write_stream<I: Read, W: Sink, R: Threads + Sync>(
 /// Judges the items of a reader, one on each line, over the model at the start of the input. For each line, from 1,
 /// writes `NUMBER VERDICT`, or `refused run NUMBER command C KIND`. Refuses a line as `BadForm` if it spells no item or
 /// more than one, or is longer than a file may be. Judges all lines that end within one read of the reader, several at
-/// once, and writes their verdicts before the next read; keeps no more of the reader in memory. Ignores the items after
-/// the model in the input.
+/// once, and writes their verdicts before the next read; keeps no more of the reader in memory. `refused` then gets the
+/// refused lines. Ignores the items after the model in the input.
 ///
-/// The status is the worst of all lines, as in `judge_text_keeping_on`. If the model is refused, writes its refusal
+/// The status is the worst of all lines, as in `judge_text_keep_going`. If the model is refused, writes its refusal
 /// alone. If the reader fails, writes `refused file` after the lines so far, with the status `Refused`. If an
 /// allocation fails, writes `refused memory` after them, with the status `Lost`. The status is also `Lost` if the
 /// writer fails.
-pub fn judge_stream<I: Read, W: Sink, R: Threads + Sync>(
+pub fn judge_stream<I: Read, W: Sink, R: Threads + Sync, L: RefusedLines>(
     rt: &R,
     alloc: Global,
     input: &[u8],
     reader: &mut I,
     counts: &mut Counts,
-    steps: &Steps,
+    steps: &ProgressCounter,
+    refused: &mut L,
     sink: &mut W,
 ) -> Status
     requires { W.broken sink.old ≡ false }
@@ -187,7 +203,16 @@ pub fn judge_stream<I: Read, W: Sink, R: Threads + Sync>(
         }
         Err(AllocError) => return send(b"refused memory\n", Status::Lost, sink),
     };
-    match write_stream(rt, alloc, &file.compiled, reader, counts, steps, sink) {
+    match write_stream(
+        rt,
+        alloc,
+        &file.compiled,
+        reader,
+        counts,
+        steps,
+        refused,
+        sink,
+    ) {
         Ok(status) => status,
         Err(Cut::Unread) => send(b"refused file\n", Status::Refused, sink),
         Err(Cut::NoMemory) => send(b"refused memory\n", Status::Lost, sink),

@@ -2,6 +2,7 @@
 ghost use Rattle.std.specs.Prelude.{◌≡◌, ⊤, IfOk};
 ghost use Rattle.pst_clients.specs.Answering.{Answered};
 
+use crate::ahead::Ahead;
 use crate::answers::{ClientAnswer, answer_of};
 use crate::calls::call_line;
 use crate::connection::{Connection, LostAnswer, State};
@@ -10,10 +11,19 @@ use pst_system::{CallFault, RealCall, System};
 use pst_value::{Items, Ty, Value};
 use std::alloc::{AllocError, Global};
 use std::io::{Read, Write};
+use std::rt::Files;
 use std::sync::{Arc, Mutex, Wait};
+use std::thread::Parker;
+use std::time::Duration;
 
 /// The line that makes a client reset the system to its initial state.
 const RESET: &str = "[\"reset\"]\n";
+
+/// What to mend in a client that prints a line too many.
+const STRAY_HINT: &str = "; print one line for each line, and log lines to standard error";
+
+/// How long a client that answers a reset as it did not before may take to print another line, in milliseconds.
+const LATE: u64 = 100;
 
 /// What to answer in place of a line that is no value.
 fn value_hint(answer: &str) -> &'static str {
@@ -55,7 +65,7 @@ pub struct Clients<R: Wait, I: Read, O: Write> {
 }
 
 /// Whether some client is in a state.
-fn has_any<I: Read, O: Write>(
+fn has_any<I: Read + Ahead, O: Write>(
     connections: &mut Vec<Mutex<Connection<I, O>>>,
     state: State,
 ) -> bool {
@@ -69,7 +79,10 @@ fn has_any<I: Read, O: Write>(
 
 /// Has the clients restarted that are known to have ended. If one process has them all, this waits until all
 /// are known to have ended, and is impossible once a pipe is closed.
-fn revive<I: Read, O: Write>(connections: &mut Vec<Mutex<Connection<I, O>>>, is_shared: bool) {
+fn restart_ended_clients<I: Read + Ahead, O: Write>(
+    connections: &mut Vec<Mutex<Connection<I, O>>>,
+    is_shared: bool,
+) {
     if !has_any(connections, State::Ended) || is_shared && has_any(connections, State::Closed) {
         return;
     }
@@ -85,7 +98,7 @@ fn revive<I: Read, O: Write>(connections: &mut Vec<Mutex<Connection<I, O>>>, is_
     }
 }
 
-impl<R: Wait, I: Read + Drop, O: Write + Drop> Clients<R, I, O> {
+impl<R: Wait + Files, I: Read + Ahead + Drop, O: Write + Drop> Clients<R, I, O> {
     /// No clients. A value is answered only as some line spells it at its type in `results`.
     pub fn new(
         rt: R,
@@ -143,6 +156,15 @@ impl<R: Wait, I: Read + Drop, O: Write + Drop> Clients<R, I, O> {
             LostAnswer::Closed => (NoteKind::NotAnswered, "the client has gone"),
             LostAnswer::TooLong => (NoteKind::NotAnswered, "the line is longer than 1 MiB"),
             LostAnswer::NoText => (NoteKind::NoValue, "no UTF-8"),
+            LostAnswer::MoreLines(first) => {
+                return self.note(
+                    branch,
+                    NoteKind::MoreLines,
+                    line,
+                    first.as_str(),
+                    STRAY_HINT,
+                );
+            }
             LostAnswer::NoMemory => return,
         };
         self.note(branch, kind, line, why, "")
@@ -173,6 +195,88 @@ impl<R: Wait, I: Read + Drop, O: Write + Drop> Clients<R, I, O> {
         }
     }
 
+    /// Notes a line that a branch's client printed and that answers nothing.
+    fn note_stray(&self, branch: u32, text: &str) {
+        let last = self
+            .notes
+            .waits()
+            .last_line_of(self.alloc, self.client(branch));
+        let line = match &last {
+            Ok(last) if !last.is_empty() => last.as_str(),
+            _ => RESET,
+        };
+        self.note(branch, NoteKind::Stray, line.as_bytes(), text, STRAY_HINT)
+    }
+
+    /// Drops what a branch's client has printed that answers nothing, and notes it. Returns whether a line too
+    /// many came after a call, so that answers since the last reset may be those of other calls.
+    fn drop_strays_of(&self, branch: u32) -> bool {
+        let Some(connection) = self.connections.get(branch as usize) else {
+            return false;
+        };
+        let client = self.client(branch);
+        self.notes.waits().begin_again(client);
+        let mut connection = connection.lock(&self.rt);
+        let stray = connection.drop_printed(&self.rt);
+        let is_astray = connection.take_astray();
+        self.notes.waits().end(client);
+        if let Some(text) = stray {
+            self.note_stray(branch, text.as_str());
+        }
+        is_astray
+    }
+
+    /// Drops what clients have printed that answers nothing, and notes it. Returns whether a line too many came
+    /// after a call.
+    fn drop_strays(&self) -> bool {
+        let mut is_astray = false;
+        let mut branch = 0u32;
+        for _ in 0..self.connections.len() {
+            if self.drop_strays_of(branch) {
+                is_astray = true;
+            }
+            branch = branch.saturating_add(1);
+        }
+        is_astray
+    }
+
+    /// Whether the answer of a branch's client to a reset is another than before.
+    fn is_unusual(&self, branch: u32, answer: &str) -> bool {
+        match self.connections.get(branch as usize) {
+            Some(connection) => connection.lock(&self.rt).is_unusual(answer),
+            None => false,
+        }
+    }
+
+    /// Ends the reset of a branch's client. If the client answered as it did not before, this waits for another
+    /// line, and if one comes the reset fails: the answer was that of an earlier line.
+    fn end_reset(&self, branch: u32, answer: String) -> Result<(), CallFault> {
+        if self.is_unusual(branch, answer.as_str()) {
+            Parker::new().park_timeout(&self.rt, Duration::from_millis(LATE));
+            if self.drop_strays_of(branch) {
+                return Err(CallFault::Refused);
+            }
+        }
+        if let Some(connection) = self.connections.get(branch as usize) {
+            connection.lock(&self.rt).end_reset(answer);
+        }
+        Ok(())
+    }
+
+    /// Asks a branch's client for a reset after it gave no answer, once it is started again. One that printed
+    /// several lines is not asked again.
+    fn ask_again(&mut self, branch: u32, lost: &LostAnswer) -> Result<String, CallFault>
+        ensures { self.new.results ≡ self.old.results }
+    {
+        if let LostAnswer::MoreLines(_) = lost {
+            self.note_lost(branch, RESET.as_bytes(), lost);
+            let _ = self.drop_strays_of(branch);
+            return Err(CallFault::Refused);
+        }
+        restart_ended_clients(&mut self.connections, self.is_shared);
+        self.ask(branch, RESET.as_bytes())
+    }
+
     /// Asks a branch's client for a reset, once more if it had to be started again.
     fn reset_client(&mut self, branch: u32) -> Result<(), CallFault>
         ensures { self.new.results ≡ self.old.results }
@@ -180,16 +284,13 @@ impl<R: Wait, I: Read + Drop, O: Write + Drop> Clients<R, I, O> {
         let line = RESET.as_bytes();
         let answer = match self.ask_client(branch, line) {
             Ok(answer) => answer,
-            Err(_) => {
-                revive(&mut self.connections, self.is_shared);
-                self.ask(branch, line)?
-            }
+            Err(lost) => self.ask_again(branch, &lost)?,
         };
         if answer.as_bytes().starts_with(b"failed") {
             self.note(branch, NoteKind::Failed, line, answer.as_str(), "");
             return Err(CallFault::Refused);
         }
-        Ok(())
+        self.end_reset(branch, answer)
     }
 
     /// Notes an answer that has not the result type of its operation.
@@ -229,17 +330,24 @@ impl<R: Wait, I: Read + Drop, O: Write + Drop> Clients<R, I, O> {
     }
 }
 
-impl<R: Wait + Drop + Send + Sync, I: Read + Drop + Send, O: Write + Drop + Send> System
-    for Clients<R, I, O> {
+impl<
+    R: Wait + Files + Drop + Send + Sync,
+    I: Read + Ahead + Drop + Send,
+    O: Write + Drop + Send,
+> System for Clients<R, I, O> {
     ghost answers = { λ s c v. Answered s.results c v };
 
     ghost fails = { λ _ _ _. ⊤ };
 
     ghost reset_fails = { λ _ _. ⊤ };
 
-    /// Restarts clients that ended, and then resets through each client in turn.
+    /// Restarts clients that ended, and then resets through each client in turn. It fails if a client printed a
+    /// line too many since the last reset: what it answered since may be wrong.
     fn reset(&mut self) -> Result<(), CallFault> {
-        revive(&mut self.connections, self.is_shared);
+        if self.drop_strays() {
+            return Err(CallFault::Refused);
+        }
+        restart_ended_clients(&mut self.connections, self.is_shared);
         let mut branch = 0u32;
         for _ in 0..self.connections.len() {
             if let Err(fault) = self.reset_client(branch) {

@@ -2,8 +2,12 @@
 ghost use Rattle.std.specs.Prelude.{◌≡◌, ◌≢◌, ◌≤◌, [], ◌∷◌, ◌++◌, All, IfOk, OnOk, Err, length, string_bytes};
 ghost use Rattle.std.specs.Io.KnownBytes.{Appends, Consumes};
 
+use crate::ahead::Ahead;
+use crate::printed::{LAST_LINE, Printed};
 use std::alloc::Global;
+use std::fs::OpenOptions;
 use std::io::{self, Read, Write};
+use std::rt::Files;
 
 /// The maximum number of bytes of a line of a client, its end not counted.
 pub const MAX_LINE: usize = 1_048_576;
@@ -13,7 +17,10 @@ const REVIVE: &str = "[\"revive\"]\n";
 
 /// The character before what the launcher reports of a client. The client may have begun a line before it
 /// ended. No JSON contains this character.
-const MARK: char = '\x18';
+pub(crate) const MARK: char = '\x18';
+
+/// After how many resets with an unusual answer it is worth while to wait for another line.
+const MOST_WAITS: u32 = 3;
 
 /// Why a line was not answered.
 #[derive(Debug, PartialEq, Eq, Drop)]
@@ -28,6 +35,8 @@ pub enum LostAnswer {
     TooLong,
     /// The line is no UTF-8.
     NoText,
+    /// The client printed more than one line. This is the first, which may answer the line or not.
+    MoreLines(String),
     /// Out of memory.
     NoMemory,
 }
@@ -50,6 +59,16 @@ pub struct Connection<I: Read, O: Write> {
     answers: I,
     calls: O,
     state: State,
+    /// The name of the pipe of the answers, if they come from one.
+    pipe: Option<String>,
+    /// Whether a line was sent since the last reset was done.
+    is_asked: bool,
+    /// Whether it printed a line too many since then, so that its answers may be those of other lines.
+    is_astray: bool,
+    /// The answer to the last reset.
+    reset_answer: Option<String>,
+    /// After how many more resets with an unusual answer it is worth while to wait for another line.
+    waits: u32,
 }
 
 /// The next byte.
@@ -84,7 +103,7 @@ fn next_line<I: Read>(alloc: Global, reader: &mut I) -> Result<Vec<u8>, LostAnsw
     Err(LostAnswer::TooLong)
 }
 
-impl<I: Read, O: Write> Connection<I, O> {
+impl<I: Read + Ahead, O: Write> Connection<I, O> {
     /// A client whose answers come from `answers`, and which reads its calls from `calls`.
     pub fn new(alloc: Global, answers: I, calls: O) -> Connection<I, O> {
         Connection {
@@ -92,7 +111,19 @@ impl<I: Read, O: Write> Connection<I, O> {
             answers,
             calls,
             state: State::Open,
+            pipe: None,
+            is_asked: false,
+            is_astray: false,
+            reset_answer: None,
+            waits: MOST_WAITS,
         }
+    }
+
+    /// The same client, whose answers come from the pipe with this name. Lines that answer nothing are found
+    /// only in a pipe that has a name.
+    pub fn at_pipe(mut self, name: String) -> Connection<I, O> {
+        self.pipe = Some(name);
+        self
     }
 
     /// What is known of the client.
@@ -143,7 +174,17 @@ impl<I: Read, O: Write> Connection<I, O> {
         }
     }
 
+    /// Whether the client has printed more than was read. What the launcher says of it does not count.
+    fn has_more(&self) -> bool {
+        match self.answers.next_ahead() {
+            Some(byte) => self.pipe.is_some() && byte != MARK as u8,
+            None => false,
+        }
+    }
+
     /// Sends a line with its end, and reads the line that answers it. Nothing is sent to a client that has ended.
+    ///
+    /// `MoreLines`: with this line came another one. A line that comes later is found by `drop_printed`.
     pub fn ask(&mut self, line: &[u8]) -> Result<String, LostAnswer>
         ensures sent { OnOk result (Appends (O.contents self.old.calls)
             (O.contents self.new.calls) line.now) }
@@ -153,8 +194,88 @@ impl<I: Read, O: Write> Connection<I, O> {
         if self.state != State::Open {
             return Err(LostAnswer::Closed);
         }
+        self.is_asked = true;
         self.send(line)?;
-        self.receive()
+        let text = self.receive()?;
+        if self.has_more() {
+            self.is_astray = true;
+            return Err(LostAnswer::MoreLines(text));
+        }
+        Ok(text)
+    }
+
+    /// Writes a line after all that the client has printed. Returns whether this could be done.
+    fn write_last<R: Files>(&self, files: &R) -> bool {
+        let Some(name) = &self.pipe else {
+            return false;
+        };
+        match OpenOptions::new().write(true).open(files, name.as_str()) {
+            Ok(mut end) => end.write_all(LAST_LINE).is_ok(),
+            Err(_) => false,
+        }
+    }
+
+    /// Reads the lines up to the one that this program wrote.
+    fn read_to_last(&mut self) -> Result<Printed, LostAnswer> {
+        let mut printed = Printed::new();
+        for _ in 0..u64::MAX {
+            let line = next_line(self.alloc, &mut self.answers)?;
+            let text = std::str::from_utf8(line.as_slice()).unwrap_or("no UTF-8");
+            if printed.add(self.alloc, text).is_err() {
+                return Err(LostAnswer::NoMemory);
+            }
+            if printed.is_whole {
+                break;
+            }
+        }
+        Ok(printed)
+    }
+
+    /// Drops what the client has printed and nothing has read, without waiting for more. Returns the first line
+    /// of it, if there is one. If its answers come from no pipe with a name, it drops nothing.
+    pub fn drop_printed<R: Files>(&mut self, files: &R) -> Option<String> {
+        if self.state != State::Open || !self.write_last(files) {
+            return None;
+        }
+        let Ok(printed) = self.read_to_last() else {
+            self.state = State::Closed; // the last line may not be read
+            return None;
+        };
+        if printed.has_ended {
+            self.state = State::Ended;
+        }
+        if printed.first.is_some() && self.is_asked {
+            self.is_astray = true;
+        }
+        printed.first
+    }
+
+    /// Whether the client printed a line too many since it was reset, as far as is known. Then each of its
+    /// answers may be that of another line. It is forgotten.
+    pub fn take_astray(&mut self) -> bool {
+        let is_astray = self.is_astray;
+        self.is_astray = false;
+        self.is_asked = false;
+        is_astray
+    }
+
+    /// Whether the answer to a reset is another than before, so that it may be worth while to wait for another
+    /// line.
+    pub fn is_unusual(&self, answer: &str) -> bool {
+        match &self.reset_answer {
+            Some(usual) => self.waits > 0 && usual.as_str() != answer,
+            None => false,
+        }
+    }
+
+    /// Counts that a reset was answered and is done.
+    pub fn end_reset(&mut self, answer: String) {
+        if self.is_unusual(answer.as_str()) {
+            self.waits = self.waits.saturating_sub(1);
+        }
+        self.reset_answer = Some(answer);
+        self.is_astray = false;
+        self.is_asked = false;
     }
 
     /// Waits until the client is known to have ended.

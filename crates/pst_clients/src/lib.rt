@@ -4,15 +4,18 @@
 //! Nothing here starts a client. Each is at the other end of two pipes, which a launcher has made.
 #![tactic(auto)]
 
+mod ahead;
 mod answers;
 mod calls;
 mod clients;
 mod connection;
 mod notes;
 mod opening;
+mod printed;
 mod types;
 mod waits;
 
+pub use ahead::Ahead;
 pub use answers::{ClientAnswer, answer_of};
 pub use calls::call_line;
 pub use clients::Clients;

@@ -19,10 +19,14 @@ pub(crate) enum NoteKind {
     Failed,
     NoValue,
     Misfit,
+    MoreLines,
+    Stray,
 }
 
 /// All kinds, in the order of their notes.
-const KINDS: [NoteKind; 5] = [
+const KINDS: [NoteKind; 7] = [
+    NoteKind::MoreLines,
+    NoteKind::Stray,
     NoteKind::NotAsked,
     NoteKind::NotAnswered,
     NoteKind::Failed,
@@ -39,6 +43,8 @@ impl NoteKind {
             NoteKind::Failed => "was answered with",
             NoteKind::NoValue => "was answered with something that is not a value:",
             NoteKind::Misfit => "was answered with another type:",
+            NoteKind::MoreLines => "was answered with more than one line:",
+            NoteKind::Stray => "was followed by a line too many:",
         }
     }
 }
@@ -83,6 +89,8 @@ pub struct Notes {
     failed: Kept,
     no_value: Kept,
     misfit: Kept,
+    more_lines: Kept,
+    stray: Kept,
     waits: Waits,
     /// How many resets failed since the last one that did not.
     failed_resets: AtomicU64,
@@ -182,6 +190,8 @@ impl Notes {
             failed: Kept::new(alloc)?,
             no_value: Kept::new(alloc)?,
             misfit: Kept::new(alloc)?,
+            more_lines: Kept::new(alloc)?,
+            stray: Kept::new(alloc)?,
             waits: Waits::new(alloc)?,
             failed_resets: AtomicU64::new(0),
         })
@@ -214,6 +224,8 @@ impl Notes {
             NoteKind::Failed => &self.failed,
             NoteKind::NoValue => &self.no_value,
             NoteKind::Misfit => &self.misfit,
+            NoteKind::MoreLines => &self.more_lines,
+            NoteKind::Stray => &self.stray,
         }
     }
 

@@ -36,6 +36,8 @@ impl<'a> Folder<'a> {
 }
 
 /// The client whose pipes are the files `WORKER-BRANCH.calls` and `WORKER-BRANCH.answers` in a folder, counted from 1.
+///
+/// A test may have plain files in place of pipes, to which nothing is written.
 fn open_client<R: Files + AllocGlobal>(
     rt: &R,
     folder: &str,
@@ -44,15 +46,19 @@ fn open_client<R: Files + AllocGlobal>(
 ) -> io::Result<Connection<BufReader<R::File>, R::File>> {
     let alloc = rt.alloc();
     let calls = format!(in alloc; "{folder}/{worker}-{branch}.calls")?;
-    let answers = format!(in alloc; "{folder}/{worker}-{branch}.answers")?;
+    let name = format!(in alloc; "{folder}/{worker}-{branch}.answers")?;
     let calls = OpenOptions::new().write(true).open(rt, calls.as_str())?;
-    let answers = std::fs::open(rt, answers.as_str())?;
-    Ok(Connection::new(alloc, BufReader::new(alloc, answers)?, calls))
+    let answers = std::fs::open(rt, name.as_str())?;
+    let client = Connection::new(alloc, BufReader::new(alloc, answers)?, calls);
+    match std::fs::metadata(rt, name.as_str()) {
+        Ok(kind) if !kind.is_file() => Ok(client.at_pipe(name)),
+        _ => Ok(client),
+    }
 }
 
 /// The clients of worker number `worker`, one for each branch from the first on for which a folder has pipes. `results`
 /// has the result types of the operations.
-pub fn open_clients<H: Wait + Drop, R: Files + AllocGlobal>(
+pub fn open_clients<H: Wait + Files + Drop, R: Files + AllocGlobal>(
     handle: H,
     rt: &R,
     folder: Folder<'_>,

@@ -55,6 +55,12 @@ impl Lines {
         }
         Ok(line)
     }
+
+    /// The beginning of the last line, as it is shown.
+    fn shown(&self, alloc: Global) -> Result<String, AllocError> {
+        let line = self.last(alloc)?;
+        printable_beginning(alloc, std::str::from_utf8(line.as_slice()).unwrap_or(""))
+    }
 }
 
 /// The lines of each client.
@@ -92,6 +98,13 @@ impl Waits {
         }
     }
 
+    /// Counts that more is read of what a client answered to its last line.
+    pub(crate) fn begin_again(&self, client: ClientId) {
+        if let Some(lines) = self.lines_of(client) {
+            lines.sum.fetch_add(1, Ordering::SeqCst);
+        }
+    }
+
     /// Counts that a client is done with its line.
     pub(crate) fn end(&self, client: ClientId) {
         if let Some(lines) = self.lines_of(client) {
@@ -114,10 +127,19 @@ impl Waits {
     /// The beginning of the last line that the client at `place` got, as it is shown.
     pub fn last_line(&self, alloc: Global, place: usize) -> Result<String, AllocError> {
         match self.clients.get(place) {
-            Some(lines) => {
-                let line = lines.last(alloc)?;
-                printable_beginning(alloc, std::str::from_utf8(line.as_slice()).unwrap_or(""))
-            }
+            Some(lines) => lines.shown(alloc),
+            None => Ok(String::new(alloc)),
+        }
+    }
+
+    /// The beginning of the last line that a client got, as it is shown. It is empty if the client got none.
+    pub(crate) fn last_line_of(
+        &self,
+        alloc: Global,
+        client: ClientId,
+    ) -> Result<String, AllocError> {
+        match self.lines_of(client) {
+            Some(lines) => lines.shown(alloc),
             None => Ok(String::new(alloc)),
         }
     }

@@ -3,7 +3,7 @@ use Rattle.std.proofs.Common.{◌≡◌, ◌&&◌, ℕ, zero, suc, ◌+◌, ◌*
 use Rattle.std.specs.Prelude.{Bool, true, false, nat_le, IsTrue, max, slice_get}
 use Rattle.std.proofs.Math.Seq.{get_or-append_seam}
 use Rattle.std.proofs.lemmas.Option.{slice_get-get_or}
-use Rattle.pst_model.specs.Parts.{Name, opening_of, calls_of, operations_of, operation_of}
+use Rattle.pst_model.specs.Parts.{Name, initial_state_of, calls_of, operations_of, operation_of}
 use Rattle.pst_model.specs.declared.expr.Expr.{Expr}
 use Rattle.pst_model.specs.declared.model.Item.{Item}
 use Rattle.pst_model.specs.declared.model.Item.TheVariants as item
@@ -98,11 +98,11 @@ whole_fits items =
     let nums = number fs in
     let low = number_low fs in
     let low1 = low_next g nums low in
-    let f1 = optional_code items nums 0 [] (opening_of items) in
+    let f1 = optional_code items nums 0 [] (initial_state_of items) in
     let f2 = optional_code items nums 1 ((name_s, 0) ∷ []) (calls_of items) in
     let t2 = code_fits (g + 1 + 1) (operations_code items nums items) in
     functions_fit items fs (callbacks_code items)
-    (and_of (fun_fits g f1) (fun_fits (g + 1) f2 && t2) (optional_fits g items nums low 0 [] (opening_of items))
+    (and_of (fun_fits g f1) (fun_fits (g + 1) f2 && t2) (optional_fits g items nums low 0 [] (initial_state_of items))
     (and_of (fun_fits (g + 1) f2) t2 (optional_fits (g + 1) items nums low1 1 ((name_s, 0) ∷ []) (calls_of items)) (operations_fit (g + 1 + 1) items nums (low_next (g + 1) nums low1) items)))
 
 -- ---- where they stand
@@ -152,7 +152,7 @@ callback_stands items k fc h =
     let pre = functions_code items (reverse items) in
     ap (λ n. slice_get (pre ++ callbacks_code items) (n + k)) (sym (functions_length items (reverse items))) ∙ past pre (callbacks_code items) k ∙ h
 
-pub init_stands : (items : List Item) (e : Expr) → opening_of items ≡ Some e → IsCode (whole_code items) items (number (reverse items)) (functions (reverse items) + 0) 0 [] e
+pub init_stands : (items : List Item) (e : Expr) → initial_state_of items ≡ Some e → IsCode (whole_code items) items (number (reverse items)) (functions (reverse items) + 0) 0 [] e
 init_stands items e h = is_code _ items _ _ 0 [] e (callback_stands items 0 _ (ap (λ o. Some (optional_code items (number (reverse items)) 0 [] o)) h))
 
 pub command_stands : (items : List Item) (e : Expr) → calls_of items ≡ Some e → IsCode (whole_code items) items (number (reverse items)) (functions (reverse items) + 1) 1 ((name_s, 0) ∷ []) e

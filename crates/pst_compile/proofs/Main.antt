@@ -2,7 +2,7 @@
 use Rattle.std.proofs.Common.{ℕ, List, [], ◌∷◌, length, map, Option, Some, refl, sym, subst}
 use Rattle.std.specs.Prelude.{Bool, true, false, if◌then◌else◌}
 use Rattle.std.specs.Str.{bytes_eq}
-use Rattle.pst_model.specs.Parts.{Name, number_of}
+use Rattle.pst_model.specs.Parts.{Name, operation_number}
 use Rattle.pst_model.specs.declared.expr.Clause.{Clause, Clause-F, map-Clause, roll-Clause, fold-roll-Clause}
 use Rattle.pst_model.specs.declared.expr.Expr.{Expr, Expr-F, map-Expr, roll-Expr, fold-roll-Expr, ind-Expr}
 use Rattle.pst_model.specs.declared.model.Item.{Item}
@@ -69,7 +69,7 @@ module _ (code : List FunCode) (items : List Item) (nums : Name → Option ℕ) 
   layer_good (Expr-F.Fold x e acc i b) = fold_good code x acc _ _ _ _ _ _ e.1 i.1 b.1
   layer_good (Expr-F.Map k t) = const_good code (map_of [] [])
   layer_good (Expr-F.Put m k v) = put_good code _ _ _ _ _ _ m.1 k.1 v.1
-  layer_good (Expr-F.Call x es) = call_good code (number_of items x) _ _ (all_good es)
+  layer_good (Expr-F.Call x es) = call_good code (operation_number items x) _ _ (all_good es)
   layer_good (Expr-F.Apply f es) = apply_good code nums funs calls f _ _ (all_good es)
 
   abbrev PlainPart : Clause-F AClause AnExpr → Clause-F Clause Expr

@@ -2,7 +2,7 @@
 use Rattle.std.proofs.Common.{◌≡◌, ℕ, suc, ◌+◌, ◌<◌, ◌^◌, List, [], ◌∷◌, map, Option, Some, None, refl, sym, subst, arith}
 use Rattle.std.specs.Prelude.{Bool, true, false, if◌then◌else◌, nat_lt}
 use Rattle.std.specs.Str.{bytes_eq}
-use Rattle.pst_model.specs.Parts.{Name, number_of}
+use Rattle.pst_model.specs.Parts.{Name, operation_number}
 use Rattle.pst_model.specs.declared.expr.Clause.{Clause, Clause-F, map-Clause, fold-roll-Clause}
 use Rattle.pst_model.specs.declared.expr.Expr.{Expr, Expr-F, map-Expr, fold-roll-Expr, ind-Expr}
 use Rattle.pst_model.specs.declared.model.Item.{Item}
@@ -127,7 +127,7 @@ module _ (g : ℕ) where
     layer_lawful (Expr-F.Map k t) = moved_lawful _ (λ sc r. one_lawful _ (λ hi q. tt))
     layer_lawful (Expr-F.Put m k v) = either_lawful _ (λ sc d r.
         lawful_then g _ _ (load_lawful _ m.1 sc r) (lawful_then g _ _ (load_lawful _ k.1 sc (r + 1)) (lawful_then g _ _ (load_lawful _ v.1 sc (r + 2)) (one_lawful _ (λ hi q. tt)))))
-    layer_lawful (Expr-F.Call x es) = moved_lawful _ (λ sc r. lawful_then g _ _ (all_lawful _ (exprs_lawful es) sc r) (call_lawful r (number_of items x) _))
+    layer_lawful (Expr-F.Call x es) = moved_lawful _ (λ sc r. lawful_then g _ _ (all_lawful _ (exprs_lawful es) sc r) (call_lawful r (operation_number items x) _))
     layer_lawful (Expr-F.Apply f es) = moved_lawful _ (λ sc r. lawful_then g _ _ (all_lawful _ (exprs_lawful es) sc r) (apply_lawful r (nums f) _ (low f)))
 
     abbrev PlainPart : Clause-F AClause AnExpr → Clause-F Clause Expr

@@ -1,7 +1,7 @@
 -- The instructions of an expression.
 use Rattle.std.specs.Prelude.{ℕ, suc, ◌+◌, ◌^◌, pos, Bool, true, false, if◌then◌else◌, nat_lt, List, [], ◌∷◌, ◌++◌, length, Option, Some, None}
 use Rattle.std.specs.Str.{bytes_eq}
-use Rattle.pst_model.specs.Parts.{Name, number_of}
+use Rattle.pst_model.specs.Parts.{Name, operation_number}
 use Rattle.pst_model.specs.declared.expr.Binary.{Binary as BinaryOperator}
 use Rattle.pst_model.specs.declared.expr.Unary.{Unary as UnaryOperator}
 use Rattle.pst_model.specs.declared.expr.Clause.{Clause, Clause-F, fold-Clause}
@@ -260,7 +260,7 @@ code_at items funs (Expr-F.For clauses b) = no_name (for_code clauses b)
 code_at items funs (Expr-F.Fold x e acc i b) = no_name (fold_code x e acc i b)
 code_at items funs (Expr-F.Map k t) = no_name (constant (map_of [] []))
 code_at items funs (Expr-F.Put m k v) = to_either (put_code m k v)
-code_at items funs (Expr-F.Call x es) = no_name (call_code (number_of items x) es)
+code_at items funs (Expr-F.Call x es) = no_name (call_code (operation_number items x) es)
 code_at items funs (Expr-F.Apply f es) = no_name (apply_code (funs f) es)
 
 abbrev pub coded_part_at : Clause-F CodedPart Coded → CodedPart

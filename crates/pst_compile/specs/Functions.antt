@@ -1,6 +1,6 @@
 -- The code of a model: that of its functions, and then that of its callbacks.
 use Rattle.std.specs.Prelude.{ℕ, ◌+◌, max, List, [], ◌∷◌, ◌++◌, length, reverse, Option, Some, None}
-use Rattle.pst_model.specs.Parts.{Name, opening_of, calls_of}
+use Rattle.pst_model.specs.Parts.{Name, initial_state_of, calls_of}
 use Rattle.pst_model.specs.declared.expr.Expr.{Expr}
 use Rattle.pst_model.specs.declared.model.Fun.{Fun}
 use Rattle.pst_model.specs.declared.model.Item.{Item}
@@ -101,7 +101,7 @@ operations_code items nums (_ ∷ rest) = operations_code items nums rest
 -- init, command, and the callbacks of the operations
 abbrev pub callbacks_code : List Item → List FunCode
 callbacks_code items =
-    optional_code items (number (reverse items)) 0 [] (opening_of items)
+    optional_code items (number (reverse items)) 0 [] (initial_state_of items)
     ∷ optional_code items (number (reverse items)) 1 ((name_s, 0) ∷ []) (calls_of items)
     ∷ operations_code items (number (reverse items)) items
 

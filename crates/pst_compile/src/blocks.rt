@@ -34,7 +34,7 @@ pub fn empty_map(alloc: Global) -> Result<Value, AllocError>
 }
 
 /// One instruction.
-pub fn one(alloc: Global, instr: Instr) -> Block
+pub fn single_instruction(alloc: Global, instr: Instr) -> Block
     ensures { IfOk result (λ code. code ≡ instr ∷ []) }
 {
     let mut code = Items::new(alloc);
@@ -43,7 +43,7 @@ pub fn one(alloc: Global, instr: Instr) -> Block
 }
 
 /// The first code, and then the second.
-pub fn joined(first: Items<Instr>, second: Items<Instr>) -> Block
+pub fn concat_code(first: Items<Instr>, second: Items<Instr>) -> Block
     ensures { IfOk result (λ code. code ≡ first ++ second) }
 {
     let mut code = first;
@@ -52,15 +52,15 @@ pub fn joined(first: Items<Instr>, second: Items<Instr>) -> Block
 }
 
 /// An instruction, and then the code.
-pub fn headed(alloc: Global, instr: Instr, rest: Items<Instr>) -> Block
+pub fn prepend_instruction(alloc: Global, instr: Instr, rest: Items<Instr>) -> Block
     ensures { IfOk result (λ code. code ≡ instr ∷ rest) }
 {
-    let first = one(alloc, instr)?;
-    joined(first, rest)
+    let first = single_instruction(alloc, instr)?;
+    concat_code(first, rest)
 }
 
 /// The code, and then an instruction.
-pub fn ended(code: Items<Instr>, instr: Instr) -> Block
+pub fn append_instruction(code: Items<Instr>, instr: Instr) -> Block
     ensures { IfOk result (λ all. all ≡ code ++ instr ∷ []) }
 {
     let mut all = code;
@@ -73,11 +73,11 @@ pub fn skipped_unless(alloc: Global, register: u32, code: Items<Instr>, place: u
     ensures { IfOk result (λ all. all ≡ spec.skipped_unless register code place) }
 {
     let after = place_after(place_after(place, 1)?, code.len())?;
-    headed(alloc, Instr::Unless(register, after), code)
+    prepend_instruction(alloc, Instr::Unless(register, after), code)
 }
 
 /// Code that runs `first`, or `second` if the register is false. The jump to `second` is at `place`.
-pub fn either(
+pub fn if_else_code(
     alloc: Global,
     register: u32,
     first: Items<Instr>,
@@ -88,14 +88,14 @@ pub fn either(
 {
     let other = place_after(place_after(place_after(place, 1)?, first.len())?, 1)?;
     let after = place_after(other, second.len())?;
-    let rest = headed(alloc, Instr::Jump(after), second)?;
-    let both = joined(first, rest)?;
-    headed(alloc, Instr::Unless(register, other), both)
+    let rest = prepend_instruction(alloc, Instr::Jump(after), second)?;
+    let both = concat_code(first, rest)?;
+    prepend_instruction(alloc, Instr::Unless(register, other), both)
 }
 
 /// The body, for each item of the list in a register, with the item in the register after the index.
 /// The first index is written at the place of `index`.
-pub fn counted(alloc: Global, list: u32, index: Target, body: Items<Instr>) -> Block
+pub fn loop_code(alloc: Global, list: u32, index: Target, body: Items<Instr>) -> Block
     ensures { IfOk result (λ all. all ≡
         instr.Const index.register (int (pos 0))
         ∷ spec.looped (index.register + 1) list index.register body (index.place + 1)) }
@@ -104,7 +104,7 @@ pub fn counted(alloc: Global, list: u32, index: Target, body: Items<Instr>) -> B
     let start = place_after(jump, 1)?;
     let end = place_after(start, body.len())?;
     let item = register_after(index.register, 1)?;
-    let turns = ended(body, Instr::Loop(item, list, index.register, start))?;
-    let all = headed(alloc, Instr::Jump(end), turns)?;
-    headed(alloc, Instr::Const(index.register, Value::Int(0)), all)
+    let turns = append_instruction(body, Instr::Loop(item, list, index.register, start))?;
+    let all = prepend_instruction(alloc, Instr::Jump(end), turns)?;
+    prepend_instruction(alloc, Instr::Const(index.register, Value::Int(0)), all)
 }

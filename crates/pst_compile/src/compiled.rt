@@ -6,8 +6,8 @@ ghost use Rattle.pst_machine.specs.Machine.{End};
 ghost use Rattle.pst_compile.specs.Compiled.{DoesOnly};
 ghost use Rattle.pst_compile.specs.Functions.{listing_of};
 
-use crate::functions::whole_code;
-use crate::names::functions;
+use crate::functions::model_code;
+use crate::names::count_functions;
 use pst_eval::Callbacks;
 use pst_machine::{Code, Outcome};
 use pst_model::Typed;
@@ -65,11 +65,11 @@ impl Compiled {
 pub fn compile(alloc: Global, typed: Typed) -> Result<Compiled, (Typed, AllocError)>
     ensures { MatchResult result (λ compiled. compiled ≡ typed) (λ refused. refused.0 ≡ typed) }
 {
-    let codes = match whole_code(alloc, typed.source().items.as_slice()) {
+    let codes = match model_code(alloc, typed.source().items.as_slice()) {
         Ok(codes) => codes,
         Err(error) => return Err((typed, error)),
     };
-    let base = functions(typed.source().items.as_slice());
+    let base = count_functions(typed.source().items.as_slice());
     match Code::check(codes) {
         Ok(code) => Ok(Compiled { typed, code, base }),
         Err(_) => unreachable!(),
@@ -87,7 +87,7 @@ pub fn listing(alloc: Global, compiled: &Compiled) -> Result<Items<u8>, AllocErr
 
 /// Runs a function of the code on lent arguments: those of `first`, and then those of `rest`. Each of its runs
 /// has one end, which is not stuck.
-fn answer(code: &Code, alloc: Global, fun: usize, first: &[&Value], rest: &[Value]) -> Answer
+fn run_function(code: &Code, alloc: Global, fun: usize, first: &[&Value], rest: &[Value]) -> Answer
     requires { (o : End) × DoesOnly code.now fun (map (λ v. v.now) first.now ++ rest.now) o }
     ensures { IfOk result (λ a. (o : End)
         → DoesOnly code.now fun (map (λ v. v.now) first.now ++ rest.now) o → Says o a) }
@@ -123,19 +123,19 @@ impl Callbacks for Compiled {
     fn init(&self, alloc: Global) -> Answer {
         let _model = self.typed.source();
         let place = function_number(self.base, 0, 0)?;
-        answer(&self.code, alloc, place, &[], &[])
+        run_function(&self.code, alloc, place, &[], &[])
     }
 
     fn command(&self, alloc: Global, state: &Value) -> Answer {
         let _model = self.typed.source();
         let place = function_number(self.base, 0, 1)?;
-        answer(&self.code, alloc, place, &[state], &[])
+        run_function(&self.code, alloc, place, &[state], &[])
     }
 
     fn pre(&self, alloc: Global, op: u32, state: &Value, arguments: &[Value]) -> Answer {
         let _model = self.typed.source();
         let place = function_number(self.base, op, 2)?;
-        answer(&self.code, alloc, place, &[state], arguments)
+        run_function(&self.code, alloc, place, &[state], arguments)
     }
 
     fn next(
@@ -148,7 +148,7 @@ impl Callbacks for Compiled {
     ) -> Answer {
         let _model = self.typed.source();
         let place = function_number(self.base, op, 3)?;
-        answer(&self.code, alloc, place, &[state, r], arguments)
+        run_function(&self.code, alloc, place, &[state, r], arguments)
     }
 
     fn post(
@@ -161,6 +161,6 @@ impl Callbacks for Compiled {
     ) -> Answer {
         let _model = self.typed.source();
         let place = function_number(self.base, op, 4)?;
-        answer(&self.code, alloc, place, &[state, r], arguments)
+        run_function(&self.code, alloc, place, &[state, r], arguments)
     }
 }

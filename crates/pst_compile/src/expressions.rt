@@ -3,12 +3,15 @@
 ghost use Rattle.std.specs.Prelude.{◌≡◌, map, IfOk};
 ghost use Rattle.pst_compile.specs.Code as spec;
 ghost use Rattle.pst_compile.specs.Scopes.{scope_of, code_in, numbers_in};
-ghost use Rattle.pst_model.specs.Parts.{number_of};
+ghost use Rattle.pst_model.specs.Parts.{operation_number};
 
-use crate::blocks::{Block, either, empty_map, ended, joined, one, skipped_unless};
-use crate::loops::{put_fold, put_for};
+use crate::blocks::{
+    Block, append_instruction, concat_code, empty_map, if_else_code, single_instruction,
+    skipped_unless,
+};
+use crate::loops::{fold_code, for_code};
 use crate::names::Names;
-use crate::operands::{Operand, Operands, apply_to, call_to, own_register, put_name};
+use crate::operands::{Operand, Operands, apply_to, call_to, name_code, own_register};
 use crate::target::Target;
 use pst_eval::Context;
 use pst_machine::Instr;
@@ -17,55 +20,60 @@ use pst_value::{Boxed, Items, Text, Value};
 use std::alloc::AllocError;
 
 /// The code of an expression, which leaves its value in the target's register.
-#[cycle(put)]
-pub fn put(expr: &Expr, context: &Context<'_>, names: &Names<'_>, target: Target) -> Block
+#[cycle(expression_code)]
+pub fn expression_code(
+    expr: &Expr,
+    context: &Context<'_>,
+    names: &Names<'_>,
+    target: Target,
+) -> Block
     ensures { IfOk result (λ code. code ≡
         (code_in context.now expr.now).put (scope_of names.now) target.register target.place) }
 {
     let alloc = context.alloc;
     let register = target.register;
     match expr {
-        Expr::Int(number) => one(alloc, Instr::Const(register, Value::Int(*number))),
-        Expr::Bool(truth) => one(alloc, Instr::Const(register, Value::Bool(*truth))),
-        Expr::Text(text) => one(
+        Expr::Int(number) => single_instruction(alloc, Instr::Const(register, Value::Int(*number))),
+        Expr::Bool(truth) => single_instruction(alloc, Instr::Const(register, Value::Bool(*truth))),
+        Expr::Text(text) => single_instruction(
             alloc,
             Instr::Const(register, Value::Text(text.copy(alloc)?)),
         ),
-        Expr::Name(name) => put_name(name, alloc, names, target),
-        Expr::Unary(operator, operand) => put_unary(*operator, operand, context, names, target),
+        Expr::Name(name) => name_code(name, alloc, names, target),
+        Expr::Unary(operator, operand) => unary_code(*operator, operand, context, names, target),
         Expr::At(tuple, item) => {
-            let operand = load(tuple.get(), context, names, target)?;
-            ended(operand.code, Instr::At(register, operand.register, *item))
+            let operand = operand_code(tuple.get(), context, names, target)?;
+            append_instruction(operand.code, Instr::At(register, operand.register, *item))
         }
         Expr::Binary(operator, a, b) => {
-            put_binary(*operator, a, b, context, names, register, target)
+            binary_code(*operator, a, b, context, names, register, target)
         }
-        Expr::Let(name, bound, body) => put_let(name, bound, body, context, names, target),
-        Expr::If(test, then, other) => put_if(test, then, other, context, names, target),
-        Expr::And(first, second) => put_and(first, second, context, names, target),
-        Expr::Or(first, second) => put_or(first, second, context, names, target),
+        Expr::Let(name, bound, body) => let_code(name, bound, body, context, names, target),
+        Expr::If(test, then, other) => if_code(test, then, other, context, names, target),
+        Expr::And(first, second) => and_code(first, second, context, names, target),
+        Expr::Or(first, second) => or_code(first, second, context, names, target),
         Expr::Tuple(exprs) => {
-            let operands = load_all(exprs.as_slice(), context, names, target)?;
-            ended(operands.code, Instr::Tuple(register, operands.registers))
+            let operands = operands_code(exprs.as_slice(), context, names, target)?;
+            append_instruction(operands.code, Instr::Tuple(register, operands.registers))
         }
         Expr::List(_, exprs) => {
-            let operands = load_all(exprs.as_slice(), context, names, target)?;
-            ended(operands.code, Instr::List(register, operands.registers))
+            let operands = operands_code(exprs.as_slice(), context, names, target)?;
+            append_instruction(operands.code, Instr::List(register, operands.registers))
         }
-        Expr::Map(_, _) => one(alloc, Instr::Const(register, empty_map(alloc)?)),
-        Expr::Put(map, key, value) => put_entry(map, key, value, context, names, register, target),
-        Expr::Call(name, exprs) => put_call(name, exprs, context, names, target),
-        Expr::Apply(name, exprs) => put_apply(name, exprs, context, names, target),
-        Expr::For(clauses, body) => put_for(clauses, body, context, names, target),
+        Expr::Map(_, _) => single_instruction(alloc, Instr::Const(register, empty_map(alloc)?)),
+        Expr::Put(map, key, value) => put_code(map, key, value, context, names, register, target),
+        Expr::Call(name, exprs) => call_code(name, exprs, context, names, target),
+        Expr::Apply(name, exprs) => apply_code(name, exprs, context, names, target),
+        Expr::For(clauses, body) => for_code(clauses, body, context, names, target),
         Expr::Fold(name, list, acc, first, body) => {
-            put_fold(name, list, acc, first, body, context, names, target)
+            fold_code(name, list, acc, first, body, context, names, target)
         }
     }
 }
 
 /// The code of an operand. A name has its own register, and no code.
-#[cycle(put)]
-pub fn load(
+#[cycle(expression_code)]
+pub fn operand_code(
     expr: &Expr,
     context: &Context<'_>,
     names: &Names<'_>,
@@ -82,15 +90,15 @@ pub fn load(
             register,
         }),
         None => Ok(Operand {
-            code: put(expr, context, names, target)?,
+            code: expression_code(expr, context, names, target)?,
             register: target.register,
         }),
     }
 }
 
 /// The code of operands, with registers from the target's on.
-#[cycle(put)]
-fn load_all(
+#[cycle(expression_code)]
+fn operands_code(
     exprs: &[Expr],
     context: &Context<'_>,
     names: &Names<'_>,
@@ -106,7 +114,7 @@ fn load_all(
     let mut registers = Items::new(context.alloc);
     let mut next = target;
     for expr in exprs {
-        let operand = load(expr, context, names, next)?;
+        let operand = operand_code(expr, context, names, next)?;
         next = next.after(operand.code.len())?.above(1)?;
         code.append(operand.code)?;
         registers.push(operand.register)?;
@@ -114,8 +122,8 @@ fn load_all(
     Ok(Operands { code, registers })
 }
 
-#[cycle(put)]
-fn put_unary(
+#[cycle(expression_code)]
+fn unary_code(
     operator: Unary,
     operand: &Boxed<Expr>,
     context: &Context<'_>,
@@ -125,16 +133,16 @@ fn put_unary(
     ensures { IfOk result (λ code. code ≡ spec.unary_code operator (code_in context.now operand.now)
         (scope_of names.now) target.register target.place) }
 {
-    let operand = load(operand.get(), context, names, target)?;
-    ended(
+    let operand = operand_code(operand.get(), context, names, target)?;
+    append_instruction(
         operand.code,
         Instr::Unary(operator, target.register, operand.register),
     )
 }
 
 /// The code of an operator, whose value goes to the register `dest`.
-#[cycle(put)]
-pub fn put_binary(
+#[cycle(expression_code)]
+pub fn binary_code(
     operator: Binary,
     first: &Boxed<Expr>,
     second: &Boxed<Expr>,
@@ -146,16 +154,16 @@ pub fn put_binary(
     ensures { IfOk result (λ code. code ≡ spec.binary_code operator (code_in context.now first.now)
         (code_in context.now second.now) (scope_of names.now) dest target.register target.place) }
 {
-    let left = load(first.get(), context, names, target)?;
+    let left = operand_code(first.get(), context, names, target)?;
     let next = target.after(left.code.len())?.above(1)?;
-    let right = load(second.get(), context, names, next)?;
+    let right = operand_code(second.get(), context, names, next)?;
     let last = Instr::Binary(operator, dest, left.register, right.register);
-    joined(left.code, ended(right.code, last)?)
+    concat_code(left.code, append_instruction(right.code, last)?)
 }
 
 /// The code of a map with a key and its value, which goes to the register `dest`.
-#[cycle(put)]
-pub fn put_entry(
+#[cycle(expression_code)]
+pub fn put_code(
     map: &Boxed<Expr>,
     key: &Boxed<Expr>,
     value: &Boxed<Expr>,
@@ -168,17 +176,20 @@ pub fn put_entry(
         (code_in context.now key.now) (code_in context.now value.now)
         (scope_of names.now) dest target.register target.place) }
 {
-    let first = load(map.get(), context, names, target)?;
+    let first = operand_code(map.get(), context, names, target)?;
     let next = target.after(first.code.len())?.above(1)?;
-    let second = load(key.get(), context, names, next)?;
+    let second = operand_code(key.get(), context, names, next)?;
     let last = next.after(second.code.len())?.above(1)?;
-    let third = load(value.get(), context, names, last)?;
+    let third = operand_code(value.get(), context, names, last)?;
     let instr = Instr::Put(dest, first.register, second.register, third.register);
-    joined(first.code, joined(second.code, ended(third.code, instr)?)?)
+    concat_code(
+        first.code,
+        concat_code(second.code, append_instruction(third.code, instr)?)?,
+    )
 }
 
-#[cycle(put)]
-fn put_let(
+#[cycle(expression_code)]
+fn let_code(
     name: &Text,
     bound: &Boxed<Expr>,
     body: &Boxed<Expr>,
@@ -189,18 +200,18 @@ fn put_let(
     ensures { IfOk result (λ code. code ≡ spec.let_code name.now (code_in context.now bound.now)
         (code_in context.now body.now) (scope_of names.now) target.register target.place) }
 {
-    let first = load(bound.get(), context, names, target)?;
+    let first = operand_code(bound.get(), context, names, target)?;
     let next = target.after(first.code.len())?.above(1)?;
     let inner = Names::With(name.as_bytes(), first.register, &*names);
-    let second = put(body.get(), context, &inner, next)?;
-    joined(
+    let second = expression_code(body.get(), context, &inner, next)?;
+    concat_code(
         first.code,
-        ended(second, Instr::Take(target.register, next.register))?,
+        append_instruction(second, Instr::Take(target.register, next.register))?,
     )
 }
 
-#[cycle(put)]
-fn put_if(
+#[cycle(expression_code)]
+fn if_code(
     test: &Boxed<Expr>,
     then: &Boxed<Expr>,
     other: &Boxed<Expr>,
@@ -212,18 +223,18 @@ fn put_if(
         (code_in context.now then.now) (code_in context.now other.now)
         (scope_of names.now) target.register target.place) }
 {
-    let operand = load(test.get(), context, names, target)?;
+    let operand = operand_code(test.get(), context, names, target)?;
     let jump = target.after(operand.code.len())?;
     let start = jump.after(1)?;
-    let first = put(then.get(), context, names, start)?;
+    let first = expression_code(then.get(), context, names, start)?;
     let middle = start.after(first.len())?.after(1)?;
-    let second = put(other.get(), context, names, middle)?;
-    let both = either(context.alloc, operand.register, first, second, jump.place)?;
-    joined(operand.code, both)
+    let second = expression_code(other.get(), context, names, middle)?;
+    let both = if_else_code(context.alloc, operand.register, first, second, jump.place)?;
+    concat_code(operand.code, both)
 }
 
-#[cycle(put)]
-fn put_and(
+#[cycle(expression_code)]
+fn and_code(
     first: &Boxed<Expr>,
     second: &Boxed<Expr>,
     context: &Context<'_>,
@@ -233,15 +244,15 @@ fn put_and(
     ensures { IfOk result (λ code. code ≡ spec.and_code (code_in context.now first.now)
         (code_in context.now second.now) (scope_of names.now) target.register target.place) }
 {
-    let code = put(first.get(), context, names, target)?;
+    let code = expression_code(first.get(), context, names, target)?;
     let jump = target.after(code.len())?;
-    let inner = put(second.get(), context, names, jump.after(1)?)?;
+    let inner = expression_code(second.get(), context, names, jump.after(1)?)?;
     let rest = skipped_unless(context.alloc, target.register, inner, jump.place)?;
-    joined(code, rest)
+    concat_code(code, rest)
 }
 
-#[cycle(put)]
-fn put_or(
+#[cycle(expression_code)]
+fn or_code(
     first: &Boxed<Expr>,
     second: &Boxed<Expr>,
     context: &Context<'_>,
@@ -251,40 +262,40 @@ fn put_or(
     ensures { IfOk result (λ code. code ≡ spec.or_code (code_in context.now first.now)
         (code_in context.now second.now) (scope_of names.now) target.register target.place) }
 {
-    let code = put(first.get(), context, names, target)?;
+    let code = expression_code(first.get(), context, names, target)?;
     let jump = target.after(code.len())?;
-    let inner = put(second.get(), context, names, jump.after(1)?.after(1)?)?;
-    let rest = either(
+    let inner = expression_code(second.get(), context, names, jump.after(1)?.after(1)?)?;
+    let rest = if_else_code(
         context.alloc,
         target.register,
         Items::new(context.alloc),
         inner,
         jump.place,
     )?;
-    joined(code, rest)
+    concat_code(code, rest)
 }
 
-#[cycle(put)]
-fn put_call(
+#[cycle(expression_code)]
+fn call_code(
     name: &Text,
     exprs: &Items<Expr>,
     context: &Context<'_>,
     names: &Names<'_>,
     target: Target,
 ) -> Block
-    ensures { IfOk result (λ code. code ≡ spec.call_code (number_of context.now.items.now name.now)
+    ensures { IfOk result (λ code. code ≡ spec.call_code (operation_number context.now.items.now name.now)
         (map (code_in context.now) exprs.now) (scope_of names.now) target.register target.place) }
 {
-    let operands = load_all(exprs.as_slice(), context, names, target)?;
+    let operands = operands_code(exprs.as_slice(), context, names, target)?;
     let next = target.after(operands.code.len())?;
-    joined(
+    concat_code(
         operands.code,
         call_to(name, context, next, operands.registers)?,
     )
 }
 
-#[cycle(put)]
-fn put_apply(
+#[cycle(expression_code)]
+fn apply_code(
     name: &Text,
     exprs: &Items<Expr>,
     context: &Context<'_>,
@@ -294,9 +305,9 @@ fn put_apply(
     ensures { IfOk result (λ code. code ≡ spec.apply_code (numbers_in context.now name.now)
         (map (code_in context.now) exprs.now) (scope_of names.now) target.register target.place) }
 {
-    let operands = load_all(exprs.as_slice(), context, names, target)?;
+    let operands = operands_code(exprs.as_slice(), context, names, target)?;
     let next = target.after(operands.code.len())?;
-    joined(
+    concat_code(
         operands.code,
         apply_to(name, context, next, operands.registers)?,
     )

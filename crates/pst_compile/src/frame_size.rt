@@ -15,51 +15,54 @@ pub fn larger(a: u32, b: u32) -> u32
 }
 
 /// One past a register.
-fn past(register: u32) -> Result<u32, AllocError>
+fn next_register(register: u32) -> Result<u32, AllocError>
     ensures { IfOk result (λ count. count ≡ spec.past register) }
 {
     register_after(register, 1)
 }
 
 /// One past the greater of two registers.
-fn past_both(a: u32, b: u32) -> Result<u32, AllocError>
+fn registers_of_two(a: u32, b: u32) -> Result<u32, AllocError>
     ensures { IfOk result (λ count. count ≡ max (spec.past a) (spec.past b)) }
 {
-    Ok(larger(past(a)?, past(b)?))
+    Ok(larger(next_register(a)?, next_register(b)?))
 }
 
 /// One past the greatest of some registers.
-fn past_all(registers: &[u32]) -> Result<u32, AllocError>
+fn registers_of_all(registers: &[u32]) -> Result<u32, AllocError>
     ensures { IfOk result (λ count. count ≡ spec.past_all registers.now) }
 {
     let mut count = 0;
     for register in registers {
-        count = larger(count, past(*register)?);
+        count = larger(count, next_register(*register)?);
     }
     Ok(count)
 }
 
 /// One past the greatest register of an instruction.
-fn past_instr(instr: &Instr) -> Result<u32, AllocError>
+fn registers_of_instruction(instr: &Instr) -> Result<u32, AllocError>
     ensures { IfOk result (λ count. count ≡ spec.past_instr instr.now) }
 {
     match instr {
-        Instr::Const(d, _) => past(*d),
+        Instr::Const(d, _) => next_register(*d),
         Instr::Move(d, a)
         | Instr::Take(d, a)
         | Instr::Unary(_, d, a)
         | Instr::At(d, a, _)
-        | Instr::Append(d, a) => past_both(*d, *a),
-        Instr::Binary(_, d, a, b) => Ok(larger(past(*d)?, past_both(*a, *b)?)),
-        Instr::Put(d, a, b, c) => Ok(larger(past_both(*d, *a)?, past_both(*b, *c)?)),
+        | Instr::Append(d, a) => registers_of_two(*d, *a),
+        Instr::Binary(_, d, a, b) => Ok(larger(next_register(*d)?, registers_of_two(*a, *b)?)),
+        Instr::Put(d, a, b, c) => Ok(larger(registers_of_two(*d, *a)?, registers_of_two(*b, *c)?)),
         Instr::Tuple(d, from)
         | Instr::List(d, from)
         | Instr::Call(d, _, from)
-        | Instr::Apply(d, _, from) => Ok(larger(past(*d)?, past_all(from.as_slice())?)),
+        | Instr::Apply(d, _, from) => Ok(larger(
+            next_register(*d)?,
+            registers_of_all(from.as_slice())?,
+        )),
         Instr::Jump(_) => Ok(0),
-        Instr::Unless(a, _) => past(*a),
-        Instr::Loop(d, a, i, _) => Ok(larger(past(*d)?, past_both(*a, *i)?)),
-        Instr::Return(a) => past(*a),
+        Instr::Unless(a, _) => next_register(*a),
+        Instr::Loop(d, a, i, _) => Ok(larger(next_register(*d)?, registers_of_two(*a, *i)?)),
+        Instr::Return(a) => next_register(*a),
     }
 }
 
@@ -69,7 +72,7 @@ pub fn frame_size(body: &[Instr]) -> Result<u32, AllocError>
 {
     let mut count = 0;
     for instr in body {
-        count = larger(count, past_instr(instr)?);
+        count = larger(count, registers_of_instruction(instr)?);
     }
     Ok(count)
 }

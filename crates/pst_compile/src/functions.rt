@@ -5,14 +5,14 @@ ghost use Rattle.std.specs.Option.{option_copied};
 ghost use Rattle.pst_compile.specs.Functions as spec;
 ghost use Rattle.pst_compile.specs.Scopes.{scope_of, function_in, numbers_in};
 
-use crate::blocks::ended;
-use crate::expressions::load;
+use crate::blocks::append_instruction;
+use crate::expressions::operand_code;
 use crate::frame_size::{frame_size, larger};
 use crate::names::Names;
 use crate::target::{Target, register_after};
 use pst_eval::Context;
 use pst_machine::{FunCode, Instr};
-use pst_model::{Expr, Fun, Item, Op, calls_of, opening_of};
+use pst_model::{Expr, Fun, Item, Op, calls_of, initial_state_of};
 use pst_value::Items;
 use std::alloc::{AllocError, Global};
 
@@ -20,7 +20,7 @@ use std::alloc::{AllocError, Global};
 type Functions = Result<Items<FunCode>, AllocError>;
 
 /// The function of an expression whose names have the first `count` registers.
-fn fun_code(
+fn expression_function(
     expr: &Expr,
     context: &Context<'_>,
     names: &Names<'_>,
@@ -32,8 +32,8 @@ fn fun_code(
         register: count,
         place: 0,
     };
-    let loaded = load(expr, context, names, start)?;
-    let body = ended(loaded.code, Instr::Return(loaded.register))?;
+    let loaded = operand_code(expr, context, names, start)?;
+    let body = append_instruction(loaded.code, Instr::Return(loaded.register))?;
     let registers = larger(count, frame_size(body.as_slice())?);
     Ok(FunCode {
         args: count,
@@ -58,7 +58,7 @@ fn function_code(fun: &Fun, context: &Context<'_>) -> Result<FunCode, AllocError
         (numbers_in context.now) fun.now) }
 {
     let names = Names::Frame(fun.params.as_slice(), 0);
-    fun_code(
+    expression_function(
         &fun.body,
         context,
         &names,
@@ -96,7 +96,7 @@ fn optional_code(
         (numbers_in context.now) count (scope_of names.now) (option_copied expr.entry)) }
 {
     match expr {
-        Some(expr) => fun_code(expr, context, names, count),
+        Some(expr) => expression_function(expr, context, names, count),
         None => Ok(FunCode {
             args: 0,
             registers: 0,
@@ -118,9 +118,9 @@ fn operation_code(op: &Op, context: &Context<'_>) -> Functions
     let shifted = Names::Frame(op.params.as_slice(), 2);
     let state = Names::With(b"s", 0, &shifted);
     let after = Names::With(b"r", 1, &state);
-    let pre = fun_code(&op.pre, context, &before, with_state)?;
-    let next = fun_code(&op.next, context, &after, with_result)?;
-    let post = fun_code(&op.post, context, &after, with_result)?;
+    let pre = expression_function(&op.pre, context, &before, with_state)?;
+    let next = expression_function(&op.next, context, &after, with_result)?;
+    let post = expression_function(&op.post, context, &after, with_result)?;
     let all = Vec::from_array(context.alloc, [pre, next, post])?;
     Ok(Items::from_vec(all))
 }
@@ -150,7 +150,7 @@ fn callbacks_code(alloc: Global, items: &[Item]) -> Functions
     };
     let none = Names::Frame(&[], 0);
     let state = Names::With(b"s", 0, &none);
-    let opening = optional_code(opening_of(items), &context, &none, 0)?;
+    let opening = optional_code(initial_state_of(items), &context, &none, 0)?;
     let command = optional_code(calls_of(items), &context, &state, 1)?;
     let others = operations_code(&context, items)?;
     let mut all = Items::new(alloc);
@@ -163,7 +163,7 @@ fn callbacks_code(alloc: Global, items: &[Item]) -> Functions
 /// The code of a model: its functions in their order, then `init` and `command`, and then `pre`,
 /// `next` and `post` of each operation.
 #[tactic(auto, unfolding(crate::specs::Functions::whole_code))]
-pub fn whole_code(alloc: Global, items: &[Item]) -> Functions
+pub fn model_code(alloc: Global, items: &[Item]) -> Functions
     ensures { IfOk result (λ all. all ≡ spec.whole_code items.now) }
 {
     let mut all = functions_code(alloc, items)?;

@@ -68,7 +68,7 @@ fn is_function_of(item: &Item, name: &[u8]) -> bool
 
 /// How many functions there are among items.
 #[tactic(auto, using(crate::proofs::Earlier::earlier_next))]
-pub fn functions(items: &[Item]) -> usize
+pub fn count_functions(items: &[Item]) -> usize
     ensures { result ≡ spec.functions (reverse items.now) }
 {
     let mut count = 0;
@@ -82,7 +82,7 @@ pub fn functions(items: &[Item]) -> usize
 
 /// The number of the last function called `name`, if there is one.
 #[tactic(auto, using(crate::proofs::Earlier::earlier_next))]
-pub fn number(items: &[Item], name: &[u8]) -> Option<usize>
+pub fn function_called(items: &[Item], name: &[u8]) -> Option<usize>
     ensures { result ≡ spec.number (reverse items.now) name.now }
 {
     let mut count = 0;

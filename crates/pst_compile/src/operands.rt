@@ -3,14 +3,14 @@
 ghost use Rattle.std.specs.Prelude.{◌≡◌, ◌∷◌, [], IfOk, MatchOption};
 ghost use Rattle.pst_compile.specs.Code as spec;
 ghost use Rattle.pst_compile.specs.Scopes.{scope_of, code_in, numbers_in};
-ghost use Rattle.pst_model.specs.Parts.{number_of};
+ghost use Rattle.pst_model.specs.Parts.{operation_number};
 
-use crate::blocks::{Block, one};
-use crate::names::{Names, number, register_of};
+use crate::blocks::{Block, single_instruction};
+use crate::names::{Names, function_called, register_of};
 use crate::target::Target;
 use pst_eval::Context;
 use pst_machine::Instr;
-use pst_model::{Clause, Expr, number_of};
+use pst_model::{Clause, Expr, operation_number};
 use pst_value::{Items, Text};
 use std::alloc::{AllocError, Global};
 
@@ -60,28 +60,28 @@ pub fn own_register(
 }
 
 /// Code that puts the value of `name` into the target. An unknown name gets code that is stuck.
-pub fn put_name(name: &Text, alloc: Global, names: &Names<'_>, target: Target) -> Block
+pub fn name_code(name: &Text, alloc: Global, names: &Names<'_>, target: Target) -> Block
     ensures { IfOk result (λ code. code ≡
         spec.name_code name.now (scope_of names.now) target.register target.place) }
 {
     match register_of(names, name.as_bytes())? {
-        Some(register) => one(alloc, Instr::Move(target.register, register)),
-        None => one(alloc, Instr::Move(target.register, target.register)),
+        Some(register) => single_instruction(alloc, Instr::Move(target.register, register)),
+        None => single_instruction(alloc, Instr::Move(target.register, target.register)),
     }
 }
 
 /// A call of the operation of the name, as a value.
 pub fn call_to(name: &Text, context: &Context<'_>, target: Target, from: Items<u32>) -> Block
     ensures { IfOk result (λ code. code ≡
-        spec.call_to target.register (number_of context.now.items.now name.now) from target.place) }
+        spec.call_to target.register (operation_number context.now.items.now name.now) from target.place) }
 {
     let unknown = Instr::Move(target.register, target.register);
-    let Some(number) = number_of(context.items, name.as_bytes()) else {
-        return one(context.alloc, unknown);
+    let Some(number) = operation_number(context.items, name.as_bytes()) else {
+        return single_instruction(context.alloc, unknown);
     };
     match u32::try_from(number) {
-        Ok(number) => one(context.alloc, Instr::Call(target.register, number, from)),
-        Err(_) => one(context.alloc, unknown),
+        Ok(number) => single_instruction(context.alloc, Instr::Call(target.register, number, from)),
+        Err(_) => single_instruction(context.alloc, unknown),
     }
 }
 
@@ -90,9 +90,9 @@ pub fn apply_to(name: &Text, context: &Context<'_>, target: Target, from: Items<
     ensures { IfOk result (λ code. code ≡
         spec.apply_to target.register (numbers_in context.now name.now) from target.place) }
 {
-    match number(context.earlier, name.as_bytes()) {
-        Some(fun) => one(context.alloc, Instr::Apply(target.register, fun, from)),
-        None => one(context.alloc, Instr::Move(target.register, target.register)),
+    match function_called(context.earlier, name.as_bytes()) {
+        Some(fun) => single_instruction(context.alloc, Instr::Apply(target.register, fun, from)),
+        None => single_instruction(context.alloc, Instr::Move(target.register, target.register)),
     }
 }
 

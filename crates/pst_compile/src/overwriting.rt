@@ -7,10 +7,10 @@ ghost use Rattle.std.specs.Prelude.{◌≡◌, IfOk};
 ghost use Rattle.pst_compile.specs.Code as spec;
 ghost use Rattle.pst_compile.specs.Scopes.{scope_of, code_in};
 
-use crate::blocks::{Block, either, ended, joined};
-use crate::expressions::{load, put, put_binary, put_entry};
+use crate::blocks::{Block, append_instruction, concat_code, if_else_code};
+use crate::expressions::{binary_code, expression_code, operand_code, put_code};
 use crate::names::Names;
-use crate::operands::put_name;
+use crate::operands::name_code;
 use crate::target::Target;
 use pst_eval::Context;
 use pst_machine::Instr;
@@ -19,7 +19,7 @@ use pst_value::{Boxed, Text};
 
 /// The code of an expression, which leaves its value in the register `dest` in place of what that held. It
 /// changes no other register below the target's.
-#[cycle(put)]
+#[cycle(expression_code)]
 pub fn overwrite(
     expr: &Expr,
     context: &Context<'_>,
@@ -31,9 +31,9 @@ pub fn overwrite(
         (scope_of names.now) dest target.register target.place) }
 {
     match expr {
-        Expr::Name(name) => put_name(name, context.alloc, names, target.to(dest)),
-        Expr::Binary(operator, a, b) => put_binary(*operator, a, b, context, names, dest, target),
-        Expr::Put(map, key, value) => put_entry(map, key, value, context, names, dest, target),
+        Expr::Name(name) => name_code(name, context.alloc, names, target.to(dest)),
+        Expr::Binary(operator, a, b) => binary_code(*operator, a, b, context, names, dest, target),
+        Expr::Put(map, key, value) => put_code(map, key, value, context, names, dest, target),
         Expr::Let(name, bound, body) => {
             overwrite_by_let(name, bound, body, context, names, dest, target)
         }
@@ -54,13 +54,13 @@ pub fn overwrite(
         | Expr::Map(_, _)
         | Expr::Call(_, _)
         | Expr::Apply(_, _) => {
-            let code = put(expr, context, names, target)?;
-            ended(code, Instr::Take(dest, target.register))
+            let code = expression_code(expr, context, names, target)?;
+            append_instruction(code, Instr::Take(dest, target.register))
         }
     }
 }
 
-#[cycle(put)]
+#[cycle(expression_code)]
 fn overwrite_by_let(
     name: &Text,
     bound: &Boxed<Expr>,
@@ -73,14 +73,14 @@ fn overwrite_by_let(
     ensures { IfOk result (λ code. code ≡ spec.overwriting_let name.now (code_in context.now bound.now)
         (code_in context.now body.now) (scope_of names.now) dest target.register target.place) }
 {
-    let first = load(bound.get(), context, names, target)?;
+    let first = operand_code(bound.get(), context, names, target)?;
     let next = target.after(first.code.len())?.above(1)?;
     let inner = Names::With(name.as_bytes(), first.register, &*names);
     let second = overwrite(body.get(), context, &inner, dest, next)?;
-    joined(first.code, second)
+    concat_code(first.code, second)
 }
 
-#[cycle(put)]
+#[cycle(expression_code)]
 fn overwrite_by_if(
     test: &Boxed<Expr>,
     then: &Boxed<Expr>,
@@ -94,12 +94,12 @@ fn overwrite_by_if(
         (code_in context.now then.now) (code_in context.now other.now)
         (scope_of names.now) dest target.register target.place) }
 {
-    let operand = load(test.get(), context, names, target)?;
+    let operand = operand_code(test.get(), context, names, target)?;
     let jump = target.after(operand.code.len())?;
     let start = jump.after(1)?;
     let first = overwrite(then.get(), context, names, dest, start)?;
     let middle = start.after(first.len())?.after(1)?;
     let second = overwrite(other.get(), context, names, dest, middle)?;
-    let both = either(context.alloc, operand.register, first, second, jump.place)?;
-    joined(operand.code, both)
+    let both = if_else_code(context.alloc, operand.register, first, second, jump.place)?;
+    concat_code(operand.code, both)
 }

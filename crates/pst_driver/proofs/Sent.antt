@@ -9,7 +9,7 @@ use Rattle.pst_value.proofs.items.Items.TheSendSync as lists
 use Rattle.pst_value.proofs.text.Text.TheSendSync as texts
 use Rattle.pst_driver.specs.contracts.misfits.Misfit as misfit
 use Rattle.pst_driver.specs.contracts.misfits.Misfits as misfits
-use Rattle.pst_driver.specs.contracts.overheard.Overheard as overheard
+use Rattle.pst_driver.specs.contracts.overheard.MisfitRecorder as overheard
 use Rattle.pst_model.proofs.expr.Clause.TheLaws.TheKnot as clauses
 use Rattle.pst_model.specs.contracts.expr.Expr as expr
 use Rattle.pst_model.specs.contracts.model.Fun as fun
@@ -92,18 +92,18 @@ misfits_sync =
     search (typed_send, typed_sync, misfit_send, misfit_sync, once.the_sync, word.the_sync, crosses, sendable) depth 60 fits 20000
 
 module _ (S : RattleType) where
-  abbrev Overheard : RattleType
-  Overheard = overheard.the_row S
+  abbrev MisfitRecorder : RattleType
+  MisfitRecorder = overheard.the_row S
 
-  overheard_send : IsSend S → IsSend Overheard
+  overheard_send : IsSend S → IsSend MisfitRecorder
   overheard_send s = search (misfits_send, misfits_sync, crosses, sendable) depth 60 fits 20000
 
-  overheard_sync : IsSync S → IsSync Overheard
+  overheard_sync : IsSync S → IsSync MisfitRecorder
   overheard_sync s = search (misfits_send, misfits_sync, crosses, sendable) depth 60 fits 20000
 
   -- the same of the entry of a trait object's table
-  pub boxed_send : IsSend S → IsSend (arg (raw (layout Overheard)) no Overheard)
-  boxed_send s = arg_send (raw (layout Overheard)) no Overheard (overheard_send s)
+  pub boxed_send : IsSend S → IsSend (arg (raw (layout MisfitRecorder)) no MisfitRecorder)
+  boxed_send s = arg_send (raw (layout MisfitRecorder)) no MisfitRecorder (overheard_send s)
 
-  pub boxed_sync : IsSync S → IsSync (arg (raw (layout Overheard)) no Overheard)
-  boxed_sync s = arg_sync (raw (layout Overheard)) no Overheard (overheard_sync s)
+  pub boxed_sync : IsSync S → IsSync (arg (raw (layout MisfitRecorder)) no MisfitRecorder)
+  boxed_sync s = arg_sync (raw (layout MisfitRecorder)) no MisfitRecorder (overheard_sync s)

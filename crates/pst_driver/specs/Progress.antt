@@ -47,3 +47,9 @@ abbrev pub IsBranchFault : List (List Command) → DriveFault → Type 0
 IsBranchFault bs ResetFailed = ⊥
 IsBranchFault bs NoThread = 0 < length (joined bs)
 IsBranchFault bs NoMemory = ⊤
+
+-- why the thread of a branch may give no replies
+abbrev pub IsPartFault : DriveFault → Type 0
+IsPartFault ResetFailed = ⊥
+IsPartFault NoThread = ⊤
+IsPartFault NoMemory = ⊤

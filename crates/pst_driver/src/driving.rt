@@ -10,7 +10,7 @@ ghost use Rattle.pst_system.specs.Kept.{AreKept};
 
 use crate::branches::run_at_once;
 use crate::fault::DriveFault;
-use crate::part::{run_part, skip};
+use crate::part::{run_part, skip_commands};
 use crate::subject::Subject;
 use pst_case::{Case, Command, History, Reply, results_of};
 use pst_judge::Valid;
@@ -22,7 +22,7 @@ use std::sync::Wait;
 use std::thread::Threads;
 
 /// Whether each reply is a value.
-fn all_answers(replies: &[Reply]) -> bool
+pub(crate) fn all_answers(replies: &[Reply]) -> bool
     ensures { result ≡ all_answers replies.now }
 {
     for reply in replies {
@@ -61,20 +61,23 @@ fn is_answered(history: &History) -> bool
 }
 
 /// The replies of branches that are not run.
-fn skip_all(alloc: Global, branches: &[Items<Command>]) -> Result<Items<Items<Reply>>, AllocError>
+pub(crate) fn skip_all(
+    alloc: Global,
+    branches: &[Items<Command>],
+) -> Result<Items<Items<Reply>>, AllocError>
     ensures { IfOk result (λ hs. hs ≡ map none_run branches.now) }
 {
     let mut all = Items::new(alloc);
     for branch in branches {
         let mut replies = Items::new(alloc);
-        skip(&mut replies, branch.as_slice())?;
+        skip_commands(&mut replies, branch.as_slice())?;
         all.push(replies)?;
     }
     Ok(all)
 }
 
 /// The replies of the branches, which run at once if the whole prefix has values, and else not at all.
-fn run_branches<S: Subject, R: Threads + Wait>(
+fn run_branches<S: Subject + Sync, R: Threads + Wait>(
     rt: &R,
     alloc: Global,
     typed: &Typed,
@@ -97,7 +100,7 @@ fn run_branches<S: Subject, R: Threads + Wait>(
 }
 
 /// The replies of the suffix, which runs if each reply before it is a value, and else not at all.
-fn run_suffix<S: Subject>(
+pub(crate) fn run_suffix<S: Subject>(
     alloc: Global,
     typed: &Typed,
     system: &S,
@@ -112,7 +115,7 @@ fn run_suffix<S: Subject>(
 {
     if !is_answered(so_far) {
         let mut replies = Items::new(alloc);
-        skip(&mut replies, suffix)?;
+        skip_commands(&mut replies, suffix)?;
         return Ok(replies);
     }
     let known = so_far.recorded(alloc)?;
@@ -120,7 +123,7 @@ fn run_suffix<S: Subject>(
 }
 
 /// Drives a case that has the shape of the model.
-fn drive<S: Subject, R: Threads + Wait>(
+fn drive_shaped<S: Subject + Sync, R: Threads + Wait>(
     rt: &R,
     alloc: Global,
     typed: &Typed,
@@ -194,5 +197,5 @@ pub fn run<R: Threads + Wait>(
     ensures kept { AreKept (answers system.new) (answers system.old) (fails system.new) (fails system.old)
         (reset_fails system.new) (reset_fails system.old) }
 {
-    drive(rt, alloc, typed, system, valid.shaped().case())
+    drive_shaped(rt, alloc, typed, system, valid.shaped().case())
 }

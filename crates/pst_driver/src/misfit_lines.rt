@@ -3,7 +3,7 @@
 use crate::misfits::{MOST_KEPT, Misfit, Misfits};
 use pst_model::{Source, operation_of};
 use pst_print::ty_form;
-use pst_scene::{add, add_form, add_value, text_of, value_text};
+use pst_scene::{add_form, add_str, add_value, text_of, value_text};
 use pst_system::RealCall;
 use pst_value::Ty;
 use std::alloc::{AllocError, Global};
@@ -12,7 +12,7 @@ use std::alloc::{AllocError, Global};
 const MOST_SHOWN: usize = 60;
 
 /// The beginning of a spelling on one line, with control characters as `\x0a`.
-fn shown(alloc: Global, spelling: &[u8]) -> Result<String, AllocError> {
+fn shorten_spelling(alloc: Global, spelling: &[u8]) -> Result<String, AllocError> {
     let mut shown = String::new(alloc);
     let Ok(text) = std::str::from_utf8(spelling) else {
         return Ok(shown);
@@ -35,12 +35,12 @@ fn shown(alloc: Global, spelling: &[u8]) -> Result<String, AllocError> {
 /// The call as items spell it.
 fn call_text(alloc: Global, model: &Source, call: &RealCall) -> Result<Vec<u8>, AllocError> {
     let mut text = text_of(alloc, "(")?;
-    add(&mut text, call.name.as_str())?;
+    add_str(&mut text, call.name.as_str())?;
     for arg in call.args.as_slice() {
-        add(&mut text, " ")?;
+        add_str(&mut text, " ")?;
         add_value(&mut text, alloc, model, arg)?;
     }
-    add(&mut text, ")")?;
+    add_str(&mut text, ")")?;
     Ok(text)
 }
 
@@ -53,11 +53,11 @@ fn type_text(alloc: Global, ty: &Ty) -> Result<Vec<u8>, AllocError> {
 
 /// `misfit: (get) answered "x", wanted int`, and a line end.
 fn line_of(alloc: Global, model: &Source, misfit: &Misfit) -> Result<String, AllocError> {
-    let call = shown(alloc, call_text(alloc, model, &misfit.call)?.as_slice())?;
-    let answer = shown(alloc, value_text(alloc, model, &misfit.answer)?.as_slice())?;
+    let call = shorten_spelling(alloc, call_text(alloc, model, &misfit.call)?.as_slice())?;
+    let answer = shorten_spelling(alloc, value_text(alloc, model, &misfit.answer)?.as_slice())?;
     match operation_of(model.items.as_slice(), misfit.call.op as usize) {
         Some(operation) => {
-            let wanted = shown(alloc, type_text(alloc, &operation.result)?.as_slice())?;
+            let wanted = shorten_spelling(alloc, type_text(alloc, &operation.result)?.as_slice())?;
             format!(in alloc; "misfit: {call} answered {answer}, wanted {wanted}\n")
         }
         None => format!(in alloc; "misfit: {call} answered {answer}\n"),

@@ -1,7 +1,7 @@
 //! Misfits: answers of a system that are not of the result type of the called operation.
 //!
-//! A driver replies `misfit` to such an answer and does not keep it. A system in `Overheard` answers as before,
-//! and `Misfits` keeps the first of these answers, for lines that people read (`misfits_text`).
+//! A driver replies `misfit` to such an answer and does not keep it. A system in `MisfitRecorder` answers as
+//! before, and `Misfits` keeps the first of these answers, for lines that people read (`misfits_text`).
 ghost use Rattle.std.specs.Prelude.{◌≡◌, [], IfOk};
 ghost use Rattle.pst_case.specs.Shape.{result_type};
 ghost use Rattle.pst_model.specs.Fitting.{fits_in};
@@ -84,7 +84,7 @@ fn is_of_result_type(alloc: Global, typed: &Typed, call: &RealCall, answer: &Val
 }
 
 impl Misfits {
-    /// No answers. None is noted before `compare_with`.
+    /// No answers. None is noted before `set_model`.
     pub fn new(alloc: Global) -> Result<Misfits, AllocError> {
         let mut kept = Vec::new(alloc);
         for _ in 0..MOST_KEPT {
@@ -99,7 +99,7 @@ impl Misfits {
     }
 
     /// Compares answers from now on with the result types of the model. The first model stays.
-    pub fn compare_with(&self, typed: Typed) {
+    pub fn set_model(&self, typed: Typed) {
         let _ = self.typed.try_set(typed);
     }
 
@@ -112,7 +112,7 @@ impl Misfits {
     }
 
     /// Keeps a copy of an answer and of its call, if a place is left and no allocation fails.
-    fn keep(&self, call: &RealCall, answer: &Value) {
+    fn copy_if_room(&self, call: &RealCall, answer: &Value) {
         let before = self.count.fetch_add(1, Ordering::SeqCst);
         let Ok(place) = usize::try_from(before) else {
             return;
@@ -129,7 +129,7 @@ impl Misfits {
     pub fn note(&self, call: &RealCall, answer: &Value) {
         if let Some(typed) = self.typed.get() {
             if !is_of_result_type(self.alloc, typed, call, answer) {
-                self.keep(call, answer);
+                self.copy_if_room(call, answer);
             }
         }
     }

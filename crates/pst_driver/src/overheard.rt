@@ -9,25 +9,25 @@ use std::sync::Arc;
 
 /// Wraps a system to note its misfits: answers of the wrong type. It answers as the system does.
 #[derive(Drop)]
-pub struct Overheard<S: System> {
+pub struct MisfitRecorder<S: System> {
     system: S,
     misfits: Option<Arc<Misfits, Global>>,
 }
 
-impl<S: System> Overheard<S> {
+impl<S: System> MisfitRecorder<S> {
     /// Wraps a system, and notes its misfits in `misfits`, if it is given. What the system may answer, and how
     /// its calls and its resets may fail, stays.
-    pub fn new(system: S, misfits: Option<Arc<Misfits, Global>>) -> Overheard<S>
+    pub fn new(system: S, misfits: Option<Arc<Misfits, Global>>) -> MisfitRecorder<S>
         ensures { AreKept
-            (⟦<Overheard<S> as System>⟧.answers result) (S.answers system)
-            (⟦<Overheard<S> as System>⟧.fails result) (S.fails system)
-            (⟦<Overheard<S> as System>⟧.reset_fails result) (S.reset_fails system) }
+            (⟦<MisfitRecorder<S> as System>⟧.answers result) (S.answers system)
+            (⟦<MisfitRecorder<S> as System>⟧.fails result) (S.fails system)
+            (⟦<MisfitRecorder<S> as System>⟧.reset_fails result) (S.reset_fails system) }
     {
-        Overheard { system, misfits }
+        MisfitRecorder { system, misfits }
     }
 }
 
-impl<S: System> System for Overheard<S> {
+impl<S: System> System for MisfitRecorder<S> {
     ghost answers = { λ s c v. S.answers s.system c v };
 
     ghost fails = { λ s c f. S.fails s.system c f };

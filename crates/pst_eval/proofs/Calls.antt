@@ -3,7 +3,7 @@ use Rattle.std.proofs.Common.{◌≡◌, ◌≢◌, ℕ, true, List, [], ◌∷�
 use Rattle.std.specs.Prelude.{IfOk}
 use Rattle.std.specs.declared.alloc.AllocError.{AllocError}
 use Rattle.pst_eval.specs.Meaning.{frame}
-use Rattle.pst_model.specs.Parts.{opening_of, calls_of, operation_of, parameters_of}
+use Rattle.pst_model.specs.Parts.{initial_state_of, calls_of, operation_of, parameters_of}
 use Rattle.pst_model.specs.declared.expr.Expr.{Expr}
 use Rattle.pst_model.specs.declared.model.Op.{Op}
 use Rattle.pst_model.specs.declared.model.Source.{Source}
@@ -39,7 +39,7 @@ any_bool m free vars (Err why) h = h
 
 -- ---- init
 
-pub init_is : (m : Source) (e : Expr) → opening_of m.items ≡ Some e → init_of m ≡ at_names m e []
+pub init_is : (m : Source) (e : Expr) → initial_state_of m.items ≡ Some e → init_of m ≡ at_names m e []
 unfolding init_of
 init_is m e h = ap (λ o. of_expr m o []) h
 

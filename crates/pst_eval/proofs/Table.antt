@@ -4,7 +4,7 @@ use Rattle.std.proofs.lemmas.Bool.{cases_Bool}
 use Rattle.std.proofs.lemmas.List.{reverse-append}
 use Rattle.std.specs.Str.{bytes_eq}
 use Rattle.pst_eval.specs.Meaning.{Env, applied, called, frame, mean}
-use Rattle.pst_model.specs.Parts.{opening_of, calls_of, operation_of, parameters_of, types_of}
+use Rattle.pst_model.specs.Parts.{initial_state_of, calls_of, operation_of, parameters_of, types_of}
 use Rattle.pst_model.specs.declared.expr.Expr.{Expr}
 use Rattle.pst_model.specs.declared.model.Fun.{Fun}
 use Rattle.pst_model.specs.declared.model.Item.{Item}
@@ -53,7 +53,7 @@ all_well m w =
     subst P (append-nil (reverse m.items)) (functions_well m.items w.state [] m.items w.well tt)
 
 -- the opening state and the calls among well-typed items
-pub well_opening : (items : List Item) (S : Ty) (earlier later : List Item) (e : Expr) → WellItems items S earlier later → opening_of later ≡ Some e → Typed items (reverse items) false (Has [] e S)
+pub well_opening : (items : List Item) (S : Ty) (earlier later : List Item) (e : Expr) → WellItems items S earlier later → initial_state_of later ≡ Some e → Typed items (reverse items) false (Has [] e S)
 well_opening items S earlier [] x w e = absurd (cc)
 well_opening items S earlier (item.Init y ∷ later) x w e = let q : y ≡ x = cc in let P : Expr → Type 0 = λ k. Typed items (reverse items) false (Has [] k S) in subst P q w.0
 well_opening items S earlier (item.Op p ∷ later) x w e = well_opening items S (item.Op p ∷ earlier) later x w.1 e

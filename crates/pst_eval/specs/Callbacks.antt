@@ -2,7 +2,7 @@
 use Rattle.std.specs.Prelude.{◌≡◌, ℕ, ⊤, true, List, [], ◌∷◌, reverse, Option, Some, None, Result, Ok, Err}
 use Rattle.pst_eval.specs.Meaning.{Env, called, mean, frame}
 use Rattle.pst_model.specs.Fitting.{fits_in, is_state, args_fit, result_fits, ref_fits}
-use Rattle.pst_model.specs.Parts.{opening_of, calls_of, operation_of}
+use Rattle.pst_model.specs.Parts.{initial_state_of, calls_of, operation_of}
 use Rattle.pst_model.specs.WellTyped.{name_s, name_r}
 use Rattle.pst_model.specs.declared.expr.Expr.{Expr}
 use Rattle.pst_model.specs.declared.model.Op.{Op}
@@ -27,7 +27,7 @@ of_expr m (Some e) env = at_names m e env
 
 -- the opening state
 unfoldable pub init_of : Source → Outcome (Value × ℕ)
-init_of m = of_expr m (opening_of m.items) []
+init_of m = of_expr m (initial_state_of m.items) []
 
 -- the calls to pick from
 unfoldable pub command_of : Source → Value → Outcome (Value × ℕ)

@@ -1,12 +1,12 @@
 //! Values that expressions make of their parts.
 ghost use Rattle.std.specs.Prelude.{[]};
 ghost use Rattle.pst_eval.specs.Meaning as spec;
-ghost use Rattle.pst_model.specs.Parts.{number_of};
+ghost use Rattle.pst_model.specs.Parts.{operation_number};
 ghost use Rattle.pst_operators.specs.Answers.{Answers};
 ghost use Rattle.pst_operators.specs.Maps.{map_of};
 ghost use Rattle.pst_operators.specs.Outcome.{Gives};
 
-use pst_model::{Item, number_of};
+use pst_model::{Item, operation_number};
 use pst_operators::Stop;
 use pst_value::{Boxed, Items, Value};
 use std::alloc::Global;
@@ -23,9 +23,9 @@ pub fn empty_map(alloc: Global) -> Result<Value, Stop>
 
 /// A call of the operation of the name, as a value.
 pub fn call_of(items: &[Item], name: &[u8], arguments: Items<Value>) -> Result<Value, Stop>
-    ensures { Answers (spec.call_of (number_of items.now name.now) arguments) result }
+    ensures { Answers (spec.call_of (operation_number items.now name.now) arguments) result }
 {
-    let Some(number) = number_of(items, name) else {
+    let Some(number) = operation_number(items, name) else {
         return Err(Stop::Stuck);
     };
     match u32::try_from(number) {

@@ -30,17 +30,19 @@ pub fn eval(
         Expr::Bool(truth) => Ok(Value::Bool(*truth)),
         Expr::Text(text) => Ok(Value::Text(text.copy(context.alloc)?)),
         Expr::Name(name) => look_up(env, context.alloc, name.as_bytes()),
-        Expr::Let(name, bound, body) => let_in(name, bound, body, context, env, turns),
-        Expr::If(test, then, other) => choice(test, then, other, context, env, turns),
-        Expr::And(first, second) => both(first, second, context, env, turns),
-        Expr::Or(first, second) => either(first, second, context, env, turns),
+        Expr::Let(name, bound, body) => eval_let(name, bound, body, context, env, turns),
+        Expr::If(test, then, other) => eval_if(test, then, other, context, env, turns),
+        Expr::And(first, second) => eval_and(first, second, context, env, turns),
+        Expr::Or(first, second) => eval_or(first, second, context, env, turns),
         Expr::Unary(operator, operand) => {
             let value = eval(operand.get(), context, env, turns)?;
             unary(context.alloc, *operator, &value)
         }
         Expr::Map(_, _) => empty_map(context.alloc),
-        Expr::Put(map, key, value) => put_in(map, key, value, context, env, turns),
-        Expr::Binary(operator, left, right) => binary(*operator, left, right, context, env, turns),
+        Expr::Put(map, key, value) => eval_put(map, key, value, context, env, turns),
+        Expr::Binary(operator, left, right) => eval_binary(
+            *operator, left, right, context, env, turns,
+        ),
         Expr::Tuple(exprs) => Ok(Value::Tuple(eval_all(exprs.as_slice(), context, env, turns)?)),
         Expr::At(tuple, place) => {
             let value = eval(tuple.get(), context, env, turns)?;
@@ -51,7 +53,7 @@ pub fn eval(
             comprehension(clauses.as_slice(), body.get(), context, env, turns)
         }
         Expr::Fold(name, list, acc, first, body) => {
-            fold(name, list, acc, first, body, context, env, turns)
+            eval_fold(name, list, acc, first, body, context, env, turns)
         }
         Expr::Call(name, exprs) => {
             let arguments = eval_all(exprs.as_slice(), context, env, turns)?;
@@ -59,14 +61,14 @@ pub fn eval(
         }
         Expr::Apply(name, exprs) => {
             let arguments = eval_all(exprs.as_slice(), context, env, turns)?;
-            apply(context, name.as_bytes(), arguments.as_slice(), turns)
+            eval_apply(context, name.as_bytes(), arguments.as_slice(), turns)
         }
     }
 }
 
 /// The value of a body that sees a value under a name.
 #[cycle(eval)]
-fn let_in(
+fn eval_let(
     name: &Text,
     bound: &Boxed<Expr>,
     body: &Boxed<Expr>,
@@ -85,7 +87,7 @@ fn let_in(
 
 /// The value of one of two expressions, by a test.
 #[cycle(eval)]
-fn choice(
+fn eval_if(
     test: &Boxed<Expr>,
     then: &Boxed<Expr>,
     other: &Boxed<Expr>,
@@ -106,7 +108,7 @@ fn choice(
 
 /// Whether two expressions hold. The second is evaluated only if the first holds.
 #[cycle(eval)]
-fn both(
+fn eval_and(
     first: &Boxed<Expr>,
     second: &Boxed<Expr>,
     context: &Context<'_>,
@@ -124,7 +126,7 @@ fn both(
 
 /// Whether one of two expressions holds. The second is evaluated only if the first does not hold.
 #[cycle(eval)]
-fn either(
+fn eval_or(
     first: &Boxed<Expr>,
     second: &Boxed<Expr>,
     context: &Context<'_>,
@@ -142,7 +144,7 @@ fn either(
 
 /// A map with one more key, or with another value at a key.
 #[cycle(eval)]
-fn put_in(
+fn eval_put(
     map: &Boxed<Expr>,
     key: &Boxed<Expr>,
     value: &Boxed<Expr>,
@@ -162,7 +164,7 @@ fn put_in(
 
 /// What an operator makes of two values.
 #[cycle(eval)]
-fn binary(
+fn eval_binary(
     operator: Binary,
     left: &Boxed<Expr>,
     right: &Boxed<Expr>,
@@ -306,7 +308,7 @@ fn visit_each(
 
 /// What a fold builds of the items of a list.
 #[cycle(eval)]
-fn fold(
+fn eval_fold(
     name: &Text,
     list: &Boxed<Expr>,
     acc: &Text,
@@ -363,7 +365,7 @@ fn fold_over(
 
 /// What the last earlier function of the name does.
 #[cycle(eval)]
-fn apply(
+fn eval_apply(
     context: &Context<'_>,
     name: &[u8],
     arguments: &[Value],
@@ -383,7 +385,7 @@ fn apply(
     match last {
         Item::Fun(fun) => {
             if fun.name.as_bytes() != name {
-                return apply(&inner, name, arguments, turns);
+                return eval_apply(&inner, name, arguments, turns);
             }
             if fun.params.len() != arguments.len() {
                 return Err(Stop::Stuck);
@@ -392,6 +394,6 @@ fn apply(
             let frame = Env::Frame(fun.params.as_slice(), arguments);
             eval(&fun.body, &inner, &frame, turns)
         }
-        _ => apply(&inner, name, arguments, turns),
+        _ => eval_apply(&inner, name, arguments, turns),
     }
 }

@@ -8,7 +8,7 @@ use crate::callbacks::{Answer, Callbacks};
 use crate::context::Context;
 use crate::env::Env;
 use crate::evaluation::eval;
-use pst_model::{Expr, Source, Typed, calls_of, opening_of, operation_of};
+use pst_model::{Expr, Source, Typed, calls_of, initial_state_of, operation_of};
 use pst_operators::Stop;
 use pst_value::Value;
 use std::alloc::{AllocError, Global};
@@ -60,7 +60,7 @@ impl<'a> Callbacks for Plain<'a> {
 
     fn init(&self, alloc: Global) -> Answer {
         let model = self.typed.source();
-        let Some(opening) = opening_of(model.items.as_slice()) else {
+        let Some(opening) = initial_state_of(model.items.as_slice()) else {
             unreachable!()
         };
         start(model, opening, alloc, &Env::Frame(&[], &[]))

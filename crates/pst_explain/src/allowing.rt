@@ -7,9 +7,12 @@ ghost use Rattle.pst_judge.specs.Verdict.{first_broken};
 use crate::bounded::Bounded;
 use pst_case::{History, Reply};
 use pst_eval::{Callbacks, Env};
-use pst_reasons::{AllowedValues, Candidates, allowed, merge_beyond, without};
+use pst_reasons::{
+    AllowedValues, Candidates, find_allowed_values, interleaving_beyond, push_without,
+};
 use pst_scene::{
-    Call, Falsity, Scene, arguments, falsity_of, operation, state_before, wanted_reply,
+    Call, Falsity, Scene, falsity_of, operation_of_call, recorded_arguments, state_before,
+    wanted_reply,
 };
 use pst_value::Value;
 use std::alloc::{AllocError, Global};
@@ -50,10 +53,10 @@ fn reply_on(
     call: &Call<'_>,
     state: &Value,
 ) -> Result<Option<Value>, AllocError> {
-    let Some(operation) = operation(scene, call) else {
+    let Some(operation) = operation_of_call(scene, call) else {
         return Ok(None);
     };
-    let args = arguments(alloc, scene, call)?;
+    let args = recorded_arguments(alloc, scene, call)?;
     let frame = Env::Frame(operation.params.as_slice(), args.as_slice());
     let env = Env::With(b"s", &*state, &frame);
     match wanted_reply(alloc, scene.model, &operation.post, &env)? {
@@ -109,9 +112,9 @@ pub fn wrong_without<'a, C: Callbacks>(
 {
     let number = call.number;
     let shaped = &scene.run.shaped;
-    let others = without(number, core, Vec::new(alloc))?;
+    let others = push_without(number, core, Vec::new(alloc))?;
     let others = others.as_slice();
-    let merge = merge_beyond(
+    let merge = interleaving_beyond(
         callbacks,
         alloc,
         scene.model,
@@ -152,7 +155,7 @@ pub fn allowed_answers<C: Callbacks>(
     };
     let shaped = &scene.run.shaped;
     callbacks.set_further_calls(1);
-    let found = allowed(
+    let found = find_allowed_values(
         callbacks,
         alloc,
         scene.model,

@@ -3,7 +3,7 @@
 use pst_case::{Reply, Run};
 use pst_model::{Source, Typed};
 use pst_print::ty_form;
-use pst_scene::{Call, Scene, add, add_form, call_numbered, operation, scene_of};
+use pst_scene::{Call, Scene, add_form, add_str, call_numbered, operation_of_call, scene_of};
 use pst_value::Ty;
 use std::alloc::{AllocError, Global};
 
@@ -22,7 +22,7 @@ pub struct BrokenReply<'a> {
 pub fn broken_reply<'a>(scene: &Scene<'a>, number: u32) -> BrokenReply<'a> {
     let call = call_numbered(scene.all.as_slice(), number);
     let wanted = match &call {
-        Some(call) => match operation(scene, call) {
+        Some(call) => match operation_of_call(scene, call) {
             Some(operation) => Some(&operation.result),
             None => None,
         },
@@ -36,7 +36,7 @@ pub fn broken_reply<'a>(scene: &Scene<'a>, number: u32) -> BrokenReply<'a> {
 }
 
 /// Returns what the reply says about a command.
-fn meaning(reply: &Reply) -> &'static str {
+fn broken_reply_meaning(reply: &Reply) -> &'static str {
     match reply {
         Reply::Value(_) => "has a value",
         Reply::Misfit => "has the reply misfit: it answered something other than",
@@ -59,10 +59,10 @@ pub fn broken_sentence(
         return Ok(None);
     };
     let mut text = call.text(alloc, model)?;
-    add(&mut text, " ")?;
-    add(&mut text, meaning(reply))?;
+    add_str(&mut text, " ")?;
+    add_str(&mut text, broken_reply_meaning(reply))?;
     if let Some(wanted) = broken.wanted {
-        add(&mut text, " a value of type ")?;
+        add_str(&mut text, " a value of type ")?;
         add_form(&mut text, &ty_form(alloc, wanted)?)?;
     }
     Ok(Some(text))

@@ -6,8 +6,8 @@ use crate::parts::add_parts;
 use pst_model::Source;
 use pst_reasons::AllowedValues;
 use pst_scene::{
-    Call, Cell, Page, Scene, Style, Table, add, add_reply, add_value, add_word, expression_text,
-    falsity_text, joined, operation, text_of, value_text,
+    Call, Cell, Page, Scene, Style, Table, add_reply, add_str, add_value, add_word,
+    expression_text, falsity_text, join_texts, operation_of_call, text_of, value_text,
 };
 use std::alloc::{AllocError, Global};
 
@@ -15,7 +15,7 @@ use std::alloc::{AllocError, Global};
 fn answer_text(alloc: Global, model: &Source, call: &Call<'_>) -> Result<Vec<u8>, AllocError> {
     let mut text = call.text(alloc, model)?;
     if let Some(reply) = call.reply {
-        add(&mut text, " answered ")?;
+        add_str(&mut text, " answered ")?;
         add_reply(&mut text, alloc, model, reply)?;
     }
     Ok(text)
@@ -28,7 +28,7 @@ fn postcondition_text(
     call: &Call<'_>,
 ) -> Result<Vec<u8>, AllocError> {
     let mut text = text_of(alloc, "postcondition ")?;
-    if let Some(operation) = operation(scene, call) {
+    if let Some(operation) = operation_of_call(scene, call) {
         let expression = expression_text(alloc, &operation.post)?;
         text.extend_from_slice(expression.as_slice())?;
     }
@@ -44,12 +44,12 @@ fn values_text(
     let mut text = text_of(alloc, "allowed: ")?;
     for (index, value) in found.values.as_slice().iter().enumerate() {
         if index > 0 {
-            add(&mut text, ", ")?;
+            add_str(&mut text, ", ")?;
         }
         add_value(&mut text, alloc, model, value)?;
     }
     if !found.all {
-        add(&mut text, " ..")?;
+        add_str(&mut text, " ..")?;
     }
     Ok(text)
 }
@@ -63,7 +63,7 @@ fn add_each_value(
 ) -> Result<(), AllocError> {
     for value in found.values.as_slice() {
         let value = value_text(alloc, model, value)?;
-        let text = joined(alloc, &[b"allowed: ", value.as_slice()])?;
+        let text = join_texts(alloc, &[b"allowed: ", value.as_slice()])?;
         row.push(Cell::styled(Style::Right, text))?;
     }
     if !found.all {
@@ -99,7 +99,7 @@ fn wrong_text(
 ) -> Result<Vec<u8>, AllocError> {
     let mut text = falsity_text(alloc, model, &wrong.falsity)?;
     if !wrong.word.is_empty() {
-        add(&mut text, ", as by ")?;
+        add_str(&mut text, ", as by ")?;
         add_word(&mut text, wrong.word.as_slice())?;
     }
     Ok(text)

@@ -9,8 +9,8 @@ use crate::allowing::{WrongAnswer, allowed_answers, wrong_without};
 use crate::bounded::Bounded;
 use pst_case::History;
 use pst_eval::Callbacks;
-use pst_reasons::{AllowedValues, core};
-use pst_scene::{Call, CasePart, Scene, call_numbered, operation, wants_one_reply};
+use pst_reasons::{AllowedValues, minimal_core};
+use pst_scene::{Call, CasePart, Scene, call_numbered, operation_of_call, wants_one_reply};
 use pst_value::Items;
 use std::alloc::{AllocError, Global};
 
@@ -73,7 +73,7 @@ impl<'a> Core<'a> {
 
 /// Returns whether the postcondition of a command requires one single reply.
 fn has_one_reply(alloc: Global, scene: &Scene<'_>, call: &Call<'_>) -> Result<bool, AllocError> {
-    match operation(scene, call) {
+    match operation_of_call(scene, call) {
         Some(operation) => wants_one_reply(alloc, &operation.post),
         None => Ok(false),
     }
@@ -161,7 +161,7 @@ pub fn find_core<'a, C: Callbacks>(
     requires unexplained { IsUnexplained (C.model callbacks.now.callbacks.now) scene.now.run.now.shaped.case
         history.now }
 {
-    let numbers = core(callbacks, alloc, &scene.run.shaped, history)?;
+    let numbers = minimal_core(callbacks, alloc, &scene.run.shaped, history)?;
     let numbers = numbers.as_slice();
     let mut answers = Vec::new(alloc);
     for number in numbers {

@@ -3,7 +3,7 @@
 use crate::labels::{add_label, add_name, add_quoted};
 use crate::position::Position;
 use crate::search::{Move, Search, Target};
-use pst_scene::{Scene, add, dead_end_text, text_of, value_text};
+use pst_scene::{Scene, add_str, dead_end_text, text_of, value_text};
 use std::alloc::{AllocError, Global};
 
 /// The style of all nodes and edges.
@@ -40,14 +40,14 @@ fn add_title(
 ) -> Result<(), AllocError> {
     let mut text = text_of(alloc, title)?;
     if is_cut_short(scene, search) {
-        add(
+        add_str(
             &mut text,
             "\nnot all: what follows the dashed positions is left out",
         )?;
     }
-    add(out, "  labelloc=t;\n  label=")?;
+    add_str(out, "  labelloc=t;\n  label=")?;
     add_quoted(out, text.as_slice())?;
-    add(out, ";\n")
+    add_str(out, ";\n")
 }
 
 /// Adds a position with its state.
@@ -60,14 +60,14 @@ fn add_position(
     position: &Position,
 ) -> Result<(), AllocError> {
     let state = value_text(alloc, scene.model, &position.state)?;
-    add(out, "  ")?;
+    add_str(out, "  ")?;
     add_name(out, "p", number)?;
-    add(out, " [")?;
+    add_str(out, " [")?;
     add_label(out, alloc, state.as_slice())?;
     if is_unexpanded(scene, search, number, position) {
-        add(out, ", style=dashed")?;
+        add_str(out, ", style=dashed")?;
     }
-    add(out, "];\n")
+    add_str(out, "];\n")
 }
 
 /// Puts the positions after `level` commands side by side.
@@ -77,15 +77,15 @@ fn add_level(
     search: &Search<'_>,
     level: usize,
 ) -> Result<(), AllocError> {
-    add(out, "  { rank=same;")?;
+    add_str(out, "  { rank=same;")?;
     for (number, position) in search.positions.iter().enumerate() {
         if position.level() == level {
-            add(out, " ")?;
+            add_str(out, " ")?;
             add_name(out, "p", number)?;
-            add(out, ";")?;
+            add_str(out, ";")?;
         }
     }
-    add(out, " }\n")
+    add_str(out, " }\n")
 }
 
 /// How many levels have positions.
@@ -108,14 +108,14 @@ fn add_edge(
     style: &str,
 ) -> Result<(), AllocError> {
     let text = step.call.with_reply(alloc, scene.model)?;
-    add(out, "  ")?;
+    add_str(out, "  ")?;
     add_name(out, "p", step.from)?;
-    add(out, " -> ")?;
+    add_str(out, " -> ")?;
     add_name(out, letter, to)?;
-    add(out, " [")?;
+    add_str(out, " [")?;
     add_label(out, alloc, text.as_slice())?;
-    add(out, style)?;
-    add(out, "];\n")
+    add_str(out, style)?;
+    add_str(out, "];\n")
 }
 
 /// Adds a dead end, with the reason.
@@ -126,12 +126,12 @@ fn add_dead_end(
     why: &[u8],
     style: &str,
 ) -> Result<(), AllocError> {
-    add(out, "  ")?;
+    add_str(out, "  ")?;
     add_name(out, "d", number)?;
-    add(out, " [")?;
+    add_str(out, " [")?;
     add_label(out, alloc, why)?;
-    add(out, style)?;
-    add(out, "];\n")
+    add_str(out, style)?;
+    add_str(out, "];\n")
 }
 
 /// The style of an edge or dead end for a command that cannot come next.
@@ -191,7 +191,7 @@ pub fn graph_text(
     title: &str,
 ) -> Result<Vec<u8>, AllocError> {
     let mut out = text_of(alloc, "digraph search {\n")?;
-    add(&mut out, STYLE)?;
+    add_str(&mut out, STYLE)?;
     add_title(&mut out, alloc, scene, search, title)?;
     if search.positions.is_empty() {
         add_dead_end(&mut out, alloc, 0, b"the initial state faults", RED)?;
@@ -200,6 +200,6 @@ pub fn graph_text(
     for (number, step) in search.moves.iter().enumerate() {
         add_move(&mut out, alloc, scene, search, number, step)?;
     }
-    add(&mut out, "}\n")?;
+    add_str(&mut out, "}\n")?;
     Ok(out)
 }

@@ -5,8 +5,8 @@ use crate::walk_text::add_states;
 use pst_eval::Callback;
 use pst_model::Source;
 use pst_scene::{
-    Call, CasePart, Page, Scene, Table, add, add_word, expression_text, joined, text_of, two,
-    value_text,
+    Call, CasePart, Page, Scene, Table, add_str, add_word, expression_text, join_texts, text_of,
+    two_cells, value_text,
 };
 use pst_value::Fault;
 use std::alloc::{AllocError, Global};
@@ -26,7 +26,7 @@ fn add_evaluated(
     let mut table = Table::new(alloc)?;
     for binding in &evaluated.names {
         let name = Vec::from_slice(alloc, binding.name.as_slice())?;
-        table.add_row(two(alloc, name, value_text(alloc, model, &binding.value)?)?)?;
+        table.add_row(two_cells(alloc, name, value_text(alloc, model, &binding.value)?)?)?;
     }
     table.write(page, alloc, 6)
 }
@@ -46,7 +46,7 @@ fn add_part(
                 name.as_bytes(),
                 b":",
             ];
-            let sentence = joined(alloc, &parts)?;
+            let sentence = join_texts(alloc, &parts)?;
             page.add_sentence(alloc, 2, sentence.as_slice())?;
         }
     }
@@ -97,10 +97,10 @@ fn add_where(
     failure: &Failure<'_>,
 ) -> Result<(), AllocError> {
     let Some(walk) = &failure.walk else {
-        return add(text, " in some interleaving");
+        return add_str(text, " in some interleaving");
     };
     let word = walk.word.as_slice();
-    add(
+    add_str(
         text,
         if is_whole(scene, word) {
             " in the interleaving "
@@ -120,15 +120,15 @@ fn call_sentence(
     fault: Fault,
 ) -> Result<Vec<u8>, AllocError> {
     let mut text = text_of(alloc, "The callback ")?;
-    add(&mut text, failure.callback.name())?;
-    add(&mut text, " of ")?;
+    add_str(&mut text, failure.callback.name())?;
+    add_str(&mut text, " of ")?;
     add_call(&mut text, alloc, scene.model, call)?;
-    add(&mut text, " faults with ")?;
-    add(&mut text, fault.name())?;
+    add_str(&mut text, " faults with ")?;
+    add_str(&mut text, fault.name())?;
     if call.part != CasePart::Prefix {
         add_where(&mut text, scene, failure)?;
     }
-    add(&mut text, ":")?;
+    add_str(&mut text, ":")?;
     Ok(text)
 }
 
@@ -141,8 +141,8 @@ fn model_sentence(alloc: Global, callback: Callback, fault: Fault) -> Result<Vec
             _ => "The initial state faults with ",
         },
     )?;
-    add(&mut text, fault.name())?;
-    add(&mut text, ":")?;
+    add_str(&mut text, fault.name())?;
+    add_str(&mut text, ":")?;
     Ok(text)
 }
 
@@ -156,12 +156,12 @@ fn false_sentence(
     if let Some(walk) = &failure.walk {
         add_word(&mut text, walk.word.as_slice())?;
     }
-    add(&mut text, " the precondition of ")?;
+    add_str(&mut text, " the precondition of ")?;
     if let Some(call) = &failure.call {
         let command = call.text(alloc, model)?;
         text.extend_from_slice(command.as_slice())?;
     }
-    add(&mut text, " is false:")?;
+    add_str(&mut text, " is false:")?;
     Ok(text)
 }
 

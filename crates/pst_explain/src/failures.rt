@@ -3,10 +3,10 @@
 use crate::walks::{Walk, blocked_after, empty_walk, walk_along};
 use pst_case::Reply;
 use pst_eval::{Callback, Env, FaultPlace};
-use pst_model::{Expr, calls_of, opening_of};
+use pst_model::{Expr, calls_of, initial_state_of};
 use pst_scene::{
-    Binding, Call, FaultyPart, Scene, arguments, bindings_of, call_numbered, calls_before,
-    faulty_part, operation, reference, states_along, words_of,
+    Binding, Call, FaultyPart, Scene, bindings_of, call_numbered, calls_before, faulty_part,
+    operation_of_call, recorded_arguments, reference_to_result, states_along, words_of,
 };
 use pst_value::{Fault, Items, Value};
 use std::alloc::{AllocError, Global};
@@ -113,7 +113,7 @@ fn init_expression<'a>(
     alloc: Global,
     scene: &Scene<'a>,
 ) -> Result<Option<Expression<'a>>, AllocError> {
-    match opening_of(scene.model.items.as_slice()) {
+    match initial_state_of(scene.model.items.as_slice()) {
         Some(expr) => expression_in(alloc, scene, expr, &Env::Frame(&[], &[])),
         None => Ok(None),
     }
@@ -142,17 +142,17 @@ fn callback_expression<'a>(
     call: &Call<'_>,
     state: &Value,
 ) -> Result<Option<Expression<'a>>, AllocError> {
-    let Some(operation) = operation(scene, call) else {
+    let Some(operation) = operation_of_call(scene, call) else {
         return Ok(None);
     };
-    let args = arguments(alloc, scene, call)?;
+    let args = recorded_arguments(alloc, scene, call)?;
     let frame = Env::Frame(operation.params.as_slice(), args.as_slice());
     let env = Env::With(b"s", &*state, &frame);
     match callback {
         Callback::Init | Callback::Command => Ok(None),
         Callback::Pre => expression_in(alloc, scene, &operation.pre, &env),
         Callback::Next => {
-            let result = reference(alloc, call)?;
+            let result = reference_to_result(alloc, call)?;
             let inner = Env::With(b"r", &result, &env);
             expression_in(alloc, scene, &operation.next, &inner)
         }
@@ -222,7 +222,7 @@ fn bare_expression<'a>(
     callback: Callback,
     call: &Call<'_>,
 ) -> Option<Expression<'a>> {
-    let operation = operation(scene, call)?;
+    let operation = operation_of_call(scene, call)?;
     let expr = match callback {
         Callback::Init | Callback::Command => return None,
         Callback::Pre => &operation.pre,

@@ -1,6 +1,6 @@
 //! Names and labels in the language of Graphviz.
 
-use pst_scene::{add, add_number, cut};
+use pst_scene::{add_number, add_str, cut_in_middle};
 use std::alloc::{AllocError, Global};
 
 /// The most bytes of a label.
@@ -8,27 +8,27 @@ const MOST_BYTES: usize = 60;
 
 /// Adds a name of a letter and a number.
 pub fn add_name(out: &mut Vec<u8>, letter: &str, number: usize) -> Result<(), AllocError> {
-    add(out, letter)?;
+    add_str(out, letter)?;
     add_number(out, number)
 }
 
 /// Adds a text in quotes, escaped so that Graphviz shows each byte.
 pub fn add_quoted(out: &mut Vec<u8>, text: &[u8]) -> Result<(), AllocError> {
-    add(out, "\"")?;
+    add_str(out, "\"")?;
     for byte in text {
         match *byte {
-            b'"' => add(out, "\\\"")?,
-            b'\\' => add(out, "\\\\")?,
-            b'&' => add(out, "&amp;")?,
+            b'"' => add_str(out, "\\\"")?,
+            b'\\' => add_str(out, "\\\\")?,
+            b'&' => add_str(out, "&amp;")?,
             other => out.push(other)?,
         }
     }
-    add(out, "\"")
+    add_str(out, "\"")
 }
 
 /// Adds a label, cut in the middle if it is long.
 pub fn add_label(out: &mut Vec<u8>, alloc: Global, text: &[u8]) -> Result<(), AllocError> {
-    let text = cut(alloc, text, MOST_BYTES)?;
-    add(out, "label=")?;
+    let text = cut_in_middle(alloc, text, MOST_BYTES)?;
+    add_str(out, "label=")?;
     add_quoted(out, text.as_slice())
 }

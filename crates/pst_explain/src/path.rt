@@ -6,7 +6,7 @@ ghost use Rattle.pst_judge.specs.Judgement.{HistoryMatches};
 use pst_case::History;
 use pst_eval::Callbacks;
 use pst_judge::{Judged, Verdict, Why, verdict_with_interleaving};
-use pst_scene::{Call, CasePart, Scene, call_numbered, calls_before, first_calls, in_order};
+use pst_scene::{Call, CasePart, Scene, call_numbered, calls_before, calls_in_order, first_calls};
 use std::alloc::{AllocError, Global};
 
 /// The commands before command `number` in an interleaving that begins with `word`.
@@ -52,14 +52,14 @@ fn verdict_calls<'a, C: Callbacks>(
 {
     let shaped = &scene.run.shaped;
     match verdict {
-        Verdict::Explained(word) => in_order(alloc, &scene.calls, word.as_slice()),
+        Verdict::Explained(word) => calls_in_order(alloc, &scene.calls, word.as_slice()),
         Verdict::Faulted(place) => {
             let (_, word) = verdict_with_interleaving(callbacks, alloc, shaped, history)?;
             before_fault(alloc, scene, word.as_slice(), place.command)
         }
         Verdict::Unexplained(far) => {
             let (_, word) = verdict_with_interleaving(callbacks, alloc, shaped, history)?;
-            let order = in_order(alloc, &scene.calls, word.as_slice())?;
+            let order = calls_in_order(alloc, &scene.calls, word.as_slice())?;
             first_calls(alloc, order.as_slice(), *far)
         }
         Verdict::Broken(_) => Ok(Vec::new(alloc)),

@@ -9,7 +9,7 @@ use crate::walk_text::{add_blocked, add_explained, add_states};
 use crate::walks::Walk;
 use pst_judge::{Judged, Verdict};
 use pst_model::Source;
-use pst_scene::{Page, Scene, Style, add, add_number, add_word, text_of};
+use pst_scene::{Page, Scene, Style, add_number, add_str, add_word, text_of};
 use std::alloc::{AllocError, Global};
 
 /// The style of a judgement: that of something wrong, unless the item is explained or valid.
@@ -39,10 +39,10 @@ fn add_heading(
 /// Adds that `far` events hold.
 fn add_events(text: &mut Vec<u8>, far: usize) -> Result<(), AllocError> {
     if far == 1 {
-        return add(text, "1 event holds");
+        return add_str(text, "1 event holds");
     }
     add_number(text, far)?;
-    add(text, " events hold")
+    add_str(text, " events hold")
 }
 
 /// Returns a sentence on the interleaving that gets furthest: `far` events hold in it before one does not, and it begins
@@ -57,14 +57,14 @@ fn far_sentence(alloc: Global, far: usize, word: &[usize]) -> Result<Vec<u8>, Al
     if word.is_empty() {
         let mut text = text_of(alloc, "In every interleaving ")?;
         add_events(&mut text, far)?;
-        add(&mut text, " before one does not:")?;
+        add_str(&mut text, " before one does not:")?;
         return Ok(text);
     }
     let mut text = text_of(alloc, "No interleaving gets further than ")?;
     add_word(&mut text, word)?;
-    add(&mut text, ", where ")?;
+    add_str(&mut text, ", where ")?;
     add_events(&mut text, far)?;
-    add(&mut text, ":")?;
+    add_str(&mut text, ":")?;
     Ok(text)
 }
 
@@ -97,7 +97,7 @@ fn add_broken(
     broken: &BrokenReply<'_>,
 ) -> Result<(), AllocError> {
     if let Some(mut sentence) = broken_sentence(alloc, scene.model, broken)? {
-        add(&mut sentence, ".")?;
+        add_str(&mut sentence, ".")?;
         page.add_sentence(alloc, 2, sentence.as_slice())?;
     }
     page.add_sentence(alloc, 2, b"The run, with * before this command:")?;

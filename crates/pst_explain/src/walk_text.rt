@@ -2,7 +2,9 @@
 
 use crate::walks::{BlockedCall, Walk};
 use pst_model::Source;
-use pst_scene::{Call, Page, PreAnswer, Style, Table, add, add_value, dead_end_text, joined, two};
+use pst_scene::{
+    Call, Page, PreAnswer, Style, Table, add_str, add_value, dead_end_text, join_texts, two_cells,
+};
 use pst_value::Value;
 use std::alloc::{AllocError, Global};
 
@@ -14,7 +16,7 @@ fn add_state(
     state: &Value,
 ) -> Result<(), AllocError> {
     table.end_cell(Style::Plain)?;
-    add(&mut table.text, "state ")?;
+    add_str(&mut table.text, "state ")?;
     add_value(&mut table.text, alloc, model, state)?;
     table.end_cell(Style::Plain)?;
     table.end_row();
@@ -32,7 +34,7 @@ pub fn add_states(
         return Ok(());
     };
     let mut table = Table::new(alloc)?;
-    add(&mut table.text, "at first")?;
+    add_str(&mut table.text, "at first")?;
     add_state(&mut table, alloc, model, start)?;
     for step in &walk.steps {
         step.call.add_with_reply(&mut table.text, alloc, model)?;
@@ -61,7 +63,7 @@ fn precondition_sentence(
                 text,
                 b" is false there; the verdict on a recorded run does not depend on it.",
             ];
-            Ok(Some(joined(alloc, &parts)?))
+            Ok(Some(join_texts(alloc, &parts)?))
         }
         PreAnswer::Faults(fault) => {
             let parts: [&[u8]; 5] = [
@@ -71,7 +73,7 @@ fn precondition_sentence(
                 fault.name().as_bytes(),
                 b" there; the verdict on a recorded run does not depend on it.",
             ];
-            Ok(Some(joined(alloc, &parts)?))
+            Ok(Some(join_texts(alloc, &parts)?))
         }
     }
 }
@@ -113,7 +115,7 @@ pub fn add_blocked(
     for stop in stopped {
         let text = stop.call.with_reply(alloc, model)?;
         let why = dead_end_text(alloc, model, &stop.why)?;
-        table.add_row(two(alloc, text, why)?)?;
+        table.add_row(two_cells(alloc, text, why)?)?;
     }
     table.write_or_stack(page, alloc, 4)
 }

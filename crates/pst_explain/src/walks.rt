@@ -9,8 +9,8 @@ use pst_eval::Callbacks;
 use pst_judge::{Condition, Postconditions, verdict_with_interleaving};
 use pst_reasons::{SomePostconditions, states};
 use pst_scene::{
-    Call, CasePart, DeadEnd, Outcome, PreAnswer, Scene, falsity_of, in_order, next_calls,
-    outcome_of, precondition,
+    Call, CasePart, DeadEnd, Outcome, PreAnswer, Scene, calls_in_order, evaluate_precondition,
+    falsity_of, next_calls, outcome_of,
 };
 use pst_value::Value;
 use std::alloc::{AllocError, Global};
@@ -85,7 +85,7 @@ pub fn walk_along<'a>(
     for (call, state) in calls.iter().zip(others) {
         walk.steps.push(Step {
             call: *call,
-            precondition: precondition(alloc, scene, before, call)?,
+            precondition: evaluate_precondition(alloc, scene, before, call)?,
             state: state.copy(alloc)?,
         })?;
         before = state;
@@ -123,7 +123,7 @@ pub fn blocked_after<'a>(
 }
 
 /// Returns the walk of the interleaving `word`, up to the first command of which `condition` is not true.
-fn walk_asking<'a, C: Callbacks, A: Condition>(
+fn walk_checking<'a, C: Callbacks, A: Condition>(
     callbacks: &C,
     condition: &A,
     alloc: Global,
@@ -135,14 +135,14 @@ fn walk_asking<'a, C: Callbacks, A: Condition>(
     requires matches { matches (C.model callbacks.now) scene.now.run.now.shaped.case history.now ≡ true }
     requires answered { first_broken 1 (recorded history.now) ≡ None }
 {
-    let order = in_order(alloc, &scene.calls, word)?;
+    let order = calls_in_order(alloc, &scene.calls, word)?;
     let shaped = &scene.run.shaped;
     let states = states(callbacks, condition, alloc, shaped, history, word)?;
     walk_along(alloc, scene, word, order.as_slice(), states.as_slice())
 }
 
 /// Returns the walk of the interleaving `word`, which explains the item: since each postcondition is true along it, none
-/// is asked again.
+/// is evaluated again.
 pub fn explaining_walk<'a, C: Callbacks>(
     callbacks: &C,
     alloc: Global,
@@ -158,7 +158,7 @@ pub fn explaining_walk<'a, C: Callbacks>(
         first: &[],
         rest: &[],
     };
-    walk_asking(callbacks, &none, alloc, scene, history, word)
+    walk_checking(callbacks, &none, alloc, scene, history, word)
 }
 
 /// Returns each of the commands `next`, with the reason why its postcondition is not true on `state`.
@@ -190,7 +190,7 @@ pub fn furthest_walk<'a, C: Callbacks>(
 {
     let shaped = &scene.run.shaped;
     let (_, word) = verdict_with_interleaving(callbacks, alloc, shaped, history)?;
-    let mut walk = walk_asking(
+    let mut walk = walk_checking(
         callbacks,
         &Postconditions,
         alloc,

@@ -6,7 +6,7 @@ ghost use Rattle.pst_gen.specs.Generated.{IsSplit, NoneAbove, IsGenerated, case_
 ghost use Rattle.pst_gen.specs.Split.{most};
 ghost use Rattle.pst_value.specs.declared.value.Value.{Value as AnyValue};
 
-use crate::accepted::if_accepted;
+use crate::accepted::valid_or_none;
 use crate::script::script;
 use crate::split::split_case;
 use pst_case::Command;
@@ -20,7 +20,7 @@ use std::alloc::{AllocError, Global};
 const MAX_PARALLEL: usize = 16;
 
 /// How many of the commands before the suffix may run in parallel: none if there is one branch.
-fn most(branches: u32, before: &[Command]) -> usize
+fn most_parallel(branches: u32, before: &[Command]) -> usize
     ensures { result ≡ most branches before.now }
 {
     if branches == 1 {
@@ -53,7 +53,7 @@ fn longest_split<C: Callbacks>(
     ensures split { IfOk result (λ v. IsSplit typed.now branches word before.now suffix.now v.case) }
 {
     let case = split_case(alloc, branches, word, before, suffix, parallel)?;
-    match if_accepted(callbacks, alloc, typed, case)? {
+    match valid_or_none(callbacks, alloc, typed, case)? {
         Some(valid) => Ok(valid),
         None => {
             if parallel == 0 {
@@ -104,7 +104,7 @@ pub fn generate<C: Callbacks, R: Rng>(
     let script = script.as_slice();
     let word = rng.next_u64();
     let (before, behind) = script.split_at(script.len().saturating_sub(suffix as usize));
-    let parallel = most(branches, before);
+    let parallel = most_parallel(branches, before);
     let valid = longest_split(
         callbacks, alloc, typed, branches, word, before, behind, parallel,
     )?;

@@ -2,19 +2,23 @@
 use Rattle.std.proofs.Common.{◌≡◌, ℕ, suc, ◌+◌, ◌<◌, ◌≤◌, ◌⊎◌, inl, inr, List, [], ◌∷◌, ◌++◌, length, get_or, nat_lt, Bool, true, false, MatchBool, Option, Some, None, MatchOption, refl, sym, ap, subst, ◌∙◌, arith, append_assoc, length-append}
 use Rattle.std.proofs.lemmas.Bool.{cases_lt}
 use Rattle.std.proofs.lemmas.Bool.Decides.{nat_tests}
+use Rattle.std.specs.Option.{is_none}
 use Rattle.pst_grid.specs.declared.answer.StopReason.{StopReason}
 use Rattle.pst_grid.specs.declared.answer.StopReason.TheVariants.{False, Fault}
 use Rattle.pst_grid.specs.declared.answer.StepOutcome.{StepOutcome}
 use Rattle.pst_grid.specs.declared.answer.StepOutcome.TheVariants.{Next, Stop}
 use Rattle.pst_grid.specs.Completions.{Completes, Begins}
-use Rattle.pst_grid.specs.Covered.{FaultsOn, IsLeastFault, IsFurther, Covered}
-use Rattle.pst_grid.specs.Furthest.{reach, KeepsFurthest}
+use Rattle.pst_grid.specs.Covered.{FaultsOn, IsLeastFault, IsFurther, Covered, IsHeld, IsExplored}
+use Rattle.pst_grid.specs.Kept.{reach, Keeps, KeepsFurthest, KeepsFault, is_stopped, IsFresh, IsSought, is_kept}
 use Rattle.pst_grid.specs.Merges.{run, IsUpTo, after, later, one_more}
 use Rattle.pst_grid.specs.declared.answer.Ending.{Ending}
 use Rattle.pst_grid.specs.declared.answer.Ending.TheVariants.{AllTrue, StopsAt}
-use Rattle.pst_grid.specs.declared.search.Best.{Best}
-use Rattle.pst_grid.specs.declared.search.FalseMerge.{FalseMerge}
-use Rattle.pst_grid.specs.declared.search.FaultedMerge.{FaultedMerge}
+use Rattle.pst_grid.specs.declared.search.FirstFailures.{FirstFailures}
+use Rattle.pst_grid.specs.declared.search.FalseInterleaving.{FalseInterleaving}
+use Rattle.pst_grid.specs.declared.search.FaultedInterleaving.{FaultedInterleaving}
+use Rattle.pst_grid.specs.declared.search.Goal.{Goal}
+use Rattle.pst_grid.specs.declared.search.Goal.TheVariants.{ToEnd, Stopped}
+use Rattle.pst_grid.specs.declared.search.SearchProgress.{SearchProgress}
 use Rattle.pst_grid.proofs.Completing.{BeginsBelow, Completes-head, Completes-tail, Completes-cons, Completes-letter}
 
 pub later-AllTrue : {F : Type 0} (e : Ending F) → later e ≡ AllTrue → e ≡ AllTrue
@@ -23,23 +27,23 @@ later-AllTrue (StopsAt n why) h = cc
 
 -- ---- what is kept of the merges that stop at a false event
 
-pub same_reach : (old new : Option FalseMerge) → new ≡ old → reach old ≤ reach new
+pub same_reach : (old new : Option FalseInterleaving) → new ≡ old → reach old ≤ reach new
 same_reach old new e = omega (arith, ap reach e)
 
 -- this word, which stops at a false event after so many true ones, is kept, and is further than the one before
-pub record IsNew (n : ℕ) (w : List ℕ) (old new : Option FalseMerge) : Type 0 where
-  pub merge : FalseMerge
+pub record IsNew (n : ℕ) (w : List ℕ) (old new : Option FalseInterleaving) : Type 0 where
+  pub merge : FalseInterleaving
   pub kept : new ≡ Some merge
   pub more : reach old ≤ n
   pub place : merge.at ≡ n
   pub word : merge.word.items ≡ w
 
-pub record IsKept (n : ℕ) (w : List ℕ) (old new : Option FalseMerge) : Type 0 where
+pub record IsKept (n : ℕ) (w : List ℕ) (old new : Option FalseInterleaving) : Type 0 where
   pub grows : reach old ≤ reach new
   pub bounds : n < reach new
   pub either : (new ≡ old) ⊎ IsNew n w old new
 
-kept_new : (at : ℕ) (word : List ℕ) (old new : Option FalseMerge) → reach old ≤ at → MatchOption new ⊥ (λ x. (x.at ≡ at) × (x.word.items ≡ word)) → IsKept at word old new
+kept_new : (at : ℕ) (word : List ℕ) (old new : Option FalseInterleaving) → reach old ≤ at → MatchOption new ⊥ (λ x. (x.at ≡ at) × (x.word.items ≡ word)) → IsKept at word old new
 kept_new at word old None more h = absurd h
 kept_new at word old (Some x) more h = record {
   grows = omega (arith, more, h.0);
@@ -47,16 +51,26 @@ kept_new at word old (Some x) more h = record {
   either = inr (record { merge = x; kept = refl; more = more; place = h.0; word = h.1 });
 }
 
-kept_old : (at : ℕ) (word : List ℕ) (old new : Option FalseMerge) → at < reach old → new ≡ old → IsKept at word old new
+kept_old : (at : ℕ) (word : List ℕ) (old new : Option FalseInterleaving) → at < reach old → new ≡ old → IsKept at word old new
 kept_old at word old new less e = record { grows = same_reach old new e; bounds = omega (arith, less, ap reach e); either = inl e }
 
-pub kept_furthest : (at : ℕ) (word : List ℕ) (old new : Option FalseMerge) → KeepsFurthest at word old new → IsKept at word old new
+pub kept_furthest : (at : ℕ) (word : List ℕ) (old new : Option FalseInterleaving) → KeepsFurthest at word old new → IsKept at word old new
 kept_furthest at word None new h = kept_new at word None new (omega arith) h
 kept_furthest at word (Some x) new h = by (nat_lt x.at at) refl h
   where
     by : (b : Bool) → nat_lt x.at at ≡ b → MatchBool b (MatchOption new ⊥ (λ y. (y.at ≡ at) × (y.word.items ≡ word))) (new ≡ Some x) → IsKept at word (Some x) new
     by true e k = kept_new at word (Some x) new (let l : x.at < at = grind (arith, nat_tests) in omega (arith, l)) k
     by false e k = kept_old at word (Some x) new (let l : at ≤ x.at = grind (arith, nat_tests) in omega (arith, l)) k
+
+pub keeps-none : {F : Type 0} (n : ℕ) (word : List ℕ) (why : StopReason F) (best : FirstFailures F) → is_kept n why best ≡ false → Keeps n word why best best
+keeps-none n word False best e =
+    (refl, subst (λ b. MatchBool b (MatchOption best.furthest ⊥ (λ x. (x.at ≡ n) × (x.word.items ≡ word))) (best.furthest ≡ best.furthest)) (sym e) refl)
+keeps-none {F} n word (Fault fault) best e = (refl, by best.fault refl e)
+  where
+    by : (o : Option (FaultedInterleaving F)) → best.fault ≡ o → is_none o ≡ false
+        → MatchOption o (MatchOption best.fault ⊥ (λ x. (x.at ≡ n) × (x.word.items ≡ word) × (x.fault ≡ fault))) (λ x. best.fault ≡ Some x)
+    by None k h = cc
+    by (Some x) k h = k
 
 -- ---- endings
 
@@ -65,18 +79,27 @@ pub record Earlier {F : Type 0} (e : Ending F) (n : ℕ) (why : StopReason F) : 
   pub more : n ≡ suc steps
   pub ends : e ≡ StopsAt steps why
 
+-- the search is for a word just where it is for the rest of it behind a true event
+pub sought-later : {F : Type 0} (goal : Goal) (e : Ending F) → IsSought goal (later e) → IsSought goal e
+sought-later goal AllTrue h = h
+sought-later goal (StopsAt n why) h = h
+
+pub later-sought : {F : Type 0} (goal : Goal) (e : Ending F) → IsSought goal e → IsSought goal (later e)
+later-sought goal AllTrue h = h
+later-sought goal (StopsAt n why) h = h
+
 pub later-StopsAt : {F : Type 0} (e : Ending F) (n : ℕ) (why : StopReason F) → later e ≡ StopsAt n why → Earlier e n why
 later-StopsAt AllTrue n why h = cc
 later-StopsAt (StopsAt k w) n why h = record { steps = k; more = cc; ends = cc }
 
-module _ {S F : Type 0} (turn : S → ℕ → ℕ → StepOutcome S F) (rest : S → Ending F) (done : List ℕ) (state : S) where
+module _ {S F : Type 0} (turn : S → ℕ → ℕ → StepOutcome S F) (rest : S → Ending F) (goal : Goal) (done : List ℕ) (state : S) where
   -- the words of A, and then those of B, which all come later
-  pub Covered-join : (before : List ℕ) (A B W : List ℕ → Type 0) (x y z : Best F)
+  pub Covered-join : (before : List ℕ) (A B W : List ℕ → Type 0) (x y z : FirstFailures F)
       → ((w : List ℕ) → W w → A w ⊎ B w) → ((w : List ℕ) → A w → W w) → ((w : List ℕ) → B w → W w)
       → ((v w : List ℕ) → A v → B w → IsUpTo v w)
-      → Covered turn rest done state before A x y → Covered turn rest done state before B y z → Covered turn rest done state before W x z
+      → Covered turn rest goal done state before A x y → Covered turn rest goal done state before B y z → Covered turn rest goal done state before W x z
   Covered-join before A B W x y z split left right sorted a b = record {
-    none_true = λ w k. elim (split w k) [ inl p ↦ a.none_true w p | inr p ↦ b.none_true w p ];
+    none_sought = λ w k. elim (split w k) [ inl p ↦ a.none_sought w p | inr p ↦ b.none_sought w p ];
     kept = λ f e. b.kept f (a.kept f e);
     none_faults = λ e w k. elim (split w k) [ inl p ↦ a.none_faults (none_before e) w p | inr p ↦ b.none_faults e w p ];
     first = first_of_both;
@@ -88,14 +111,14 @@ module _ {S F : Type 0} (turn : S → ℕ → ℕ → StepOutcome S F) (rest : S
       none_before : z.fault ≡ None → y.fault ≡ None
       none_before e = by y.fault refl
         where
-          by : (o : Option (FaultedMerge F)) → y.fault ≡ o → y.fault ≡ None
+          by : (o : Option (FaultedInterleaving F)) → y.fault ≡ o → y.fault ≡ None
           by None k = k
           by (Some f) k = let j = b.kept f k in cc
 
-      first_of_both : x.fault ≡ None → (f : FaultedMerge F) → z.fault ≡ Some f → IsLeastFault turn rest done state before W f
+      first_of_both : x.fault ≡ None → (f : FaultedInterleaving F) → z.fault ≡ Some f → IsLeastFault turn rest done state before W f
       first_of_both none f e = by y.fault refl
         where
-          by : (o : Option (FaultedMerge F)) → y.fault ≡ o → IsLeastFault turn rest done state before W f
+          by : (o : Option (FaultedInterleaving F)) → y.fault ≡ o → IsLeastFault turn rest done state before W f
           by None k = let l = b.first k f e in record {
             letters = l.letters;
             steps = l.steps;
@@ -156,52 +179,108 @@ module _ {S F : Type 0} (turn : S → ℕ → ℕ → StepOutcome S F) (rest : S
         | inl e ↦ elim a.reached [ inl d ↦ inl (e ∙ d) | inr p ↦ inr (further_left e p) ]
       ]
 
-  -- the same words by another name
-  pub Covered-same : (before : List ℕ) (A B : List ℕ → Type 0) (x y : Best F) → ((w : List ℕ) → A w → B w) → ((w : List ℕ) → B w → A w) → Covered turn rest done state before A x y → Covered turn rest done state before B x y
-  Covered-same before A B x y to from a = record {
-    none_true = λ w k. a.none_true w (from w k);
-    kept = a.kept;
-    none_faults = λ e w k. a.none_faults e w (from w k);
-    first = λ e f g. let l = a.first e f g in record {
-      letters = l.letters;
-      steps = l.steps;
-      member = to l.letters l.member;
-      word = l.word;
-      faults = l.faults;
-      place = l.place;
-      least = λ v p q. l.least v (from v p) q;
-    };
-    grows = a.grows;
-    bounds = λ w n k e. a.bounds w n (from w k) e;
-    reached = elim a.reached [ inl e ↦ inl e | inr p ↦ inr (further p) ];
-  }
-    where
-      further : IsFurther turn rest done state before A x.furthest y.furthest → IsFurther turn rest done state before B x.furthest y.furthest
-      further p = let l = p.least in record {
-        merge = p.merge;
-        kept = p.kept;
-        more = p.more;
-        least = record {
-          letters = l.letters;
-          steps = l.steps;
-          member = to l.letters l.member;
-          word = l.word;
-          stops = l.stops;
-          place = l.place;
-          least = λ v k q. l.least v (from v k) q;
-        };
-      }
-
   -- no words at all
-  pub Covered-none : (before : List ℕ) (W : List ℕ → Type 0) (x : Best F) → ((w : List ℕ) → W w → ⊥) → Covered turn rest done state before W x x
+  pub Covered-none : (before : List ℕ) (W : List ℕ → Type 0) (x : FirstFailures F) → ((w : List ℕ) → W w → ⊥) → Covered turn rest goal done state before W x x
   Covered-none before W x empty = record {
-    none_true = λ w k e. empty w k;
+    none_sought = λ w k e. empty w k;
     kept = λ f e. e;
     none_faults = λ e w k f. empty w k;
     first = λ e f g. let j : Some f ≡ None = sym g ∙ e in cc;
     grows = omega arith;
     bounds = λ w n k e. absurd (empty w k);
     reached = inl refl;
+  }
+
+  -- the same words by another name
+  pub Covered-same : (before : List ℕ) (A B : List ℕ → Type 0) (x y : FirstFailures F) → ((w : List ℕ) → A w → B w) → ((w : List ℕ) → B w → A w) → Covered turn rest goal done state before A x y → Covered turn rest goal done state before B x y
+  Covered-same before A B x y to from a =
+      Covered-join before A (λ w. ⊥) B x y y (λ w k. inl (from w k)) to (λ w k. absurd k) (λ v w k e. absurd e) a (Covered-none before (λ w. ⊥) y (λ w k. k))
+
+  -- a search for words that stop keeps nothing while it finds none
+  pub still-fresh : (before : List ℕ) (W : List ℕ → Type 0) (x y : FirstFailures F) → Covered turn rest goal done state before W x y → IsFresh goal x → IsFresh goal y
+  still-fresh before W x y c fresh g = no_fault y.fault refl ∙ ap (λ u. record { fault = None; furthest = u }) no_false
+    where
+      stops : (w : List ℕ) (n : ℕ) (why : StopReason F) → W w → run turn rest done state w ≡ StopsAt n why → ⊥
+      stops w n why k e = c.none_sought w k (subst (IsSought goal) (sym e) g)
+
+      no_fault : (o : Option (FaultedInterleaving F)) → y.fault ≡ o → y ≡ record { fault = None; furthest = y.furthest }
+      no_fault None k = ap (λ u. record { fault = u; furthest = y.furthest }) k
+      no_fault (Some f) k = let l = c.first (ap (λ b. b.fault) (fresh g)) f k in absurd (stops l.letters l.steps (Fault f.fault) l.member l.faults)
+
+      no_false : y.furthest ≡ None
+      no_false = elim c.reached [ inl e ↦ e ∙ ap (λ b. b.furthest) (fresh g) | inr p ↦ (let l = p.least in absurd (stops l.letters l.steps False l.member l.stops)) ]
+
+  -- the words of W all stop, for one reason and after as many true events, and the one with these letters is the least
+  module _ (W : List ℕ → Type 0) (n : ℕ) (letters : List ℕ) (member : W letters) (sorted : (v : List ℕ) → W v → IsUpTo letters v) where
+    pub stops-covered : (before : List ℕ) (why : StopReason F) (x y : FirstFailures F) → ((w : List ℕ) → W w → run turn rest done state w ≡ StopsAt n why) → (goal ≡ Stopped → ⊥)
+        → Keeps (length before + n) (before ++ letters) why x y → Covered turn rest goal done state before W x y
+    stops-covered before False x y all passed h = record {
+      none_sought = λ w k s. passed (subst (IsSought goal) (all w k) s);
+      kept = λ f g. h.0 ∙ g;
+      none_faults = λ e w k f. let r : StopsAt n False ≡ StopsAt f.0 (Fault f.1) = sym (all w k) ∙ f.2 in cc;
+      first = λ e f g. let r : Some f ≡ None = sym g ∙ h.0 ∙ e in cc;
+      grows = kept.grows;
+      bounds = λ w m k e. let r : StopsAt n False ≡ StopsAt m False = sym (all w k) ∙ e in let z : m ≡ n = cc in omega (arith, kept.bounds, z);
+      reached = elim kept.either [ inl d ↦ inl d | inr p ↦ inr (further p) ];
+    }
+      where
+        kept : IsKept (length before + n) (before ++ letters) x.furthest y.furthest
+        kept = kept_furthest (length before + n) (before ++ letters) x.furthest y.furthest h.1
+
+        further : IsNew (length before + n) (before ++ letters) x.furthest y.furthest → IsFurther turn rest done state before W x.furthest y.furthest
+        further p = record {
+          merge = p.merge;
+          kept = p.kept;
+          more = omega (arith, p.more, p.place);
+          least = record { letters = letters; steps = n; member = member; word = p.word; stops = all letters member; place = p.place; least = λ v k q. sorted v k };
+        }
+    stops-covered before (Fault fault) x y all passed h = record {
+      none_sought = λ w k s. passed (subst (IsSought goal) (all w k) s);
+      kept = λ f e. still x.fault f e h.1;
+      none_faults = λ e w k f. absurd (some_fault x.fault y.fault e h.1);
+      first = λ e f k. least f (subst (λ o. KeepsFault (length before + n) (before ++ letters) fault o (Some f)) e (subst (KeepsFault (length before + n) (before ++ letters) fault x.fault) k h.1));
+      grows = same_reach x.furthest y.furthest h.0;
+      bounds = λ w m k e. let r : StopsAt n (Fault fault) ≡ StopsAt m False = sym (all w k) ∙ e in cc;
+      reached = inl h.0;
+    }
+      where
+        still : (o : Option (FaultedInterleaving F)) (f : FaultedInterleaving F) → o ≡ Some f → KeepsFault (length before + n) (before ++ letters) fault o y.fault → y.fault ≡ Some f
+        still None f e k = cc
+        still (Some g) f e k = k ∙ e
+
+        some_fault : (o p : Option (FaultedInterleaving F)) → p ≡ None → KeepsFault (length before + n) (before ++ letters) fault o p → ⊥
+        some_fault None None e k = k
+        some_fault None (Some g) e k = cc
+        some_fault (Some g) p e k = let r : Some g ≡ None = sym k ∙ e in cc
+
+        least : (f : FaultedInterleaving F) → KeepsFault (length before + n) (before ++ letters) fault None (Some f) → IsLeastFault turn rest done state before W f
+        least f k = record {
+          letters = letters;
+          steps = n;
+          member = member;
+          word = k.1;
+          faults = all letters member ∙ ap (λ g. StopsAt n (Fault g)) (sym k.2);
+          place = k.0;
+          least = λ v p q. sorted v p;
+        }
+
+-- words that all stop are what the search is for, or are covered
+module _ {S F : Type 0} (turn : S → ℕ → ℕ → StepOutcome S F) (rest : S → Ending F) (state : S) (W : List ℕ → Type 0) (n : ℕ) (why : StopReason F) (letters : List ℕ) (member : W letters) (sorted : (v : List ℕ) → W v → IsUpTo letters v) where
+  pub stops-explored : (goal : Goal) (old new : SearchProgress F) → ((w : List ℕ) → W w → run turn rest old.done.items state w ≡ StopsAt n why) → IsFresh goal old.best
+      → new.word.items ≡ old.word.items → new.done.items ≡ old.done.items → Keeps (length old.word.items + n) (old.word.items ++ letters) why old.best new.best
+      → IsExplored turn rest goal state W old new (is_stopped goal)
+  stops-explored ToEnd old new all fresh w d h = record {
+    word = w;
+    done = d;
+    covered = stops-covered turn rest ToEnd old.done.items state W n letters member sorted old.word.items why old.best new.best all (λ e. cc) h;
+  }
+  stops-explored Stopped old new all fresh w d h = record {
+    letters = letters;
+    member = member;
+    sought = subst (IsSought Stopped) (sym (all letters member)) refl;
+    held = subst (λ e. IsHeld (length old.word.items) (old.word.items ++ letters) e new) (sym (all letters member))
+        (subst (λ b. Keeps (length old.word.items + n) (old.word.items ++ letters) why b new.best) (fresh refl) h);
+    least = λ v k s. sorted v k;
   }
 
 module _ {S F : Type 0} (turn : S → ℕ → ℕ → StepOutcome S F) (rest : S → Ending F) (lengths done : List ℕ) (state : S) (b : ℕ) (fits : b < length done) where
@@ -211,12 +290,17 @@ module _ {S F : Type 0} (turn : S → ℕ → ℕ → StepOutcome S F) (rest : S
   pub run-Stop : (why : StopReason F) → turn state b (get_or done b 0) ≡ Stop why → (w : List ℕ) → run turn rest done state (b ∷ w) ≡ StopsAt 0 why
   run-Stop why e w = ap (λ t. after t (λ s. run turn rest (one_more done b) s w)) e
 
+  -- the words behind a stop, and the run of each
+  pub run-begins : (why : StopReason F) → turn state b (get_or done b 0) ≡ Stop why → (w : List ℕ) → Begins lengths done b w → run turn rest done state w ≡ StopsAt 0 why
+  run-begins why e [] k = absurd k.0
+  run-begins why e (c ∷ w) k = ap (λ a. run turn rest done state (a ∷ w)) k.0 ∙ run-Stop why e w
+
   -- the words behind a true event
-  pub Covered-Next : (before : List ℕ) (next : S) (x y : Best F) → turn state b (get_or done b 0) ≡ Next next
-      → Covered turn rest (one_more done b) next (before ++ b ∷ []) (Completes lengths (one_more done b)) x y
-      → Covered turn rest done state before (Begins lengths done b) x y
-  Covered-Next before next x y e a = record {
-    none_true = none_true;
+  pub Covered-Next : (goal : Goal) (before : List ℕ) (next : S) (x y : FirstFailures F) → turn state b (get_or done b 0) ≡ Next next
+      → Covered turn rest goal (one_more done b) next (before ++ b ∷ []) (Completes lengths (one_more done b)) x y
+      → Covered turn rest goal done state before (Begins lengths done b) x y
+  Covered-Next goal before next x y e a = record {
+    none_sought = none_sought;
     kept = a.kept;
     none_faults = none_faults;
     first = λ d f g. let l = a.first d f g in record {
@@ -239,9 +323,9 @@ module _ {S F : Type 0} (turn : S → ℕ → ℕ → StepOutcome S F) (rest : S
       run-letter : (c : ℕ) (w : List ℕ) → c ≡ b → run turn rest done state (c ∷ w) ≡ later (run turn rest (one_more done b) next w)
       run-letter c w d = ap (λ a. run turn rest done state (a ∷ w)) d ∙ run-Next next e w
 
-      none_true : (w : List ℕ) → Begins lengths done b w → run turn rest done state w ≡ AllTrue → ⊥
-      none_true [] k f = k.0
-      none_true (c ∷ w) k f = a.none_true w (at_letter c w k.0 k.1) (later-AllTrue _ (sym (run-letter c w k.0) ∙ f))
+      none_sought : (w : List ℕ) → Begins lengths done b w → IsSought goal (run turn rest done state w) → ⊥
+      none_sought [] k f = k.0
+      none_sought (c ∷ w) k f = a.none_sought w (at_letter c w k.0 k.1) (sought-later goal _ (subst (IsSought goal) (run-letter c w k.0) f))
 
       faults_on : (c : ℕ) (w : List ℕ) → c ≡ b → FaultsOn turn rest done state (c ∷ w) → FaultsOn turn rest (one_more done b) next w
       faults_on c w d f = let k = later-StopsAt _ f.0 (Fault f.1) (sym (run-letter c w d) ∙ f.2) in (k.steps, f.1, k.ends)
@@ -287,108 +371,28 @@ module _ {S F : Type 0} (turn : S → ℕ → ℕ → StepOutcome S F) (rest : S
         };
       }
 
-  -- the words behind a stop, and the run of each
-  run-begins : (why : StopReason F) → turn state b (get_or done b 0) ≡ Stop why → (w : List ℕ) → Begins lengths done b w → run turn rest done state w ≡ StopsAt 0 why
-  run-begins why e [] k = absurd k.0
-  run-begins why e (c ∷ w) k = ap (λ a. run turn rest done state (a ∷ w)) k.0 ∙ run-Stop why e w
-
-  -- the words behind a false event, of which the one with these letters is the least
-  pub Covered-False : (before : List ℕ) (x y : Best F) → turn state b (get_or done b 0) ≡ Stop False
-      → (letters : List ℕ) → Completes lengths (one_more done b) letters → ((v : List ℕ) → Completes lengths (one_more done b) v → IsUpTo letters v)
-      → y.fault ≡ x.fault → IsKept (length before) (before ++ b ∷ letters) x.furthest y.furthest
-      → Covered turn rest done state before (Begins lengths done b) x y
-  Covered-False before x y e letters is least same h = record {
-    none_true = λ w k f. let r : StopsAt 0 False ≡ AllTrue = sym (run-begins False e w k) ∙ f in cc;
-    kept = λ f g. same ∙ g;
-    none_faults = λ n w k f. let r : StopsAt 0 False ≡ StopsAt f.0 (Fault f.1) = sym (run-begins False e w k) ∙ f.2 in cc;
-    first = λ n f g. let r : Some f ≡ None = sym g ∙ same ∙ n in cc;
-    grows = h.grows;
-    bounds = λ w n k f. let r : StopsAt 0 False ≡ StopsAt n False = sym (run-begins False e w k) ∙ f in let z : n ≡ 0 = cc in omega (arith, h.bounds, z);
-    reached = elim h.either [ inl d ↦ inl d | inr p ↦ inr (further p) ];
-  }
-    where
-      least_here : (v : List ℕ) → Begins lengths done b v → IsUpTo (b ∷ letters) v
-      least_here [] k = absurd k.0
-      least_here (c ∷ v) k = inr (sym k.0, least v (Completes-tail lengths done b fits v (subst (λ a. Completes lengths done (a ∷ v)) k.0 k.1)))
-
-      further : IsNew (length before) (before ++ b ∷ letters) x.furthest y.furthest → IsFurther turn rest done state before (Begins lengths done b) x.furthest y.furthest
-      further p = record {
-        merge = p.merge;
-        kept = p.kept;
-        more = omega (arith, p.more, p.place);
-        least = record {
-          letters = b ∷ letters;
-          steps = 0;
-          member = (refl, Completes-cons lengths done b fits letters is);
-          word = p.word;
-          stops = run-Stop False e letters;
-          place = omega (arith, p.place);
-          least = λ v k q. least_here v k;
-        };
-      }
-
-  -- the words behind a fault, where one was found before
-  pub Covered-Fault-later : (before : List ℕ) (fault : F) (x y : Best F) (g : FaultedMerge F) → turn state b (get_or done b 0) ≡ Stop (Fault fault)
-      → x.fault ≡ Some g → y.fault ≡ Some g → y.furthest ≡ x.furthest → Covered turn rest done state before (Begins lengths done b) x y
-  Covered-Fault-later before fault x y g e there now far = record {
-    none_true = λ w k f. let r : StopsAt 0 (Fault fault) ≡ AllTrue = sym (run-begins (Fault fault) e w k) ∙ f in cc;
-    kept = λ f h. now ∙ sym there ∙ h;
-    none_faults = λ n w k f. let r : Some g ≡ None = sym now ∙ n in cc;
-    first = λ n f h. let r : Some g ≡ None = sym there ∙ n in cc;
-    grows = same_reach x.furthest y.furthest far;
-    bounds = λ w n k f. let r : StopsAt 0 (Fault fault) ≡ StopsAt n False = sym (run-begins (Fault fault) e w k) ∙ f in cc;
-    reached = inl far;
-  }
-
-  -- the words behind the first fault
-  pub Covered-Fault-first : (before : List ℕ) (x y : Best F) (g : FaultedMerge F) → turn state b (get_or done b 0) ≡ Stop (Fault g.fault)
-      → (letters : List ℕ) → Completes lengths (one_more done b) letters → ((v : List ℕ) → Completes lengths (one_more done b) v → IsUpTo letters v)
-      → g.word.items ≡ before ++ b ∷ letters → g.at ≡ length before
-      → x.fault ≡ None → y.fault ≡ Some g → y.furthest ≡ x.furthest → Covered turn rest done state before (Begins lengths done b) x y
-  Covered-Fault-first before x y g e letters is least word place was now far = record {
-    none_true = λ w k f. let r : StopsAt 0 (Fault g.fault) ≡ AllTrue = sym (run-begins (Fault g.fault) e w k) ∙ f in cc;
-    kept = λ f h. let r : Some f ≡ None = sym h ∙ was in cc;
-    none_faults = λ n w k f. let r : Some g ≡ None = sym now ∙ n in cc;
-    first = λ n f h. let r : g ≡ f = (let u : Some g ≡ Some f = sym now ∙ h in cc) in subst (λ z. IsLeastFault turn rest done state before (Begins lengths done b) z) r (record {
-      letters = b ∷ letters;
-      steps = 0;
-      member = (refl, Completes-cons lengths done b fits letters is);
-      word = word;
-      faults = run-Stop (Fault g.fault) e letters;
-      place = omega arith;
-      least = least_here;
-    });
-    grows = same_reach x.furthest y.furthest far;
-    bounds = λ w n k f. let r : StopsAt 0 (Fault g.fault) ≡ StopsAt n False = sym (run-begins (Fault g.fault) e w k) ∙ f in cc;
-    reached = inl far;
-  }
-    where
-      least_here : (v : List ℕ) → Begins lengths done b v → FaultsOn turn rest done state v → IsUpTo (b ∷ letters) v
-      least_here [] k f = absurd k.0
-      least_here (c ∷ v) k f = inr (sym k.0, least v (Completes-tail lengths done b fits v (subst (λ a. Completes lengths done (a ∷ v)) k.0 k.1)))
-
-module _ {S F : Type 0} (turn : S → ℕ → ℕ → StepOutcome S F) (rest : S → Ending F) (lengths done : List ℕ) (state : S) where
+module _ {S F : Type 0} (turn : S → ℕ → ℕ → StepOutcome S F) (rest : S → Ending F) (goal : Goal) (lengths done : List ℕ) (state : S) where
   -- a branch that has no command left
-  pub Covered-full : (b : ℕ) (before : List ℕ) (x : Best F) → get_or lengths b 0 ≤ get_or done b 0 → Covered turn rest done state before (Begins lengths done b) x x
-  Covered-full b before x h = Covered-none turn rest done state before (Begins lengths done b) x none
+  pub Covered-full : (b : ℕ) (before : List ℕ) (x : FirstFailures F) → get_or lengths b 0 ≤ get_or done b 0 → Covered turn rest goal done state before (Begins lengths done b) x x
+  Covered-full b before x h = Covered-none turn rest goal done state before (Begins lengths done b) x none
     where
       none : (w : List ℕ) → Begins lengths done b w → ⊥
       none [] k = k.0
       none (c ∷ w) k = let p = Completes-head lengths done c w k.1 in let e : c ≡ b = k.0 in
           let q : get_or done b 0 < get_or lengths b 0 = subst (λ a. get_or done a 0 < get_or lengths a 0) e p in omega arith
 
-  pub Covered-start : (before : List ℕ) (x : Best F) → Covered turn rest done state before (BeginsBelow lengths done 0) x x
-  Covered-start before x = Covered-none turn rest done state before (BeginsBelow lengths done 0) x none
+  pub Covered-start : (before : List ℕ) (x : FirstFailures F) → Covered turn rest goal done state before (BeginsBelow lengths done 0) x x
+  Covered-start before x = Covered-none turn rest goal done state before (BeginsBelow lengths done 0) x none
     where
       none : (w : List ℕ) → BeginsBelow lengths done 0 w → ⊥
       none [] k = k.0
       none (c ∷ w) k = let e : c < 0 = k.0 in omega arith
 
   -- one branch more
-  pub Covered-more : (b : ℕ) (before : List ℕ) (x y z : Best F)
-      → Covered turn rest done state before (BeginsBelow lengths done b) x y → Covered turn rest done state before (Begins lengths done b) y z
-      → Covered turn rest done state before (BeginsBelow lengths done (b + 1)) x z
-  Covered-more b before x y z p q = Covered-join turn rest done state before (BeginsBelow lengths done b) (Begins lengths done b) (BeginsBelow lengths done (b + 1)) x y z split left right sorted p q
+  pub Covered-more : (b : ℕ) (before : List ℕ) (x y z : FirstFailures F)
+      → Covered turn rest goal done state before (BeginsBelow lengths done b) x y → Covered turn rest goal done state before (Begins lengths done b) y z
+      → Covered turn rest goal done state before (BeginsBelow lengths done (b + 1)) x z
+  Covered-more b before x y z p q = Covered-join turn rest goal done state before (BeginsBelow lengths done b) (Begins lengths done b) (BeginsBelow lengths done (b + 1)) x y z split left right sorted p q
     where
       split : (w : List ℕ) → BeginsBelow lengths done (b + 1) w → BeginsBelow lengths done b w ⊎ Begins lengths done b w
       split [] k = absurd k.0
@@ -408,9 +412,9 @@ module _ {S F : Type 0} (turn : S → ℕ → ℕ → StepOutcome S F) (rest : S
       sorted (a ∷ v) (c ∷ w) p q = let s : a < b = p.0 in let t : c ≡ b = q.0 in inl (omega arith)
 
   -- all branches, where some command is left
-  pub Covered-all : (b : ℕ) (before : List ℕ) (x y : Best F) (open_branch : ℕ) → get_or done open_branch 0 < get_or lengths open_branch 0 → length lengths ≤ b
-      → Covered turn rest done state before (BeginsBelow lengths done b) x y → Covered turn rest done state before (Completes lengths done) x y
-  Covered-all b before x y c left past p = Covered-same turn rest done state before (BeginsBelow lengths done b) (Completes lengths done) x y (λ w k. k.1) all p
+  pub Covered-all : (b : ℕ) (before : List ℕ) (x y : FirstFailures F) (open_branch : ℕ) → get_or done open_branch 0 < get_or lengths open_branch 0 → length lengths ≤ b
+      → Covered turn rest goal done state before (BeginsBelow lengths done b) x y → Covered turn rest goal done state before (Completes lengths done) x y
+  Covered-all b before x y c left past p = Covered-same turn rest goal done state before (BeginsBelow lengths done b) (Completes lengths done) x y (λ w k. k.1) all p
     where
       all : (w : List ℕ) → Completes lengths done w → BeginsBelow lengths done b w
       all [] k = let e = k c in absurd (omega arith)

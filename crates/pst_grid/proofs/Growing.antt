@@ -54,12 +54,6 @@ module _ {S F : Type 0} (turn : S → ℕ → ℕ → StepOutcome S F) (lengths 
           let r = ends-more lengths most p.added q.added in omega arith;
     }
 
-    -- more steps may be made than were
-    pub grown-within : (i j : ℕ) (old new : List (Position S)) (s t : ℕ) → i ≤ j → IsGrown turn lengths most i n done state old new s t
-        → IsGrown turn lengths most j n done state old new s t
-    grown-within i j old new s t h p =
-        record { added = p.added; keys = p.keys; reached = p.reached; deep = p.deep; steps = let x = p.steps in omega arith }
-
   -- behind a true event
   pub grown-behind : (done : List ℕ) (state : S) (b : ℕ) (next : S) (there : List ℕ) (old new : List (Position S)) (s t u : ℕ) → get_or done b 0 < get_or lengths b 0 → turn state b (get_or done b 0) ≡ Next next
       → there ≡ one_more done b → sum (one_more done b) ≡ sum done + 1 → t ≤ s + 1

@@ -6,10 +6,9 @@ pub mod Bounds
 pub mod Laws
 -- what the contracts within a search cite
 pub mod Completions
-pub mod Furthest
+pub mod Kept
 pub mod Covered
 pub mod Remembered
-pub mod Checked
 pub mod Hashing
 pub mod DoneCounts
 pub mod Packings

@@ -2,15 +2,16 @@
 use Rattle.std.specs.Prelude.{◌≡◌, ℕ, ◌+◌, ◌*◌, ◌<◌, ◌≤◌, List, [], ◌∷◌, ◌++◌, ◌⊎◌, length, sum, None, Bool, MatchBool, bytes_eq, if◌then◌else◌}
 use Rattle.pst_grid.specs.declared.answer.StopReason.TheVariants.{False}
 use Rattle.pst_grid.specs.declared.answer.Ending.{Ending}
-use Rattle.pst_grid.specs.declared.answer.Ending.TheVariants.{AllTrue, StopsAt}
+use Rattle.pst_grid.specs.declared.answer.Ending.TheVariants.{StopsAt}
 use Rattle.pst_grid.specs.declared.answer.StepOutcome.{StepOutcome}
-use Rattle.pst_grid.specs.declared.search.Best.{Best}
+use Rattle.pst_grid.specs.declared.search.FirstFailures.{FirstFailures}
+use Rattle.pst_grid.specs.declared.search.Goal.{Goal}
 use Rattle.pst_grid.specs.declared.search.SearchProgress.{SearchProgress}
 use Rattle.pst_grid.specs.declared.position.Position.{Position}
 use Rattle.pst_grid.specs.Bounds.{Each, Leads}
 use Rattle.pst_grid.specs.Completions.{Completes}
-use Rattle.pst_grid.specs.Covered.{FaultsOn, IsLeastTrue, HasCovered}
-use Rattle.pst_grid.specs.Furthest.{reach}
+use Rattle.pst_grid.specs.Covered.{FaultsOn, IsLeastSought, HasCovered}
+use Rattle.pst_grid.specs.Kept.{reach, IsSought}
 use Rattle.pst_grid.specs.Merges.{run}
 
 -- a fact of each position at which so many commands are done
@@ -22,10 +23,11 @@ abbrev pub IsRemembered : {S : Type 0} → List ℕ → S → List (Position S) 
 IsRemembered done s [] = ⊥
 IsRemembered done s (k ∷ ks) = ((k.done ≡ done) × (k.state ≡ s)) ⊎ IsRemembered done s ks
 
-module _ {S F : Type 0} (turn : S → ℕ → ℕ → StepOutcome S F) (rest : S → Ending F) (lengths : List ℕ) where
+module _ {S F : Type 0} (turn : S → ℕ → ℕ → StepOutcome S F) (rest : S → Ending F)
+    (goal : Goal) (lengths : List ℕ) where
   -- all that the words behind this place and state could give is in what the search has seen
-  pub record IsAccounted (best : Best F) (done : List ℕ) (s : S) : Type 0 where
-    pub none_true : (w : List ℕ) → Completes lengths done w → run turn rest done s w ≡ AllTrue → ⊥
+  pub record IsAccounted (best : FirstFailures F) (done : List ℕ) (s : S) : Type 0 where
+    pub none_sought : (w : List ℕ) → Completes lengths done w → IsSought goal (run turn rest done s w) → ⊥
     pub none_faults :
         best.fault ≡ None → (w : List ℕ) → Completes lengths done w → FaultsOn turn rest done s w → ⊥
     pub bounds : (w : List ℕ) (n : ℕ) →
@@ -33,22 +35,22 @@ module _ {S F : Type 0} (turn : S → ℕ → ℕ → StepOutcome S F) (rest : S
         → sum done + n < reach best.furthest
 
   -- so it is with each position at which so many commands are done
-  abbrev pub AreAccounted : ℕ → Best F → List (Position S) → Type 0
+  abbrev pub AreAccounted : ℕ → FirstFailures F → List (Position S) → Type 0
   AreAccounted depth best keys = EachFrom depth (λ k. IsAccounted best k.done k.state) keys
 
   -- The search has covered the words of W, and the remembered positions where so many commands are done are
   -- accounted for. A position is remembered before the words behind it are searched.
   pub record HasCoveredAll (depth : ℕ) (s : S) (W : List ℕ → Type 0) (old new : SearchProgress F)
       (keys : List (Position S)) : Type 0 where
-    pub covered : HasCovered turn rest s W old new
+    pub covered : HasCovered turn rest goal s W old new
     pub accounted : AreAccounted depth new.best keys
 
-  -- where one was found, the search's word is the least of W that is all true; else it has covered W
-  abbrev pub IsSearched :
+  -- where one was found, it is the least of W that the search is for; else the search has covered W
+  abbrev pub IsFoundOrCovered :
       ℕ → (s : S) (W : List ℕ → Type 0) → SearchProgress F → SearchProgress F → List (Position S) → Bool → Type 0
-  IsSearched depth s W old new keys found =
+  IsFoundOrCovered depth s W old new keys found =
       MatchBool found
-      (IsLeastTrue turn rest s old.done.items old.word.items W new.word.items)
+      (IsLeastSought turn rest goal old.done.items s old.word.items W new)
       (HasCoveredAll depth s W old new keys)
 
 -- the states of those positions at which all branches have ended
@@ -73,3 +75,11 @@ module _ {S F : Type 0} (turn : S → ℕ → ℕ → StepOutcome S F) (lengths 
     pub deep : Each (λ k. depth ≤ sum k.done) added
     pub steps :
         now ≤ before + extra + length lengths * length added + most_rest * length (ends_of lengths added)
+
+module _ {S F : Type 0} (turn : S → ℕ → ℕ → StepOutcome S F) (rest : S → Ending F)
+    (goal : Goal) (lengths : List ℕ) (most_rest : ℕ) where
+  -- what a search of the words of W has found or covered, and what it has remembered on the way
+  pub record IsSearched (extra depth : ℕ) (s : S) (W : List ℕ → Type 0) (old new : SearchProgress F)
+      (before now : List (Position S)) (found : Bool) : Type 0 where
+    pub grown : IsGrown turn lengths most_rest extra depth old.done.items s before now old.steps new.steps
+    pub ends : IsFoundOrCovered turn rest goal lengths depth s W old new now found

@@ -1,38 +1,40 @@
 //! The rest of a run, after all branches have ended.
-ghost use Rattle.std.specs.Prelude.{◌≡◌, ◌+◌, ◌^◌, ◌<◌, ◌≤◌, ℕ, length, IfOk, OnOk, MatchBool};
-ghost use Rattle.pst_grid.specs.Covered.{IsEmpty, IsExplored};
+ghost use Rattle.std.specs.Prelude.{◌≡◌, ◌+◌, ◌^◌, ◌<◌, ◌≤◌, ℕ, length, slice_index, IfOk, OnOk};
+ghost use Rattle.pst_grid.specs.Completions.{IsAt, Completes};
+ghost use Rattle.pst_grid.specs.Covered.{IsExplored};
+ghost use Rattle.pst_grid.specs.Kept.{IsFresh};
 
-use crate::search::SearchProgress;
-use crate::{Ending, Steps, StopReason};
+use crate::search::{Goal, SearchProgress};
+use crate::{Ending, Steps};
 use std::alloc::{AllocError, Global};
 
-/// Runs the rest after the word, which is a whole interleaving, and returns whether it is true to its end. If it is
-/// not, the search notes where it stops.
-pub(crate) fn finish<S: Steps>(
+/// Runs the rest after the word, which is a whole interleaving, and returns whether the search is for it. If it is not
+/// true to its end, the search notes where it stops.
+pub(crate) fn run_to_end<S: Steps>(
     alloc: Global,
     steps: &S,
+    lengths: &[usize],
+    goal: Goal,
     search: &mut SearchProgress<S::Fault>,
     state: &S::State,
 ) -> Result<bool, AllocError>
+    requires place { IsAt lengths.now search.old.done.items }
+    requires ended { (b : ℕ) → slice_index lengths.now b ≤ slice_index search.old.done.items b }
     requires state { S.is_state steps.now state.now }
     requires room { length search.old.word.items + S.most_rest steps.now < 2 ^ 64 }
+    requires fresh { IsFresh goal search.old.best }
     ensures steps { OnOk result (search.new.steps ≤ search.old.steps + S.most_rest steps.now) }
-    ensures explored { IfOk result
-        (IsExplored (S.outcome steps.now) (S.rest steps.now) state.now IsEmpty search.old search.new) }
+    ensures explored { IfOk result (IsExplored (S.outcome steps.now) (S.rest steps.now) goal state.now
+        (Completes lengths.now search.old.done.items) search.old search.new) }
 {
     let (ending, made) = steps.run_rest(alloc, state)?;
     search.steps = search.steps.saturating_add(made);
     match ending {
-        Ending::AllTrue => Ok(true),
-        Ending::StopsAt(at, StopReason::False) => {
+        Ending::AllTrue => Ok(!goal.is_stopped()),
+        Ending::StopsAt(at, why) => {
             let at = search.word.len() + at;
-            search.note_false_word(alloc, at)?;
-            Ok(false)
-        }
-        Ending::StopsAt(at, StopReason::Fault(fault)) => {
-            let at = search.word.len() + at;
-            search.note_faulted_word(alloc, at, fault)?;
-            Ok(false)
+            search.note(alloc, lengths, at, why)?;
+            Ok(goal.is_stopped())
         }
     }
 }

@@ -20,19 +20,17 @@
 
 mod answer;
 mod done_counts;
-mod every_search;
 mod finish;
 mod hasher;
 mod laws;
 mod plain_search;
 mod position;
+mod remembering_search;
 mod search;
-mod some_search;
 mod steps;
 
 pub use answer::{Ending, EveryAnswer, SomeAnswer, StepOutcome, StopReason};
-pub use every_search::every;
 pub use laws::{few_steps_in_one_state, run_is_alone, true_by_events};
 pub use plain_search::some_plainly;
-pub use some_search::some;
+pub use remembering_search::{every, some};
 pub use steps::Steps;

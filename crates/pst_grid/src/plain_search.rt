@@ -4,10 +4,11 @@ ghost use Rattle.pst_grid.specs.Answers.{IsAnswer};
 ghost use Rattle.pst_grid.specs.Completions.{IsAt, Completes, Begins};
 ghost use Rattle.pst_grid.specs.Covered.{IsExplored};
 ghost use Rattle.pst_grid.specs.StepOutcomes.{AreCommands};
+ghost use Rattle.pst_grid.specs.declared.search.Goal.TheVariants.{ToEnd};
 
-use crate::finish::finish;
-use crate::search::{SearchProgress, is_done};
-use crate::{SomeAnswer, StepOutcome, Steps, StopReason};
+use crate::finish::run_to_end;
+use crate::search::{Goal, SearchProgress, is_done};
+use crate::{SomeAnswer, StepOutcome, Steps};
 use std::alloc::{AllocError, Global};
 
 /// Searches the completions of the word, and returns whether one is true to its end. The word is then that one.
@@ -23,11 +24,11 @@ fn explore<S: Steps>(
     requires state { S.is_state steps.now state.now }
     requires commands { AreCommands (S.is_command steps.now) lengths.now }
     requires room { S.most_rest steps.now < 2 ^ 32 }
-    ensures { IfOk result (IsExplored (S.outcome steps.now) (S.rest steps.now) state.now
+    ensures { IfOk result (IsExplored (S.outcome steps.now) (S.rest steps.now) ToEnd state.now
         (Completes lengths.now search.old.done.items) search.old search.new) }
 {
     if is_done(lengths, &search.done) {
-        return finish(alloc, steps, search, state);
+        return run_to_end(alloc, steps, lengths, Goal::ToEnd, search, state);
     }
     for branch in 0..lengths.len() {
         if visit(alloc, steps, lengths, search, state, branch)? {
@@ -52,7 +53,7 @@ fn visit<S: Steps>(
     requires commands { AreCommands (S.is_command steps.now) lengths.now }
     requires room { S.most_rest steps.now < 2 ^ 32 }
     requires branch { branch < length lengths.now }
-    ensures { IfOk result (IsExplored (S.outcome steps.now) (S.rest steps.now) state.now
+    ensures { IfOk result (IsExplored (S.outcome steps.now) (S.rest steps.now) ToEnd state.now
         (Begins lengths.now search.old.done.items branch) search.old search.new) }
 {
     let index = search.done[branch];
@@ -69,12 +70,8 @@ fn visit<S: Steps>(
             search.leave(branch);
             Ok(false)
         }
-        StepOutcome::Stop(StopReason::False) => {
-            search.note_false(alloc, lengths, branch)?;
-            Ok(false)
-        }
-        StepOutcome::Stop(StopReason::Fault(fault)) => {
-            search.note_fault(alloc, lengths, branch, fault)?;
+        StepOutcome::Stop(why) => {
+            search.note_next(alloc, lengths, branch, why)?;
             Ok(false)
         }
     }

@@ -1,16 +1,39 @@
 //! The position of a search and what it has seen, for each of the searches.
-ghost use Rattle.std.specs.Prelude.{◌≡◌, ◌+◌, ◌-◌, ◌*◌, ◌^◌, ◌++◌, ◌∷◌, [], ◌<◌, ◌≤◌, ℕ, length, take, sum, slice_index, slice_set, IfOk, OnOk, MatchBool, MatchOption, Some, None};
+ghost use Rattle.std.specs.Prelude.{◌≡◌, ◌+◌, ◌-◌, ◌*◌, ◌++◌, ◌∷◌, [], ◌<◌, ◌≤◌, ℕ, length, take, sum, slice_index, slice_set, IfOk, OnOk, MatchBool, MatchOption};
 ghost use Rattle.pst_grid.specs.Completions.{IsAt, fill_from};
-ghost use Rattle.pst_grid.specs.Furthest as spec;
-ghost use Rattle.pst_grid.specs.Furthest.{HasEnd, KeepsFurthest};
+ghost use Rattle.pst_grid.specs.Kept as spec;
+ghost use Rattle.pst_grid.specs.Kept.{HasEnd, Keeps, nothing_kept};
 ghost use Rattle.pst_grid.specs.Merges.{one_more, none_done};
+ghost use Rattle.pst_grid.specs.declared.answer.StopReason.TheVariants as stop;
 
-use crate::SomeAnswer;
+use crate::{EveryAnswer, SomeAnswer, StopReason};
 use std::alloc::{AllocError, Global};
+
+/// What a search is for. The first interleaving of this kind ends it.
+#[derive(Clone, Copy, Drop)]
+pub(crate) enum Goal {
+    /// An interleaving that is true to its end.
+    ToEnd,
+    /// An interleaving that is not true to its end.
+    Stopped,
+}
+
+impl Goal {
+    /// Whether an interleaving that stops is of this kind. If not, one that is true to its end is.
+    #[inline(always)]
+    pub(crate) fn is_stopped(self) -> bool
+        ensures { result ≡ spec.is_stopped self }
+    {
+        match self {
+            Goal::ToEnd => false,
+            Goal::Stopped => true,
+        }
+    }
+}
 
 /// An interleaving whose run faults, after `at` true events.
 #[derive(Drop)]
-pub(crate) struct FaultedMerge<F> {
+pub(crate) struct FaultedInterleaving<F> {
     pub word: Vec<usize>,
     pub at: usize,
     pub fault: F,
@@ -18,16 +41,16 @@ pub(crate) struct FaultedMerge<F> {
 
 /// An interleaving whose run stops at a false event, after `at` true events.
 #[derive(Drop)]
-pub(crate) struct FalseMerge {
+pub(crate) struct FalseInterleaving {
     pub word: Vec<usize>,
     pub at: usize,
 }
 
 /// The first faulting interleaving so far, and the first of those so far with the most true events before a false one.
 #[derive(Drop)]
-pub(crate) struct Best<F> {
-    pub fault: Option<FaultedMerge<F>>,
-    pub furthest: Option<FalseMerge>,
+pub(crate) struct FirstFailures<F> {
+    pub fault: Option<FaultedInterleaving<F>>,
+    pub furthest: Option<FalseInterleaving>,
 }
 
 /// The position of a search, and what it has seen.
@@ -36,7 +59,7 @@ pub(crate) struct SearchProgress<F> {
     // How many commands of each branch are done, and the letters that led there.
     pub done: Vec<usize>,
     pub word: Vec<usize>,
-    pub best: Best<F>,
+    pub best: FirstFailures<F>,
     // How many steps were made.
     pub steps: usize,
 }
@@ -48,14 +71,13 @@ impl<F: Drop> SearchProgress<F> {
         ensures place { IfOk result (λ s. IsAt lengths.now s.done.items) }
         ensures depth { IfOk result (λ s. sum s.done.items ≡ length s.word.items) }
         ensures word { IfOk result (λ s. s.word.items ≡ []) }
-        ensures fault { IfOk result (λ s. s.best.fault ≡ None) }
-        ensures furthest { IfOk result (λ s. s.best.furthest ≡ None) }
+        ensures best { IfOk result (λ s. s.best ≡ nothing_kept) }
         ensures steps { IfOk result (λ s. s.steps ≡ 0) }
     {
         Ok(SearchProgress {
             done: vec![in alloc; 0; lengths.len()]?,
             word: Vec::new(alloc),
-            best: Best {
+            best: FirstFailures {
                 fault: None,
                 furthest: None,
             },
@@ -101,130 +123,85 @@ impl<F: Drop> SearchProgress<F> {
         self.done[branch] -= 1;
     }
 
-    /// Notes that the next command of `branch` is false after the word, if this is further than each interleaving so
-    /// far.
-    pub(crate) fn note_false(
+    /// Notes that the first interleaving that begins with the word stops after `at` true events. A fault is kept if it is
+    /// the first, and a false event if it is further than each so far.
+    pub(crate) fn note(
+        &mut self,
+        alloc: Global,
+        lengths: &[usize],
+        at: usize,
+        why: StopReason<F>,
+    ) -> Result<(), AllocError>
+        requires branches { length self.old.done.items ≡ length lengths.now }
+        ensures done { OnOk result (self.new.done.items ≡ self.old.done.items) }
+        ensures word { OnOk result (self.new.word.items ≡ self.old.word.items) }
+        ensures steps { self.new.steps ≡ self.old.steps }
+        ensures best { OnOk result
+            (Keeps at (self.old.word.items ++ fill_from 0 lengths.now self.old.done.items) why
+            self.old.best self.new.best) }
+    {
+        match why {
+            StopReason::False => {
+                if is_further(at, &self.best.furthest) {
+                    let word = self.first_interleaving(alloc, lengths)?;
+                    self.best.furthest = Some(FalseInterleaving { word, at });
+                }
+            }
+            StopReason::Fault(fault) => {
+                if self.best.fault.is_none() {
+                    let word = self.first_interleaving(alloc, lengths)?;
+                    self.best.fault = Some(FaultedInterleaving { word, at, fault });
+                }
+            }
+        }
+        Ok(())
+    }
+
+    /// Notes that the next command of `branch` stops the run after the word.
+    pub(crate) fn note_next(
         &mut self,
         alloc: Global,
         lengths: &[usize],
         branch: usize,
+        why: StopReason<F>,
     ) -> Result<(), AllocError>
-        requires branches { length self.old.done.items ≡ length lengths.now }
-        requires branch { branch < length self.old.done.items }
-        requires room { slice_index self.old.done.items branch + 1 < 2 ^ 64 }
+        requires place { IsAt lengths.now self.old.done.items }
+        requires left { slice_index self.old.done.items branch < slice_index lengths.now branch }
         ensures done { OnOk result (self.new.done.items ≡ self.old.done.items) }
         ensures word { OnOk result (self.new.word.items ≡ self.old.word.items) }
-        ensures fault { OnOk result (self.new.best.fault ≡ self.old.best.fault) }
-        ensures steps { self.new.steps ≡ self.old.steps }
-        ensures furthest { OnOk result (KeepsFurthest (length self.old.word.items)
-            (self.old.word.items ++ branch ∷ fill_from 0 lengths.now (one_more self.old.done.items branch))
-            self.old.best.furthest self.new.best.furthest) }
+        ensures steps { OnOk result (self.new.steps ≡ self.old.steps) }
+        ensures best { OnOk result (Keeps (length self.old.word.items)
+            ((self.old.word.items ++ branch ∷ []) ++ fill_from 0 lengths.now (one_more self.old.done.items branch))
+            why self.old.best self.new.best) }
     {
         let at = self.word.len();
-        if is_further(at, &self.best.furthest) {
-            let word = self.least_merge(alloc, lengths, branch)?;
-            self.best.furthest = Some(FalseMerge { word, at });
+        let kept = self.keeps(at, &why);
+        if !kept {
+            return Ok(());
         }
+        self.enter(lengths, branch)?;
+        self.note(alloc, lengths, at, why)?;
+        self.leave(branch);
         Ok(())
     }
 
-    /// Notes that the word, which is a whole interleaving, stops at a false event after `at` true ones, if this is
-    /// further than each interleaving so far.
-    pub(crate) fn note_false_word(&mut self, alloc: Global, at: usize) -> Result<(), AllocError>
-        ensures done { OnOk result (self.new.done.items ≡ self.old.done.items) }
-        ensures word { OnOk result (self.new.word.items ≡ self.old.word.items) }
-        ensures fault { OnOk result (self.new.best.fault ≡ self.old.best.fault) }
-        ensures steps { self.new.steps ≡ self.old.steps }
-        ensures furthest { OnOk result
-            (KeepsFurthest at self.old.word.items self.old.best.furthest self.new.best.furthest) }
+    /// Whether the search keeps an interleaving that stops for this reason after `at` true events.
+    fn keeps(&self, at: usize, why: &StopReason<F>) -> bool
+        ensures { result ≡ spec.is_kept at why.now self.now.best }
     {
-        if is_further(at, &self.best.furthest) {
-            let word = self.word.to_vec(alloc)?;
-            self.best.furthest = Some(FalseMerge { word, at });
+        match why {
+            StopReason::False => is_further(at, &self.best.furthest),
+            StopReason::Fault(_) => self.best.fault.is_none(),
         }
-        Ok(())
     }
 
-    /// Notes that the next command of `branch` faults after the word, if it is the first fault.
-    pub(crate) fn note_fault(
-        &mut self,
-        alloc: Global,
-        lengths: &[usize],
-        branch: usize,
-        fault: F,
-    ) -> Result<(), AllocError>
-        requires branches { length self.old.done.items ≡ length lengths.now }
-        requires branch { branch < length self.old.done.items }
-        requires room { slice_index self.old.done.items branch + 1 < 2 ^ 64 }
-        ensures done { OnOk result (self.new.done.items ≡ self.old.done.items) }
-        ensures word { OnOk result (self.new.word.items ≡ self.old.word.items) }
-        ensures furthest { OnOk result (self.new.best.furthest ≡ self.old.best.furthest) }
-        ensures steps { self.new.steps ≡ self.old.steps }
-        ensures later { OnOk result (MatchOption self.old.best.fault (Unit {0})
-            (λ g. self.new.best.fault ≡ Some g)) }
-        ensures first { OnOk result (MatchOption self.old.best.fault
-            (MatchOption self.new.best.fault ⊥
-            (λ g. (g.fault ≡ fault) × (g.at ≡ length self.old.word.items)
-            × (g.word.items ≡ self.old.word.items
-            ++ branch ∷ fill_from 0 lengths.now (one_more self.old.done.items branch))))
-            (λ _. Unit {0})) }
+    /// The first interleaving that begins with the word.
+    fn first_interleaving(&self, alloc: Global, lengths: &[usize]) -> Result<Vec<usize>, AllocError>
+        requires { length self.now.done.items ≡ length lengths.now }
+        ensures { IfOk result
+            (λ v. v.items ≡ self.now.word.items ++ fill_from 0 lengths.now self.now.done.items) }
     {
-        if self.best.fault.is_none() {
-            self.best.fault = Some(FaultedMerge {
-                word: self.least_merge(alloc, lengths, branch)?,
-                at: self.word.len(),
-                fault,
-            });
-        }
-        Ok(())
-    }
-
-    /// Notes that the word, which is a whole interleaving, faults after `at` true events, if it is the first fault.
-    pub(crate) fn note_faulted_word(
-        &mut self,
-        alloc: Global,
-        at: usize,
-        fault: F,
-    ) -> Result<(), AllocError>
-        ensures done { OnOk result (self.new.done.items ≡ self.old.done.items) }
-        ensures word { OnOk result (self.new.word.items ≡ self.old.word.items) }
-        ensures furthest { OnOk result (self.new.best.furthest ≡ self.old.best.furthest) }
-        ensures steps { self.new.steps ≡ self.old.steps }
-        ensures later { OnOk result (MatchOption self.old.best.fault (Unit {0})
-            (λ g. self.new.best.fault ≡ Some g)) }
-        ensures first { OnOk result (MatchOption self.old.best.fault
-            (MatchOption self.new.best.fault ⊥
-            (λ g. (g.fault ≡ fault) × (g.at ≡ at) × (g.word.items ≡ self.old.word.items)))
-            (λ _. Unit {0})) }
-    {
-        if self.best.fault.is_none() {
-            self.best.fault = Some(FaultedMerge {
-                word: self.word.to_vec(alloc)?,
-                at,
-                fault,
-            });
-        }
-        Ok(())
-    }
-
-    /// The first interleaving that begins with the word and then the next command of `branch`.
-    pub(crate) fn least_merge(
-        &self,
-        alloc: Global,
-        lengths: &[usize],
-        branch: usize,
-    ) -> Result<Vec<usize>, AllocError>
-        requires branches { length self.now.done.items ≡ length lengths.now }
-        requires branch { branch < length self.now.done.items }
-        requires room { slice_index self.now.done.items branch + 1 < 2 ^ 64 }
-        ensures { IfOk result (λ v. v.items
-            ≡ self.now.word.items ++ branch ∷ fill_from 0 lengths.now (one_more self.now.done.items branch)) }
-    {
-        let mut word = self.word.to_vec(alloc)?;
-        word.push(branch)?;
-        let mut done = self.done.to_vec(alloc)?;
-        done[branch] += 1;
-        complete(lengths, &done, word)
+        complete(lengths, &self.done, self.word.to_vec(alloc)?)
     }
 
     /// The answer of the finished search. If `found`, the word is an interleaving that is true to its end.
@@ -239,7 +216,7 @@ impl<F: Drop> SearchProgress<F> {
         if found {
             return SomeAnswer::Found { word };
         }
-        let Best { fault, furthest } = best;
+        let FirstFailures { fault, furthest } = best;
         match fault {
             Some(faulted) => SomeAnswer::Faulted {
                 word: faulted.word,
@@ -249,21 +226,44 @@ impl<F: Drop> SearchProgress<F> {
             None => furthest_answer(furthest),
         }
     }
+
+    /// The answer of a finished search for an interleaving that is not true to its end: the one that is kept, if there
+    /// is one.
+    pub(crate) fn into_every_answer(self) -> EveryAnswer<F>
+        ensures { MatchOption self.best.fault
+            (MatchOption self.best.furthest (result ≡ EveryAnswer.All)
+            (λ x. result ≡ EveryAnswer.Not x.word x.at stop.False))
+            (λ f. result ≡ EveryAnswer.Not f.word f.at (stop.Fault f.fault)) }
+    {
+        match (self.best.fault, self.best.furthest) {
+            (Some(FaultedInterleaving { word, at, fault }), _) => EveryAnswer::Not {
+                word,
+                at,
+                why: StopReason::Fault(fault),
+            },
+            (None, Some(FalseInterleaving { word, at })) => EveryAnswer::Not {
+                word,
+                at,
+                why: StopReason::False,
+            },
+            (None, None) => EveryAnswer::All,
+        }
+    }
 }
 
 /// The answer of a search in which no interleaving is true to its end and none faults.
-fn furthest_answer<F: Drop>(furthest: Option<FalseMerge>) -> SomeAnswer<F>
+fn furthest_answer<F: Drop>(furthest: Option<FalseInterleaving>) -> SomeAnswer<F>
     requires { MatchOption furthest ⊥ (λ _. Unit {0}) }
     ensures { MatchOption furthest ⊥ (λ x. result ≡ SomeAnswer.Nothing x.at x.word) }
 {
     match furthest {
-        Some(FalseMerge { word, at }) => SomeAnswer::Nothing { far: at, word },
+        Some(FalseInterleaving { word, at }) => SomeAnswer::Nothing { far: at, word },
         None => unreachable!(),
     }
 }
 
 /// Whether `at` true events are more than those of the furthest interleaving so far.
-fn is_further(at: usize, furthest: &Option<FalseMerge>) -> bool
+fn is_further(at: usize, furthest: &Option<FalseInterleaving>) -> bool
     ensures { result ≡ spec.is_further at furthest.now }
 {
     match furthest {

@@ -5,7 +5,7 @@ use crate::writing::{put_bytes, put_number_member};
 use json::Writer;
 use pst_case::Reply;
 use pst_model::Source;
-use pst_scene::{Call, Scene, operation};
+use pst_scene::{Call, Scene, operation_of_call};
 use std::alloc::{AllocError, Global};
 
 /// Writes the place of a call, as `L2`.
@@ -51,7 +51,7 @@ fn put_operation(
     call: &Call<'_>,
 ) -> Result<(), AllocError> {
     writer.key("op")?;
-    match operation(scene, call) {
+    match operation_of_call(scene, call) {
         Some(operation) => writer.string(operation.name.as_str()),
         None => writer.null(),
     }

@@ -2,7 +2,7 @@
 
 use crate::writing::{put_expression, put_expression_member, put_text_member, put_type};
 use json::Writer;
-use pst_model::{Fun, Item, Op, Param, Source, opening_of, state_of};
+use pst_model::{Fun, Item, Op, Param, Source, initial_state_of, state_of};
 use std::alloc::{AllocError, Global};
 
 /// Writes the member `params`: the parameters with their types.
@@ -84,7 +84,7 @@ pub fn put_model(
         writer.key("state")?;
         put_type(writer, alloc, ty)?;
     }
-    if let Some(expr) = opening_of(items) {
+    if let Some(expr) = initial_state_of(items) {
         writer.key("init")?;
         put_expression(writer, alloc, expr)?;
     }

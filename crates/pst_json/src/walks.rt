@@ -65,7 +65,7 @@ fn kind_of(reason: &Reason<'_>) -> &'static str {
 }
 
 /// Writes the member `next`: the calls that cannot come next.
-fn put_next(
+fn put_blocked_calls(
     writer: &mut Writer<Global>,
     alloc: Global,
     model: &Source,
@@ -100,6 +100,6 @@ pub fn put_walk(
         put_step(writer, alloc, model, step)?;
     }
     writer.end_array()?;
-    put_next(writer, alloc, model, walk.stopped.as_slice())?;
+    put_blocked_calls(writer, alloc, model, walk.stopped.as_slice())?;
     writer.end_object()
 }

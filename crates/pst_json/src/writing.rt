@@ -6,7 +6,7 @@ use crate::ascii::escape_non_ascii;
 use json::Writer;
 use pst_model::Expr;
 use pst_print::ty_form;
-use pst_scene::{add_form, cut, expression_text};
+use pst_scene::{add_form, cut_in_middle, expression_text};
 use pst_value::Ty;
 use std::alloc::{AllocError, Global};
 
@@ -50,7 +50,7 @@ pub fn put_spelling(
     alloc: Global,
     spelling: &[u8],
 ) -> Result<(), AllocError> {
-    let text = cut(alloc, spelling, MOST_BYTES)?;
+    let text = cut_in_middle(alloc, spelling, MOST_BYTES)?;
     put_bytes(writer, alloc, text.as_slice())
 }
 

@@ -5,7 +5,7 @@ use Rattle.json.specs.Find.{get}
 use Rattle.json.specs.Json.{Json, null, string, array, object, Items, no_items, item, Members, no_members, member}
 use Rattle.pst_json_runs.specs.Spelled.{if_spelled}
 use Rattle.pst_json_runs.specs.Reading.{value_in, size, count as length_of}
-use Rattle.pst_model.specs.Parts.{number_of, operation_of}
+use Rattle.pst_model.specs.Parts.{operation_number, operation_of}
 use Rattle.pst_model.specs.declared.model.Op.{Op}
 use Rattle.pst_model.specs.declared.model.Param.{Param}
 use Rattle.pst_model.specs.declared.model.Source.{Source}
@@ -44,7 +44,7 @@ tree_or other (Some v) = if_spelled (value_form v) other
 -- ---- commands
 
 abbrev pub operation_named : Source → List ℕ → Option Op
-operation_named m name = option_and_then (operation_of m.items) (number_of m.items name)
+operation_named m name = option_and_then (operation_of m.items) (operation_number m.items name)
 
 abbrev pub parameters_of : Option Op → List Param
 parameters_of None = []

@@ -6,7 +6,7 @@ ghost use Rattle.pst_json_runs.specs.Trees as spec;
 use crate::reading::value_in;
 use crate::spelled::if_spelled;
 use json::Value as Json;
-use pst_model::{Op, Param, Source, number_of, operation_of};
+use pst_model::{Op, Param, Source, operation_number, operation_of};
 use pst_runs::value_form;
 use pst_sexpr::{Form, word};
 use pst_value::{Items, Text, Ty, Value};
@@ -44,7 +44,7 @@ pub fn tree_or(alloc: Global, other: Form, value: Option<Value>) -> Result<Form,
 pub fn operation_named<'a>(model: &'a Source, name: &str) -> Option<&'a Op>
     ensures { option_copied result ≡ spec.operation_named model.now name.now }
 {
-    let number = number_of(model.items.as_slice(), name.as_bytes())?;
+    let number = operation_number(model.items.as_slice(), name.as_bytes())?;
     operation_of(model.items.as_slice(), number)
 }
 

@@ -70,7 +70,7 @@ fn are_lists(json: Option<&Json<'_>>) -> bool
     }
 }
 
-fn count(json: Option<&Json<'_>>) -> usize
+fn count_parts(json: Option<&Json<'_>>) -> usize
     ensures { result ≡ spec.count (shown json.entry) }
 {
     match json {
@@ -80,13 +80,13 @@ fn count(json: Option<&Json<'_>>) -> usize
 }
 
 /// How many of the parts of an item are there.
-fn named(json: &Json<'_>) -> usize
+fn count_item_parts(json: &Json<'_>) -> usize
     ensures { result ≡ spec.named (value_view json.now) }
 {
-    count(json.get("prefix"))
-        + count(json.get("branches"))
-        + count(json.get("suffix"))
-        + count(json.get("replies"))
+    count_parts(json.get("prefix"))
+        + count_parts(json.get("branches"))
+        + count_parts(json.get("suffix"))
+        + count_parts(json.get("replies"))
 }
 
 #[tactic(auto, using(crate::proofs::Views::views))]
@@ -103,7 +103,7 @@ fn size_of(json: &Json<'_>) -> usize
 fn is_item(json: &Json<'_>) -> bool
     ensures { result ≡ spec.is_item (value_view json.now) }
 {
-    size_of(json) == named(json)
+    size_of(json) == count_item_parts(json)
         && is_part(json.get("prefix"))
         && are_branches(json.get("branches"))
         && is_part(json.get("suffix"))

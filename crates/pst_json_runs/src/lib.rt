@@ -18,5 +18,5 @@ mod writing;
 pub use items::item_form;
 pub use lines::{has_json, json_tree, trees_text};
 pub use reading::value_in;
-pub use write::{json_line, spells_tree};
+pub use write::{json_line, json_reads_back};
 pub use writing::{put_items, put_value};

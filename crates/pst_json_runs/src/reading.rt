@@ -18,7 +18,7 @@ fn text_of(alloc: Global, text: &str) -> Result<Text, AllocError>
 }
 
 /// The key of a type that a name spells, or else the name itself.
-fn key_in(alloc: Global, kind: KeyTy, name: &str) -> Result<Key, AllocError>
+fn key_or_text(alloc: Global, kind: KeyTy, name: &str) -> Result<Key, AllocError>
     ensures { IfOk result (λ key. key ≡ spec.key_in kind name.now) }
 {
     let name = text_of(alloc, name)?;
@@ -237,7 +237,7 @@ fn map_in(
         let Some(value) = value_in(alloc, ty, json)? else {
             return Ok(None);
         };
-        let key = key_in(alloc, kind, name)?;
+        let key = key_or_text(alloc, kind, name)?;
         let place = place_of(&key, keys.as_slice());
         keys.insert(place, key)?;
         values.insert(place, value)?;

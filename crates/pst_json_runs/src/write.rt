@@ -232,7 +232,7 @@ fn put_item(
 
 /// The JSON of a run spells its tree, so it is read back as an equal run. This only learns what the types of the model and of
 /// the case keep.
-pub fn spells_tree(typed: &Typed, run: &Run)
+pub fn json_reads_back(typed: &Typed, run: &Run)
     requires { IsLawful typed.now run.now }
     ensures { item_form typed.now (spec.run_json typed.now run.now) ≡ trees.run_form typed.now run.now }
 {
@@ -251,7 +251,7 @@ pub fn json_line(alloc: Global, typed: &Typed, run: &Run) -> Result<Vec<u8>, All
     // The JSON spells the tree of the run.
     ensures spells { item_form typed.now (spec.run_json typed.now run.now) ≡ trees.run_form typed.now run.now }
 {
-    spells_tree(typed, run);
+    json_reads_back(typed, run);
     let mut writer = Writer::new(Vec::new(alloc));
     put_item(&mut writer, typed.source(), run.shaped.case(), &run.history)?;
     let mut line = writer.into_inner();

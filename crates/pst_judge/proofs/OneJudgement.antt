@@ -15,8 +15,8 @@ use Rattle.pst_judge.specs.Verdict.{first_broken, Ends, FaultsAt, IsJudged, IsVe
 use Rattle.pst_judge.specs.declared.judgement.Judged.{Judged}
 use Rattle.pst_judge.specs.declared.judgement.Judged.TheVariants.{Verdict as WithVerdict, Valid, Invalid}
 use Rattle.pst_eval.specs.declared.place.FaultPlace.{FaultPlace}
-use Rattle.pst_judge.specs.declared.symbolic.Failing.{Failing}
-use Rattle.pst_judge.specs.declared.symbolic.Failing.TheVariants as failing
+use Rattle.pst_judge.specs.declared.symbolic.SymbolicFailure.{SymbolicFailure}
+use Rattle.pst_judge.specs.declared.symbolic.SymbolicFailure.TheVariants as failing
 use Rattle.pst_judge.specs.declared.verdicts.Verdict.{Verdict}
 use Rattle.pst_judge.specs.declared.verdicts.Verdict.TheVariants.{Explained, Faulted, Unexplained, Broken}
 use Rattle.pst_judge.specs.declared.why.Why.{Why}
@@ -92,7 +92,7 @@ one_verdict m c h v w p q = one_of m c h (first_broken 1 (recorded h)) v w p q
 -- ---- reasons
 
 module _ (m : Source) (c : Case) where
-  one_failing : (f g : Failing) (v w : List ℕ) → FailsFirst m c f v → FailsFirst m c g w → (f ≡ g) × (v ≡ w)
+  one_failing : (f g : SymbolicFailure) (v w : List ℕ) → FailsFirst m c f v → FailsFirst m c g w → (f ≡ g) × (v ≡ w)
   one_failing f g v w p q =
       let e = one_least (Fails m c) v w p.0 q.0 in
       (fault_is p.1.0 q.1.0 f g (sym p.1.1 ∙ ap (symbolic m c) e ∙ q.1.1), e)

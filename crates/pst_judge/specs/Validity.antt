@@ -6,8 +6,8 @@ use Rattle.pst_grid.specs.declared.answer.Ending.TheVariants.{AllTrue, StopsAt}
 use Rattle.pst_grid.specs.declared.answer.StopReason.TheVariants as stop
 use Rattle.pst_judge.specs.Replay.{branch_lengths}
 use Rattle.pst_judge.specs.Symbolic.{symbolic}
-use Rattle.pst_judge.specs.declared.symbolic.Failing.{Failing}
-use Rattle.pst_judge.specs.declared.symbolic.Failing.TheVariants as failing
+use Rattle.pst_judge.specs.declared.symbolic.SymbolicFailure.{SymbolicFailure}
+use Rattle.pst_judge.specs.declared.symbolic.SymbolicFailure.TheVariants as failing
 use Rattle.pst_judge.specs.declared.why.Why.{Why}
 use Rattle.pst_judge.specs.declared.why.Why.TheVariants.{PreFalse, CallbackFault, NoMemory}
 use Rattle.pst_model.specs.declared.model.Source.{Source}
@@ -23,7 +23,7 @@ module _ (m : Source) (c : Case) where
   Fails word = IsMerge (branch_lengths c) word × (symbolic m c word ≡ AllTrue → ⊥)
 
   -- the word is the least merge that fails, and it does so by this
-  abbrev pub FailsFirst : Failing → List ℕ → Type 0
+  abbrev pub FailsFirst : SymbolicFailure → List ℕ → Type 0
   FailsFirst f word = IsLeast Fails word × ((n : ℕ) × (symbolic m c word ≡ StopsAt n (stop.Fault f)))
 
   -- prefalse: the least merge that fails does so at this command, whose precondition is not true

@@ -7,7 +7,7 @@ use std::alloc::AllocError;
 
 /// Appends the digits of `number`.
 #[tactic(auto, using(crate::proofs::Numbers::numbers))]
-fn put_number(number: u64, bytes: &mut Vec<u8>) -> Result<(), AllocError>
+fn encode_number(number: u64, bytes: &mut Vec<u8>) -> Result<(), AllocError>
     ensures { OnOk result (bytes.new.items ≡ bytes.old.items ++ number_code number) }
 {
     if number < 128 {
@@ -15,15 +15,15 @@ fn put_number(number: u64, bytes: &mut Vec<u8>) -> Result<(), AllocError>
         return Ok(());
     }
     bytes.push((number % 128 + 128) as u8)?;
-    put_number(number / 128, bytes)
+    encode_number(number / 128, bytes)
 }
 
 /// Adds a tag and a number.
-fn put_tagged(tag: u8, number: u64, bytes: &mut Vec<u8>) -> Result<(), AllocError>
+fn encode_tagged(tag: u8, number: u64, bytes: &mut Vec<u8>) -> Result<(), AllocError>
     ensures { OnOk result (bytes.new.items ≡ bytes.old.items ++ tag ∷ number_code number) }
 {
     bytes.push(tag)?;
-    put_number(number, bytes)
+    encode_number(number, bytes)
 }
 
 /// Adds the code of an integer.
@@ -31,7 +31,7 @@ fn put_int(number: i64, bytes: &mut Vec<u8>) -> Result<(), AllocError>
     ensures { OnOk result (bytes.new.items ≡ bytes.old.items ++ code_of_int number) }
 {
     let tag = if number < 0 { 1 } else { 0 };
-    put_tagged(tag, number.unsigned_abs(), bytes)
+    encode_tagged(tag, number.unsigned_abs(), bytes)
 }
 
 /// Appends the code of a bool.
@@ -46,7 +46,7 @@ fn put_truth(truth: bool, bytes: &mut Vec<u8>) -> Result<(), AllocError>
 fn put_text(text: &[u8], bytes: &mut Vec<u8>) -> Result<(), AllocError>
     ensures { OnOk result (bytes.new.items ≡ bytes.old.items ++ code_of_text text.now) }
 {
-    put_tagged(4, text.len() as u64, bytes)?;
+    encode_tagged(4, text.len() as u64, bytes)?;
     bytes.extend_from_slice(text)
 }
 
@@ -65,7 +65,7 @@ fn put_key(key: &Key, bytes: &mut Vec<u8>) -> Result<(), AllocError>
 fn put_keys(keys: &[Key], bytes: &mut Vec<u8>) -> Result<(), AllocError>
     ensures { OnOk result (bytes.new.items ≡ bytes.old.items ++ codes_by code_of_key keys.now) }
 {
-    put_number(keys.len() as u64, bytes)?;
+    encode_number(keys.len() as u64, bytes)?;
     for key in keys {
         put_key(key, bytes)?;
     }
@@ -73,40 +73,40 @@ fn put_keys(keys: &[Key], bytes: &mut Vec<u8>) -> Result<(), AllocError>
 }
 
 /// Adds how many values there are, and their codes.
-#[cycle(put)]
-fn put_all(values: &[Value], bytes: &mut Vec<u8>) -> Result<(), AllocError>
+#[cycle(encode_value)]
+fn encode_values(values: &[Value], bytes: &mut Vec<u8>) -> Result<(), AllocError>
     ensures { OnOk result (bytes.new.items ≡ bytes.old.items ++ codes_by code values.now) }
 {
-    put_number(values.len() as u64, bytes)?;
+    encode_number(values.len() as u64, bytes)?;
     for value in values {
-        put(value, bytes)?;
+        encode_value(value, bytes)?;
     }
     Ok(())
 }
 
 /// Adds a tag, and then values.
-#[cycle(put)]
+#[cycle(encode_value)]
 fn put_list(tag: u8, values: &[Value], bytes: &mut Vec<u8>) -> Result<(), AllocError>
     ensures { OnOk result (bytes.new.items ≡ bytes.old.items ++ tag ∷ codes_by code values.now) }
 {
     bytes.push(tag)?;
-    put_all(values, bytes)
+    encode_values(values, bytes)
 }
 
 /// Adds the code of a map with these keys and values.
-#[cycle(put)]
+#[cycle(encode_value)]
 fn put_map(keys: &[Key], values: &[Value], bytes: &mut Vec<u8>) -> Result<(), AllocError>
     ensures { OnOk result (bytes.new.items ≡ bytes.old.items ++ code_of_map keys.now (codes_by code values.now)) }
 {
     bytes.push(7)?;
     put_keys(keys, bytes)?;
-    put_all(values, bytes)
+    encode_values(values, bytes)
 }
 
 /// Adds the code of a value.
-#[cycle(put)]
+#[cycle(encode_value)]
 #[tactic(auto, using(crate::proofs::Coding::coding))]
-pub(crate) fn put(value: &Value, bytes: &mut Vec<u8>) -> Result<(), AllocError>
+pub(crate) fn encode_value(value: &Value, bytes: &mut Vec<u8>) -> Result<(), AllocError>
     ensures { OnOk result (bytes.new.items ≡ bytes.old.items ++ code value.now) }
 {
     match value {
@@ -116,14 +116,14 @@ pub(crate) fn put(value: &Value, bytes: &mut Vec<u8>) -> Result<(), AllocError>
         Value::Tuple(items) => put_list(5, items.as_slice(), bytes),
         Value::List(items) => put_list(6, items.as_slice(), bytes),
         Value::Map(keys, values) => put_map(keys.get().as_slice(), values.get().as_slice(), bytes),
-        Value::Var(number) => put_tagged(8, *number as u64, bytes),
+        Value::Var(number) => encode_tagged(8, *number as u64, bytes),
         Value::Ref(number, inner) => {
-            put_tagged(9, *number as u64, bytes)?;
-            put(inner.get(), bytes)
+            encode_tagged(9, *number as u64, bytes)?;
+            encode_value(inner.get(), bytes)
         }
         Value::Call(op, args) => {
-            put_tagged(10, *op as u64, bytes)?;
-            put_all(args.as_slice(), bytes)
+            encode_tagged(10, *op as u64, bytes)?;
+            encode_values(args.as_slice(), bytes)
         }
     }
 }

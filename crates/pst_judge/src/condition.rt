@@ -9,7 +9,7 @@ ghost use Rattle.pst_value.specs.declared.ty.Ty.{Ty};
 ghost use Rattle.pst_value.specs.declared.value.Value.{Value};
 
 use crate::events::Event;
-use crate::replay::truth;
+use crate::replay::bool_in;
 use pst_eval::Callbacks;
 use pst_value::{Fault, Value};
 use std::alloc::{AllocError, Global};
@@ -50,7 +50,7 @@ impl Condition for Postconditions {
         event: &Event,
     ) -> Result<Result<bool, Fault>, AllocError> {
         match callbacks.post(alloc, event.op, state, event.args.as_slice(), &event.result)? {
-            Ok((answer, _)) => Ok(Ok(truth(&answer))),
+            Ok((answer, _)) => Ok(Ok(bool_in(&answer))),
             Err(fault) => Ok(Err(fault)),
         }
     }

@@ -3,7 +3,7 @@ ghost use Rattle.std.specs.Prelude.{◌≡◌, ◌≤◌, length, IfOk, None};
 ghost use Rattle.pst_judge.specs.Kept.{int_of, padded};
 ghost use Rattle.pst_judge.specs.Forms.{int_in, bytes_in, IsForm};
 
-use crate::code::put;
+use crate::code::encode_value;
 use pst_value::Value;
 use std::alloc::{AllocError, Global};
 
@@ -77,7 +77,7 @@ impl PackedForm {
         ensures { IfOk result (λ form. IsForm form value.now) }
     {
         let mut draft = Vec::with_capacity(alloc, DRAFT)?;
-        put(value, &mut draft)?;
+        encode_value(value, &mut draft)?;
         form_of_code(alloc, draft.as_slice())
     }
 

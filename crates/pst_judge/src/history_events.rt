@@ -8,7 +8,7 @@ ghost use Rattle.pst_judge.specs.Running.{BranchesFit, EventsFit};
 ghost use Rattle.pst_judge.specs.Verdict.{first_broken};
 
 use crate::condition::Condition;
-use crate::events::{Event, branches_events, number_behind, part_events};
+use crate::events::{Event, branches_events, number_after, part_events};
 use crate::search::Branches;
 use pst_case::{History, Shaped};
 use pst_eval::Callbacks;
@@ -55,7 +55,7 @@ pub fn branches_of<'a, C: Callbacks, A: Condition>(
     let commands = case.branches.as_slice();
     let replies = history.branches.as_slice();
     let events = branches_events(alloc, results, number, commands, replies, Items::new(alloc))?;
-    let number = number_behind(number, commands);
+    let number = number_after(number, commands);
     let commands = case.suffix.as_slice();
     let replies = history.suffix.as_slice();
     let suffix = part_events(alloc, results, number, commands, replies, Items::new(alloc))?;

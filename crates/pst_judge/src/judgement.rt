@@ -4,7 +4,7 @@ ghost use Rattle.pst_judge.specs.JudgedText.{judged_text};
 ghost use Rattle.pst_judge.specs.Judgement.{HistoryMatches, IsJudgement};
 
 use crate::judging::verdict;
-use crate::validity::why_not;
+use crate::validity::why_invalid;
 use crate::verdicts::Verdict;
 use crate::why::Why;
 use pst_case::Run;
@@ -35,7 +35,7 @@ pub fn judge_one<C: Callbacks>(
 {
     match &run.history {
         Some(history) => Ok(Judged::Verdict(verdict(callbacks, alloc, &run.shaped, history)?)),
-        None => match why_not(callbacks, alloc, &run.shaped)? {
+        None => match why_invalid(callbacks, alloc, &run.shaped)? {
             Some(why) => Ok(Judged::Invalid(why)),
             None => Ok(Judged::Valid),
         },

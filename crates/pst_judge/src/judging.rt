@@ -24,13 +24,13 @@ use pst_value::Value;
 use std::alloc::{AllocError, Global};
 
 /// The command number of the first missing result. The first of `results` has the number `number`.
-fn first_broken(number: u32, results: &[Option<Value>]) -> Option<u32>
+fn first_broken_reply(number: u32, results: &[Option<Value>]) -> Option<u32>
     requires { number + length results.now < 2 ^ 32 }
     ensures { result ≡ first_broken number results.now }
 {
     let (first, rest) = results.split_first()?;
     match first {
-        Some(_) => first_broken(number + 1, rest),
+        Some(_) => first_broken_reply(number + 1, rest),
         None => Some(number),
     }
 }
@@ -61,7 +61,7 @@ fn after_prefix<C: Callbacks, A: Condition>(
 
 /// The verdict on a history whose replies are all values. If no interleaving explains it, also returns the branch
 /// numbers of the true events in the interleaving that the verdict rests on.
-fn judged<C: Callbacks, A: Condition>(
+fn verdict_on_values<C: Callbacks, A: Condition>(
     callbacks: &C,
     condition: &A,
     alloc: Global,
@@ -122,9 +122,9 @@ fn verdict_with_letters<C: Callbacks, A: Condition>(
 {
     let _case = shaped.case();
     let results = history.recorded(alloc)?;
-    match first_broken(1, results.as_slice()) {
+    match first_broken_reply(1, results.as_slice()) {
         Some(number) => Ok((Verdict::Broken(number), Vec::new(alloc))),
-        None => judged(
+        None => verdict_on_values(
             callbacks,
             condition,
             alloc,
@@ -138,7 +138,7 @@ fn verdict_with_letters<C: Callbacks, A: Condition>(
 /// The verdict on a history of a case, with `condition` checked on each event, by the model of the callbacks.
 ///
 /// It is [`verdict`] with the condition in place of each event's postcondition.
-pub fn verdict_asking<C: Callbacks, A: Condition>(
+pub fn verdict_with_condition<C: Callbacks, A: Condition>(
     callbacks: &C,
     condition: &A,
     alloc: Global,
@@ -174,11 +174,15 @@ pub fn verdict<C: Callbacks>(
         → IsValid (C.model callbacks.now) shaped.now.case → FaultsOnlyInPost v) }
 {
     let _case = shaped.case();
-    verdict_asking(callbacks, &Postconditions, alloc, shaped, history)
+    verdict_with_condition(callbacks, &Postconditions, alloc, shaped, history)
 }
 
 /// The interleaving of a verdict that explains, or else `letters`.
-fn word_or(alloc: Global, verdict: &Verdict, letters: Vec<usize>) -> Result<Vec<usize>, AllocError>
+fn letters_or_none(
+    alloc: Global,
+    verdict: &Verdict,
+    letters: Vec<usize>,
+) -> Result<Vec<usize>, AllocError>
     ensures { IfOk result (λ word. word.items ≡ word_or verdict.now letters.items) }
 {
     match verdict {
@@ -212,6 +216,6 @@ pub fn verdict_with_interleaving<C: Callbacks>(
         shaped,
         history,
     )?;
-    let word = word_or(alloc, &verdict, letters)?;
+    let word = letters_or_none(alloc, &verdict, letters)?;
     Ok((verdict, word))
 }

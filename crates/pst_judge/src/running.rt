@@ -54,7 +54,7 @@ pub fn run_events<C: Callbacks, A: Condition>(
 
 /// Replays the last events of a run from a state, and returns how the run ends.
 #[tactic(auto, using(crate::proofs::Shifted::last_is))]
-pub fn run_last<C: Callbacks, A: Condition>(
+pub fn run_suffix<C: Callbacks, A: Condition>(
     callbacks: &C,
     condition: &A,
     alloc: Global,

@@ -9,7 +9,7 @@ use crate::condition::Condition;
 use crate::events::Event;
 use crate::packed::Packed;
 use crate::replay::event_outcome;
-use crate::running::run_last;
+use crate::running::run_suffix;
 use crate::verdicts::Verdict;
 use pst_case::{Command, Shaped};
 use pst_eval::{Callbacks, FaultPlace};
@@ -82,7 +82,7 @@ impl<'a, C: Callbacks, A: Condition> Steps for Branches<'a, C, A> {
         state: &Value,
     ) -> Result<(Ending<FaultPlace>, usize), AllocError> {
         let start = state.copy(alloc)?;
-        match run_last(
+        match run_suffix(
             self.callbacks,
             self.condition,
             alloc,

@@ -11,7 +11,7 @@ use crate::events::{split_commands, split_parts};
 use crate::numbered::NumberedCommand;
 use crate::packed::Packed;
 use crate::search::lengths_of;
-use crate::symbolic::{Failing, run_last, symbolic_step};
+use crate::symbolic::{SymbolicFailure, run_suffix, symbolic_step};
 use crate::total::is_total;
 use crate::why::Why;
 use pst_case::{Command, Shaped};
@@ -44,7 +44,7 @@ impl<'a, C: Callbacks> Steps for SymbolicBranches<'a, C> {
 
     type Kept = Packed;
 
-    type Fault = Failing;
+    type Fault = SymbolicFailure;
 
     ghost is_state = { λ b s. let m = C.model b.callbacks.now in
         IsSymbolicState m b.shaped.now.case s × CommandsFit m (result_types m b.shaped.now.case) b.suffix };
@@ -65,7 +65,7 @@ impl<'a, C: Callbacks> Steps for SymbolicBranches<'a, C> {
         state: &Value,
         branch: usize,
         index: usize,
-    ) -> Result<StepOutcome<Value, Failing>, AllocError> {
+    ) -> Result<StepOutcome<Value, SymbolicFailure>, AllocError> {
         let Some(commands) = self.commands.get(branch) else {
             unreachable!()
         };
@@ -82,9 +82,9 @@ impl<'a, C: Callbacks> Steps for SymbolicBranches<'a, C> {
         &self,
         alloc: Global,
         state: &Value,
-    ) -> Result<(Ending<Failing>, usize), AllocError> {
+    ) -> Result<(Ending<SymbolicFailure>, usize), AllocError> {
         let start = state.copy(alloc)?;
-        match run_last(self.callbacks, alloc, start, self.suffix.as_slice())? {
+        match run_suffix(self.callbacks, alloc, start, self.suffix.as_slice())? {
             Ending::AllTrue => Ok((Ending::AllTrue, self.suffix.len())),
             Ending::StopsAt(at, why) => Ok((Ending::StopsAt(at, why), at + 1)),
         }
@@ -110,17 +110,17 @@ impl<'a, C: Callbacks> Steps for SymbolicBranches<'a, C> {
 }
 
 /// The reason for a failure in the interleaving `merge`.
-fn reason_of(failing: Failing, merge: Vec<usize>) -> Why
+fn reason_of(failing: SymbolicFailure, merge: Vec<usize>) -> Why
     ensures { result ≡ reason_of failing merge }
 {
     match failing {
-        Failing::PreFalse(command) => Why::PreFalse { command, merge },
-        Failing::CallbackFault(place) => Why::CallbackFault { place, merge },
+        SymbolicFailure::PreFalse(command) => Why::PreFalse { command, merge },
+        SymbolicFailure::CallbackFault(place) => Why::CallbackFault { place, merge },
     }
 }
 
 /// The reason in the answer of a search, if it has one.
-fn reason_of_answer(answer: EveryAnswer<Failing>) -> Option<Why>
+fn reason_of_answer(answer: EveryAnswer<SymbolicFailure>) -> Option<Why>
     requires { FailsByReason answer }
     ensures { result ≡ reason_of_answer answer }
 {
@@ -205,7 +205,7 @@ pub fn search_failing<C: Callbacks>(
 }
 
 /// Appends the number `branch` to `word` once for each command.
-fn letters(
+fn append_letters(
     branch: usize,
     commands: &[Command],
     mut word: Vec<usize>,
@@ -216,11 +216,11 @@ fn letters(
         return Ok(word);
     };
     word.push(branch)?;
-    letters(branch, commands, word)
+    append_letters(branch, commands, word)
 }
 
 /// Appends the numbers of the branches to `word` in turn, from `branch` on, each once for each of its commands.
-fn in_turn(
+fn append_branch_by_branch(
     branch: usize,
     branches: &[Items<Command>],
     word: Vec<usize>,
@@ -231,20 +231,20 @@ fn in_turn(
     let Some((first, rest)) = split_parts(branches) else {
         return Ok(word);
     };
-    let word = letters(branch, first.as_slice(), word)?;
-    in_turn(branch + 1, rest, word)
+    let word = append_letters(branch, first.as_slice(), word)?;
+    append_branch_by_branch(branch + 1, rest, word)
 }
 
 /// The reason if all interleavings fail alike: the failure of the first interleaving.
-pub fn in_first_merge(
+pub fn first_interleaving_reason(
     alloc: Global,
     shaped: &Shaped,
-    failing: Failing,
+    failing: SymbolicFailure,
 ) -> Result<Option<Why>, AllocError>
     requires { length shaped.now.case.branches ≤ 4 }
     ensures { IfOk result (IsReasonOf failing (in_turn 0 (branch_lengths shaped.now.case))) }
 {
     let branches = shaped.case().branches.as_slice();
-    let word = in_turn(0, branches, Vec::new(alloc))?;
+    let word = append_branch_by_branch(0, branches, Vec::new(alloc))?;
     Ok(Some(reason_of(failing, word)))
 }

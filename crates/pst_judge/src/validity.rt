@@ -8,10 +8,10 @@ ghost use Rattle.pst_judge.specs.Symbolic.{branch_commands, suffix_commands};
 ghost use Rattle.pst_judge.specs.Validity.{IsValid, IsWhy, IsReason};
 ghost use Rattle.pst_model.specs.WellTyped.{WellModel};
 
-use crate::events::number_behind;
+use crate::events::number_after;
 use crate::numbered::{branches_with_numbers, with_numbers};
 use crate::symbolic::{fault_in, run_symbolic};
-use crate::symbolic_search::{SymbolicBranches, in_first_merge, search_failing};
+use crate::symbolic_search::{SymbolicBranches, first_interleaving_reason, search_failing};
 use crate::validated::Valid;
 use crate::why::Why;
 use pst_case::Shaped;
@@ -36,7 +36,7 @@ fn why_not_after_prefix<C: Callbacks>(
     let number = 1 + case.prefix.len() as u32;
     let branches = case.branches.as_slice();
     let commands = branches_with_numbers(alloc, number, branches, Items::new(alloc))?;
-    let number = number_behind(number, branches);
+    let number = number_after(number, branches);
     let suffix = with_numbers(alloc, number, case.suffix.as_slice(), Items::new(alloc))?;
     let symbolic = SymbolicBranches {
         callbacks,
@@ -48,7 +48,7 @@ fn why_not_after_prefix<C: Callbacks>(
 }
 
 /// Why the case is not valid by the model of the callbacks; `None` if it is valid.
-pub fn why_not<C: Callbacks>(
+pub fn why_invalid<C: Callbacks>(
     callbacks: &C,
     alloc: Global,
     shaped: &Shaped,
@@ -60,14 +60,14 @@ pub fn why_not<C: Callbacks>(
     let (state, _) = match callbacks.init(alloc)? {
         Ok(opening) => opening,
         Err(fault) => {
-            return in_first_merge(alloc, shaped, fault_in(0, Callback::Init, fault));
+            return first_interleaving_reason(alloc, shaped, fault_in(0, Callback::Init, fault));
         }
     };
     let commands = case.prefix.as_slice();
     let prefix = with_numbers(alloc, 1, commands, Items::new(alloc))?;
     match run_symbolic(callbacks, alloc, state, prefix.as_slice())? {
         Ok(last) => why_not_after_prefix(callbacks, alloc, shaped, &last),
-        Err(failing) => in_first_merge(alloc, shaped, failing),
+        Err(failing) => first_interleaving_reason(alloc, shaped, failing),
     }
 }
 
@@ -95,7 +95,7 @@ pub fn valid<C: Callbacks>(
         × ((r.1 ≡ Why.NoMemory) ⊎ IsWhy (C.model callbacks.now) shaped.case r.1)) }
 {
     let _case = shaped.case();
-    match why_not(callbacks, alloc, &shaped) {
+    match why_invalid(callbacks, alloc, &shaped) {
         Ok(None) => Ok(Valid::new(shaped)),
         Ok(Some(why)) => Err((shaped, why)),
         Err(AllocError) => Err((shaped, Why::NoMemory)),

@@ -6,7 +6,7 @@ use std::fmt;
 
 /// A list of branch numbers, from 0. It is printed as a letter for each number, and the empty list as `-`.
 #[derive(Clone, Copy, Drop)]
-pub struct Word<'a> {
+pub struct InterleavingText<'a> {
     pub branches: &'a [usize],
 }
 
@@ -22,7 +22,7 @@ fn letter(branch: usize) -> &'static str
     }
 }
 
-impl fmt::Display for Word<'_> {
+impl fmt::Display for InterleavingText<'_> {
     ghost use Rattle.std.specs.Prelude.{Some};
     ghost use Rattle.pst_judge.specs.VerdictText.{word_text};
 

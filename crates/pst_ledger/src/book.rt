@@ -58,7 +58,7 @@ fn unmarked(alloc: Global, seats: u64) -> Result<Vec<bool>, AllocError>
 }
 
 /// Moves the entries that the spots show into an empty list that has room for them.
-fn show<R: Numbered>(spots: Vec<Spot<R>>, mut room: Vec<Entry<R>>) -> Vec<Entry<R>>
+fn into_entries<R: Numbered>(spots: Vec<Spot<R>>, mut room: Vec<Entry<R>>) -> Vec<Entry<R>>
     requires { (room.items ≡ []) × (vec_len spots ≤ vec_capacity room) }
     ensures { result.items ≡ map shown spots.items }
 {
@@ -175,7 +175,7 @@ impl<R: Numbered> Book<R> {
             room,
         } = self;
         Closed {
-            entries: show(spots, room),
+            entries: into_entries(spots, room),
         }
     }
 }

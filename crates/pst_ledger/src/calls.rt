@@ -32,7 +32,7 @@ pub enum Reply {
 }
 
 /// Makes one call. A record that is refused is dropped.
-fn make<R: Numbered>(book: &mut Book<R>, call: Call<R>) -> Reply
+fn make_call<R: Numbered>(book: &mut Book<R>, call: Call<R>) -> Reply
     requires allowed { IsAllowed book.old (event_of R.number_of call) }
     ensures { after book.old (event_of R.number_of call) ≡ (book.new, answer_of result) }
 {
@@ -62,7 +62,7 @@ pub fn replay<R: Numbered>(book: &mut Book<R>, calls: Vec<Call<R>>, replies: &mu
         ≡ map answer_of replies.old.items ++ answers book.old (map (event_of R.number_of) calls.items) }
 {
     for call in calls {
-        let reply = make(book, call);
+        let reply = make_call(book, call);
         replies.push_reserved(reply);
     }
 }

@@ -49,7 +49,7 @@ fn undrawn<R: Numbered>(alloc: Global, trials: u64) -> Result<Vec<Entry<R>>, All
 }
 
 /// Cuts the first token of a table into one for each seat.
-fn deal<R: Numbered>(
+fn split_token<R: Numbered>(
     alloc: Global,
     shared: &Shared<Entry<R>, View<R>, u64, Numbers>,
     mut first: atomic_table::Seat<Entry<R>, View<R>>,
@@ -94,7 +94,7 @@ impl<R: Numbered> Ledger<R> {
         let Ok((table, first)) = Table::new(alloc, &[0], slots, &seats) else {
             return Err(AllocError);
         };
-        let list = deal(alloc, &table.shared, first, trials, seats)?;
+        let list = split_token(alloc, &table.shared, first, trials, seats)?;
         Ok((Ledger { table, seats, room }, list))
     }
 
@@ -176,7 +176,7 @@ impl<R: Numbered> Ledger<R> {
 
     /// The seat's token, which knows all that the seat knows. A number that the seat holds is given back as
     /// `Held`.
-    fn settle(&self, seat: Seat<R>) -> atomic_table::Seat<Entry<R>, View<R>>
+    fn settle_seat(&self, seat: Seat<R>) -> atomic_table::Seat<Entry<R>, View<R>>
         requires own { seat.table ≡ self.now.table }
         ensures place { result.table_id ≡ self.now.table }
         ensures view { (result.me.0 ≡ settled seat) × (result.me.1 ≡ []) }
@@ -200,7 +200,7 @@ impl<R: Numbered> Ledger<R> {
     }
 
     /// One token that knows all that the seats know.
-    fn gather(&self, mut seats: Vec<Seat<R>>) -> atomic_table::Seat<Entry<R>, View<R>>
+    fn join_seats(&self, mut seats: Vec<Seat<R>>) -> atomic_table::Seat<Entry<R>, View<R>>
         requires own { OfTable self.now.table seats.items }
         ensures place { result.table_id ≡ self.now.table }
         ensures view { result.me.0 ≡ gathered seats.items }
@@ -208,7 +208,7 @@ impl<R: Numbered> Ledger<R> {
     {
         let (_, mut all) = self.table.shared.load_new_seat::<Enter>(0);
         while let Some(seat) = seats.pop() {
-            let token = self.settle(seat);
+            let token = self.settle_seat(seat);
             self.table.shared.join_seat::<Together>(&mut all, token);
         }
         all
@@ -229,7 +229,7 @@ impl<R: Numbered> Ledger<R> {
         if seats.len() as u64 != self.seats {
             return Err((self, seats, CloseFault::MissingSeat));
         }
-        let all = self.gather(seats);
+        let all = self.join_seats(seats);
         let Ledger {
             table,
             seats: _,

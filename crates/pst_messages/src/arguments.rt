@@ -4,15 +4,17 @@ use crate::command::{after_head, head_word};
 use crate::ill::ValueFault;
 use crate::values::{CaseSearch, Wanted, problem_in};
 use pst_model::Op;
-use pst_problems::{FoundProblem, Problem, Signature, counted, operation, with_note, wrong};
+use pst_problems::{
+    FoundProblem, Problem, Signature, counted, operation_named, problem_at, with_note,
+};
 use pst_sexpr::Form;
 use std::alloc::Global;
 
 /// The problem of a command with `found` arguments of `op`, which takes another number.
-fn other_count(alloc: Global, path: &[usize], op: &Op, found: usize) -> FoundProblem {
+fn argument_count_problem(alloc: Global, path: &[usize], op: &Op, found: usize) -> FoundProblem {
     let name = op.name.as_str();
     let takes = counted(op.params.len(), "argument");
-    wrong(
+    problem_at(
         alloc,
         path,
         format_args!("`{name}` takes {takes}, here it has {found}"),
@@ -30,7 +32,7 @@ fn argument_problem(
     let found = after_head(form).len();
     let params = op.params.as_slice();
     if found != params.len() {
-        return other_count(alloc, path, op, found);
+        return argument_count_problem(alloc, path, op, found);
     }
     let other = Some(ValueFault::Argument);
     problem_in(alloc, search, path, form, Wanted::Call(params), other)
@@ -47,13 +49,13 @@ fn with_declared(alloc: Global, found: Option<Problem>, op: &Op) -> FoundProblem
 }
 
 /// The problem of a command whose arguments spell other values than its operation takes.
-pub fn bad_argument(
+pub fn bad_argument_problem(
     alloc: Global,
     search: &CaseSearch<'_>,
     path: &[usize],
     form: &Form,
 ) -> FoundProblem {
-    match operation(search.source.items.as_slice(), head_word(form)) {
+    match operation_named(search.source.items.as_slice(), head_word(form)) {
         Some(op) => with_declared(alloc, argument_problem(alloc, search, path, form, op)?, op),
         None => Ok(None),
     }

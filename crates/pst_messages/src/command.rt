@@ -1,7 +1,10 @@
 //! The commands of a case, and where they are.
 
+ghost use Rattle.std.specs.Prelude.{◌≡◌};
+ghost use Rattle.pst_runs.specs.Replies.{listed};
+
 use pst_model::Source;
-use pst_problems::{head_of, operation};
+use pst_problems::{head_of, operation_named};
 use pst_sexpr::{Form, node_of};
 use pst_value::Ty;
 use std::alloc::{AllocError, Global};
@@ -30,35 +33,35 @@ pub struct Command<'a> {
 
 /// The head of a part with one list of commands.
 #[derive(Clone, Copy, Drop)]
-pub struct Head {
-    pub word: &'static str,
+struct Head {
+    word: &'static str,
     is_prefix: bool,
     is_branch: bool,
 }
 
 /// The commands before the branches.
-pub const PREFIX: Head = Head {
+const PREFIX: Head = Head {
     word: "prefix",
     is_prefix: true,
     is_branch: false,
 };
 
 /// The first branch of two.
-pub const LEFT: Head = Head {
+const LEFT: Head = Head {
     word: "left",
     is_prefix: false,
     is_branch: true,
 };
 
 /// The second branch of two.
-pub const RIGHT: Head = Head {
+const RIGHT: Head = Head {
     word: "right",
     is_prefix: false,
     is_branch: true,
 };
 
 /// The commands after the branches.
-pub const SUFFIX: Head = Head {
+const SUFFIX: Head = Head {
     word: "suffix",
     is_prefix: false,
     is_branch: false,
@@ -89,8 +92,13 @@ pub fn is_headed(form: &Form, word: &str) -> bool {
 }
 
 /// The trees in a tree.
-pub fn trees_in(form: &Form) -> &[Form] {
-    node_of(form).unwrap_or(&[])
+pub fn trees_in(form: &Form) -> &[Form]
+    ensures { result.now ≡ listed form.now }
+{
+    match node_of(form) {
+        Some(trees) => trees,
+        None => &[],
+    }
 }
 
 /// The trees after the head of a tree.
@@ -102,7 +110,7 @@ pub fn after_head(form: &Form) -> &[Form] {
 }
 
 /// The part that `form` is, with the head `head`. `place` is the number of its tree in the item.
-pub fn headed_part(head: Head, form: &Form, place: usize) -> Part<'_> {
+fn headed_part(head: Head, form: &Form, place: usize) -> Part<'_> {
     Part {
         called: head.word,
         is_prefix: head.is_prefix,
@@ -114,7 +122,7 @@ pub fn headed_part(head: Head, form: &Form, place: usize) -> Part<'_> {
 }
 
 /// Branch `number`, counted from 1, of a `(branches ..)` tree. That tree is tree `place` of the item.
-pub fn branch_part(form: &Form, place: usize, number: usize) -> Part<'_> {
+fn branch_part(form: &Form, place: usize, number: usize) -> Part<'_> {
     let called = match BRANCHES.get(number.saturating_sub(1)) {
         Some(called) => *called,
         None => "a branch",
@@ -238,7 +246,7 @@ pub fn result_of<'a>(source: &'a Source, parts: &[Part<'_>], command: usize) -> 
     let Some(command) = command_at(parts, command) else {
         return None;
     };
-    match operation(source.items.as_slice(), head_word(command.form)) {
+    match operation_named(source.items.as_slice(), head_word(command.form)) {
         Some(op) => Some(&op.result),
         None => None,
     }

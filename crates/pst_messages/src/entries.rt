@@ -33,7 +33,7 @@ fn comes_before(form: &Form, other: &Form) -> bool {
 }
 
 /// The fault of `key`, if it has one. `wanted` is the type that keys have to have, and `before` is the key before it.
-fn ill_key<'a>(
+fn key_fault<'a>(
     key: &'a Form,
     wanted: Option<KeyTy>,
     before: Option<&'a Form>,
@@ -61,7 +61,7 @@ fn key_of(entry: &Form) -> Option<&Form> {
 }
 
 /// The fault of a tree in a map that is no entry.
-fn no_entry(form: &Form) -> ValueFault<'_> {
+fn not_an_entry_fault(form: &Form) -> ValueFault<'_> {
     ValueFault::Tree {
         before: "an entry of a map is `(KEY VALUE)`, found ",
         form,
@@ -81,7 +81,7 @@ fn found_at<'a>(
 
 /// The fault of the first wrong entry or key of a map with the trees `trees`. It does not check the values. The path to
 /// the map becomes the path to the entry or the key.
-pub fn ill_entry<'a>(
+pub fn first_entry_fault<'a>(
     path: &mut Vec<usize>,
     trees: &'a [Form],
     wanted: Option<KeyTy>,
@@ -91,9 +91,9 @@ pub fn ill_entry<'a>(
     for (number, entry) in trees.iter().enumerate() {
         if number > 0 {
             let Some(key) = key_of(entry) else {
-                return found_at(path, &[number], no_entry(entry));
+                return found_at(path, &[number], not_an_entry_fault(entry));
             };
-            if let Some(ill) = ill_key(key, wanted, before) {
+            if let Some(ill) = key_fault(key, wanted, before) {
                 return found_at(path, &[number, 0], ill);
             }
             wanted = kind_of(key);

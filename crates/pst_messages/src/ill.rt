@@ -1,7 +1,7 @@
 //! The faults of commands and replies, and the messages about them.
 
 use crate::shown::wrong_tree;
-use pst_problems::{FoundProblem, TypeText, key_word, noted, short_text, wrong};
+use pst_problems::{FoundProblem, TypeText, key_word, problem_at, problem_with_note, short_text};
 use pst_sexpr::Form;
 use pst_value::{KeyTy, Ty};
 use std::alloc::Global;
@@ -33,7 +33,7 @@ pub enum ValueFault<'a> {
 }
 
 /// The problem of `key`, which is not greater than `before`, the key before it.
-fn falls(alloc: Global, path: &[usize], key: &Form, before: &Form) -> FoundProblem {
+fn key_order_problem(alloc: Global, path: &[usize], key: &Form, before: &Form) -> FoundProblem {
     let key = short_text(alloc, key)?;
     wrong_tree(
         alloc,
@@ -45,8 +45,13 @@ fn falls(alloc: Global, path: &[usize], key: &Form, before: &Form) -> FoundProbl
 }
 
 /// The problem of a variable in command `command` that names command `number`, which is not earlier.
-fn later(alloc: Global, path: &[usize], number: usize, command: usize) -> FoundProblem {
-    noted(
+fn later_variable_problem(
+    alloc: Global,
+    path: &[usize],
+    number: usize,
+    command: usize,
+) -> FoundProblem {
+    problem_with_note(
         alloc,
         path,
         format_args!(
@@ -57,8 +62,8 @@ fn later(alloc: Global, path: &[usize], number: usize, command: usize) -> FoundP
 }
 
 /// The problem of a variable that names command `number`, which is in another branch.
-fn other_branch(alloc: Global, path: &[usize], number: usize) -> FoundProblem {
-    noted(
+fn other_branch_problem(alloc: Global, path: &[usize], number: usize) -> FoundProblem {
+    problem_with_note(
         alloc,
         path,
         format_args!("${number} is the result of a command of another branch"),
@@ -91,10 +96,12 @@ pub fn value_fault_problem(
             let before = format_args!("expected a key of type {wanted}, found ");
             wrong_tree(alloc, path, before, form, "")
         }
-        ValueFault::Falls(key, before) => falls(alloc, path, key, before),
-        ValueFault::Later { number, command } => later(alloc, path, number, command),
-        ValueFault::OtherBranch(number) => other_branch(alloc, path, number),
-        ValueFault::Argument => wrong(
+        ValueFault::Falls(key, before) => key_order_problem(alloc, path, key, before),
+        ValueFault::Later { number, command } => later_variable_problem(
+            alloc, path, number, command,
+        ),
+        ValueFault::OtherBranch(number) => other_branch_problem(alloc, path, number),
+        ValueFault::Argument => problem_at(
             alloc,
             path,
             "an argument has another type, or is not a value",

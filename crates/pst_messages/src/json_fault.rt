@@ -18,7 +18,7 @@ const CALL: &str = "a call is an array: `[\"OPERATION\", VALUE, ..]`";
 const CALLS: &str = "hint: a branch is an array of calls: `[[[\"inc\"]],[[\"get\"]]]`";
 
 /// The bytes of a value, of a long one the first.
-pub fn shown(line: &[u8], value: Span) -> &str {
+pub fn shorten_json(line: &[u8], value: Span) -> &str {
     let end = value.end.min(value.start.saturating_add(40));
     match line.get(value.start..end) {
         Some(bytes) => str::from_utf8(bytes).unwrap_or(".."),
@@ -33,7 +33,7 @@ fn noted_fault(alloc: Global, span: Span, what: &str, note: &str) -> FoundFault 
 
 /// The fault of the value at `span`, which is not `what`.
 fn found_fault(alloc: Global, line: &[u8], span: Span, what: &str, note: &str) -> FoundFault {
-    let found = shown(line, span);
+    let found = shorten_json(line, span);
     let fault = ByteFault::new(alloc, span, format_args!("{what}, found `{found}`"))?;
     if note.is_empty() {
         return Ok(Some(fault));
@@ -54,7 +54,7 @@ fn call_fault(alloc: Global, line: &[u8], calls: Span, note: &str) -> FoundFault
             return Ok(None);
         };
         if !is_call(line, call) {
-            let found = shown(line, call);
+            let found = shorten_json(line, call);
             let what = format_args!("`{found}` is not a call");
             return Ok(Some(ByteFault::new(alloc, call, what)?.with(alloc, note)?));
         }
@@ -194,7 +194,7 @@ fn bad_place(alloc: Global, text: &str) -> Result<usize, AllocError> {
 }
 
 /// The fault of a line that is no JSON.
-fn no_json(alloc: Global, text: &str) -> FoundFault {
+fn not_json_fault(alloc: Global, text: &str) -> FoundFault {
     let place = bad_place(alloc, text)?.min(text.len());
     let column = place.saturating_add(1);
     let span = Span {
@@ -220,6 +220,6 @@ pub fn json_fault(alloc: Global, line: &[u8]) -> FoundFault {
         Ok(Json::Object(members)) => members_fault(alloc, line, members.as_slice()),
         Ok(_) => Ok(None),
         Err(Error::OutOfMemory) => Err(AllocError),
-        Err(_) => no_json(alloc, text),
+        Err(_) => not_json_fault(alloc, text),
     }
 }

@@ -2,7 +2,7 @@
 
 use crate::bytes::ByteFault;
 use crate::command::{head_word, trees_in};
-use crate::json_fault::{json_fault, shown};
+use crate::json_fault::{json_fault, shorten_json};
 use crate::json_places::{JsonParts, first_byte, item_of, value_at};
 use crate::runs::run_problem;
 use pst_json_runs::json_tree;
@@ -83,7 +83,7 @@ fn hint_on(line: &[u8], value: Span) -> Option<&'static str> {
     let bytes = line.get(value.start..value.end).unwrap_or(&[]);
     match first_byte(line, value) {
         b'"' if !is_printable(bytes) => Some("hint: printable ASCII only"),
-        b'-' | b'0'..=b'9' if shown(line, value).parse::<i64>().is_err() => {
+        b'-' | b'0'..=b'9' if shorten_json(line, value).parse::<i64>().is_err() => {
             Some("hint: integers only, from -9223372036854775808 to 9223372036854775807")
         }
         b'n' => Some("hint: there is no null; an option is a list: `[]` or `[1]`"),
@@ -95,7 +95,7 @@ fn hint_on(line: &[u8], value: Span) -> Option<&'static str> {
 }
 
 /// The first value in an array that no model has, with a hint, or else the array itself without one.
-fn least_bad(line: &[u8], value: Span) -> (Span, Option<&'static str>) {
+fn first_foreign_value(line: &[u8], value: Span) -> (Span, Option<&'static str>) {
     let mut found = (value, hint_on(line, value));
     for at in value.start..value.end {
         if found.1.is_some() {
@@ -139,8 +139,8 @@ fn value_fault(
     before: &str,
     after: &str,
 ) -> Result<ByteFault, AllocError> {
-    let (span, hint) = least_bad(line, value);
-    let found = shown(line, value);
+    let (span, hint) = first_foreign_value(line, value);
+    let found = shorten_json(line, value);
     let fault = ByteFault::new(alloc, span, format_args!("{before}`{found}`{after}"))?;
     match hint {
         Some(hint) => fault.with(alloc, hint),

@@ -32,7 +32,7 @@ fn word_end(line: &[u8], start: usize) -> usize {
     line.len()
 }
 
-/// Where a scan of JSON is.
+/// How far a scan of JSON has come.
 #[derive(Clone, Copy, Drop)]
 struct Scan {
     /// The number of open brackets.

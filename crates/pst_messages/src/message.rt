@@ -114,7 +114,11 @@ fn with_hint(
 
 /// The problems of a model that is refused for its form. If the input begins with no model but one of its files does, a
 /// hint names that file.
-fn of_form(alloc: Global, input: &Input<'_>, trees: &[Tree]) -> Result<Vec<Problem>, AllocError> {
+fn form_problems_with_hints(
+    alloc: Global,
+    input: &Input<'_>,
+    trees: &[Tree],
+) -> Result<Vec<Problem>, AllocError> {
     let problems = form_problems(alloc, trees)?;
     if let Some(name) = file_of_model(input) {
         let hint = format!(in alloc; "hint: `{name}` begins with a model: name this file first")?;
@@ -130,7 +134,7 @@ fn of_form(alloc: Global, input: &Input<'_>, trees: &[Tree]) -> Result<Vec<Probl
 }
 
 /// The problems of a model that was read as trees.
-fn of_model(
+fn model_problems(
     alloc: Global,
     input: &Input<'_>,
     refusal: &Refusal,
@@ -139,7 +143,7 @@ fn of_model(
         return Ok(Vec::new(alloc));
     };
     match refusal {
-        Refusal::NoModel(_) => of_form(alloc, input, trees.as_slice()),
+        Refusal::NoModel(_) => form_problems_with_hints(alloc, input, trees.as_slice()),
         Refusal::IllTyped(number) => match (read_model(alloc, trees.as_slice()), trees.first()) {
             (Ok(model), Some(tree)) => type_problems(alloc, model.source(), tree.form(), *number),
             _ => Ok(Vec::new(alloc)),
@@ -149,7 +153,7 @@ fn of_model(
 }
 
 /// The problem of the first refused item after a model.
-fn of_first_item(
+fn first_item_problem(
     alloc: Global,
     typed: &Typed,
     trees: &[Tree],
@@ -170,7 +174,7 @@ fn first_notices(
     typed: &Typed,
     trees: &[Tree],
 ) -> Result<Notices, AllocError> {
-    let Some(problem) = of_first_item(alloc, typed, trees)? else {
+    let Some(problem) = first_item_problem(alloc, typed, trees)? else {
         return Ok(Notices::none(alloc));
     };
     let number = problem.path.first().copied().unwrap_or(0);
@@ -182,7 +186,7 @@ fn first_notices(
 }
 
 /// The error on `problem`, which is a problem of the item at the span `item`.
-fn in_item(alloc: Global, input: &Input<'_>, item: Span, problem: Problem) -> Notice {
+fn notice_in_item(alloc: Global, input: &Input<'_>, item: Span, problem: Problem) -> Notice {
     let path = problem.path.get(1..).unwrap_or(&[]);
     let span = span_in(input.bytes, item, path);
     notice_of(alloc, span, problem)
@@ -221,7 +225,7 @@ fn add_count(text: &mut String, more: usize) -> Result<(), AllocError> {
 }
 
 /// The errors on the first `most` refused items after a model, and the number of further ones. Scans the input once.
-fn of_each_item(
+fn each_item_notices(
     alloc: Global,
     input: &Input<'_>,
     typed: &Typed,
@@ -244,7 +248,7 @@ fn of_each_item(
                 ..fault
             };
             if let Some(problem) = run_problem(alloc, typed.source(), tree.form(), fault)? {
-                let notice = in_item(alloc, input, span, problem);
+                let notice = notice_in_item(alloc, input, span, problem);
                 notices
                     .all
                     .push(with_file_hint(alloc, input, tree, notice)?)?;
@@ -257,7 +261,7 @@ fn of_each_item(
 }
 
 /// The errors on the items after a well-typed model.
-fn of_items(
+fn item_notices(
     alloc: Global,
     input: &Input<'_>,
     file: &ModelFile,
@@ -267,15 +271,15 @@ fn of_items(
     match asked {
         Asked::Model => Ok(Notices::none(alloc)),
         Asked::FirstItem => first_notices(alloc, input, &file.typed, trees),
-        Asked::EachItem => of_each_item(alloc, input, &file.typed, trees, MOST_PROBLEMS),
-        Asked::AllItems => of_each_item(alloc, input, &file.typed, trees, usize::MAX),
+        Asked::EachItem => each_item_notices(alloc, input, &file.typed, trees, MOST_PROBLEMS),
+        Asked::AllItems => each_item_notices(alloc, input, &file.typed, trees, usize::MAX),
     }
 }
 
 /// The errors of an input without JSON items.
 pub fn tree_errors(alloc: Global, input: &Input<'_>, asked: Asked) -> Result<Notices, AllocError> {
     match load(alloc, input.bytes)? {
-        Ok(file) => of_items(alloc, input, &file, asked),
+        Ok(file) => item_notices(alloc, input, &file, asked),
         Err(Refusal::Unread(refused)) => {
             let ByteFault { span, what, notes } = byte_fault(alloc, input, refused)?;
             let lines = String::new(alloc);
@@ -289,7 +293,7 @@ pub fn tree_errors(alloc: Global, input: &Input<'_>, asked: Asked) -> Result<Not
             Notices::one(alloc, notice)
         }
         Err(refusal) => {
-            let problems = of_model(alloc, input, &refusal)?;
+            let problems = model_problems(alloc, input, &refusal)?;
             problem_notices(alloc, input, problems)
         }
     }

@@ -1,9 +1,12 @@
 //! The replies of a run.
+ghost use Rattle.std.specs.Prelude.{◌≡◌, ◌+◌, ◌<◌, ◌^◌, length};
+ghost use Rattle.pst_messages.specs.ItemReplies as spec;
+ghost use Rattle.pst_runs.specs.Replies.{listed_at};
 
 use crate::command::{Part, after_head, is_headed, place_of, trees_in};
 use crate::ill::{ValueFault, value_fault_problem};
 use crate::values::{CaseSearch, Wanted, problem_in};
-use pst_problems::{FoundProblem, Problem, counted, noted, with_note, wrong};
+use pst_problems::{FoundProblem, Problem, counted, problem_at, problem_with_note, with_note};
 use pst_sexpr::{Form, node_of};
 use std::alloc::Global;
 
@@ -17,7 +20,7 @@ struct Reply<'a> {
 }
 
 /// The number of the `(replies ..)` tree among the trees of a run, and its lists.
-pub fn lists_of(form: &Form) -> Option<(usize, &[Form])> {
+fn lists_of(form: &Form) -> Option<(usize, &[Form])> {
     for (place, part) in trees_in(form).iter().enumerate() {
         if is_headed(part, "replies") {
             return Some((place, after_head(part)));
@@ -27,7 +30,9 @@ pub fn lists_of(form: &Form) -> Option<(usize, &[Form])> {
 }
 
 /// The replies of list `number`, counted from 0.
-fn replies_in(lists: &[Form], number: usize) -> &[Form] {
+fn replies_in(lists: &[Form], number: usize) -> &[Form]
+    ensures { result.now ≡ listed_at lists.now number }
+{
     match lists.get(number) {
         Some(list) => trees_in(list),
         None => &[],
@@ -35,13 +40,18 @@ fn replies_in(lists: &[Form], number: usize) -> &[Form] {
 }
 
 /// The problem of a part with `replies` replies, which has another number of commands.
-fn other_count(alloc: Global, path: &[usize], part: &Part<'_>, replies: usize) -> FoundProblem {
+fn reply_count_problem(
+    alloc: Global,
+    path: &[usize],
+    part: &Part<'_>,
+    replies: usize,
+) -> FoundProblem {
     let called = part.called;
     let has = counted(part.commands.len(), "command");
     if replies == 1 {
-        return wrong(alloc, path, format_args!("{called}: 1 reply for {has}"));
+        return problem_at(alloc, path, format_args!("{called}: 1 reply for {has}"));
     }
-    wrong(
+    problem_at(
         alloc,
         path,
         format_args!("{called}: {replies} replies for {has}"),
@@ -49,15 +59,28 @@ fn other_count(alloc: Global, path: &[usize], part: &Part<'_>, replies: usize) -
 }
 
 /// The problem of a run with `lists` lists of replies for `parts` parts, which differ in number.
-fn other_lists(alloc: Global, path: &[usize], lists: usize, parts: usize) -> FoundProblem {
+fn list_count_problem(alloc: Global, path: &[usize], lists: usize, parts: usize) -> FoundProblem {
     let found = counted(lists, "list");
     let wanted = counted(parts, "part");
-    noted(
+    problem_with_note(
         alloc,
         path,
         format_args!("{found} of replies for {wanted}"),
         "the replies of the prefix come first, then those of each branch, then those of the suffix",
     )
+}
+
+/// The number of the first of `parts` with another number of replies than of commands. The first part has list `number`.
+fn first_other(lists: &[Form], number: usize, parts: &[Part<'_>]) -> Option<usize>
+    requires { number + length parts.now < 2 ^ 64 }
+    ensures { result ≡ spec.first_other lists.now number parts.now }
+{
+    let (part, others) = parts.split_first()?;
+    if replies_in(lists, number).len() == part.commands.len() {
+        first_other(lists, number + 1, others)
+    } else {
+        Some(number)
+    }
 }
 
 /// The problem of the first part with another number of replies than of commands. Each part has a list of replies.
@@ -69,23 +92,28 @@ fn list_problem(
     lists: &[Form],
     parts: &[Part<'_>],
 ) -> FoundProblem {
-    for (number, part) in parts.iter().enumerate() {
-        let replies = replies_in(lists, number).len();
-        if part.commands.len() != replies {
-            let path = [item, place, number.saturating_add(1)];
-            return other_count(alloc, &path, part, replies);
-        }
+    let Some(number) = first_other(lists, 0, parts) else {
+        return Ok(None);
+    };
+    let path = [item, place, number.saturating_add(1)];
+    match parts.get(number) {
+        Some(part) => reply_count_problem(alloc, &path, part, replies_in(lists, number).len()),
+        None => Ok(None),
     }
-    Ok(None)
 }
 
 /// The problem of a run whose replies do not fit its parts and commands.
-pub fn no_fit(alloc: Global, item: usize, form: &Form, parts: &[Part<'_>]) -> FoundProblem {
+pub fn misfitting_replies_problem(
+    alloc: Global,
+    item: usize,
+    form: &Form,
+    parts: &[Part<'_>],
+) -> FoundProblem {
     match lists_of(form) {
         Some((place, lists)) if lists.len() == parts.len() => {
             list_problem(alloc, item, place, lists, parts)
         }
-        Some((place, lists)) => other_lists(alloc, &[item, place], lists.len(), parts.len()),
+        Some((place, lists)) => list_count_problem(alloc, &[item, place], lists.len(), parts.len()),
         None => Ok(None),
     }
 }
@@ -144,7 +172,7 @@ fn with_written(alloc: Global, found: Option<Problem>, has_maps: bool) -> FoundP
 }
 
 /// The problem of a run in which the reply to command `command`, counted from 1, is not a reply.
-pub fn bad_reply(
+pub fn bad_reply_problem(
     alloc: Global,
     search: &CaseSearch<'_>,
     item: usize,

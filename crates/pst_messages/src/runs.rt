@@ -1,22 +1,27 @@
 //! Refused cases and runs.
 
-use crate::arguments::bad_argument;
+use crate::arguments::bad_argument_problem;
 use crate::command::{Command, Part, command_at, head_word, parts_of_case};
-use crate::replies::{bad_reply, no_fit};
-use crate::shape::bad_form;
+use crate::replies::{bad_reply_problem, misfitting_replies_problem};
+use crate::shape::bad_form_problem;
 use crate::values::{CaseSearch, Sought, Wanted, problem_in};
 use pst_case::CaseFaultKind;
 use pst_model::Source;
-use pst_problems::{FoundProblem, Problem, below, unknown_among, wrong};
+use pst_problems::{FoundProblem, Problem, below, problem_at, unknown_among};
 use pst_runs::{RunFault, RunFaultKind};
 use pst_sexpr::Form;
 use std::alloc::{AllocError, Global};
 
 /// The problem of the part at `path`, which has more than `most` commands.
-fn too_many(alloc: Global, path: &[usize], part: &Part<'_>, most: usize) -> FoundProblem {
+fn too_many_commands_problem(
+    alloc: Global,
+    path: &[usize],
+    part: &Part<'_>,
+    most: usize,
+) -> FoundProblem {
     let called = part.called;
     let number = part.commands.len();
-    wrong(
+    problem_at(
         alloc,
         path,
         format_args!("{called} has {number} commands, at most {most}"),
@@ -26,13 +31,13 @@ fn too_many(alloc: Global, path: &[usize], part: &Part<'_>, most: usize) -> Foun
 /// The problem of a part of item `item`, which has more than `most` commands.
 fn part_problem(alloc: Global, item: usize, part: &Part<'_>, most: usize) -> FoundProblem {
     match part.branch {
-        Some(branch) => too_many(alloc, &[item, part.place, branch], part, most),
-        None => too_many(alloc, &[item, part.place], part, most),
+        Some(branch) => too_many_commands_problem(alloc, &[item, part.place, branch], part, most),
+        None => too_many_commands_problem(alloc, &[item, part.place], part, most),
     }
 }
 
 /// The problem of an item in which a part, or all branches together, have too many commands.
-fn over_limit(alloc: Global, item: usize, parts: &[Part<'_>]) -> FoundProblem {
+fn over_limit_problem(alloc: Global, item: usize, parts: &[Part<'_>]) -> FoundProblem {
     let mut together: usize = 0;
     for part in parts {
         let number = part.commands.len();
@@ -44,7 +49,7 @@ fn over_limit(alloc: Global, item: usize, parts: &[Part<'_>]) -> FoundProblem {
             together = together.saturating_add(number);
         }
     }
-    wrong(
+    problem_at(
         alloc,
         &[item],
         format_args!("the branches have {together} commands together, at most 16"),
@@ -65,13 +70,13 @@ fn command_problem(
             let items = search.source.items.as_slice();
             unknown_among(alloc, items, path.as_slice(), head_word(form), true)
         }
-        CaseFaultKind::BadArgument => bad_argument(alloc, search, path, form),
+        CaseFaultKind::BadArgument => bad_argument_problem(alloc, search, path, form),
         _ => problem_in(alloc, search, path, form, Wanted::Any, None),
     }
 }
 
 /// The problem of command `number`, counted from 1, of item `item`.
-fn bad_command(
+fn bad_command_problem(
     alloc: Global,
     search: &CaseSearch<'_>,
     item: usize,
@@ -114,18 +119,22 @@ fn fault_problem(
     let RunFault { run, command, kind } = fault;
     let command = command as usize;
     match kind {
-        RunFaultKind::BadForm => bad_form(alloc, run, form),
-        RunFaultKind::NotAFit => no_fit(alloc, run, form, search.parts),
-        RunFaultKind::BadReply => bad_reply(alloc, search, run, form, command),
-        RunFaultKind::Case(CaseFaultKind::OverLimit) => over_limit(alloc, run, search.parts),
-        RunFaultKind::Case(kind) => bad_command(alloc, search, run, kind, command),
+        RunFaultKind::BadForm => bad_form_problem(alloc, run, form),
+        RunFaultKind::NotAFit => misfitting_replies_problem(alloc, run, form, search.parts),
+        RunFaultKind::BadReply => bad_reply_problem(alloc, search, run, form, command),
+        RunFaultKind::Case(CaseFaultKind::OverLimit) => over_limit_problem(
+            alloc,
+            run,
+            search.parts,
+        ),
+        RunFaultKind::Case(kind) => bad_command_problem(alloc, search, run, kind, command),
     }
 }
 
 /// The problem of an item about which only the fault is known.
 fn unlocated_problem(alloc: Global, fault: RunFault) -> FoundProblem {
     let kind = fault.kind.name();
-    wrong(
+    problem_at(
         alloc,
         &[fault.run],
         format_args!("the item is refused: {kind}"),

@@ -1,6 +1,6 @@
 //! Problems that show a tree.
 
-use pst_problems::{FoundProblem, short_text, wrong};
+use pst_problems::{FoundProblem, problem_at, short_text};
 use pst_sexpr::Form;
 use std::alloc::Global;
 use std::fmt::Display;
@@ -14,5 +14,5 @@ pub fn wrong_tree<D: Display + Drop>(
     after: &str,
 ) -> FoundProblem {
     let tree = short_text(alloc, tree)?;
-    wrong(alloc, path, format_args!("{before}`{tree}`{after}"))
+    problem_at(alloc, path, format_args!("{before}`{tree}`{after}"))
 }

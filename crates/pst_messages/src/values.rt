@@ -3,7 +3,7 @@
 use crate::command::{
     Part, after_head, command_at, is_headed, place_of, result_of, variable_number,
 };
-use crate::entries::{ill_entry, is_truth};
+use crate::entries::{first_entry_fault, is_truth};
 use crate::ill::{ValueFault, value_fault_problem};
 use pst_model::{Param, Source};
 use pst_problems::{FoundProblem, Problem, TypeText, in_single_quotes, short_text, with_note};
@@ -86,7 +86,7 @@ fn is_plain(form: &Form) -> bool {
 }
 
 /// The fault of a tree that does not spell what is wanted.
-fn unfit<'a>(form: &'a Form, wanted: Wanted<'a>) -> ValueFault<'a> {
+fn unfit_fault<'a>(form: &'a Form, wanted: Wanted<'a>) -> ValueFault<'a> {
     match wanted {
         Wanted::Type(ty) => ValueFault::OtherType(form, ty),
         Wanted::Any | Wanted::Call(_) => ValueFault::Tree {
@@ -98,7 +98,7 @@ fn unfit<'a>(form: &'a Form, wanted: Wanted<'a>) -> ValueFault<'a> {
 }
 
 /// The fault of a tree that is no node and has to spell a value, if it has one.
-fn ill_value<'a>(
+fn value_fault_in_leaf<'a>(
     search: &CaseSearch<'_>,
     form: &'a Form,
     wanted: Wanted<'a>,
@@ -106,7 +106,7 @@ fn ill_value<'a>(
     match wanted {
         Wanted::Type(ty) if is_of(search, form, ty) => None,
         Wanted::Any if is_plain(form) => None,
-        _ => Some(unfit(form, wanted)),
+        _ => Some(unfit_fault(form, wanted)),
     }
 }
 
@@ -131,14 +131,14 @@ fn variable_in(form: &Form) -> Option<usize> {
 }
 
 /// The fault of a tree that is no node, if it has one that the search looks for.
-fn ill_leaf<'a>(
+fn leaf_fault<'a>(
     search: &CaseSearch<'_>,
     form: &'a Form,
     wanted: Wanted<'a>,
 ) -> Option<ValueFault<'a>> {
     let parts = search.parts;
     match (search.sought, variable_in(form)) {
-        (Sought::Value, _) => ill_value(search, form, wanted),
+        (Sought::Value, _) => value_fault_in_leaf(search, form, wanted),
         (Sought::Later(command), Some(number)) if number == 0 || number >= command => {
             Some(ValueFault::Later { number, command })
         }
@@ -214,9 +214,9 @@ fn first_ill<'a>(
     match form {
         Form::Node(parts) => match types_in(search, form, wanted) {
             Some(types) => first_in_node(search, path, parts.as_slice(), types),
-            None => Ok(Some(unfit(form, wanted))),
+            None => Ok(Some(unfit_fault(form, wanted))),
         },
-        Form::Word(_) | Form::Text(_) => Ok(ill_leaf(search, form, wanted)),
+        Form::Word(_) | Form::Text(_) => Ok(leaf_fault(search, form, wanted)),
     }
 }
 
@@ -229,16 +229,16 @@ fn first_in_node<'a>(
     types: Types<'a>,
 ) -> Result<Option<ValueFault<'a>>, AllocError> {
     if let Types::Entries(keys, _) = types {
-        if let Some(ill) = ill_entry(path, parts, keys)? {
+        if let Some(ill) = first_entry_fault(path, parts, keys)? {
             return Ok(Some(ill));
         }
     }
-    first_in(search, path, parts, types)
+    first_ill_after_head(search, path, parts, types)
 }
 
 /// The first fault in the parts of a tree after its head. In the entries of a map, it checks the values only.
 #[cycle(first_ill)]
-fn first_in<'a>(
+fn first_ill_after_head<'a>(
     search: &CaseSearch<'_>,
     path: &mut Vec<usize>,
     parts: &'a [Form],
@@ -268,7 +268,7 @@ fn first_in_part<'a>(
 ) -> Result<Option<ValueFault<'a>>, AllocError> {
     match (types, part) {
         (Types::Entries(_, wanted), Form::Node(entry)) => {
-            first_in(search, path, entry.as_slice(), Types::Same(wanted))
+            first_ill_after_head(search, path, entry.as_slice(), Types::Same(wanted))
         }
         _ => first_ill(search, path, part, wanted_at(types, number)),
     }

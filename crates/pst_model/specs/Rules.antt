@@ -2,7 +2,7 @@
 use Rattle.std.specs.Prelude.{◌≡◌, ◌||◌, not, ℕ, ℤ, ◌^◌, nat_lt, nat_le, Bool, true, false, if◌then◌else◌, List, [], ◌∷◌, length, map, Option, Some, None}
 use Rattle.std.specs.Str.{bytes_eq}
 use Rattle.pst_model.specs.Kinds.{holds_ref}
-use Rattle.pst_model.specs.Parts.{Name, number_of, operation_of, types_of}
+use Rattle.pst_model.specs.Parts.{Name, operation_number, operation_of, types_of}
 use Rattle.pst_model.specs.declared.expr.Binary.{Binary}
 use Rattle.pst_model.specs.declared.expr.Binary.TheVariants.{Add, Sub, Mul, Div, Rem, Less, LessEqual, Equal, Same, Append, Nth, Range, Get, Has as HasKey, Del}
 use Rattle.pst_model.specs.declared.expr.Clause.{Clause}
@@ -148,7 +148,7 @@ pub data Typed (items earlier : List Item) (post : Bool) : Judgement → Type 0 
       → Typed items earlier post (Has ((acc, T) ∷ (x, S) ∷ G) b T)
       → Typed items earlier post (Has G (expr.Fold x e acc i b) T)
   typed_call : (G : Context) (x : Name) (es : List Expr) (n : ℕ) (o : Op)
-      → number_of items x ≡ Some n → nat_lt n (2 ^ 32) ≡ true → operation_of items n ≡ Some o
+      → operation_number items x ≡ Some n → nat_lt n (2 ^ 32) ≡ true → operation_of items n ≡ Some o
       → Typed items earlier post (Have G es (types_of o.params))
       → Typed items earlier post (Has G (expr.Call x es) ty.Call)
   typed_apply : (G : Context) (f : Name) (es : List Expr) (g : Fun)

@@ -3,7 +3,7 @@ use Rattle.std.specs.Prelude.{◌≡◌, Bool, true, false, List, [], ◌∷◌,
 use Rattle.std.specs.List.{list_any}
 use Rattle.pst_model.specs.Language.{KeepsLanguage}
 use Rattle.pst_model.specs.Operations.{HasOperations}
-use Rattle.pst_model.specs.Parts.{Name, state_of, opening_of, calls_of, types_of}
+use Rattle.pst_model.specs.Parts.{Name, state_of, initial_state_of, calls_of, types_of}
 use Rattle.pst_model.specs.declared.expr.Expr.{Expr}
 use Rattle.pst_model.specs.declared.model.Fun.{Fun}
 use Rattle.pst_model.specs.declared.model.Item.{Item}
@@ -69,7 +69,7 @@ pub record WellModel (m : Source) : Type 0 where
   pub state : Ty
   pub state_is : state_of m.items ≡ Some state
   pub opening : Expr
-  pub opening_is : opening_of m.items ≡ Some opening
+  pub opening_is : initial_state_of m.items ≡ Some opening
   pub calls : Expr
   pub calls_is : calls_of m.items ≡ Some calls
   pub well : WellItems m.items state [] m.items

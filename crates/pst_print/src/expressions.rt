@@ -6,12 +6,12 @@ ghost use Rattle.pst_print.specs.Words.{key_word, truth_word};
 ghost use Rattle.pst_sexpr.specs.Parts.{headed};
 ghost use Rattle.pst_sexpr.specs.declared.form.Form.TheVariants.{Word};
 
-use crate::nodes::{before, name, three, two};
+use crate::nodes::{name, prepend, three_forms, two_forms};
 use crate::types::{map_form, ty_form};
 use crate::words::{binary_word, unary_word};
 use pst_model::{Clause, Expr};
 use pst_sexpr::{Form, headed, list_of, word};
-use pst_value::{Items, KeyTy, Text, Ty};
+use pst_value::{Boxed, Items, KeyTy, Text, Ty};
 use std::alloc::{AllocError, Global};
 
 fn integer(alloc: Global, number: i64) -> Result<Form, AllocError>
@@ -37,21 +37,21 @@ fn truth(alloc: Global, holds: bool) -> Result<Form, AllocError>
 }
 
 /// A node of a word and a tree.
-fn of_one(alloc: Global, head: &str, first: Form) -> Result<Form, AllocError>
+fn unary_form(alloc: Global, head: &str, first: Form) -> Result<Form, AllocError>
     ensures { IfOk result (λ form. form ≡ headed head.now (first ∷ [])) }
 {
     headed(alloc, head, list_of(alloc, first)?)
 }
 
 /// A node of a word and two trees.
-fn of_two(alloc: Global, head: &str, first: Form, second: Form) -> Result<Form, AllocError>
+fn binary_form(alloc: Global, head: &str, first: Form, second: Form) -> Result<Form, AllocError>
     ensures { IfOk result (λ form. form ≡ headed head.now (first ∷ second ∷ [])) }
 {
-    headed(alloc, head, two(alloc, first, second)?)
+    headed(alloc, head, two_forms(alloc, first, second)?)
 }
 
 /// A node of a word and three trees.
-fn of_three(
+fn ternary_form(
     alloc: Global,
     head: &str,
     first: Form,
@@ -60,28 +60,28 @@ fn of_three(
 ) -> Result<Form, AllocError>
     ensures { IfOk result (λ form. form ≡ headed head.now (first ∷ second ∷ third ∷ [])) }
 {
-    headed(alloc, head, three(alloc, first, second, third)?)
+    headed(alloc, head, three_forms(alloc, first, second, third)?)
 }
 
 fn let_form(alloc: Global, bound: &Text, value: Form, body: Form) -> Result<Form, AllocError>
     ensures { IfOk result (λ form. form ≡ headed (codes "let") (Word bound.now ∷ value ∷ body ∷ [])) }
 {
     let bound = name(alloc, bound)?;
-    headed(alloc, "let", three(alloc, bound, value, body)?)
+    headed(alloc, "let", three_forms(alloc, bound, value, body)?)
 }
 
 fn at_form(alloc: Global, tuple: Form, number: u64) -> Result<Form, AllocError>
     ensures { IfOk result (λ form. form ≡ headed (codes "at") (tuple ∷ Word (decimal number) ∷ [])) }
 {
     let place = place(alloc, number)?;
-    of_two(alloc, "at", tuple, place)
+    binary_form(alloc, "at", tuple, place)
 }
 
 fn list_form(alloc: Global, ty: &Ty, items: Items<Form>) -> Result<Form, AllocError>
     ensures { IfOk result (λ form. form ≡ headed (codes "list") (ty_form ty.now ∷ items)) }
 {
     let ty = ty_form(alloc, ty)?;
-    headed(alloc, "list", before(alloc, ty, items)?)
+    headed(alloc, "list", prepend(alloc, ty, items)?)
 }
 
 /// The empty map of a type of keys and a type of values.
@@ -104,8 +104,8 @@ fn fold_form(
 {
     let bound = name(alloc, names.0)?;
     let built = name(alloc, names.1)?;
-    let rest = three(alloc, built, first, body)?;
-    let parts = before(alloc, bound, before(alloc, items, rest)?)?;
+    let rest = three_forms(alloc, built, first, body)?;
+    let parts = prepend(alloc, bound, prepend(alloc, items, rest)?)?;
     headed(alloc, "fold", parts)
 }
 
@@ -113,7 +113,14 @@ fn call_form(alloc: Global, operation: &Text, args: Items<Form>) -> Result<Form,
     ensures { IfOk result (λ form. form ≡ headed (codes "call") (Word operation.now ∷ args)) }
 {
     let operation = name(alloc, operation)?;
-    headed(alloc, "call", before(alloc, operation, args)?)
+    headed(alloc, "call", prepend(alloc, operation, args)?)
+}
+
+/// An application of a function.
+fn apply_form(alloc: Global, function: &Text, args: Items<Form>) -> Result<Form, AllocError>
+    ensures { IfOk result (λ form. form ≡ headed function.now args) }
+{
+    headed(alloc, function.as_str(), args)
 }
 
 /// The tree of an expression.
@@ -128,62 +135,46 @@ pub fn expr_form(alloc: Global, expr: &Expr) -> Result<Form, AllocError>
         Expr::Text(text) => Ok(Form::Text(text.copy(alloc)?)),
         Expr::Name(bound) => name(alloc, bound),
         Expr::Let(bound, value, body) => {
-            let value = expr_form(alloc, value.get())?;
-            let_form(alloc, bound, value, expr_form(alloc, body.get())?)
+            let_form(alloc, bound, form_of(alloc, value)?, form_of(alloc, body)?)
         }
-        Expr::If(condition, yes, otherwise) => {
-            let condition = expr_form(alloc, condition.get())?;
-            let yes = expr_form(alloc, yes.get())?;
-            let otherwise = expr_form(alloc, otherwise.get())?;
-            of_three(alloc, "if", condition, yes, otherwise)
+        Expr::If(test, yes, no) => {
+            let (test, yes) = (form_of(alloc, test)?, form_of(alloc, yes)?);
+            ternary_form(alloc, "if", test, yes, form_of(alloc, no)?)
         }
-        Expr::And(first, second) => {
-            let first = expr_form(alloc, first.get())?;
-            of_two(alloc, "and", first, expr_form(alloc, second.get())?)
-        }
-        Expr::Or(first, second) => {
-            let first = expr_form(alloc, first.get())?;
-            of_two(alloc, "or", first, expr_form(alloc, second.get())?)
-        }
-        Expr::Unary(operator, operand) => {
-            of_one(
-                alloc,
-                unary_word(*operator),
-                expr_form(alloc, operand.get())?,
-            )
-        }
-        Expr::Binary(operator, first, second) => {
-            let first = expr_form(alloc, first.get())?;
-            let second = expr_form(alloc, second.get())?;
-            of_two(alloc, binary_word(*operator), first, second)
+        Expr::And(a, b) => binary_form(alloc, "and", form_of(alloc, a)?, form_of(alloc, b)?),
+        Expr::Or(a, b) => binary_form(alloc, "or", form_of(alloc, a)?, form_of(alloc, b)?),
+        Expr::Unary(operator, a) => unary_form(alloc, unary_word(*operator), form_of(alloc, a)?),
+        Expr::Binary(operator, a, b) => {
+            let word = binary_word(*operator);
+            binary_form(alloc, word, form_of(alloc, a)?, form_of(alloc, b)?)
         }
         Expr::Tuple(parts) => headed(alloc, "tuple", each_expr(alloc, parts.as_slice())?),
-        Expr::At(tuple, number) => at_form(alloc, expr_form(alloc, tuple.get())?, *number),
+        Expr::At(tuple, number) => at_form(alloc, form_of(alloc, tuple)?, *number),
         Expr::List(ty, items) => list_form(alloc, ty, each_expr(alloc, items.as_slice())?),
         Expr::For(clauses, body) => {
             let clauses = Form::Node(each_clause(alloc, clauses.as_slice())?);
-            of_two(alloc, "for", clauses, expr_form(alloc, body.get())?)
+            binary_form(alloc, "for", clauses, form_of(alloc, body)?)
         }
         Expr::Fold(bound, items, built, first, body) => {
-            let items = expr_form(alloc, items.get())?;
-            let first = expr_form(alloc, first.get())?;
-            let body = expr_form(alloc, body.get())?;
-            fold_form(alloc, (bound, built), items, first, body)
+            let (items, first) = (form_of(alloc, items)?, form_of(alloc, first)?);
+            fold_form(alloc, (bound, built), items, first, form_of(alloc, body)?)
         }
         Expr::Map(kind, ty) => empty_map(alloc, *kind, ty),
         Expr::Put(map, key, value) => {
-            let map = expr_form(alloc, map.get())?;
-            let key = expr_form(alloc, key.get())?;
-            let value = expr_form(alloc, value.get())?;
-            of_three(alloc, "put", map, key, value)
+            let (map, key) = (form_of(alloc, map)?, form_of(alloc, key)?);
+            ternary_form(alloc, "put", map, key, form_of(alloc, value)?)
         }
-        Expr::Call(operation, args) => {
-            call_form(alloc, operation, each_expr(alloc, args.as_slice())?)
-        }
-        Expr::Apply(function, args) => {
-            headed(alloc, function.as_str(), each_expr(alloc, args.as_slice())?)
-        }
+        Expr::Call(called, args) => call_form(alloc, called, each_expr(alloc, args.as_slice())?),
+        Expr::Apply(called, args) => apply_form(alloc, called, each_expr(alloc, args.as_slice())?),
     }
+}
+
+/// The tree of a part of an expression.
+#[cycle(expr_form)]
+fn form_of(alloc: Global, part: &Boxed<Expr>) -> Result<Form, AllocError>
+    ensures { IfOk result (λ form. form ≡ expr_form part.now) }
+{
+    expr_form(alloc, part.get())
 }
 
 #[cycle(expr_form)]
@@ -217,7 +208,7 @@ fn clause_form(alloc: Global, clause: &Clause) -> Result<Form, AllocError>
         Clause::In(bound, list) => {
             let bound = name(alloc, bound)?;
             let list = expr_form(alloc, list)?;
-            headed(alloc, "in", two(alloc, bound, list)?)
+            headed(alloc, "in", two_forms(alloc, bound, list)?)
         }
         Clause::When(condition) => {
             let condition = expr_form(alloc, condition)?;

@@ -3,7 +3,7 @@ ghost use Rattle.std.specs.Prelude.{◌≡◌, IfOk, map};
 ghost use Rattle.pst_print.specs.Printed as spec;
 
 use crate::expressions::expr_form;
-use crate::nodes::{before, name, three, two};
+use crate::nodes::{name, prepend, three_forms, two_forms};
 use crate::types::ty_form;
 use crate::words::model_word;
 use pst_model::{Expr, Fun, Item, Op, Param, Source};
@@ -15,7 +15,7 @@ fn param_form(alloc: Global, param: &Param) -> Result<Form, AllocError>
     ensures { IfOk result (λ form. form ≡ spec.param_form param.now) }
 {
     let ty = ty_form(alloc, &param.ty)?;
-    Ok(Form::Node(two(alloc, name(alloc, &param.name)?, ty)?))
+    Ok(Form::Node(two_forms(alloc, name(alloc, &param.name)?, ty)?))
 }
 
 fn params_form(alloc: Global, params: &[Param]) -> Result<Form, AllocError>
@@ -29,7 +29,7 @@ fn params_form(alloc: Global, params: &[Param]) -> Result<Form, AllocError>
 }
 
 /// A name, parameters and a result, and then others.
-fn signature(
+fn signature_forms(
     alloc: Global,
     declared: &Text,
     params: &[Param],
@@ -38,9 +38,9 @@ fn signature(
 ) -> Result<Items<Form>, AllocError>
     ensures { IfOk result (λ forms. forms ≡ spec.signature declared.now params.now answer.now rest) }
 {
-    let rest = before(alloc, ty_form(alloc, answer)?, rest)?;
-    let rest = before(alloc, params_form(alloc, params)?, rest)?;
-    before(alloc, name(alloc, declared)?, rest)
+    let rest = prepend(alloc, ty_form(alloc, answer)?, rest)?;
+    let rest = prepend(alloc, params_form(alloc, params)?, rest)?;
+    prepend(alloc, name(alloc, declared)?, rest)
 }
 
 fn fun_form(alloc: Global, function: &Fun) -> Result<Form, AllocError>
@@ -48,7 +48,7 @@ fn fun_form(alloc: Global, function: &Fun) -> Result<Form, AllocError>
 {
     let body = list_of(alloc, expr_form(alloc, &function.body)?)?;
     let params = function.params.as_slice();
-    let parts = signature(alloc, &function.name, params, &function.result, body)?;
+    let parts = signature_forms(alloc, &function.name, params, &function.result, body)?;
     if function.is_post {
         headed(alloc, "postfun", parts)
     } else {
@@ -57,7 +57,7 @@ fn fun_form(alloc: Global, function: &Fun) -> Result<Form, AllocError>
 }
 
 /// A word, and an expression.
-fn single(alloc: Global, head: &str, expr: &Expr) -> Result<Form, AllocError>
+fn headed_expression(alloc: Global, head: &str, expr: &Expr) -> Result<Form, AllocError>
     ensures { IfOk result (λ form. form ≡ spec.single head.now expr.now) }
 {
     headed(alloc, head, list_of(alloc, expr_form(alloc, expr)?)?)
@@ -66,12 +66,12 @@ fn single(alloc: Global, head: &str, expr: &Expr) -> Result<Form, AllocError>
 fn op_form(alloc: Global, operation: &Op) -> Result<Form, AllocError>
     ensures { IfOk result (λ form. form ≡ spec.op_form operation.now) }
 {
-    let pre = single(alloc, "pre", &operation.pre)?;
-    let next = single(alloc, "next", &operation.next)?;
-    let post = single(alloc, "post", &operation.post)?;
-    let callbacks = three(alloc, pre, next, post)?;
+    let pre = headed_expression(alloc, "pre", &operation.pre)?;
+    let next = headed_expression(alloc, "next", &operation.next)?;
+    let post = headed_expression(alloc, "post", &operation.post)?;
+    let callbacks = three_forms(alloc, pre, next, post)?;
     let params = operation.params.as_slice();
-    let parts = signature(alloc, &operation.name, params, &operation.result, callbacks)?;
+    let parts = signature_forms(alloc, &operation.name, params, &operation.result, callbacks)?;
     headed(alloc, "op", parts)
 }
 
@@ -80,8 +80,8 @@ fn item_form(alloc: Global, item: &Item) -> Result<Form, AllocError>
 {
     match item {
         Item::State(ty) => headed(alloc, "state", list_of(alloc, ty_form(alloc, ty)?)?),
-        Item::Init(expr) => single(alloc, "init", expr),
-        Item::Command(expr) => single(alloc, "command", expr),
+        Item::Init(expr) => headed_expression(alloc, "init", expr),
+        Item::Command(expr) => headed_expression(alloc, "command", expr),
         Item::Fun(function) => fun_form(alloc, function),
         Item::Op(operation) => op_form(alloc, operation),
     }

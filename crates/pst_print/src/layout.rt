@@ -22,7 +22,7 @@ struct Frame {
 
 /// What separates a token from the token before it.
 #[derive(Clone, Copy, Debug, PartialEq, Eq, Drop)]
-enum Joint {
+enum Separator {
     None,
     Space,
     /// A new line, which begins in the column.
@@ -170,18 +170,18 @@ impl<'a> Layout<'a> {
     }
 
     /// What separates the tree that begins with token `number` from what is before it.
-    fn joint(&self, number: usize) -> Joint {
+    fn joint(&self, number: usize) -> Separator {
         let Some(frame) = self.frames.last() else {
-            return Joint::Line(0);
+            return Separator::Line(0);
         };
         if self.after_comment {
-            Joint::Line(frame.style.indent)
+            Separator::Line(frame.style.indent)
         } else if frame.parts == 0 {
-            Joint::None
+            Separator::None
         } else if self.stays(frame, number) {
-            Joint::Space
+            Separator::Space
         } else {
-            Joint::Line(frame.style.indent)
+            Separator::Line(frame.style.indent)
         }
     }
 
@@ -189,9 +189,9 @@ impl<'a> Layout<'a> {
     fn part(&mut self, number: usize, token: &Token) -> Result<(), AllocError> {
         let has_blank = token.lines > 1 && self.frames.len() <= 1;
         match self.joint(number) {
-            Joint::None => Ok(()),
-            Joint::Space => self.put(b" "),
-            Joint::Line(indent) => self.begin_line(indent, has_blank),
+            Separator::None => Ok(()),
+            Separator::Space => self.put(b" "),
+            Separator::Line(indent) => self.begin_line(indent, has_blank),
         }
     }
 

@@ -15,5 +15,5 @@ mod words;
 
 pub use expressions::expr_form;
 pub use printer::print_model;
-pub use respelled::laid_out;
+pub use respelled::format_file;
 pub use types::ty_form;

@@ -16,14 +16,18 @@ pub struct Measure {
 
 /// The columns in which a token begins and ends if the whole file is on one line, and the number of comments up to it.
 #[derive(Clone, Copy, Drop)]
-struct Reach {
+struct Columns {
     begin: usize,
     end: usize,
     comments: usize,
 }
 
 /// The reach of each token.
-fn reaches(alloc: Global, input: &[u8], tokens: &[Token]) -> Result<Vec<Reach>, AllocError> {
+fn columns_of_tokens(
+    alloc: Global,
+    input: &[u8],
+    tokens: &[Token],
+) -> Result<Vec<Columns>, AllocError> {
     let mut found = Vec::new(alloc);
     let mut column = 0usize;
     let mut comments = 0usize;
@@ -35,7 +39,7 @@ fn reaches(alloc: Global, input: &[u8], tokens: &[Token]) -> Result<Vec<Reach>, 
         if token.kind == Kind::Comment {
             comments = comments.saturating_add(1);
         }
-        found.push(Reach {
+        found.push(Columns {
             begin,
             end,
             comments,
@@ -47,7 +51,7 @@ fn reaches(alloc: Global, input: &[u8], tokens: &[Token]) -> Result<Vec<Reach>, 
 }
 
 /// For each token the number of the last token of its tree.
-fn ends(alloc: Global, tokens: &[Token]) -> Result<Vec<usize>, AllocError> {
+fn last_tokens(alloc: Global, tokens: &[Token]) -> Result<Vec<usize>, AllocError> {
     let mut found = Vec::new(alloc);
     let mut open: Vec<usize> = Vec::new(alloc);
     for (number, token) in tokens.iter().enumerate() {
@@ -68,7 +72,7 @@ fn ends(alloc: Global, tokens: &[Token]) -> Result<Vec<usize>, AllocError> {
 }
 
 /// For each token whether one of the parts of its node begins a line.
-fn broken(alloc: Global, tokens: &[Token]) -> Result<Vec<bool>, AllocError> {
+fn line_break_flags(alloc: Global, tokens: &[Token]) -> Result<Vec<bool>, AllocError> {
     let mut found = Vec::new(alloc);
     let mut open: Vec<usize> = Vec::new(alloc);
     for (number, token) in tokens.iter().enumerate() {
@@ -76,7 +80,7 @@ fn broken(alloc: Global, tokens: &[Token]) -> Result<Vec<bool>, AllocError> {
         if token.kind == Kind::Close {
             let _ = open.pop();
         } else if token.lines > 0 {
-            note(&mut found, open.as_slice());
+            mark_broken(&mut found, open.as_slice());
         }
         if token.kind == Kind::Open {
             open.push(number)?;
@@ -86,7 +90,7 @@ fn broken(alloc: Global, tokens: &[Token]) -> Result<Vec<bool>, AllocError> {
 }
 
 /// Notes for the innermost open node that one of its parts begins a line.
-fn note(found: &mut [bool], open: &[usize]) {
+fn mark_broken(found: &mut [bool], open: &[usize]) {
     if let Some(node) = open.last() {
         if let Some(has_lines) = found.get_mut(*node) {
             *has_lines = true;
@@ -95,7 +99,7 @@ fn note(found: &mut [bool], open: &[usize]) {
 }
 
 /// For each token how many brackets close directly after it.
-fn closers(alloc: Global, tokens: &[Token]) -> Result<Vec<usize>, AllocError> {
+fn count_closers(alloc: Global, tokens: &[Token]) -> Result<Vec<usize>, AllocError> {
     let mut found = Vec::new(alloc);
     let mut count = 0usize;
     for token in tokens.iter().rev() {
@@ -111,7 +115,7 @@ fn closers(alloc: Global, tokens: &[Token]) -> Result<Vec<usize>, AllocError> {
 }
 
 /// The measure of a token with the reach `first`. `last` is the reach of the last token of its tree.
-fn measure_of(first: Reach, last: Reach, closers: usize, has_lines: bool) -> Measure {
+fn measure_of(first: Columns, last: Columns, closers: usize, has_lines: bool) -> Measure {
     Measure {
         has_lines,
         width: last.end.saturating_sub(first.begin).saturating_add(closers),
@@ -121,10 +125,10 @@ fn measure_of(first: Reach, last: Reach, closers: usize, has_lines: bool) -> Mea
 
 /// The measure of each token of a file.
 pub fn measures(alloc: Global, input: &[u8], tokens: &[Token]) -> Result<Vec<Measure>, AllocError> {
-    let reaches = reaches(alloc, input, tokens)?;
-    let ends = ends(alloc, tokens)?;
-    let closers = closers(alloc, tokens)?;
-    let broken = broken(alloc, tokens)?;
+    let reaches = columns_of_tokens(alloc, input, tokens)?;
+    let ends = last_tokens(alloc, tokens)?;
+    let closers = count_closers(alloc, tokens)?;
+    let broken = line_break_flags(alloc, tokens)?;
     let mut found = Vec::new(alloc);
     for ((first, end), has_lines) in reaches.iter().zip(ends.as_slice()).zip(broken.as_slice()) {
         if let (Some(last), Some(closers)) = (reaches.get(*end), closers.get(*end)) {

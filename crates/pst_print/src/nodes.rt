@@ -14,7 +14,7 @@ pub fn name(alloc: Global, text: &Text) -> Result<Form, AllocError>
 }
 
 /// Two trees.
-pub fn two(alloc: Global, first: Form, second: Form) -> Result<Items<Form>, AllocError>
+pub fn two_forms(alloc: Global, first: Form, second: Form) -> Result<Items<Form>, AllocError>
     ensures { IfOk result (λ forms. forms ≡ first ∷ second ∷ []) }
 {
     let mut forms = list_of(alloc, first)?;
@@ -23,7 +23,7 @@ pub fn two(alloc: Global, first: Form, second: Form) -> Result<Items<Form>, Allo
 }
 
 /// Three trees.
-pub fn three(
+pub fn three_forms(
     alloc: Global,
     first: Form,
     second: Form,
@@ -31,13 +31,13 @@ pub fn three(
 ) -> Result<Items<Form>, AllocError>
     ensures { IfOk result (λ forms. forms ≡ first ∷ second ∷ third ∷ []) }
 {
-    let mut forms = two(alloc, first, second)?;
+    let mut forms = two_forms(alloc, first, second)?;
     forms.push(third)?;
     Ok(forms)
 }
 
 /// A tree, and then others.
-pub fn before(alloc: Global, first: Form, rest: Items<Form>) -> Result<Items<Form>, AllocError>
+pub fn prepend(alloc: Global, first: Form, rest: Items<Form>) -> Result<Items<Form>, AllocError>
     ensures { IfOk result (λ forms. forms ≡ first ∷ rest) }
 {
     let mut forms = list_of(alloc, first)?;

@@ -7,7 +7,7 @@ use pst_sexpr::{SexprFault, Tree, read};
 use std::alloc::{AllocError, Global};
 
 /// The tokens of a file on new lines.
-fn relaid(alloc: Global, input: &[u8], tokens: &[Token]) -> Result<Vec<u8>, AllocError> {
+fn format_tokens(alloc: Global, input: &[u8], tokens: &[Token]) -> Result<Vec<u8>, AllocError> {
     let measures = measures(alloc, input, tokens)?;
     let mut layout = Layout::new(alloc, input, tokens, measures.as_slice());
     for (number, token) in tokens.iter().enumerate() {
@@ -56,10 +56,10 @@ fn are_same(first: &[Tree], second: &[Tree]) -> bool {
 /// file unchanged if the check fails.
 ///
 /// If the file cannot be read, the function returns the fault of `read`.
-pub fn laid_out(alloc: Global, input: &[u8]) -> Result<Vec<u8>, SexprFault> {
+pub fn format_file(alloc: Global, input: &[u8]) -> Result<Vec<u8>, SexprFault> {
     let trees = read(alloc, input)?;
     let old = tokens(alloc, input)?;
-    let text = relaid(alloc, input, old.as_slice())?;
+    let text = format_tokens(alloc, input, old.as_slice())?;
     if have_same_tokens(alloc, input, old.as_slice(), text.as_slice())? {
         if let Ok(again) = read(alloc, text.as_slice()) {
             if are_same(trees.as_slice(), again.as_slice()) {

@@ -1,6 +1,6 @@
 //! The tokens of a file, comments among them.
 
-use pst_sources::{State, after};
+use pst_sources::{State, state_after};
 use std::alloc::{AllocError, Global};
 
 /// What a token is.
@@ -99,7 +99,7 @@ pub fn tokens(alloc: Global, input: &[u8]) -> Result<Vec<Token>, AllocError> {
     };
     let mut state = State::Between;
     for (at, byte) in input.iter().enumerate() {
-        let next = after(state, *byte);
+        let next = state_after(state, *byte);
         lexer.go(at, *byte, state, next)?;
         state = next;
     }

@@ -5,7 +5,7 @@ ghost use Rattle.pst_print.specs.Words.{key_word};
 ghost use Rattle.pst_sexpr.specs.Parts.{headed};
 ghost use Rattle.pst_sexpr.specs.declared.form.Form.TheVariants.{Word};
 
-use crate::nodes::two;
+use crate::nodes::two_forms;
 use crate::words::key_word;
 use pst_sexpr::{Form, headed, list_of, word};
 use pst_value::{Items, KeyTy, Ty};
@@ -16,7 +16,7 @@ pub fn map_form(alloc: Global, kind: KeyTy, ty: Form) -> Result<Form, AllocError
     ensures { IfOk result (λ form. form ≡ headed (codes "map") (Word (key_word kind) ∷ ty ∷ [])) }
 {
     let kind = word(alloc, key_word(kind))?;
-    headed(alloc, "map", two(alloc, kind, ty)?)
+    headed(alloc, "map", two_forms(alloc, kind, ty)?)
 }
 
 /// The tree of a type.

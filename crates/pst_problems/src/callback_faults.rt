@@ -3,21 +3,20 @@
 ghost use Rattle.std.specs.Prelude.{◌≡◌, [], ◌&&◌, OnOk};
 ghost use Rattle.std.specs.List.{list_any};
 ghost use Rattle.pst_problems.specs.Kept.{keep};
-ghost use Rattle.pst_problems.specs.Placed.{below, known_at};
+ghost use Rattle.pst_problems.specs.Placed.{known_at};
 ghost use Rattle.pst_problems.specs.PlacedModel as spec;
 ghost use Rattle.pst_problems.specs.SeenShapes.{callbacks_in, holds};
 ghost use Rattle.pst_problems.specs.declared.fault.Role.TheVariants as role;
 ghost use Rattle.pst_syntax.specs.ModelFaults as faults;
-ghost use Rattle.pst_syntax.specs.ShownItems.{shown_callback, shown_callback_option};
+ghost use Rattle.pst_syntax.specs.ShownItems.{shown_callback_option};
 
-use crate::fault::{FormFault, Role};
+use crate::fault::Role;
 use crate::problem::below;
-use crate::telling::{Walk, tell, unless};
-use crate::whole_faults::once;
+use crate::telling::{Added, Faults, Walk, push_fault, push_fault_unless};
+use crate::whole_faults::add_single_expression_faults;
 use pst_sexpr::Form;
 use pst_syntax::{CallbackShape, FaultKind, callback_shape};
 use pst_value::Items;
-use std::alloc::AllocError;
 
 fn has_pre(seen: &[Option<CallbackShape<'_>>]) -> bool
     ensures { result ≡ list_any (λ shape. holds faults.is_pre (shown_callback_option shape)) seen.now }
@@ -49,96 +48,72 @@ fn has_all(seen: &[Option<CallbackShape<'_>>]) -> bool
     has_pre(seen) && has_next(seen) && has_post(seen)
 }
 
-/// Adds the faults of a callback at `path` behind the callbacks `seen`.
+/// Adds the faults of the callback at `path`, after the callbacks `seen`.
 #[tactic(auto, using(crate::proofs::Keeping::keeping, crate::proofs::Seen::seen))]
-fn callback(
+fn add_callback_faults(
     walk: Walk,
-    faults: &mut Items<FormFault>,
+    faults: &mut Faults,
     seen: &[Option<CallbackShape<'_>>],
     path: &[usize],
-    shape: &CallbackShape<'_>,
-) -> Result<(), AllocError>
-    ensures { OnOk result (faults.new ≡ keep walk.limit faults.old
-        (spec.callback_faults_at walk.has_maps (callbacks_in seen.now) path.now
-        (shown_callback shape.now))) }
-{
-    match shape {
-        CallbackShape::Pre(body) => {
-            once(walk, faults, Role::Callback, path, has_pre(seen), body)?;
-            Ok(())
-        }
-        CallbackShape::Next(body) => {
-            once(walk, faults, Role::Callback, path, has_next(seen), body)?;
-            Ok(())
-        }
-        CallbackShape::Post(body) => {
-            once(walk, faults, Role::Callback, path, has_post(seen), body)?;
-            Ok(())
-        }
-    }
-}
-
-/// Adds the faults of the callback that is part `number` of the tree at `path`, behind the callbacks `seen`.
-#[tactic(auto, using(crate::proofs::Keeping::keeping))]
-fn known_callback(
-    walk: Walk,
-    faults: &mut Items<FormFault>,
-    seen: &[Option<CallbackShape<'_>>],
-    path: &[usize],
-    number: usize,
     shape: &Option<CallbackShape<'_>>,
-) -> Result<(), AllocError>
+) -> Added
     ensures { OnOk result (faults.new ≡ keep walk.limit faults.old
-        (known_at (below path.now number) role.Callback (shown_callback_option shape.now)
-        (spec.callback_faults_at walk.has_maps (callbacks_in seen.now) (below path.now number)))) }
+        (known_at path.now role.Callback (shown_callback_option shape.now)
+        (spec.callback_faults_at walk.has_maps (callbacks_in seen.now) path.now))) }
 {
-    let at = below(path, walk.alloc, number)?;
+    let role = Role::Callback;
     match shape {
-        Some(shape) => {
-            callback(walk, faults, seen, at.as_slice(), shape)?;
-            Ok(())
-        }
-        None => {
-            tell(
-                walk,
-                faults,
-                at.as_slice(),
-                Role::Callback,
-                FaultKind::UnknownForm,
-            )?;
-            Ok(())
-        }
+        Some(CallbackShape::Pre(body)) => add_single_expression_faults(
+            walk,
+            faults,
+            role,
+            path,
+            has_pre(seen),
+            body,
+        )?,
+        Some(CallbackShape::Next(body)) => add_single_expression_faults(
+            walk,
+            faults,
+            role,
+            path,
+            has_next(seen),
+            body,
+        )?,
+        Some(CallbackShape::Post(body)) => add_single_expression_faults(
+            walk,
+            faults,
+            role,
+            path,
+            has_post(seen),
+            body,
+        )?,
+        None => push_fault(walk, faults, path, role, FaultKind::UnknownForm)?,
     }
+    Ok(())
 }
 
 /// Adds the faults of the callbacks of an operation, which are the parts from 4 on of the tree at `path`.
 #[tactic(auto, using(crate::proofs::Keeping::keeping))]
-pub fn callbacks(
+pub fn add_callbacks_faults(
     walk: Walk,
-    faults: &mut Items<FormFault>,
+    faults: &mut Faults,
     path: &[usize],
     forms: &[Form],
-) -> Result<(), AllocError>
+) -> Added
     ensures { OnOk result (faults.new ≡ keep walk.limit faults.old
         (spec.callbacks_faults_at walk.has_maps [] path.now 4 forms.now)) }
 {
     let mut seen = Items::new(walk.alloc);
     let mut number = 4;
     for form in forms {
+        let at = below(path, walk.alloc, number)?;
         let shape = callback_shape(form);
-        known_callback(walk, faults, seen.as_slice(), path, number, &shape)?;
+        add_callback_faults(walk, faults, seen.as_slice(), at.as_slice(), &shape)?;
         seen.push(shape)?;
         number += 1;
     }
-    let seen = seen.as_slice();
-    let are_there = has_all(seen);
-    unless(
-        walk,
-        faults,
-        path,
-        Role::Callbacks,
-        are_there,
-        FaultKind::Missing,
-    )?;
+    let are_there = has_all(seen.as_slice());
+    let role = Role::Callbacks;
+    push_fault_unless(walk, faults, path, role, are_there, FaultKind::Missing)?;
     Ok(())
 }

@@ -9,34 +9,36 @@ ghost use Rattle.pst_syntax.specs.Faults.{Clause, Expression};
 ghost use Rattle.pst_syntax.specs.Shape.{At, Call, Fold, For, Let, ListOf};
 ghost use Rattle.pst_syntax.specs.Shown.{shown};
 
-use crate::fault::{FormFault, Role};
-use crate::part_faults::{bound, fits, map_of, operation, place};
+use crate::fault::Role;
+use crate::part_faults::{
+    add_bound_faults, add_map_faults, add_operation_name_faults, add_tuple_place_faults,
+    is_within_limits,
+};
 use crate::problem::below;
-use crate::telling::{Walk, tell, unless};
-use crate::type_faults::ty_part;
+use crate::telling::{Added, Faults, Walk, push_fault, push_fault_unless};
+use crate::type_faults::add_ty_part_faults;
 use pst_sexpr::Form;
 use pst_syntax::{ClauseShape, FaultKind, FoldShape, MAX_TY_LEVELS, Shape, clause_shape, shape_of};
-use pst_value::{Items, Text};
-use std::alloc::AllocError;
+use pst_value::Text;
 
 /// Adds the faults of an expression with `room` levels of room.
-#[cycle(expr)]
+#[cycle(add_expr_faults)]
 #[tactic(auto, using(crate::proofs::Keeping::keeping, crate::proofs::Levels::expr_levels))]
-pub fn expr(
+pub fn add_expr_faults(
     walk: Walk,
-    faults: &mut Items<FormFault>,
+    faults: &mut Faults,
     path: &[usize],
     form: &Form,
     room: usize,
-) -> Result<(), AllocError>
+) -> Added
     ensures { OnOk result (faults.new ≡ keep walk.limit faults.old
         (expr_faults_at walk.has_maps room role.Expression path.now form.now)) }
 {
     let Some(shape) = shape_of(walk.has_maps, form) else {
-        return tell(walk, faults, path, Role::Expression, FaultKind::UnknownForm);
+        return push_fault(walk, faults, path, Role::Expression, FaultKind::UnknownForm);
     };
     if room == 0 {
-        return tell(
+        return push_fault(
             walk,
             faults,
             path,
@@ -44,241 +46,237 @@ pub fn expr(
             FaultKind::OverLimit,
         );
     }
-    unless(
+    push_fault_unless(
         walk,
         faults,
         path,
         Role::Expression,
-        fits(&shape),
+        is_within_limits(&shape),
         FaultKind::OverLimit,
     )?;
-    expr_parts(walk, faults, path, &shape, room - 1)?;
+    add_expr_parts_faults(walk, faults, path, &shape, room - 1)?;
     Ok(())
 }
 
-#[cycle(expr)]
+#[cycle(add_expr_faults)]
 #[tactic(auto, using(crate::proofs::Keeping::keeping))]
-fn expr_parts(
+fn add_expr_parts_faults(
     walk: Walk,
-    faults: &mut Items<FormFault>,
+    faults: &mut Faults,
     path: &[usize],
     shape: &Shape<'_>,
     room: usize,
-) -> Result<(), AllocError>
+) -> Added
     ensures { OnOk result (faults.new ≡ keep walk.limit faults.old
         (all_at (spec.spot_in walk.has_maps (expr_faults_at walk.has_maps room))
         (spec.spots walk.has_maps path.now (shown shape.now)))) }
 {
     match shape {
         Shape::Integer(_) | Shape::Truth(_) | Shape::Quoted(_) | Shape::Used(_) => Ok(()),
-        Shape::Let(name, value, body) => let_in(walk, faults, path, name, value, body, room),
-        Shape::If(a, b, c) => three(walk, faults, path, a, b, c, room),
-        Shape::Put(a, b, c) => three(walk, faults, path, a, b, c, room),
-        Shape::And(a, b) => two(walk, faults, path, a, b, room),
-        Shape::Or(a, b) => two(walk, faults, path, a, b, room),
-        Shape::Binary(_, a, b) => two(walk, faults, path, a, b, room),
-        Shape::Unary(_, a) => one(walk, faults, path, a, room),
-        Shape::Tuple(items) => exprs(walk, faults, path, 1, items, room),
-        Shape::At(tuple, number) => at(walk, faults, path, tuple, number, room),
-        Shape::List(item, items) => list(walk, faults, path, item, items, room),
-        Shape::For(parts, body) => comprehension(walk, faults, path, parts, body, room),
-        Shape::Fold(shape) => fold(walk, faults, path, shape, room),
-        Shape::Map(_, value) => map_of(walk, faults, path, value),
-        Shape::Call(name, arguments) => call(walk, faults, path, name, arguments, room),
-        Shape::Apply(_, arguments) => exprs(walk, faults, path, 1, arguments, room),
+        Shape::Let(name, value, body) => add_let_faults(
+            walk, faults, path, name, value, body, room,
+        ),
+        Shape::If(a, b, c) => add_ternary_faults(walk, faults, path, a, b, c, room),
+        Shape::Put(a, b, c) => add_ternary_faults(walk, faults, path, a, b, c, room),
+        Shape::And(a, b) => add_binary_faults(walk, faults, path, a, b, room),
+        Shape::Or(a, b) => add_binary_faults(walk, faults, path, a, b, room),
+        Shape::Binary(_, a, b) => add_binary_faults(walk, faults, path, a, b, room),
+        Shape::Unary(_, a) => add_unary_faults(walk, faults, path, a, room),
+        Shape::Tuple(items) => add_exprs_faults(walk, faults, path, 1, items, room),
+        Shape::At(tuple, number) => add_at_faults(walk, faults, path, tuple, number, room),
+        Shape::List(item, items) => add_list_faults(walk, faults, path, item, items, room),
+        Shape::For(parts, body) => add_for_faults(walk, faults, path, parts, body, room),
+        Shape::Fold(shape) => add_fold_faults(walk, faults, path, shape, room),
+        Shape::Map(_, value) => add_map_faults(walk, faults, path, value),
+        Shape::Call(name, arguments) => add_call_faults(walk, faults, path, name, arguments, room),
+        Shape::Apply(_, arguments) => add_exprs_faults(walk, faults, path, 1, arguments, room),
     }
 }
 
 /// Adds the faults of an expression that is part `number` of the tree at `path`.
-#[cycle(expr)]
-pub fn expr_part(
+#[cycle(add_expr_faults)]
+pub fn add_expr_part_faults(
     walk: Walk,
-    faults: &mut Items<FormFault>,
+    faults: &mut Faults,
     path: &[usize],
     number: usize,
     form: &Form,
     room: usize,
-) -> Result<(), AllocError>
+) -> Added
     ensures { OnOk result (faults.new ≡ keep walk.limit faults.old
         (expr_faults_at walk.has_maps room role.Expression (spec.below path.now number) form.now)) }
 {
     let path = below(path, walk.alloc, number)?;
-    expr(walk, faults, path.as_slice(), form, room)
+    add_expr_faults(walk, faults, path.as_slice(), form, room)
 }
 
 /// Adds the faults of an expression that is part 1 of the tree at `path`.
-#[cycle(expr)]
+#[cycle(add_expr_faults)]
 #[tactic(auto, using(crate::proofs::Keeping::keeping))]
-fn one(
-    walk: Walk,
-    faults: &mut Items<FormFault>,
-    path: &[usize],
-    a: &Form,
-    room: usize,
-) -> Result<(), AllocError>
+fn add_unary_faults(walk: Walk, faults: &mut Faults, path: &[usize], a: &Form, room: usize) -> Added
     ensures { OnOk result (faults.new ≡ keep walk.limit faults.old
         (all_at (spec.spot_in walk.has_maps (expr_faults_at walk.has_maps room))
         (spots_from path.now 1 (Expression a.now ∷ [])))) }
 {
-    expr_part(walk, faults, path, 1, a, room)?;
+    add_expr_part_faults(walk, faults, path, 1, a, room)?;
     Ok(())
 }
 
 /// Adds the faults of expressions that are the parts 1 and 2 of the tree at `path`.
-#[cycle(expr)]
+#[cycle(add_expr_faults)]
 #[tactic(auto, using(crate::proofs::Keeping::keeping))]
-fn two(
+fn add_binary_faults(
     walk: Walk,
-    faults: &mut Items<FormFault>,
+    faults: &mut Faults,
     path: &[usize],
     a: &Form,
     b: &Form,
     room: usize,
-) -> Result<(), AllocError>
+) -> Added
     ensures { OnOk result (faults.new ≡ keep walk.limit faults.old
         (all_at (spec.spot_in walk.has_maps (expr_faults_at walk.has_maps room))
         (spots_from path.now 1 (Expression a.now ∷ Expression b.now ∷ [])))) }
 {
-    expr_part(walk, faults, path, 1, a, room)?;
-    expr_part(walk, faults, path, 2, b, room)?;
+    add_expr_part_faults(walk, faults, path, 1, a, room)?;
+    add_expr_part_faults(walk, faults, path, 2, b, room)?;
     Ok(())
 }
 
 /// Adds the faults of expressions that are the parts 1, 2 and 3 of the tree at `path`.
-#[cycle(expr)]
+#[cycle(add_expr_faults)]
 #[tactic(auto, using(crate::proofs::Keeping::keeping))]
-fn three(
+fn add_ternary_faults(
     walk: Walk,
-    faults: &mut Items<FormFault>,
+    faults: &mut Faults,
     path: &[usize],
     a: &Form,
     b: &Form,
     c: &Form,
     room: usize,
-) -> Result<(), AllocError>
+) -> Added
     ensures { OnOk result (faults.new ≡ keep walk.limit faults.old
         (all_at (spec.spot_in walk.has_maps (expr_faults_at walk.has_maps room))
         (spots_from path.now 1 (Expression a.now ∷ Expression b.now ∷ Expression c.now ∷ [])))) }
 {
-    expr_part(walk, faults, path, 1, a, room)?;
-    expr_part(walk, faults, path, 2, b, room)?;
-    expr_part(walk, faults, path, 3, c, room)?;
+    add_expr_part_faults(walk, faults, path, 1, a, room)?;
+    add_expr_part_faults(walk, faults, path, 2, b, room)?;
+    add_expr_part_faults(walk, faults, path, 3, c, room)?;
     Ok(())
 }
 
 /// Adds the faults of a body that sees a value under a name.
-#[cycle(expr)]
+#[cycle(add_expr_faults)]
 #[tactic(auto, using(crate::proofs::Keeping::keeping))]
-fn let_in(
+fn add_let_faults(
     walk: Walk,
-    faults: &mut Items<FormFault>,
+    faults: &mut Faults,
     path: &[usize],
     name: &Text,
     value: &Form,
     body: &Form,
     room: usize,
-) -> Result<(), AllocError>
+) -> Added
     ensures { OnOk result (faults.new ≡ keep walk.limit faults.old
         (all_at (spec.spot_in walk.has_maps (expr_faults_at walk.has_maps room))
         (spec.spots walk.has_maps path.now (Let name.now value.now body.now)))) }
 {
-    bound(walk, faults, path, 1, false, name)?;
-    expr_part(walk, faults, path, 2, value, room)?;
-    expr_part(walk, faults, path, 3, body, room)?;
+    add_bound_faults(walk, faults, path, 1, false, name)?;
+    add_expr_part_faults(walk, faults, path, 2, value, room)?;
+    add_expr_part_faults(walk, faults, path, 3, body, room)?;
     Ok(())
 }
 
 /// Adds the faults of an item of a tuple.
-#[cycle(expr)]
+#[cycle(add_expr_faults)]
 #[tactic(auto, using(crate::proofs::Keeping::keeping))]
-fn at(
+fn add_at_faults(
     walk: Walk,
-    faults: &mut Items<FormFault>,
+    faults: &mut Faults,
     path: &[usize],
     tuple: &Form,
     number: &Text,
     room: usize,
-) -> Result<(), AllocError>
+) -> Added
     ensures { OnOk result (faults.new ≡ keep walk.limit faults.old
         (all_at (spec.spot_in walk.has_maps (expr_faults_at walk.has_maps room))
         (spec.spots walk.has_maps path.now (At tuple.now number.now)))) }
 {
-    expr_part(walk, faults, path, 1, tuple, room)?;
-    place(walk, faults, path, number)?;
+    add_expr_part_faults(walk, faults, path, 1, tuple, room)?;
+    add_tuple_place_faults(walk, faults, path, number)?;
     Ok(())
 }
 
 /// Adds the faults of a list that is written out.
-#[cycle(expr)]
+#[cycle(add_expr_faults)]
 #[tactic(auto, using(crate::proofs::Keeping::keeping))]
-fn list(
+fn add_list_faults(
     walk: Walk,
-    faults: &mut Items<FormFault>,
+    faults: &mut Faults,
     path: &[usize],
     item: &Form,
     items: &[Form],
     room: usize,
-) -> Result<(), AllocError>
+) -> Added
     ensures { OnOk result (faults.new ≡ keep walk.limit faults.old
         (all_at (spec.spot_in walk.has_maps (expr_faults_at walk.has_maps room))
         (spec.spots walk.has_maps path.now (ListOf item.now items.now)))) }
 {
-    ty_part(walk, faults, Role::ItemType, path, 1, item, MAX_TY_LEVELS)?;
-    exprs(walk, faults, path, 2, items, room)?;
+    add_ty_part_faults(walk, faults, Role::ItemType, path, 1, item, MAX_TY_LEVELS)?;
+    add_exprs_faults(walk, faults, path, 2, items, room)?;
     Ok(())
 }
 
 /// Adds the faults of a comprehension.
-#[cycle(expr)]
+#[cycle(add_expr_faults)]
 #[tactic(auto, using(crate::proofs::Keeping::keeping))]
-fn comprehension(
+fn add_for_faults(
     walk: Walk,
-    faults: &mut Items<FormFault>,
+    faults: &mut Faults,
     path: &[usize],
     parts: &[Form],
     body: &Form,
     room: usize,
-) -> Result<(), AllocError>
+) -> Added
     ensures { OnOk result (faults.new ≡ keep walk.limit faults.old
         (all_at (spec.spot_in walk.has_maps (expr_faults_at walk.has_maps room))
         (spec.spots walk.has_maps path.now (For parts.now body.now)))) }
 {
-    clauses(walk, faults, path, parts, room)?;
-    expr_part(walk, faults, path, 2, body, room)?;
+    add_clauses_faults(walk, faults, path, parts, room)?;
+    add_expr_part_faults(walk, faults, path, 2, body, room)?;
     Ok(())
 }
 
 /// Adds the faults of a call of an operation.
-#[cycle(expr)]
+#[cycle(add_expr_faults)]
 #[tactic(auto, using(crate::proofs::Keeping::keeping))]
-fn call(
+fn add_call_faults(
     walk: Walk,
-    faults: &mut Items<FormFault>,
+    faults: &mut Faults,
     path: &[usize],
     name: &Text,
     arguments: &[Form],
     room: usize,
-) -> Result<(), AllocError>
+) -> Added
     ensures { OnOk result (faults.new ≡ keep walk.limit faults.old
         (all_at (spec.spot_in walk.has_maps (expr_faults_at walk.has_maps room))
         (spec.spots walk.has_maps path.now (Call name.now arguments.now)))) }
 {
-    operation(walk, faults, path, name)?;
-    exprs(walk, faults, path, 2, arguments, room)?;
+    add_operation_name_faults(walk, faults, path, name)?;
+    add_exprs_faults(walk, faults, path, 2, arguments, room)?;
     Ok(())
 }
 
 /// Adds the faults of expressions that are the parts from `from` on of the tree at `path`.
-#[cycle(expr)]
+#[cycle(add_expr_faults)]
 #[tactic(auto, using(crate::proofs::Keeping::keeping))]
-fn exprs(
+fn add_exprs_faults(
     walk: Walk,
-    faults: &mut Items<FormFault>,
+    faults: &mut Faults,
     path: &[usize],
     from: usize,
     forms: &[Form],
     room: usize,
-) -> Result<(), AllocError>
+) -> Added
     requires { from ≤ 2 }
     ensures { OnOk result (faults.new ≡ keep walk.limit faults.old
         (all_at (spec.spot_in walk.has_maps (expr_faults_at walk.has_maps room))
@@ -286,47 +284,47 @@ fn exprs(
 {
     let mut number = from;
     for form in forms {
-        expr_part(walk, faults, path, number, form, room)?;
+        add_expr_part_faults(walk, faults, path, number, form, room)?;
         number += 1;
     }
     Ok(())
 }
 
 /// Adds the faults of a fold over a list.
-#[cycle(expr)]
+#[cycle(add_expr_faults)]
 #[tactic(auto, using(crate::proofs::Keeping::keeping))]
-fn fold(
+fn add_fold_faults(
     walk: Walk,
-    faults: &mut Items<FormFault>,
+    faults: &mut Faults,
     path: &[usize],
     shape: &FoldShape<'_>,
     room: usize,
-) -> Result<(), AllocError>
+) -> Added
     ensures { OnOk result (faults.new ≡ keep walk.limit faults.old
         (all_at (spec.spot_in walk.has_maps (expr_faults_at walk.has_maps room))
         (spec.spots walk.has_maps path.now
         (Fold shape.now.name.now shape.now.list.now shape.now.built.now shape.now.first.now
         shape.now.body.now)))) }
 {
-    bound(walk, faults, path, 1, false, shape.name)?;
-    expr_part(walk, faults, path, 2, shape.list, room)?;
+    add_bound_faults(walk, faults, path, 1, false, shape.name)?;
+    add_expr_part_faults(walk, faults, path, 2, shape.list, room)?;
     let is_taken = shape.name.as_str() == shape.built.as_str();
-    bound(walk, faults, path, 3, is_taken, shape.built)?;
-    expr_part(walk, faults, path, 4, shape.first, room)?;
-    expr_part(walk, faults, path, 5, shape.body, room)?;
+    add_bound_faults(walk, faults, path, 3, is_taken, shape.built)?;
+    add_expr_part_faults(walk, faults, path, 4, shape.first, room)?;
+    add_expr_part_faults(walk, faults, path, 5, shape.body, room)?;
     Ok(())
 }
 
 /// Adds the faults of the clauses of the comprehension at `path`.
-#[cycle(expr)]
+#[cycle(add_expr_faults)]
 #[tactic(auto, using(crate::proofs::Keeping::keeping))]
-fn clauses(
+fn add_clauses_faults(
     walk: Walk,
-    faults: &mut Items<FormFault>,
+    faults: &mut Faults,
     path: &[usize],
     forms: &[Form],
     room: usize,
-) -> Result<(), AllocError>
+) -> Added
     ensures { OnOk result (faults.new ≡ keep walk.limit faults.old
         (all_at (spec.spot_in walk.has_maps (expr_faults_at walk.has_maps room))
         (spots_from (spec.below path.now 1) 0 (map Clause forms.now)))) }
@@ -334,23 +332,23 @@ fn clauses(
     let path = below(path, walk.alloc, 1)?;
     let mut number = 0;
     for form in forms {
-        clause(walk, faults, path.as_slice(), number, form, room)?;
+        add_clause_faults(walk, faults, path.as_slice(), number, form, room)?;
         number += 1;
     }
     Ok(())
 }
 
 /// Adds the faults of a clause that is part `number` of the tree at `path`.
-#[cycle(expr)]
+#[cycle(add_expr_faults)]
 #[tactic(auto, using(crate::proofs::Keeping::keeping))]
-fn clause(
+fn add_clause_faults(
     walk: Walk,
-    faults: &mut Items<FormFault>,
+    faults: &mut Faults,
     path: &[usize],
     number: usize,
     form: &Form,
     room: usize,
-) -> Result<(), AllocError>
+) -> Added
     ensures { OnOk result (faults.new ≡ keep walk.limit faults.old
         (spec.clause_faults_at walk.has_maps (expr_faults_at walk.has_maps room) role.Clause
         (spec.below path.now number) form.now)) }
@@ -359,14 +357,14 @@ fn clause(
     let path = path.as_slice();
     match clause_shape(form) {
         Some(ClauseShape::In(name, list)) => {
-            bound(walk, faults, path, 1, false, name)?;
-            expr_part(walk, faults, path, 2, list, room)?;
+            add_bound_faults(walk, faults, path, 1, false, name)?;
+            add_expr_part_faults(walk, faults, path, 2, list, room)?;
             Ok(())
         }
         Some(ClauseShape::When(test)) => {
-            expr_part(walk, faults, path, 1, test, room)?;
+            add_expr_part_faults(walk, faults, path, 1, test, room)?;
             Ok(())
         }
-        None => tell(walk, faults, path, Role::Clause, FaultKind::UnknownForm),
+        None => push_fault(walk, faults, path, Role::Clause, FaultKind::UnknownForm),
     }
 }

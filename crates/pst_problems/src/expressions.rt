@@ -1,9 +1,10 @@
 //! What messages say of refused expressions.
 
-use crate::forms::{HeadedForm, expression, in_place_of, nearest_head, type_form};
+use crate::forms::{HeadedForm, expression_form, in_place_of, nearest_head, type_form};
 use crate::found_problem::{
-    FoundProblem, foreign, no_name, no_operation, noted, noted_at, with_quotes_hint, wrong,
-    wrong_at,
+    FoundProblem, foreign_word_problem, missing_name_problem, missing_operation_problem,
+    problem_at, problem_at_part, problem_with_note, problem_with_note_at_part, with_note,
+    with_quotes_hint,
 };
 use crate::problem::below;
 use crate::tree::head_of;
@@ -47,25 +48,30 @@ fn heads_expression(has_maps: bool, form: &Form) -> bool {
     match head_of(form) {
         Some(head) => {
             let head = head.as_str();
-            type_form(head).is_none() && expression(has_maps, head).is_some()
+            type_form(head).is_none() && expression_form(has_maps, head).is_some()
         }
         None => false,
     }
 }
 
 /// The problem of a word that is no expression.
-fn no_word(alloc: Global, has_maps: bool, path: &[usize], word: &Text) -> FoundProblem {
+fn unknown_word_problem(
+    alloc: Global,
+    has_maps: bool,
+    path: &[usize],
+    word: &Text,
+) -> FoundProblem {
     let name = word.as_str();
-    if let Some(form) = expression(has_maps, name) {
+    if let Some(form) = expression_form(has_maps, name) {
         let written = form.written;
-        return wrong(
+        return problem_at(
             alloc,
             path,
             format_args!("`{name}` is a form, not a value: `{written}`"),
         );
     }
     let what = format_args!("`{name}` is neither an integer nor a name");
-    let found = foreign(alloc, path, name, what)?;
+    let found = foreign_word_problem(alloc, path, name, what)?;
     with_quotes_hint(alloc, found, name)
 }
 
@@ -84,6 +90,14 @@ impl fmt::Display for Written {
                 write!(f, "hint: write `({word} a ({word} b c))`")
             }
             "-" if self.parts == 1 => f.write_str("hint: write `(- 0 a)`"),
+            "list" if self.parts == 0 && self.form.most > 1 => {
+                f.write_str("hint: an empty list has the type of its items: `(list int)`")
+            }
+            "map" if self.parts == 0 => {
+                f.write_str(
+                    "hint: a map has the types of its keys and its values: `(map text int)`",
+                )
+            }
             _ => {
                 let written = self.form.written;
                 write!(f, "it is written `{written}`")
@@ -93,7 +107,12 @@ impl fmt::Display for Written {
 }
 
 /// The problem of a form with `parts` parts, which takes another number.
-pub fn arity(alloc: Global, path: &[usize], form: HeadedForm, parts: usize) -> FoundProblem {
+pub fn part_count_problem(
+    alloc: Global,
+    path: &[usize],
+    form: HeadedForm,
+    parts: usize,
+) -> FoundProblem {
     let word = form.word;
     let takes = counted(form.least, "part");
     let least = if form.least == form.most {
@@ -101,7 +120,7 @@ pub fn arity(alloc: Global, path: &[usize], form: HeadedForm, parts: usize) -> F
     } else {
         "at least "
     };
-    noted(
+    problem_with_note(
         alloc,
         path,
         format_args!("`{word}` takes {least}{takes}, here it has {parts}"),
@@ -118,20 +137,25 @@ fn other_hint(name: &str) -> Option<&'static str> {
 }
 
 /// The problem of a node whose first tree heads no form and is no name of a function.
-fn no_head(alloc: Global, has_maps: bool, path: &[usize], word: &Text) -> FoundProblem {
+fn unknown_head_problem(
+    alloc: Global,
+    has_maps: bool,
+    path: &[usize],
+    word: &Text,
+) -> FoundProblem {
     let name = word.as_str();
     let what = format_args!("no expression begins with `{name}`");
     if let Some(hint) = other_hint(name) {
-        return noted_at(alloc, path, 0, what, format_args!("hint: {hint}"));
+        return problem_with_note_at_part(alloc, path, 0, what, format_args!("hint: {hint}"));
     }
     match nearest_head(alloc, has_maps, name)? {
-        Some(hint) => noted_at(alloc, path, 0, what, hint),
-        None => wrong_at(alloc, path, 0, what),
+        Some(hint) => problem_with_note_at_part(alloc, path, 0, what, hint),
+        None => problem_at_part(alloc, path, 0, what),
     }
 }
 
 /// The problem of a node whose head `word` is a value. The node has `parts` parts after it.
-fn value_head(alloc: Global, path: &[usize], word: &Text, parts: usize) -> FoundProblem {
+fn value_as_head_problem(alloc: Global, path: &[usize], word: &Text, parts: usize) -> FoundProblem {
     let name = word.as_str();
     let advice = if parts == 0 {
         ": write it without brackets"
@@ -139,29 +163,29 @@ fn value_head(alloc: Global, path: &[usize], word: &Text, parts: usize) -> Found
         ""
     };
     let what = format_args!("`{name}` is not a function{advice}");
-    wrong_at(alloc, path, 0, what)
+    problem_at_part(alloc, path, 0, what)
 }
 
 /// The problem of `place`, which is no place of an item of a tuple. `path` leads to it.
-pub fn no_place(alloc: Global, path: &[usize], place: &Form) -> FoundProblem {
+pub fn tuple_place_problem(alloc: Global, path: &[usize], place: &Form) -> FoundProblem {
     let what = "the place of a tuple's item is an integer, from 1";
     match word_of(place) {
-        Some(word) if is_integer(word) => wrong(alloc, path, what),
+        Some(word) if is_integer(word) => problem_at(alloc, path, what),
         _ => {
             let hint = "hint: for a list write `(nth LIST PLACE)`, counted from 0";
-            noted(alloc, path, what, hint)
+            problem_with_note(alloc, path, what, hint)
         }
     }
 }
 
 /// The problem of a tree that is no type of the keys of a map. `path` leads to it.
-pub fn no_keys(alloc: Global, path: &[usize]) -> FoundProblem {
-    wrong(alloc, path, "the keys of a map are `int`, `bool` or `text`")
+pub fn map_keys_problem(alloc: Global, path: &[usize]) -> FoundProblem {
+    problem_at(alloc, path, "the keys of a map are `int`, `bool` or `text`")
 }
 
 /// The problem of a tree that is no list of clauses. `path` leads to it.
-fn no_clauses(alloc: Global, path: &[usize]) -> FoundProblem {
-    noted(
+fn clause_list_problem(alloc: Global, path: &[usize]) -> FoundProblem {
+    problem_with_note(
         alloc,
         path,
         "expected the clauses here, in brackets of their own",
@@ -171,19 +195,26 @@ fn no_clauses(alloc: Global, path: &[usize]) -> FoundProblem {
 
 /// The problem of a form with the head `word` and the right number of parts, one of which is not what it has
 /// to be. `path` leads to the form.
-fn no_part(alloc: Global, path: &[usize], word: &str, parts: &[Form]) -> FoundProblem {
+fn wrong_part_problem(alloc: Global, path: &[usize], word: &str, parts: &[Form]) -> FoundProblem {
     match (word, parts) {
-        ("at", [_, place]) => no_place(alloc, below(path, alloc, 2)?.as_slice(), place),
-        ("map", _) => no_keys(alloc, below(path, alloc, 1)?.as_slice()),
-        ("for", _) => no_clauses(alloc, below(path, alloc, 1)?.as_slice()),
-        ("call", _) => no_operation(alloc, below(path, alloc, 1)?.as_slice()),
-        ("fold", [Form::Word(_), ..]) => no_name(alloc, below(path, alloc, 3)?.as_slice()),
-        _ => no_name(alloc, below(path, alloc, 1)?.as_slice()),
+        ("at", [_, place]) => tuple_place_problem(alloc, below(path, alloc, 2)?.as_slice(), place),
+        ("map", _) => with_note(
+            alloc,
+            map_keys_problem(alloc, below(path, alloc, 1)?.as_slice())?,
+            "hint: an empty map is `(map text int)`, and `(put m k v)` adds to it",
+        ),
+        ("for", _) => clause_list_problem(alloc, below(path, alloc, 1)?.as_slice()),
+        ("call", _) => missing_operation_problem(alloc, below(path, alloc, 1)?.as_slice()),
+        ("fold", [Form::Word(_), ..]) => missing_name_problem(
+            alloc,
+            below(path, alloc, 3)?.as_slice(),
+        ),
+        _ => missing_name_problem(alloc, below(path, alloc, 1)?.as_slice()),
     }
 }
 
 /// The problem of a node with the head `word` and the parts `parts` after it, which is no expression.
-fn no_node(
+fn node_problem(
     alloc: Global,
     has_maps: bool,
     path: &[usize],
@@ -191,58 +222,68 @@ fn no_node(
     parts: &[Form],
 ) -> FoundProblem {
     let head = word.as_str();
-    match expression(has_maps, head) {
+    match expression_form(has_maps, head) {
         Some(form) if parts.len() < form.least || parts.len() > form.most => {
-            arity(alloc, path, form, parts.len())
+            part_count_problem(alloc, path, form, parts.len())
         }
-        Some(_) => no_part(alloc, path, head, parts),
-        None if is_value(head) || is_integer(word) => value_head(alloc, path, word, parts.len()),
-        None => no_head(alloc, has_maps, path, word),
+        Some(_) => wrong_part_problem(alloc, path, head, parts),
+        None if is_value(head) || is_integer(word) => value_as_head_problem(
+            alloc,
+            path,
+            word,
+            parts.len(),
+        ),
+        None => unknown_head_problem(alloc, has_maps, path, word),
     }
 }
 
 /// The problem of a tree that is no expression.
-fn no_expression(alloc: Global, has_maps: bool, path: &[usize], form: &Form) -> FoundProblem {
+fn not_an_expression_problem(
+    alloc: Global,
+    has_maps: bool,
+    path: &[usize],
+    form: &Form,
+) -> FoundProblem {
     let parts = match form {
-        Form::Word(word) => return no_word(alloc, has_maps, path, word),
+        Form::Word(word) => return unknown_word_problem(alloc, has_maps, path, word),
         Form::Text(_) => &[],
         Form::Node(parts) => parts.as_slice(),
     };
     let Some((first, parts)) = parts.split_first() else {
-        return wrong(alloc, path, "`()` is not an expression");
+        return problem_at(alloc, path, "`()` is not an expression");
     };
     match word_of(first) {
-        Some(word) => no_node(alloc, has_maps, path, word, parts),
-        None => wrong(alloc, path, "an expression in brackets begins with a word"),
+        Some(word) => node_problem(alloc, has_maps, path, word, parts),
+        None => problem_at(alloc, path, "an expression in brackets begins with a word"),
     }
 }
 
 /// The problem of a comprehension or a tuple with too many parts. `path` leads to it.
-fn many_parts(alloc: Global, path: &[usize], parts: &[Form]) -> FoundProblem {
+fn too_many_parts_problem(alloc: Global, path: &[usize], parts: &[Form]) -> FoundProblem {
     match parts {
         [Form::Word(word), Form::Node(clauses), _] if word.as_str() == "for" => {
             let number = clauses.len();
             let what = format_args!("the comprehension has {number} clauses, at most {MAX_PARTS}");
-            wrong_at(alloc, path, 1, what)
+            problem_at_part(alloc, path, 1, what)
         }
-        _ => many_items(alloc, path, parts),
+        _ => too_many_items_problem(alloc, path, parts),
     }
 }
 
 /// The problem of a tuple, or of the type of tuples, with too many items. `parts` are its parts, its head
 /// among them.
-pub fn many_items(alloc: Global, path: &[usize], parts: &[Form]) -> FoundProblem {
+pub fn too_many_items_problem(alloc: Global, path: &[usize], parts: &[Form]) -> FoundProblem {
     let number = parts.len().saturating_sub(1);
     let what = format_args!("the tuple has {number} items, at most {MAX_PARTS}");
-    wrong(alloc, path, what)
+    problem_at(alloc, path, what)
 }
 
 /// The problem of an expression that passes a limit, apart from that of its depth.
-fn large_expression(alloc: Global, path: &[usize], form: &Form) -> FoundProblem {
+fn large_expression_problem(alloc: Global, path: &[usize], form: &Form) -> FoundProblem {
     match form {
         Form::Word(word) => {
             let name = word.as_str();
-            wrong(
+            problem_at(
                 alloc,
                 path,
                 format_args!("`{name}` does not fit in 64 bits"),
@@ -251,14 +292,14 @@ fn large_expression(alloc: Global, path: &[usize], form: &Form) -> FoundProblem 
         Form::Text(text) => {
             let length = text.len();
             let what = format_args!("the text has {length} bytes, at most {LIMIT}");
-            wrong(alloc, path, what)
+            problem_at(alloc, path, what)
         }
-        Form::Node(parts) => many_parts(alloc, path, parts.as_slice()),
+        Form::Node(parts) => too_many_parts_problem(alloc, path, parts.as_slice()),
     }
 }
 
 /// The problem of an expression with the fault `kind`.
-pub fn of_expression(
+pub fn expression_problem(
     alloc: Global,
     has_maps: bool,
     path: &[usize],
@@ -266,12 +307,12 @@ pub fn of_expression(
     kind: FaultKind,
 ) -> FoundProblem {
     match kind {
-        FaultKind::OverLimit => large_expression(alloc, path, form),
-        _ => no_expression(alloc, has_maps, path, form),
+        FaultKind::OverLimit => large_expression_problem(alloc, path, form),
+        _ => not_an_expression_problem(alloc, has_maps, path, form),
     }
 }
 
-/// The problem of an expression that stands too deep.
-pub fn deep_expression(alloc: Global, path: &[usize]) -> FoundProblem {
-    wrong(alloc, path, "expressions are nested more than 64 deep")
+/// The problem of an expression that is nested too deep.
+pub fn deep_expression_problem(alloc: Global, path: &[usize]) -> FoundProblem {
+    problem_at(alloc, path, "expressions are nested more than 64 deep")
 }

@@ -28,7 +28,7 @@ pub enum Role {
     Type,
     /// The type of the items of a list that is written out, or a type in it.
     ItemType,
-    /// A type that may not stand so deep.
+    /// A type that may not be nested so deep.
     DeepType,
     /// An expression.
     Expression,

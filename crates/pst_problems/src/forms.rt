@@ -74,7 +74,7 @@ const TYPES: [HeadedForm; 4] = [
 ];
 
 /// Words of other languages, and what is written in their place.
-const FOREIGN: [(&str, &str); 109] = [
+const FOREIGN: [(&str, &str); 116] = [
     (">", "write `(< b a)` for `(> a b)`"),
     (">=", "write `(<= b a)` for `(>= a b)`"),
     ("!=", "write `(not (= a b))`"),
@@ -90,6 +90,7 @@ const FOREIGN: [(&str, &str); 109] = [
     ("&&", "write `(and a b)`"),
     ("||", "write `(or a b)`"),
     ("!", "write `(not a)`"),
+    ("not=", "write `(not (= a b))`"),
     ("/", "write `(div a b)`"),
     ("quotient", "write `(div a b)`"),
     ("%", "write `(rem a b)`"),
@@ -123,6 +124,12 @@ const FOREIGN: [(&str, &str); 109] = [
     ("foldl", "write `(fold x LIST acc FIRST BODY)`"),
     ("foldr", "write `(fold x LIST acc FIRST BODY)`"),
     ("reduce", "write `(fold x LIST acc FIRST BODY)`"),
+    (
+        "contains",
+        "write `(< 0 (len (for ((in x a) (when (= x b))) x)))`; of a map `(has m k)`",
+    ),
+    ("return", "write the expression alone"),
+    ("match", "write `(if c a (if d b e))`"),
     ("cond", "write `(if c a (if d b e))`"),
     ("case", "write `(if c a (if d b e))`"),
     ("lambda", "there are no function values: declare a `fun`"),
@@ -195,8 +202,14 @@ const FOREIGN: [(&str, &str); 109] = [
     ("struct", "a tuple is `(tuple T ..)`"),
     ("record", "a tuple is `(tuple T ..)`"),
     ("nil", "an empty list is `(list T)`"),
+    ("[]", "an empty list is `(list T)`"),
+    (
+        "{}",
+        "an empty map is `(map K V)`, in a model that begins with `(model2 NAME ..)`",
+    ),
     ("null", "an option is a list of none or one item"),
     ("None", "an option is a list of none or one item"),
+    ("Some", "an option is a list of none or one item"),
     ("option", "an option is a list of none or one item"),
     ("Option", "an option is a list of none or one item"),
     ("maybe", "an option is a list of none or one item"),
@@ -223,7 +236,7 @@ fn among(rows: &[HeadedForm], word: &str) -> Option<HeadedForm> {
 }
 
 /// The form of expressions with the head `word`. The forms of maps count only if `has_maps`.
-pub fn expression(has_maps: bool, word: &str) -> Option<HeadedForm> {
+pub fn expression_form(has_maps: bool, word: &str) -> Option<HeadedForm> {
     if let Some(form) = among(&EXPRESSIONS, word) {
         return Some(form);
     }
@@ -242,7 +255,7 @@ pub fn is_of_maps(word: &str) -> bool {
 
 /// Whether a word heads a form, a clause or a type.
 pub fn is_head(has_maps: bool, word: &str) -> bool {
-    expression(has_maps, word).is_some() || word == "ref" || word == "in" || word == "when"
+    expression_form(has_maps, word).is_some() || word == "ref" || word == "in" || word == "when"
 }
 
 /// The second column of the row that begins with `word`.
@@ -257,7 +270,7 @@ fn beside(rows: &[(&'static str, &'static str)], word: &str) -> Option<&'static 
 
 /// What to write in the place of `word`, if it is a word of another language.
 pub fn in_place_of(word: &str) -> Option<&'static str> {
-    if word.starts_with("//") {
+    if word.starts_with("//") || word == "#" {
         return Some("a comment begins with `;`");
     }
     beside(&FOREIGN, word)

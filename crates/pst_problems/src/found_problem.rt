@@ -11,7 +11,10 @@ use std::fmt::Display;
 pub type FoundProblem = Result<Option<Problem>, AllocError>;
 
 /// Adds `problem` to `problems`, if there is one.
-pub fn tell(problems: &mut Vec<Problem>, problem: Option<Problem>) -> Result<(), AllocError> {
+pub fn push_problem(
+    problems: &mut Vec<Problem>,
+    problem: Option<Problem>,
+) -> Result<(), AllocError> {
     match problem {
         Some(problem) => Ok(problems.push(problem)?),
         None => Ok(()),
@@ -19,13 +22,13 @@ pub fn tell(problems: &mut Vec<Problem>, problem: Option<Problem>) -> Result<(),
 }
 
 /// A problem at the tree that `path` leads to.
-pub fn wrong<D: Display + Drop>(alloc: Global, path: &[usize], what: D) -> FoundProblem {
+pub fn problem_at<D: Display + Drop>(alloc: Global, path: &[usize], what: D) -> FoundProblem {
     let path = Vec::from_slice(alloc, path)?;
     Ok(Some(Problem::new(alloc, path, what)?))
 }
 
 /// A problem at part `part` of the tree that `path` leads to.
-pub fn wrong_at<D: Display + Drop>(
+pub fn problem_at_part<D: Display + Drop>(
     alloc: Global,
     path: &[usize],
     part: usize,
@@ -48,36 +51,36 @@ pub fn with_note<N: Display + Drop>(
 }
 
 /// A problem at the tree that `path` leads to, with a note.
-pub fn noted<D: Display + Drop, N: Display + Drop>(
+pub fn problem_with_note<D: Display + Drop, N: Display + Drop>(
     alloc: Global,
     path: &[usize],
     what: D,
     note: N,
 ) -> FoundProblem {
-    with_note(alloc, wrong(alloc, path, what)?, note)
+    with_note(alloc, problem_at(alloc, path, what)?, note)
 }
 
 /// A problem at part `part` of the tree that `path` leads to, with a note.
-pub fn noted_at<D: Display + Drop, N: Display + Drop>(
+pub fn problem_with_note_at_part<D: Display + Drop, N: Display + Drop>(
     alloc: Global,
     path: &[usize],
     part: usize,
     what: D,
     note: N,
 ) -> FoundProblem {
-    with_note(alloc, wrong_at(alloc, path, part, what)?, note)
+    with_note(alloc, problem_at_part(alloc, path, part, what)?, note)
 }
 
 /// A problem at `word`, with a hint on what to write instead if it is a word of another language.
-pub fn foreign<D: Display + Drop>(
+pub fn foreign_word_problem<D: Display + Drop>(
     alloc: Global,
     path: &[usize],
     word: &str,
     what: D,
 ) -> FoundProblem {
     match in_place_of(word) {
-        Some(hint) => noted(alloc, path, what, format_args!("hint: {hint}")),
-        None => wrong(alloc, path, what),
+        Some(hint) => problem_with_note(alloc, path, what, format_args!("hint: {hint}")),
+        None => problem_at(alloc, path, what),
     }
 }
 
@@ -125,13 +128,13 @@ fn meaning(name: &str) -> &'static str {
 }
 
 /// The problem of `word` where it is declared and is no valid name there.
-pub fn bad_name(alloc: Global, path: &[usize], word: &Text) -> FoundProblem {
+pub fn bad_name_problem(alloc: Global, path: &[usize], word: &Text) -> FoundProblem {
     let name = word.as_str();
     if is_capitalized(name) {
-        return noted(alloc, path, format_args!("`{name}` is not a name"), CAPITAL);
+        return problem_with_note(alloc, path, format_args!("`{name}` is not a name"), CAPITAL);
     }
     if !is_name(word) {
-        return noted(
+        return problem_with_note(
             alloc,
             path,
             format_args!("`{name}` is not a name"),
@@ -140,22 +143,22 @@ pub fn bad_name(alloc: Global, path: &[usize], word: &Text) -> FoundProblem {
     }
     let meaning = meaning(name);
     let what = format_args!("`{name}` is {meaning}; choose another name");
-    wrong(alloc, path, what)
+    problem_at(alloc, path, what)
 }
 
 /// The problem of a name with too many bytes.
-pub fn long_name(alloc: Global, path: &[usize], word: &Text) -> FoundProblem {
+pub fn long_name_problem(alloc: Global, path: &[usize], word: &Text) -> FoundProblem {
     let length = word.len();
     let what = format_args!("the name has {length} bytes, at most {MAX_NAME}");
-    wrong(alloc, path, what)
+    problem_at(alloc, path, what)
 }
 
 /// The problem of a tree that is no word where a name is declared.
-pub fn no_name(alloc: Global, path: &[usize]) -> FoundProblem {
-    wrong(alloc, path, "expected a name here")
+pub fn missing_name_problem(alloc: Global, path: &[usize]) -> FoundProblem {
+    problem_at(alloc, path, "expected a name here")
 }
 
 /// The problem of a tree that is no name where an operation is named.
-pub fn no_operation(alloc: Global, path: &[usize]) -> FoundProblem {
-    wrong(alloc, path, "expected the name of an operation here")
+pub fn missing_operation_problem(alloc: Global, path: &[usize]) -> FoundProblem {
+    problem_at(alloc, path, "expected the name of an operation here")
 }

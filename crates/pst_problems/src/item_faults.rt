@@ -1,204 +1,170 @@
 //! The faults of items, with their places.
 
-ghost use Rattle.std.specs.Prelude.{◌≡◌, not, OnOk, map};
+ghost use Rattle.std.specs.Prelude.{◌≡◌, ◌++◌, not, OnOk, map};
 ghost use Rattle.pst_problems.specs.Kept.{keep};
 ghost use Rattle.pst_problems.specs.Placed.{below, known_at, placed, unless_at};
 ghost use Rattle.pst_problems.specs.PlacedModel as spec;
 ghost use Rattle.pst_problems.specs.SeenShapes.{items_in, shown_fun, shown_op};
 ghost use Rattle.pst_problems.specs.declared.fault.Role.TheVariants as role;
 ghost use Rattle.pst_syntax.specs.Faults.{name_faults};
-ghost use Rattle.pst_syntax.specs.ShownItems.{shown_item, shown_item_option};
-ghost use Rattle.pst_syntax.specs.declared.fault.FaultKind.TheVariants.{DoubleName};
+ghost use Rattle.pst_syntax.specs.ShownItems.{shown_item_option};
+ghost use Rattle.pst_syntax.specs.declared.fault.FaultKind.TheVariants.{DoubleName, OverLimit};
 
-use crate::callback_faults::callbacks;
-use crate::fault::{FormFault, Role};
-use crate::param_faults::params;
-use crate::problem::below;
+use crate::callback_faults::add_callbacks_faults;
+use crate::fault::Role;
+use crate::param_faults::add_params_faults;
 use crate::seen_items::{
     has_command, has_fun, has_fun_room, has_init, has_op, has_op_room, has_state,
 };
-use crate::telling::{Walk, tell, tell_name, unless};
-use crate::whole_faults::{once, whole_expr, whole_ty};
+use crate::telling::{
+    Added, DeclaredName, Faults, Walk, push_fault, push_fault_unless, push_name_faults_at_part,
+};
+use crate::whole_faults::{
+    add_single_expression_faults, add_whole_expr_faults, add_whole_ty_faults,
+};
 use pst_sexpr::Form;
 use pst_syntax::{FaultKind, FunShape, ItemShape, OpShape, is_free, is_name};
-use pst_value::{Items, Text};
-use std::alloc::AllocError;
 
 /// Adds the faults of a state at `path`. `stands` says whether there is one already.
-fn state(
+fn add_state_faults(
     walk: Walk,
-    faults: &mut Items<FormFault>,
+    faults: &mut Faults,
     path: &[usize],
     stands: bool,
     form: &Form,
-) -> Result<(), AllocError>
+) -> Added
     ensures { OnOk result (faults.new ≡ keep walk.limit faults.old
         (unless_at path.now role.Item (not stands) DoubleName
         (spec.whole_ty_at walk.has_maps (below path.now 1) form.now))) }
 {
-    unless(
-        walk,
-        faults,
-        path,
-        Role::Item,
-        !stands,
-        FaultKind::DoubleName,
-    )?;
-    whole_ty(walk, faults, path, 1, form)?;
+    let role = Role::Item;
+    push_fault_unless(walk, faults, path, role, !stands, FaultKind::DoubleName)?;
+    add_whole_ty_faults(walk, faults, path, 1, form)?;
     Ok(())
 }
 
-/// Adds the faults of the name of a function or an operation, which is part 1 of the tree at `path`.
-fn item_name(
+/// Adds the faults of a function or an operation at `path`, apart from its body or its callbacks. `has_room`
+/// says whether the model may have one more.
+fn declared(
     walk: Walk,
-    faults: &mut Items<FormFault>,
+    faults: &mut Faults,
     path: &[usize],
-    is_lawful: bool,
-    is_taken: bool,
-    word: &Text,
-) -> Result<(), AllocError>
+    has_room: bool,
+    name: DeclaredName<'_>,
+    forms: &[Form],
+    ty: &Form,
+) -> Added
     ensures { OnOk result (faults.new ≡ keep walk.limit faults.old
-        (map (placed (below path.now 1) role.ItemName) (name_faults is_lawful is_taken word.now))) }
+        (unless_at path.now role.Item has_room OverLimit
+        (map (placed (below path.now 1) role.ItemName) (name_faults name.entry.is_lawful name.entry.is_taken name.entry.word.now)
+        ++ (spec.params_faults_at walk.has_maps (below path.now 2) forms.now
+        ++ spec.whole_ty_at walk.has_maps (below path.now 3) ty.now)))) }
 {
-    let path = below(path, walk.alloc, 1)?;
-    tell_name(
-        walk,
-        faults,
-        path.as_slice(),
-        Role::ItemName,
-        is_lawful,
-        is_taken,
-        word,
-    )
+    let role = Role::Item;
+    push_fault_unless(walk, faults, path, role, has_room, FaultKind::OverLimit)?;
+    push_name_faults_at_part(walk, faults, path, 1, Role::ItemName, name)?;
+    add_params_faults(walk, faults, path, forms)?;
+    add_whole_ty_faults(walk, faults, path, 3, ty)?;
+    Ok(())
 }
 
-/// Adds the faults of a function at `path` behind the items `seen`.
+/// Adds the faults of a function at `path`, after the items `seen`.
 #[tactic(auto, using(crate::proofs::Keeping::keeping))]
-fn fun(
+fn add_fun_faults(
     walk: Walk,
-    faults: &mut Items<FormFault>,
+    faults: &mut Faults,
     seen: &[Option<ItemShape<'_>>],
     path: &[usize],
     shape: &FunShape<'_>,
-) -> Result<(), AllocError>
+) -> Added
     ensures { OnOk result (faults.new ≡ keep walk.limit faults.old
-        (spec.item_faults_at walk.has_maps (items_in seen.now) path.now
-        (shown_fun shape.now))) }
+        (spec.item_faults_at walk.has_maps (items_in seen.now) path.now (shown_fun shape.now))) }
 {
+    let name = DeclaredName {
+        word: shape.name,
+        is_lawful: is_free(walk.has_maps, shape.name),
+        is_taken: has_fun(seen, shape.name),
+    };
     let has_room = has_fun_room(seen);
-    unless(
+    declared(
         walk,
         faults,
         path,
-        Role::Item,
         has_room,
-        FaultKind::OverLimit,
+        name,
+        shape.params,
+        shape.result,
     )?;
-    let is_lawful = is_free(walk.has_maps, shape.name);
-    let is_taken = has_fun(seen, shape.name);
-    item_name(walk, faults, path, is_lawful, is_taken, shape.name)?;
-    params(walk, faults, path, shape.params)?;
-    whole_ty(walk, faults, path, 3, shape.result)?;
-    whole_expr(walk, faults, path, 4, shape.body)?;
+    add_whole_expr_faults(walk, faults, path, 4, shape.body)?;
     Ok(())
 }
 
-/// Adds the faults of an operation at `path` behind the items `seen`.
+/// Adds the faults of an operation at `path`, after the items `seen`.
 #[tactic(auto, using(crate::proofs::Keeping::keeping))]
-fn op(
+fn add_op_faults(
     walk: Walk,
-    faults: &mut Items<FormFault>,
+    faults: &mut Faults,
     seen: &[Option<ItemShape<'_>>],
     path: &[usize],
     shape: &OpShape<'_>,
-) -> Result<(), AllocError>
+) -> Added
     ensures { OnOk result (faults.new ≡ keep walk.limit faults.old
-        (spec.item_faults_at walk.has_maps (items_in seen.now) path.now
-        (shown_op shape.now))) }
+        (spec.item_faults_at walk.has_maps (items_in seen.now) path.now (shown_op shape.now))) }
 {
+    let name = DeclaredName {
+        word: shape.name,
+        is_lawful: is_name(shape.name),
+        is_taken: has_op(seen, shape.name),
+    };
     let has_room = has_op_room(seen);
-    unless(
+    declared(
         walk,
         faults,
         path,
-        Role::Item,
         has_room,
-        FaultKind::OverLimit,
+        name,
+        shape.params,
+        shape.result,
     )?;
-    let is_taken = has_op(seen, shape.name);
-    item_name(
-        walk,
-        faults,
-        path,
-        is_name(shape.name),
-        is_taken,
-        shape.name,
-    )?;
-    params(walk, faults, path, shape.params)?;
-    whole_ty(walk, faults, path, 3, shape.result)?;
-    callbacks(walk, faults, path, shape.callbacks)?;
+    add_callbacks_faults(walk, faults, path, shape.callbacks)?;
     Ok(())
 }
 
-/// Adds the faults of an item at `path` behind the items `seen`.
+/// Adds the faults of the item at `path`, after the items `seen`.
 #[tactic(auto, using(crate::proofs::Keeping::keeping, crate::proofs::Seen::seen))]
-fn item(
+pub fn add_item_faults(
     walk: Walk,
-    faults: &mut Items<FormFault>,
+    faults: &mut Faults,
     seen: &[Option<ItemShape<'_>>],
     path: &[usize],
-    shape: &ItemShape<'_>,
-) -> Result<(), AllocError>
-    ensures { OnOk result (faults.new ≡ keep walk.limit faults.old
-        (spec.item_faults_at walk.has_maps (items_in seen.now) path.now (shown_item shape.now))) }
-{
-    match shape {
-        ItemShape::State(ty) => {
-            state(walk, faults, path, has_state(seen), ty)?;
-            Ok(())
-        }
-        ItemShape::Init(value) => {
-            once(walk, faults, Role::Item, path, has_init(seen), value)?;
-            Ok(())
-        }
-        ItemShape::Command(calls) => {
-            once(walk, faults, Role::Item, path, has_command(seen), calls)?;
-            Ok(())
-        }
-        ItemShape::Fun(shape) => fun(walk, faults, seen, path, shape),
-        ItemShape::Op(shape) => op(walk, faults, seen, path, shape),
-    }
-}
-
-/// Adds the faults of the item that is part `number` of the tree at `path`, behind the items `seen`.
-#[tactic(auto, using(crate::proofs::Keeping::keeping))]
-pub fn known_item(
-    walk: Walk,
-    faults: &mut Items<FormFault>,
-    seen: &[Option<ItemShape<'_>>],
-    path: &[usize],
-    number: usize,
     shape: &Option<ItemShape<'_>>,
-) -> Result<(), AllocError>
+) -> Added
     ensures { OnOk result (faults.new ≡ keep walk.limit faults.old
-        (known_at (below path.now number) role.Item (shown_item_option shape.now)
-        (spec.item_faults_at walk.has_maps (items_in seen.now) (below path.now number)))) }
+        (known_at path.now role.Item (shown_item_option shape.now)
+        (spec.item_faults_at walk.has_maps (items_in seen.now) path.now))) }
 {
-    let at = below(path, walk.alloc, number)?;
+    let role = Role::Item;
     match shape {
-        Some(shape) => {
-            item(walk, faults, seen, at.as_slice(), shape)?;
-            Ok(())
-        }
-        None => {
-            tell(
-                walk,
-                faults,
-                at.as_slice(),
-                Role::Item,
-                FaultKind::UnknownForm,
-            )?;
-            Ok(())
-        }
+        Some(ItemShape::State(ty)) => add_state_faults(walk, faults, path, has_state(seen), ty)?,
+        Some(ItemShape::Init(value)) => add_single_expression_faults(
+            walk,
+            faults,
+            role,
+            path,
+            has_init(seen),
+            value,
+        )?,
+        Some(ItemShape::Command(calls)) => add_single_expression_faults(
+            walk,
+            faults,
+            role,
+            path,
+            has_command(seen),
+            calls,
+        )?,
+        Some(ItemShape::Fun(shape)) => add_fun_faults(walk, faults, seen, path, shape)?,
+        Some(ItemShape::Op(shape)) => add_op_faults(walk, faults, seen, path, shape)?,
+        None => push_fault(walk, faults, path, role, FaultKind::UnknownForm)?,
     }
+    Ok(())
 }

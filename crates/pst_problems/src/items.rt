@@ -1,9 +1,12 @@
 //! What messages say of refused items and of their parts.
 
 use crate::forms::in_place_of;
-use crate::found_problem::{FoundProblem, no_name, noted, noted_at, wrong, wrong_at};
+use crate::found_problem::{
+    FoundProblem, missing_name_problem, problem_at, problem_at_part, problem_with_note,
+    problem_with_note_at_part,
+};
 use crate::item_forms::{ITEM_FORMS, ItemForm, item_form, item_meant};
-use crate::names::{DidYouMean, NearestName, add};
+use crate::names::{DidYouMean, NearestName, push_name};
 use crate::problem::{Problem, below};
 use crate::tree::{has_head, head_of};
 use crate::writing::{Listed, counted, short_text};
@@ -17,40 +20,45 @@ const ITEMS: &str =
     "items are (state ..), (init ..), (command ..), (fun ..), (postfun ..) and (op ..)";
 
 /// The problem of a tree whose head `head` heads no item.
-fn no_item_head(alloc: Global, path: &[usize], head: &str) -> FoundProblem {
+fn unknown_item_head_problem(alloc: Global, path: &[usize], head: &str) -> FoundProblem {
     let what = format_args!("no item of a model begins with `{head}`");
     if let Some(meant) = item_meant(head) {
-        return noted_at(alloc, path, 0, what, DidYouMean(meant));
+        return problem_with_note_at_part(alloc, path, 0, what, DidYouMean(meant));
     }
     let mut near = NearestName::to(head);
     for form in ITEM_FORMS.as_slice() {
         near = near.or(alloc, form.head, head)?;
     }
     match near.hint() {
-        Some(hint) => noted_at(alloc, path, 0, what, hint),
-        None => noted_at(alloc, path, 0, what, ITEMS),
+        Some(hint) => problem_with_note_at_part(alloc, path, 0, what, hint),
+        None => problem_with_note_at_part(alloc, path, 0, what, ITEMS),
     }
 }
 
 /// The problem of a tree that is no item.
-fn no_item(alloc: Global, path: &[usize], form: &Form) -> FoundProblem {
+fn not_an_item_problem(alloc: Global, path: &[usize], form: &Form) -> FoundProblem {
     if let Some(head) = head_of(form) {
-        return no_item_head(alloc, path, head.as_str());
+        return unknown_item_head_problem(alloc, path, head.as_str());
     }
     let shown = short_text(alloc, form)?;
     let shown = shown.as_str();
     let what = format_args!("`{shown}` is not an item of a model");
     match in_place_of(shown) {
-        Some(hint) => noted(alloc, path, what, format_args!("hint: {hint}")),
-        None => noted(alloc, path, what, ITEMS),
+        Some(hint) => problem_with_note(alloc, path, what, format_args!("hint: {hint}")),
+        None => problem_with_note(alloc, path, what, ITEMS),
     }
 }
 
 /// The problem of an item with `number` parts, which is not the right number.
-fn parts_number(alloc: Global, path: &[usize], form: ItemForm, number: usize) -> FoundProblem {
+fn item_part_count_problem(
+    alloc: Global,
+    path: &[usize],
+    form: ItemForm,
+    number: usize,
+) -> FoundProblem {
     let ItemForm { head, written, .. } = form;
     let has = counted(number, "part");
-    noted(
+    problem_with_note(
         alloc,
         path,
         format_args!("`{head}` is not written like this: it has {has}"),
@@ -59,9 +67,14 @@ fn parts_number(alloc: Global, path: &[usize], form: ItemForm, number: usize) ->
 }
 
 /// The problem of a function or an operation whose name is no word, or else whose parameters are no list.
-fn no_signature(alloc: Global, path: &[usize], form: ItemForm, parts: &[Form]) -> FoundProblem {
+fn signature_problem(
+    alloc: Global,
+    path: &[usize],
+    form: ItemForm,
+    parts: &[Form],
+) -> FoundProblem {
     if let [Form::Word(_), ..] = parts {
-        return noted_at(
+        return problem_with_note_at_part(
             alloc,
             path,
             2,
@@ -71,7 +84,7 @@ fn no_signature(alloc: Global, path: &[usize], form: ItemForm, parts: &[Form]) -
     }
     let head = form.head;
     let what = format_args!("expected the name of the `{head}` here");
-    wrong_at(alloc, path, 1, what)
+    problem_at_part(alloc, path, 1, what)
 }
 
 /// The form of an item, and its parts after its head.
@@ -81,20 +94,20 @@ fn form_and_parts(item: &Form) -> Option<(ItemForm, &[Form])> {
 }
 
 /// The problem of a tree that has the form of no item.
-fn unknown_item(alloc: Global, path: &[usize], item: &Form) -> FoundProblem {
+fn item_form_problem(alloc: Global, path: &[usize], item: &Form) -> FoundProblem {
     let Some((form, parts)) = form_and_parts(item) else {
-        return no_item(alloc, path, item);
+        return not_an_item_problem(alloc, path, item);
     };
     let number = parts.len();
     if number == form.least || form.head == "op" && number > form.least {
-        no_signature(alloc, path, form, parts)
+        signature_problem(alloc, path, form, parts)
     } else {
-        parts_number(alloc, path, form, number)
+        item_part_count_problem(alloc, path, form, number)
     }
 }
 
 /// The problem of an item with the fault `kind`.
-pub fn of_item(alloc: Global, path: &[usize], item: &Form, kind: FaultKind) -> FoundProblem {
+pub fn item_problem(alloc: Global, path: &[usize], item: &Form, kind: FaultKind) -> FoundProblem {
     let head = match head_of(item) {
         Some(head) => head.as_str(),
         None => "",
@@ -102,40 +115,45 @@ pub fn of_item(alloc: Global, path: &[usize], item: &Form, kind: FaultKind) -> F
     match kind {
         FaultKind::DoubleName => {
             let what = format_args!("the model has two items `{head}`");
-            wrong(alloc, path, what)
+            problem_at(alloc, path, what)
         }
         FaultKind::OverLimit => {
             let what = format_args!("the model has more than {MAX_DECLARED} items `{head}`");
-            wrong(alloc, path, what)
+            problem_at(alloc, path, what)
         }
-        _ => unknown_item(alloc, path, item),
+        _ => item_form_problem(alloc, path, item),
     }
 }
 
 /// The problem of a list of too many parameters.
-pub fn many_parameters(alloc: Global, path: &[usize], params: &Form) -> FoundProblem {
+pub fn too_many_parameters_problem(alloc: Global, path: &[usize], params: &Form) -> FoundProblem {
     let number = node_of(params).unwrap_or(&[]).len();
     let what = format_args!("there are {number} parameters, at most {MAX_PARTS}");
-    wrong(alloc, path, what)
+    problem_at(alloc, path, what)
 }
 
 /// The problem of a tree that is no parameter.
-pub fn no_parameter(alloc: Global, path: &[usize], form: &Form) -> FoundProblem {
+pub fn parameter_problem(alloc: Global, path: &[usize], form: &Form) -> FoundProblem {
     match node_of(form) {
-        Some([_, _]) => no_name(alloc, below(path, alloc, 0)?.as_slice()),
-        _ => wrong(alloc, path, "a parameter is `(NAME TYPE)`"),
+        Some([_, _]) => missing_name_problem(alloc, below(path, alloc, 0)?.as_slice()),
+        _ => problem_at(alloc, path, "a parameter is `(NAME TYPE)`"),
     }
 }
 
 /// The problem of a callback with the fault `kind`.
-pub fn of_callback(alloc: Global, path: &[usize], form: &Form, kind: FaultKind) -> FoundProblem {
+pub fn callback_problem(
+    alloc: Global,
+    path: &[usize],
+    form: &Form,
+    kind: FaultKind,
+) -> FoundProblem {
     match (kind, head_of(form)) {
         (FaultKind::DoubleName, Some(head)) => {
             let head = head.as_str();
             let what = format_args!("the operation has two callbacks `{head}`");
-            wrong(alloc, path, what)
+            problem_at(alloc, path, what)
         }
-        _ => noted(
+        _ => problem_with_note(
             alloc,
             path,
             "a callback is `(pre E)`, `(next E)` or `(post E)`",
@@ -145,8 +163,8 @@ pub fn of_callback(alloc: Global, path: &[usize], form: &Form, kind: FaultKind) 
 }
 
 /// The problem of a tree that is no clause of a comprehension.
-pub fn no_clause(alloc: Global, path: &[usize]) -> FoundProblem {
-    noted(
+pub fn clause_problem(alloc: Global, path: &[usize]) -> FoundProblem {
+    problem_with_note(
         alloc,
         path,
         "a clause is `(in NAME LIST)` or `(when TEST)`",
@@ -155,7 +173,7 @@ pub fn no_clause(alloc: Global, path: &[usize]) -> FoundProblem {
 }
 
 /// The hint that says what the callback `word` may be at the least.
-fn plainest(word: &str) -> &'static str {
+fn simplest_callback_hint(word: &str) -> &'static str {
     match word {
         "pre" => "hint: write `(pre true)` if it may always be called",
         "next" => "hint: write `(next s)` if it leaves the state as it is",
@@ -164,12 +182,12 @@ fn plainest(word: &str) -> &'static str {
 }
 
 /// The problem of an operation that lacks callbacks.
-pub fn lacking_callbacks(alloc: Global, path: &[usize], item: &Form) -> FoundProblem {
+pub fn missing_callbacks_problem(alloc: Global, path: &[usize], item: &Form) -> FoundProblem {
     let parts = node_of(item).unwrap_or(&[]);
     let mut names = Items::new(alloc);
     for word in ["pre", "next", "post"] {
         if !parts.iter().any(|part| has_head(part, word)) {
-            add(alloc, &mut names, word)?;
+            push_name(alloc, &mut names, word)?;
         }
     }
     let path = Vec::from_slice(alloc, path)?;
@@ -177,7 +195,7 @@ pub fn lacking_callbacks(alloc: Global, path: &[usize], item: &Form) -> FoundPro
     let what = format_args!("the operation has no callback {listed}");
     let mut problem = Problem::new(alloc, path, what)?;
     for name in names.as_slice() {
-        let hint = String::from_str(alloc, plainest(name.as_str()))?;
+        let hint = String::from_str(alloc, simplest_callback_hint(name.as_str()))?;
         problem.notes.push(hint)?;
     }
     Ok(Some(problem))

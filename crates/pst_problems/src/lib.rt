@@ -25,6 +25,7 @@ mod param_faults;
 mod part_faults;
 mod problem;
 mod seen_items;
+mod slips;
 mod syntax;
 mod telling;
 mod tree;
@@ -35,15 +36,15 @@ mod writing;
 
 pub use fault::{FormFault, Role};
 pub use forms::{
-    HeadedForm, expression, in_place_of, is_head, is_of_maps, nearest_head, type_form,
+    HeadedForm, expression_form, in_place_of, is_head, is_of_maps, nearest_head, type_form,
 };
 pub use found_problem::{
-    CAPITAL, FoundProblem, foreign, in_single_quotes, is_capitalized, noted, noted_at, tell,
-    with_note, wrong, wrong_at,
+    CAPITAL, FoundProblem, foreign_word_problem, in_single_quotes, is_capitalized, problem_at,
+    problem_at_part, problem_with_note, problem_with_note_at_part, push_problem, with_note,
 };
 pub use model_faults::faults_of;
-pub use names::{DidYouMean, NearestName, add, nearest};
-pub use operations::{operation, unknown_among};
+pub use names::{DidYouMean, NearestName, nearest, push_name};
+pub use operations::{operation_named, unknown_among};
 pub use problem::{MOST_PROBLEMS, Problem, below};
 pub use syntax::form_problems;
 pub use tree::head_of;

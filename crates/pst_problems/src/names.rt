@@ -77,6 +77,6 @@ impl fmt::Display for DidYouMean<'_> {
 }
 
 /// Adds `name` to `names`.
-pub fn add(alloc: Global, names: &mut Items<Text>, name: &str) -> Result<(), AllocError> {
+pub fn push_name(alloc: Global, names: &mut Items<Text>, name: &str) -> Result<(), AllocError> {
     names.push(Text::from_string(String::from_str(alloc, name)?))
 }

@@ -1,14 +1,14 @@
 //! Names of operations and functions that a model does not have.
 
-use crate::found_problem::{CAPITAL, FoundProblem, is_capitalized, with_note, wrong};
-use crate::names::{add, nearest};
+use crate::found_problem::{CAPITAL, FoundProblem, is_capitalized, problem_at, with_note};
+use crate::names::{nearest, push_name};
 use crate::writing::Listed;
 use pst_model::{Item, Op};
 use pst_value::{Items, Text};
 use std::alloc::{AllocError, Global};
 
 /// The operation `name`.
-pub fn operation<'a>(items: &'a [Item], name: &str) -> Option<&'a Op> {
+pub fn operation_named<'a>(items: &'a [Item], name: &str) -> Option<&'a Op> {
     for item in items {
         if let Item::Op(op) = item {
             if op.name.as_str() == name {
@@ -28,8 +28,8 @@ fn names_of(
     let mut names = Items::new(alloc);
     for item in items {
         match item {
-            Item::Op(op) if are_operations => add(alloc, &mut names, op.name.as_str())?,
-            Item::Fun(fun) if !are_operations => add(alloc, &mut names, fun.name.as_str())?,
+            Item::Op(op) if are_operations => push_name(alloc, &mut names, op.name.as_str())?,
+            Item::Fun(fun) if !are_operations => push_name(alloc, &mut names, fun.name.as_str())?,
             _ => {}
         }
     }
@@ -51,7 +51,7 @@ pub fn unknown_among(
     } else {
         "function"
     };
-    let found = wrong(alloc, path, format_args!("no {kind} has the name `{name}`"))?;
+    let found = problem_at(alloc, path, format_args!("no {kind} has the name `{name}`"))?;
     if let Some(hint) = nearest(alloc, &known, name)? {
         return with_note(alloc, found, hint);
     }

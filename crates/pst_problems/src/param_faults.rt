@@ -9,16 +9,17 @@ ghost use Rattle.pst_problems.specs.SeenShapes.{holds, params_in};
 ghost use Rattle.pst_problems.specs.declared.fault.Role.TheVariants as role;
 ghost use Rattle.pst_syntax.specs.ModelFaults as faults;
 ghost use Rattle.pst_syntax.specs.Reading.{are_few};
-ghost use Rattle.pst_syntax.specs.ShownItems.{shown_param, shown_param_option};
+ghost use Rattle.pst_syntax.specs.ShownItems.{shown_param_option};
 
-use crate::fault::{FormFault, Role};
+use crate::fault::Role;
 use crate::problem::below;
-use crate::telling::{Walk, tell, tell_name, unless};
-use crate::whole_faults::whole_ty;
+use crate::telling::{
+    Added, DeclaredName, Faults, Walk, push_fault, push_fault_unless, push_name_faults_at_part,
+};
+use crate::whole_faults::add_whole_ty_faults;
 use pst_sexpr::Form;
 use pst_syntax::{FaultKind, MAX_PARTS, ParamShape, is_free, param_shape};
 use pst_value::{Items, Text};
-use std::alloc::AllocError;
 
 /// Whether there are no more than there may be.
 fn are_few(forms: &[Form]) -> bool
@@ -38,77 +39,35 @@ fn is_param(seen: &[Option<ParamShape<'_>>], word: &Text) -> bool
     })
 }
 
-/// Adds the faults of a parameter at `path` behind the parameters `seen`.
+/// Adds the faults of the parameter at `path`, after the parameters `seen`.
 #[tactic(auto, using(crate::proofs::Keeping::keeping, crate::proofs::Seen::seen))]
-fn param(
+fn add_param_faults(
     walk: Walk,
-    faults: &mut Items<FormFault>,
+    faults: &mut Faults,
     seen: &[Option<ParamShape<'_>>],
     path: &[usize],
-    shape: &ParamShape<'_>,
-) -> Result<(), AllocError>
-    ensures { OnOk result (faults.new ≡ keep walk.limit faults.old
-        (spec.param_faults_at walk.has_maps (params_in seen.now) path.now (shown_param shape.now))) }
-{
-    let at = below(path, walk.alloc, 0)?;
-    let is_lawful = is_free(walk.has_maps, shape.name);
-    let is_taken = is_param(seen, shape.name);
-    let at = at.as_slice();
-    tell_name(
-        walk,
-        faults,
-        at,
-        Role::ParameterName,
-        is_lawful,
-        is_taken,
-        shape.name,
-    )?;
-    whole_ty(walk, faults, path, 1, shape.ty)?;
-    Ok(())
-}
-
-/// Adds the faults of the parameter that is part `number` of the tree at `path`, behind the parameters
-/// `seen`.
-#[tactic(auto, using(crate::proofs::Keeping::keeping))]
-fn known_param(
-    walk: Walk,
-    faults: &mut Items<FormFault>,
-    seen: &[Option<ParamShape<'_>>],
-    path: &[usize],
-    number: usize,
     shape: &Option<ParamShape<'_>>,
-) -> Result<(), AllocError>
+) -> Added
     ensures { OnOk result (faults.new ≡ keep walk.limit faults.old
-        (known_at (below path.now number) role.Parameter (shown_param_option shape.now)
-        (spec.param_faults_at walk.has_maps (params_in seen.now) (below path.now number)))) }
+        (known_at path.now role.Parameter (shown_param_option shape.now)
+        (spec.param_faults_at walk.has_maps (params_in seen.now) path.now))) }
 {
-    let at = below(path, walk.alloc, number)?;
-    match shape {
-        Some(shape) => {
-            param(walk, faults, seen, at.as_slice(), shape)?;
-            Ok(())
-        }
-        None => {
-            tell(
-                walk,
-                faults,
-                at.as_slice(),
-                Role::Parameter,
-                FaultKind::UnknownForm,
-            )?;
-            Ok(())
-        }
-    }
+    let Some(shape) = shape else {
+        return push_fault(walk, faults, path, Role::Parameter, FaultKind::UnknownForm);
+    };
+    let name = DeclaredName {
+        word: shape.name,
+        is_lawful: is_free(walk.has_maps, shape.name),
+        is_taken: is_param(seen, shape.name),
+    };
+    push_name_faults_at_part(walk, faults, path, 0, Role::ParameterName, name)?;
+    add_whole_ty_faults(walk, faults, path, 1, shape.ty)?;
+    Ok(())
 }
 
 /// Adds the faults of the parameters at `path`.
 #[tactic(auto, using(crate::proofs::Keeping::keeping))]
-fn params_after(
-    walk: Walk,
-    faults: &mut Items<FormFault>,
-    path: &[usize],
-    forms: &[Form],
-) -> Result<(), AllocError>
+fn add_params_faults_after(walk: Walk, faults: &mut Faults, path: &[usize], forms: &[Form]) -> Added
     ensures { OnOk result (faults.new ≡ keep walk.limit faults.old
         (spec.params_after_at walk.has_maps [] path.now 0 forms.now)) }
 {
@@ -118,8 +77,9 @@ fn params_after(
         if faults.len() >= walk.limit {
             return Ok(());
         }
+        let at = below(path, walk.alloc, number)?;
         let shape = param_shape(form);
-        known_param(walk, faults, seen.as_slice(), path, number, &shape)?;
+        add_param_faults(walk, faults, seen.as_slice(), at.as_slice(), &shape)?;
         seen.push(shape)?;
         number += 1;
     }
@@ -128,25 +88,15 @@ fn params_after(
 
 /// Adds the faults of a list of parameters, which is part 2 of the tree at `path`.
 #[tactic(auto, using(crate::proofs::Keeping::keeping))]
-pub fn params(
-    walk: Walk,
-    faults: &mut Items<FormFault>,
-    path: &[usize],
-    forms: &[Form],
-) -> Result<(), AllocError>
+pub fn add_params_faults(walk: Walk, faults: &mut Faults, path: &[usize], forms: &[Form]) -> Added
     ensures { OnOk result (faults.new ≡ keep walk.limit faults.old
         (spec.params_faults_at walk.has_maps (below path.now 2) forms.now)) }
 {
     let path = below(path, walk.alloc, 2)?;
     let path = path.as_slice();
-    unless(
-        walk,
-        faults,
-        path,
-        Role::Parameters,
-        are_few(forms),
-        FaultKind::OverLimit,
-    )?;
-    params_after(walk, faults, path, forms)?;
+    let role = Role::Parameters;
+    let are_few = are_few(forms);
+    push_fault_unless(walk, faults, path, role, are_few, FaultKind::OverLimit)?;
+    add_params_faults_after(walk, faults, path, forms)?;
     Ok(())
 }

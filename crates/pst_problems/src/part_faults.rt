@@ -9,17 +9,18 @@ ghost use Rattle.pst_syntax.specs.Faults.{Declared, OfType, Operation, Place, fi
 ghost use Rattle.pst_syntax.specs.Names.{is_free};
 ghost use Rattle.pst_syntax.specs.Shown.{shown};
 
-use crate::fault::{FormFault, Role};
+use crate::fault::Role;
 use crate::problem::below;
-use crate::telling::{Walk, tell_name, unless};
-use crate::type_faults::ty_part;
+use crate::telling::{
+    Added, DeclaredName, Faults, Walk, push_fault_unless, push_name_faults_at_part,
+};
+use crate::type_faults::add_ty_part_faults;
 use pst_sexpr::{Form, value_of};
 use pst_syntax::{FaultKind, MAX_PARTS, MAX_TY_LEVELS, Shape, is_free, is_used_operation};
-use pst_value::{Items, LIMIT, Text};
-use std::alloc::AllocError;
+use pst_value::{LIMIT, Text};
 
 /// Whether an expression keeps to the limits besides that of its depth.
-pub fn fits(shape: &Shape<'_>) -> bool
+pub fn is_within_limits(shape: &Shape<'_>) -> bool
     ensures { result ≡ fits (shown shape.now) }
 {
     match shape {
@@ -32,67 +33,52 @@ pub fn fits(shape: &Shape<'_>) -> bool
 }
 
 /// Adds the faults of a bound name that is part `number` of the tree at `path`.
-pub fn bound(
+pub fn add_bound_faults(
     walk: Walk,
-    faults: &mut Items<FormFault>,
+    faults: &mut Faults,
     path: &[usize],
     number: usize,
     is_taken: bool,
     word: &Text,
-) -> Result<(), AllocError>
+) -> Added
     ensures { OnOk result (faults.new ≡ keep walk.limit faults.old
         (part_at none_at none_at none_at (spec.below path.now number) role.Name
         (Declared (is_free walk.has_maps word.now) is_taken word.now))) }
 {
-    let path = below(path, walk.alloc, number)?;
     let is_lawful = is_free(walk.has_maps, word);
-    tell_name(
-        walk,
-        faults,
-        path.as_slice(),
-        Role::Name,
+    let name = DeclaredName {
+        word,
         is_lawful,
         is_taken,
-        word,
-    )
+    };
+    push_name_faults_at_part(walk, faults, path, number, Role::Name, name)
 }
 
 /// Adds the fault of the place of an item of a tuple, which is part 2 of the tree at `path`.
 #[tactic(auto, using(crate::proofs::Keeping::keeping))]
-pub fn place(
-    walk: Walk,
-    faults: &mut Items<FormFault>,
-    path: &[usize],
-    word: &Text,
-) -> Result<(), AllocError>
+pub fn add_tuple_place_faults(walk: Walk, faults: &mut Faults, path: &[usize], word: &Text) -> Added
     ensures { OnOk result (faults.new ≡ keep walk.limit faults.old
         (part_at none_at none_at none_at (spec.below path.now 2) role.Place (Place word.now))) }
 {
     let path = below(path, walk.alloc, 2)?;
-    let holds = value_of(word).is_some();
-    unless(
-        walk,
-        faults,
-        path.as_slice(),
-        Role::Place,
-        holds,
-        FaultKind::OverLimit,
-    )
+    let path = path.as_slice();
+    let fits = value_of(word).is_some();
+    push_fault_unless(walk, faults, path, Role::Place, fits, FaultKind::OverLimit)
 }
 
 /// Adds the fault of the name of an operation, which is part 1 of the tree at `path`.
-pub fn operation(
+pub fn add_operation_name_faults(
     walk: Walk,
-    faults: &mut Items<FormFault>,
+    faults: &mut Faults,
     path: &[usize],
     word: &Text,
-) -> Result<(), AllocError>
+) -> Added
     ensures { OnOk result (faults.new ≡ keep walk.limit faults.old
         (part_at none_at none_at none_at (spec.below path.now 1) role.Operation (Operation word.now))) }
 {
     let path = below(path, walk.alloc, 1)?;
     let holds = is_used_operation(word);
-    unless(
+    push_fault_unless(
         walk,
         faults,
         path.as_slice(),
@@ -104,15 +90,10 @@ pub fn operation(
 
 /// Adds the faults of an empty map.
 #[tactic(auto, using(crate::proofs::Keeping::keeping))]
-pub fn map_of(
-    walk: Walk,
-    faults: &mut Items<FormFault>,
-    path: &[usize],
-    value: &Form,
-) -> Result<(), AllocError>
+pub fn add_map_faults(walk: Walk, faults: &mut Faults, path: &[usize], value: &Form) -> Added
     ensures { (e : spec.At) → OnOk result (faults.new ≡ keep walk.limit faults.old
         (all_at (spec.spot_in walk.has_maps e) (spots_from path.now 2 (OfType value.now ∷ [])))) }
 {
-    ty_part(walk, faults, Role::Type, path, 2, value, MAX_TY_LEVELS)?;
+    add_ty_part_faults(walk, faults, Role::Type, path, 2, value, MAX_TY_LEVELS)?;
     Ok(())
 }

@@ -1,4 +1,4 @@
-//! What stands among the items before another.
+//! What the items before another are.
 
 ghost use Rattle.std.specs.Prelude.{◌≡◌, ◌&&◌, nat_lt};
 ghost use Rattle.std.specs.List.{list_any, count_by};
@@ -10,6 +10,7 @@ ghost use Rattle.pst_syntax.specs.ShownItems.{shown_item_option};
 use pst_syntax::{ItemShape, MAX_DECLARED};
 use pst_value::Text;
 
+/// Whether one of the items is the type of the state.
 pub fn has_state(seen: &[Option<ItemShape<'_>>]) -> bool
     ensures { result ≡ list_any (λ shape. holds faults.is_state (shown_item_option shape)) seen.now }
 {
@@ -17,6 +18,7 @@ pub fn has_state(seen: &[Option<ItemShape<'_>>]) -> bool
         .any(|shape| matches!(shape, Some(ItemShape::State(_))))
 }
 
+/// Whether one of the items is the initial state.
 pub fn has_init(seen: &[Option<ItemShape<'_>>]) -> bool
     ensures { result ≡ list_any (λ shape. holds faults.is_init (shown_item_option shape)) seen.now }
 {
@@ -24,6 +26,7 @@ pub fn has_init(seen: &[Option<ItemShape<'_>>]) -> bool
         .any(|shape| matches!(shape, Some(ItemShape::Init(_))))
 }
 
+/// Whether one of the items is the list of calls to pick from.
 pub fn has_command(seen: &[Option<ItemShape<'_>>]) -> bool
     ensures { result ≡ list_any (λ shape. holds faults.is_command (shown_item_option shape)) seen.now }
 {
@@ -80,6 +83,7 @@ fn is_op_named(shape: &Option<ItemShape<'_>>, word: &Text) -> bool
     }
 }
 
+/// Whether one of the items is a function with the name `word`.
 pub fn has_fun(seen: &[Option<ItemShape<'_>>], word: &Text) -> bool
     ensures { result ≡
         list_any (λ shape. holds (faults.is_fun_named word.now) (shown_item_option shape)) seen.now }
@@ -87,6 +91,7 @@ pub fn has_fun(seen: &[Option<ItemShape<'_>>], word: &Text) -> bool
     seen.iter().any(|shape| is_fun_named(shape, word))
 }
 
+/// Whether one of the items is an operation with the name `word`.
 pub fn has_op(seen: &[Option<ItemShape<'_>>], word: &Text) -> bool
     ensures { result ≡
         list_any (λ shape. holds (faults.is_op_named word.now) (shown_item_option shape)) seen.now }

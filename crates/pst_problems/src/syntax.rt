@@ -1,18 +1,22 @@
 //! Models that are refused for their form.
 
-use crate::expressions::{deep_expression, no_place, of_expression};
+use crate::expressions::{deep_expression_problem, expression_problem, tuple_place_problem};
 use crate::fault::{FormFault, Role};
 use crate::found_problem::{
-    FoundProblem, bad_name, long_name, no_name, no_operation, noted, noted_at, tell, wrong,
+    FoundProblem, bad_name_problem, long_name_problem, missing_name_problem,
+    missing_operation_problem, problem_at, problem_with_note, problem_with_note_at_part,
+    push_problem,
 };
 use crate::items::{
-    lacking_callbacks, many_parameters, no_clause, no_parameter, of_callback, of_item,
+    callback_problem, clause_problem, item_problem, missing_callbacks_problem, parameter_problem,
+    too_many_parameters_problem,
 };
 use crate::model_faults::faults_of;
-use crate::names::{DidYouMean, NearestName, add};
+use crate::names::{DidYouMean, NearestName, push_name};
 use crate::problem::{MOST_PROBLEMS, Problem};
+use crate::slips::{with_expression_hint, with_word_hint};
 use crate::tree::{has_head, head_of, part_at};
-use crate::types::{deep_type, of_item_type, of_type};
+use crate::types::{deep_type_problem, item_type_problem, type_problem};
 use crate::writing::Listed;
 use pst_sexpr::{Form, Tree, node_of, word_of};
 use pst_syntax::{FaultKind, MAX_TREES};
@@ -20,15 +24,15 @@ use pst_value::Items;
 use std::alloc::{AllocError, Global};
 
 /// The problem of a model that lacks items.
-fn lacking(alloc: Global, items: &[Form]) -> FoundProblem {
+fn missing_items_problem(alloc: Global, items: &[Form]) -> FoundProblem {
     let mut names = Items::new(alloc);
     for word in ["state", "init", "command"] {
         if !items.iter().any(|item| has_head(item, word)) {
-            add(alloc, &mut names, word)?;
+            push_name(alloc, &mut names, word)?;
         }
     }
     let names = Listed(&names);
-    noted(
+    problem_with_note(
         alloc,
         &[0],
         format_args!("the model lacks {names}"),
@@ -49,64 +53,64 @@ fn model_meant(alloc: Global, head: &str) -> Result<Option<DidYouMean<'static>>,
 }
 
 /// The problem of a tree that is no model and has the head `head`.
-fn headed_otherwise(alloc: Global, head: &str) -> FoundProblem {
+fn other_head_problem(alloc: Global, head: &str) -> FoundProblem {
     if head == "case" || head == "run" {
         let what = format_args!("a `{head}` comes before the model");
-        return noted_at(alloc, &[0], 0, what, MODEL);
+        return problem_with_note_at_part(alloc, &[0], 0, what, MODEL);
     }
     match model_meant(alloc, head)? {
-        Some(hint) => noted_at(
+        Some(hint) => problem_with_note_at_part(
             alloc,
             &[0],
             0,
             format_args!("no model begins with `{head}`"),
             hint,
         ),
-        None => noted(alloc, &[0], "the file does not begin with a model", MODEL),
+        None => problem_with_note(alloc, &[0], "the file does not begin with a model", MODEL),
     }
 }
 
 /// The problem of a model whose name is no word. `parts` are its parts after its head.
-fn nameless(alloc: Global, parts: &[Form]) -> FoundProblem {
+fn nameless_model_problem(alloc: Global, parts: &[Form]) -> FoundProblem {
     let what = "the model has no name";
     if parts.is_empty() {
-        return noted(alloc, &[0], what, MODEL);
+        return problem_with_note(alloc, &[0], what, MODEL);
     }
-    noted(alloc, &[0, 1], what, MODEL)
+    problem_with_note(alloc, &[0, 1], what, MODEL)
 }
 
 /// The problem of a tree that is no model.
-fn no_model(alloc: Global, form: &Form) -> FoundProblem {
+fn not_a_model_problem(alloc: Global, form: &Form) -> FoundProblem {
     let what = "the file does not begin with a model";
     match word_of(form) {
         Some(word) if word.as_str().starts_with("//") || word.as_str().starts_with("#") => {
-            return noted(alloc, &[0], what, "hint: a comment begins with `;`");
+            return problem_with_note(alloc, &[0], what, "hint: a comment begins with `;`");
         }
         _ => {}
     }
     match head_of(form) {
         Some(head) if head.as_str() == "model" || head.as_str() == "model2" => {
-            nameless(alloc, node_of(form).unwrap_or(&[]).get(1..).unwrap_or(&[]))
+            nameless_model_problem(alloc, node_of(form).unwrap_or(&[]).get(1..).unwrap_or(&[]))
         }
-        Some(head) => headed_otherwise(alloc, head.as_str()),
-        None => noted(alloc, &[0], what, MODEL),
+        Some(head) => other_head_problem(alloc, head.as_str()),
+        None => problem_with_note(alloc, &[0], what, MODEL),
     }
 }
 
 /// The problem of a model with the fault `kind`, which is none of its parts.
-fn of_model(alloc: Global, form: &Form, kind: FaultKind) -> FoundProblem {
+fn model_problem(alloc: Global, form: &Form, kind: FaultKind) -> FoundProblem {
     match kind {
-        FaultKind::Missing => lacking(alloc, node_of(form).unwrap_or(&[])),
+        FaultKind::Missing => missing_items_problem(alloc, node_of(form).unwrap_or(&[])),
         FaultKind::OverLimit => {
             let what = format_args!("the model has more than {MAX_TREES} trees");
-            wrong(alloc, &[0], what)
+            problem_at(alloc, &[0], what)
         }
-        _ => no_model(alloc, form),
+        _ => not_a_model_problem(alloc, form),
     }
 }
 
 /// The problem of a declared name with the fault `kind`.
-fn of_name(
+fn name_problem(
     alloc: Global,
     path: &[usize],
     form: &Form,
@@ -114,50 +118,63 @@ fn of_name(
     kind: FaultKind,
 ) -> FoundProblem {
     let Some(word) = word_of(form) else {
-        return no_name(alloc, path);
+        return missing_name_problem(alloc, path);
     };
     let name = word.as_str();
     match (kind, role) {
-        (FaultKind::BadName, _) => bad_name(alloc, path, word),
-        (FaultKind::OverLimit, _) => long_name(alloc, path, word),
+        (FaultKind::BadName, _) => bad_name_problem(alloc, path, word),
+        (FaultKind::OverLimit, _) => long_name_problem(alloc, path, word),
         (_, Role::ParameterName) => {
             let what = format_args!("two parameters have the name `{name}`");
-            wrong(alloc, path, what)
+            problem_at(alloc, path, what)
         }
         (_, Role::ItemName) => {
             let what = format_args!("an earlier item declares `{name}`");
-            wrong(alloc, path, what)
+            problem_at(alloc, path, what)
         }
         _ => {
             let what = format_args!("`{name}` is bound twice; choose another name");
-            wrong(alloc, path, what)
+            problem_at(alloc, path, what)
         }
     }
 }
 
 /// The problem of `fault`, whose part is `form`.
-fn of_fault(alloc: Global, model: &Form, form: &Form, fault: &FormFault) -> FoundProblem {
+fn fault_problem(alloc: Global, model: &Form, form: &Form, fault: &FormFault) -> FoundProblem {
     let FormFault { kind, role, .. } = *fault;
     let path = fault.path.as_slice();
     let has_maps = has_head(model, "model2");
     match role {
-        Role::Model => of_model(alloc, form, kind),
-        Role::Item => of_item(alloc, path, form, kind),
-        Role::Parameters => many_parameters(alloc, path, form),
-        Role::Parameter => no_parameter(alloc, path, form),
-        Role::Callbacks => lacking_callbacks(alloc, path, form),
-        Role::Callback => of_callback(alloc, path, form, kind),
-        Role::Type => of_type(alloc, has_maps, path, form, kind),
-        Role::ItemType => of_item_type(alloc, has_maps, model, path, form, kind),
-        Role::DeepType => deep_type(alloc, path),
-        Role::Expression => of_expression(alloc, has_maps, path, form, kind),
-        Role::DeepExpression => deep_expression(alloc, path),
-        Role::Clause => no_clause(alloc, path),
-        Role::Place => no_place(alloc, path, form),
-        Role::Operation => no_operation(alloc, path),
+        Role::Model => model_problem(alloc, form, kind),
+        Role::Item => item_problem(alloc, path, form, kind),
+        Role::Parameters => too_many_parameters_problem(alloc, path, form),
+        Role::Parameter => parameter_problem(alloc, path, form),
+        Role::Callbacks => missing_callbacks_problem(alloc, path, form),
+        Role::Callback => callback_problem(alloc, path, form, kind),
+        Role::Type => type_problem(alloc, has_maps, path, form, kind),
+        Role::ItemType => item_type_problem(alloc, has_maps, model, path, form, kind),
+        Role::DeepType => deep_type_problem(alloc, path),
+        Role::Expression => expression_problem(alloc, has_maps, path, form, kind),
+        Role::DeepExpression => deep_expression_problem(alloc, path),
+        Role::Clause => clause_problem(alloc, path),
+        Role::Place => tuple_place_problem(alloc, path, form),
+        Role::Operation => missing_operation_problem(alloc, path),
         Role::ModelName | Role::ItemName | Role::ParameterName | Role::Name => {
-            of_name(alloc, path, form, role, kind)
+            name_problem(alloc, path, form, role, kind)
         }
+    }
+}
+
+/// The problem of `fault`, whose part is `form`, with a hint if it is written as in another language.
+fn hinted_problem(alloc: Global, model: &Form, form: &Form, fault: &FormFault) -> FoundProblem {
+    let found = fault_problem(alloc, model, form, fault)?;
+    match (fault.kind, fault.role) {
+        (FaultKind::UnknownForm, Role::Expression) => {
+            let has_maps = has_head(model, "model2");
+            with_expression_hint(alloc, has_maps, model, fault.path.as_slice(), form, found)
+        }
+        (FaultKind::UnknownForm, Role::Item | Role::Callback) => with_word_hint(alloc, form, found),
+        _ => Ok(found),
     }
 }
 
@@ -184,9 +201,9 @@ fn add_problem(problems: &mut Vec<Problem>, problem: Problem) -> Result<(), Allo
 pub fn form_problems(alloc: Global, trees: &[Tree]) -> Result<Vec<Problem>, AllocError> {
     let mut problems = Vec::new(alloc);
     let Some(tree) = trees.first() else {
-        tell(
+        push_problem(
             &mut problems,
-            noted(alloc, &[], "the file has no model", MODEL)?,
+            problem_with_note(alloc, &[], "the file has no model", MODEL)?,
         )?;
         return Ok(problems);
     };
@@ -201,7 +218,7 @@ pub fn form_problems(alloc: Global, trees: &[Tree]) -> Result<Vec<Problem>, Allo
         if may_follow(fault, before) {
             continue;
         }
-        if let Some(problem) = of_fault(alloc, model, form, fault)? {
+        if let Some(problem) = hinted_problem(alloc, model, form, fault)? {
             add_problem(&mut problems, problem)?;
         }
         if fault.role == Role::Model {

@@ -2,10 +2,11 @@
 
 ghost use Rattle.std.specs.Prelude.{◌≡◌, ◌∷◌, [], OnOk, map};
 ghost use Rattle.pst_problems.specs.Kept.{keep};
-ghost use Rattle.pst_problems.specs.Placed.{placed, unless_at};
+ghost use Rattle.pst_problems.specs.Placed.{below, placed, unless_at};
 ghost use Rattle.pst_syntax.specs.Faults.{name_faults};
 
 use crate::fault::{FormFault, Role};
+use crate::problem::below;
 use pst_syntax::{FaultKind, is_short};
 use pst_value::{Items, Text};
 use std::alloc::{AllocError, Global};
@@ -21,15 +22,32 @@ pub struct Walk {
     pub limit: usize,
 }
 
+/// The faults that a walk has found.
+pub type Faults = Items<FormFault>;
+
+/// The result of adding faults.
+pub type Added = Result<(), AllocError>;
+
+/// A name where it is declared.
+#[derive(Clone, Copy)]
+pub struct DeclaredName<'a> {
+    /// The name.
+    pub word: &'a Text,
+    /// Whether it is valid there.
+    pub is_lawful: bool,
+    /// Whether it is taken.
+    pub is_taken: bool,
+}
+
 /// Adds the fault of the part at `path`.
 #[tactic(auto, using(crate::proofs::Keeping::keeping))]
-pub fn tell(
+pub fn push_fault(
     walk: Walk,
-    faults: &mut Items<FormFault>,
+    faults: &mut Faults,
     path: &[usize],
     role: Role,
     kind: FaultKind,
-) -> Result<(), AllocError>
+) -> Added
     ensures { OnOk result (faults.new ≡ keep walk.limit faults.old (placed path.now role kind ∷ [])) }
 {
     if faults.len() >= walk.limit {
@@ -42,47 +60,55 @@ pub fn tell(
 
 /// Adds the fault of the part at `path` unless `holds`.
 #[tactic(auto, using(crate::proofs::Keeping::keeping))]
-pub fn unless(
+pub fn push_fault_unless(
     walk: Walk,
-    faults: &mut Items<FormFault>,
+    faults: &mut Faults,
     path: &[usize],
     role: Role,
     holds: bool,
     kind: FaultKind,
-) -> Result<(), AllocError>
+) -> Added
     ensures { OnOk result (faults.new ≡ keep walk.limit faults.old (unless_at path.now role holds kind [])) }
 {
     if holds {
         Ok(())
     } else {
-        tell(walk, faults, path, role, kind)
+        push_fault(walk, faults, path, role, kind)
     }
 }
 
-/// Adds the faults of a declared name. `is_lawful` says whether it is valid there, and `is_taken` whether it
-/// is taken.
+/// Adds the faults of the name at `path`.
 #[tactic(auto, using(crate::proofs::Keeping::keeping, crate::proofs::Levels::name_steps))]
-pub fn tell_name(
+fn push_name_faults(
     walk: Walk,
-    faults: &mut Items<FormFault>,
+    faults: &mut Faults,
     path: &[usize],
     role: Role,
-    is_lawful: bool,
-    is_taken: bool,
-    word: &Text,
-) -> Result<(), AllocError>
+    name: DeclaredName<'_>,
+) -> Added
     ensures { OnOk result (faults.new ≡ keep walk.limit faults.old
-        (map (placed path.now role) (name_faults is_lawful is_taken word.now))) }
+        (map (placed path.now role) (name_faults name.entry.is_lawful name.entry.is_taken name.entry.word.now))) }
 {
-    unless(walk, faults, path, role, is_lawful, FaultKind::BadName)?;
-    unless(walk, faults, path, role, !is_taken, FaultKind::DoubleName)?;
-    unless(
-        walk,
-        faults,
-        path,
-        role,
-        is_short(word),
-        FaultKind::OverLimit,
-    )?;
+    let is_taken = name.is_taken;
+    let is_short = is_short(name.word);
+    push_fault_unless(walk, faults, path, role, name.is_lawful, FaultKind::BadName)?;
+    push_fault_unless(walk, faults, path, role, !is_taken, FaultKind::DoubleName)?;
+    push_fault_unless(walk, faults, path, role, is_short, FaultKind::OverLimit)?;
     Ok(())
+}
+
+/// Adds the faults of the name that is part `number` of the tree at `path`.
+pub fn push_name_faults_at_part(
+    walk: Walk,
+    faults: &mut Faults,
+    path: &[usize],
+    number: usize,
+    role: Role,
+    name: DeclaredName<'_>,
+) -> Added
+    ensures { OnOk result (faults.new ≡ keep walk.limit faults.old
+        (map (placed (below path.now number) role) (name_faults name.entry.is_lawful name.entry.is_taken name.entry.word.now))) }
+{
+    let path = below(path, walk.alloc, number)?;
+    push_name_faults(walk, faults, path.as_slice(), role, name)
 }

@@ -1,8 +1,13 @@
 //! What messages say of refused types.
 
-use crate::expressions::{arity, many_items, no_keys, spells_value};
+use crate::expressions::{
+    map_keys_problem, part_count_problem, spells_value, too_many_items_problem,
+};
 use crate::forms::{in_place_of, is_of_maps, type_form};
-use crate::found_problem::{FoundProblem, foreign, noted, noted_at, with_note, wrong};
+use crate::found_problem::{
+    FoundProblem, foreign_word_problem, problem_at, problem_with_note, problem_with_note_at_part,
+    with_note,
+};
 use crate::names::{DidYouMean, NearestName};
 use crate::problem::below;
 use crate::tree::{has_head, part_at};
@@ -13,14 +18,14 @@ use pst_value::Text;
 use std::alloc::{AllocError, Global};
 
 /// The head word of a node, and the trees after it.
-fn headed(form: &Form) -> Option<(&Text, &[Form])> {
+fn head_and_parts(form: &Form) -> Option<(&Text, &[Form])> {
     let (first, rest) = node_of(form)?.split_first()?;
     Some((word_of(first)?, rest))
 }
 
 /// The problem of a form of maps in a language without maps.
-fn no_maps(alloc: Global, path: &[usize]) -> FoundProblem {
-    noted(
+fn maps_not_allowed_problem(alloc: Global, path: &[usize]) -> FoundProblem {
+    problem_with_note(
         alloc,
         path,
         "a `model` has no maps",
@@ -29,7 +34,7 @@ fn no_maps(alloc: Global, path: &[usize]) -> FoundProblem {
 }
 
 /// The problem of a node with the head `head` and the trees `rest` after it, which is no type.
-fn no_node(
+fn type_node_problem(
     alloc: Global,
     has_maps: bool,
     path: &[usize],
@@ -38,36 +43,43 @@ fn no_node(
     rest: &[Form],
 ) -> FoundProblem {
     let Some(shown) = type_form(head) else {
-        return no_headed_type(alloc, path, form, head);
+        return unknown_type_head_problem(alloc, path, form, head);
     };
     if is_of_maps(head) && !has_maps {
-        return no_maps(alloc, path);
+        return maps_not_allowed_problem(alloc, path);
     }
     if rest.len() < shown.least || rest.len() > shown.most {
-        return arity(alloc, path, shown, rest.len());
+        return part_count_problem(alloc, path, shown, rest.len());
     }
-    no_keys(alloc, below(path, alloc, 1)?.as_slice())
+    map_keys_problem(alloc, below(path, alloc, 1)?.as_slice())
 }
 
 /// The problem of a tree that is no type.
-fn no_type(alloc: Global, has_maps: bool, path: &[usize], form: &Form) -> FoundProblem {
-    match (form, headed(form)) {
-        (Form::Word(word), _) => no_word(alloc, path, word.as_str()),
-        (_, Some((head, rest))) => no_node(alloc, has_maps, path, form, head.as_str(), rest),
-        _ => no_type_at_all(alloc, path, form),
+fn not_a_type_problem(alloc: Global, has_maps: bool, path: &[usize], form: &Form) -> FoundProblem {
+    match (form, head_and_parts(form)) {
+        (Form::Word(word), _) => unknown_type_word_problem(alloc, path, word.as_str()),
+        (_, Some((head, rest))) => type_node_problem(
+            alloc,
+            has_maps,
+            path,
+            form,
+            head.as_str(),
+            rest,
+        ),
+        _ => nothing_like_a_type_problem(alloc, path, form),
     }
 }
 
 /// The problem of a word that is no type.
-fn no_word(alloc: Global, path: &[usize], word: &str) -> FoundProblem {
+fn unknown_type_word_problem(alloc: Global, path: &[usize], word: &str) -> FoundProblem {
     if let Some(shown) = type_form(word) {
         let written = shown.written;
-        return wrong(alloc, path, format_args!("the type is written `{written}`"));
+        return problem_at(alloc, path, format_args!("the type is written `{written}`"));
     }
     let what = format_args!("`{word}` is not a type");
     match near_type(alloc, word)? {
-        Some(hint) if in_place_of(word).is_none() => noted(alloc, path, what, hint),
-        _ => foreign(alloc, path, word, what),
+        Some(hint) if in_place_of(word).is_none() => problem_with_note(alloc, path, what, hint),
+        _ => foreign_word_problem(alloc, path, word, what),
     }
 }
 
@@ -81,18 +93,23 @@ fn near_type(alloc: Global, word: &str) -> Result<Option<DidYouMean<'static>>, A
 }
 
 /// The problem of a node that has to be a type, and whose head heads no type.
-fn no_headed_type(alloc: Global, path: &[usize], form: &Form, head: &str) -> FoundProblem {
+fn unknown_type_head_problem(
+    alloc: Global,
+    path: &[usize],
+    form: &Form,
+    head: &str,
+) -> FoundProblem {
     let what = format_args!("`{head}` is not a type");
     match in_place_of(head) {
-        Some(hint) => noted_at(alloc, path, 0, what, format_args!("hint: {hint}")),
-        None => no_type_at_all(alloc, path, form),
+        Some(hint) => problem_with_note_at_part(alloc, path, 0, what, format_args!("hint: {hint}")),
+        None => nothing_like_a_type_problem(alloc, path, form),
     }
 }
 
 /// The problem of a tree that is not even similar to a type.
-fn no_type_at_all(alloc: Global, path: &[usize], form: &Form) -> FoundProblem {
+fn nothing_like_a_type_problem(alloc: Global, path: &[usize], form: &Form) -> FoundProblem {
     let shown = short_text(alloc, form)?;
-    noted(
+    problem_with_note(
         alloc,
         path,
         format_args!("`{shown}` is not a type"),
@@ -100,13 +117,13 @@ fn no_type_at_all(alloc: Global, path: &[usize], form: &Form) -> FoundProblem {
     )
 }
 
-/// The problem of a type that stands too deep.
-pub fn deep_type(alloc: Global, path: &[usize]) -> FoundProblem {
-    wrong(alloc, path, "types are nested more than 16 deep")
+/// The problem of a type that is nested too deep.
+pub fn deep_type_problem(alloc: Global, path: &[usize]) -> FoundProblem {
+    problem_at(alloc, path, "types are nested more than 16 deep")
 }
 
 /// The problem of a type with the fault `kind`.
-pub fn of_type(
+pub fn type_problem(
     alloc: Global,
     has_maps: bool,
     path: &[usize],
@@ -114,8 +131,8 @@ pub fn of_type(
     kind: FaultKind,
 ) -> FoundProblem {
     match kind {
-        FaultKind::OverLimit => many_items(alloc, path, node_of(form).unwrap_or(&[])),
-        _ => no_type(alloc, has_maps, path, form),
+        FaultKind::OverLimit => too_many_items_problem(alloc, path, node_of(form).unwrap_or(&[])),
+        _ => not_a_type_problem(alloc, has_maps, path, form),
     }
 }
 
@@ -137,7 +154,7 @@ fn item_type_length(model: &Form, path: &[usize]) -> usize {
 
 /// The problem of a type with the fault `kind`, which is the type of the items of a list that is written out
 /// or stands in it.
-pub fn of_item_type(
+pub fn item_type_problem(
     alloc: Global,
     has_maps: bool,
     model: &Form,
@@ -150,14 +167,14 @@ pub fn of_item_type(
     let whole = path.get(..length).unwrap_or(path);
     let ty = part_at(model, whole.get(1..).unwrap_or(&[]));
     if ty.is_some_and(|ty| spells_value(has_maps, ty)) {
-        return noted(
+        return problem_with_note(
             alloc,
             whole,
             "`list` takes the type of its items first",
             hint,
         );
     }
-    let found = of_type(alloc, has_maps, path, form, kind)?;
+    let found = type_problem(alloc, has_maps, path, form, kind)?;
     if length == path.len() {
         with_note(alloc, found, hint)
     } else {

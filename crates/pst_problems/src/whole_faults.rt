@@ -6,58 +6,56 @@ ghost use Rattle.pst_problems.specs.Placed.{below, unless_at};
 ghost use Rattle.pst_problems.specs.PlacedModel as spec;
 ghost use Rattle.pst_syntax.specs.declared.fault.FaultKind.TheVariants.{DoubleName};
 
-use crate::expression_faults::expr_part;
-use crate::fault::{FormFault, Role};
-use crate::telling::{Walk, unless};
-use crate::type_faults::ty_part;
+use crate::expression_faults::add_expr_part_faults;
+use crate::fault::Role;
+use crate::telling::{Added, Faults, Walk, push_fault_unless};
+use crate::type_faults::add_ty_part_faults;
 use pst_sexpr::Form;
 use pst_syntax::{FaultKind, MAX_EXPR_LEVELS, MAX_TY_LEVELS};
-use pst_value::Items;
-use std::alloc::AllocError;
 
 /// Adds the faults of a type that is part `number` of the tree at `path`, and of no other type.
-pub fn whole_ty(
+pub fn add_whole_ty_faults(
     walk: Walk,
-    faults: &mut Items<FormFault>,
+    faults: &mut Faults,
     path: &[usize],
     number: usize,
     form: &Form,
-) -> Result<(), AllocError>
+) -> Added
     ensures { OnOk result (faults.new ≡ keep walk.limit faults.old
         (spec.whole_ty_at walk.has_maps (below path.now number) form.now)) }
 {
-    ty_part(walk, faults, Role::Type, path, number, form, MAX_TY_LEVELS)
+    add_ty_part_faults(walk, faults, Role::Type, path, number, form, MAX_TY_LEVELS)
 }
 
 /// Adds the faults of an expression that is part `number` of the tree at `path`, and of no other expression.
-pub fn whole_expr(
+pub fn add_whole_expr_faults(
     walk: Walk,
-    faults: &mut Items<FormFault>,
+    faults: &mut Faults,
     path: &[usize],
     number: usize,
     form: &Form,
-) -> Result<(), AllocError>
+) -> Added
     ensures { OnOk result (faults.new ≡ keep walk.limit faults.old
         (spec.whole_expr_at walk.has_maps (below path.now number) form.now)) }
 {
-    expr_part(walk, faults, path, number, form, MAX_EXPR_LEVELS)
+    add_expr_part_faults(walk, faults, path, number, form, MAX_EXPR_LEVELS)
 }
 
 /// Adds the faults of a callback or an item with an expression at `path`. `stands` says whether there is one
 /// already.
-pub fn once(
+pub fn add_single_expression_faults(
     walk: Walk,
-    faults: &mut Items<FormFault>,
+    faults: &mut Faults,
     role: Role,
     path: &[usize],
     stands: bool,
     form: &Form,
-) -> Result<(), AllocError>
+) -> Added
     ensures { OnOk result (faults.new ≡ keep walk.limit faults.old
         (unless_at path.now role (not stands) DoubleName
         (spec.whole_expr_at walk.has_maps (below path.now 1) form.now))) }
 {
-    unless(walk, faults, path, role, !stands, FaultKind::DoubleName)?;
-    whole_expr(walk, faults, path, 1, form)?;
+    push_fault_unless(walk, faults, path, role, !stands, FaultKind::DoubleName)?;
+    add_whole_expr_faults(walk, faults, path, 1, form)?;
     Ok(())
 }

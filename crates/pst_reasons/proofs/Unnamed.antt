@@ -7,7 +7,7 @@ use Rattle.pst_reasons.proofs.OneAnswer.{or_first, or_second}
 use Rattle.pst_reasons.specs.Names.{one_of_them, names_at, clause_names_at, names, clause_names}
 use Rattle.pst_eval.specs.Callbacks.{at_names, max_turns}
 use Rattle.pst_eval.specs.Meaning.{Env, Called, called, Mean, Part, Run, part_at, mean_at, mean, part, looked_up, applied, lift, pure, truth, all, all_from, visit, visit_each, comprehension, fold_over, call_of, ◌>>=◌, ◌>>◌}
-use Rattle.pst_model.specs.Parts.{Name, number_of}
+use Rattle.pst_model.specs.Parts.{Name, operation_number}
 use Rattle.pst_model.specs.declared.expr.Clause.{Clause, Clause-F, map-Clause, fold-roll-Clause}
 use Rattle.pst_model.specs.declared.expr.Expr.{Expr, Expr-F, map-Expr, fold-roll-Expr, ind-Expr}
 use Rattle.pst_model.specs.declared.model.Item.{Item}

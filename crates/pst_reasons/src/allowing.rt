@@ -11,8 +11,8 @@ ghost use Rattle.pst_judge.specs.Verdict.{first_broken};
 ghost use Rattle.pst_reasons.specs.Reasons as reasons;
 
 use crate::answers::split_first;
-use crate::numbers::without;
-use crate::searching::{is_allowed, merge_beyond};
+use crate::numbers::push_without;
+use crate::searching::{interleaving_beyond, is_allowed};
 use pst_case::{History, Shaped};
 use pst_eval::Callbacks;
 use pst_model::Source;
@@ -46,7 +46,7 @@ fn is_one_of(answer: &Value, answers: &[Value]) -> bool
 }
 
 /// Returns the proposed answer for the interleaving `word`, if it is new and the model allows it.
-fn next_value<C: Callbacks, P: Candidates>(
+fn new_allowed_candidate<C: Callbacks, P: Candidates>(
     callbacks: &C,
     alloc: Global,
     model: &Source,
@@ -119,7 +119,7 @@ fn value_beyond_recorded<C: Callbacks, P: Candidates>(
     ensures new { IfOk result (λ found. IfSome found (λ value. spec.is_one_of value known.now ≡ false)) }
 {
     let wrong = with_recorded(alloc, history, number, known)?;
-    let merge = merge_beyond(
+    let merge = interleaving_beyond(
         callbacks,
         alloc,
         model,
@@ -132,7 +132,7 @@ fn value_beyond_recorded<C: Callbacks, P: Candidates>(
     let Some(word) = merge else {
         return Ok(None);
     };
-    next_value(
+    new_allowed_candidate(
         callbacks,
         alloc,
         model,
@@ -173,7 +173,7 @@ fn proposed_value<C: Callbacks, P: Candidates>(
     if left == 0 {
         return Ok(None);
     }
-    let first = next_value(
+    let first = new_allowed_candidate(
         callbacks, alloc, model, shaped, history, others, number, candidates, word, known,
     )?;
     if let Some(value) = first {
@@ -212,7 +212,7 @@ fn add_allowed<C: Callbacks, P: Candidates>(
     ensures few { IfOk result (λ found. length found.values ≤ length values + left) }
 {
     let known = values.as_slice();
-    let merge = merge_beyond(
+    let merge = interleaving_beyond(
         callbacks, alloc, model, shaped, history, others, number, known,
     )?;
     let Some(word) = merge else {
@@ -259,7 +259,7 @@ fn add_allowed<C: Callbacks, P: Candidates>(
 /// `at_most` answers are allowed, or `candidates` has no other allowed answer. If `candidates` has none for the first
 /// interleaving, for example because the postcondition faults there, it is tried on one in which the postcondition is
 /// false of the recorded answer. The function takes at most four searches for each value, and four more.
-pub fn allowed<C: Callbacks, P: Candidates>(
+pub fn find_allowed_values<C: Callbacks, P: Candidates>(
     callbacks: &C,
     alloc: Global,
     model: &Source,
@@ -286,7 +286,7 @@ pub fn allowed<C: Callbacks, P: Candidates>(
     ensures distinct { IfOk result (λ found. AreDistinct found.values) }
     ensures few { IfOk result (λ found. length found.values ≤ at_most) }
 {
-    let others = without(number, core, Vec::new(alloc))?;
+    let others = push_without(number, core, Vec::new(alloc))?;
     let values = Items::new(alloc);
     add_allowed(
         callbacks,

@@ -86,7 +86,7 @@ pub(crate) fn split_first(answers: &[Value]) -> Option<(&Value, &[Value])>
 }
 
 /// Returns whether one of `answers` would be right for an event on `state`, the state before it.
-pub(crate) fn one_is_right(
+pub(crate) fn right_answer_is_unique(
     model: &Source,
     alloc: Global,
     state: &Value,
@@ -100,7 +100,7 @@ pub(crate) fn one_is_right(
     };
     match is_right(model, alloc, state, event, first)? {
         Ok(true) => Ok(Ok(true)),
-        Ok(false) => one_is_right(model, alloc, state, event, rest),
+        Ok(false) => right_answer_is_unique(model, alloc, state, event, rest),
         Err(fault) => Ok(Err(fault)),
     }
 }

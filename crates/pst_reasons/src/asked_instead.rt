@@ -1,7 +1,7 @@
 //! Conditions that check other answers of a command in place of its recorded one.
 ghost use Rattle.std.specs.Prelude.{◌≡◌, []};
 
-use crate::answers::{is_right, one_is_right};
+use crate::answers::{is_right, right_answer_is_unique};
 use crate::asked::SomePostconditions;
 use pst_eval::Callbacks;
 use pst_judge::{Condition, Event};
@@ -11,7 +11,7 @@ use std::alloc::{AllocError, Global};
 
 /// Checks whether `answer` would be right for command `number`, and whether the recorded answers of `others` are right.
 #[derive(Clone, Copy, Drop)]
-pub(crate) struct AskedInstead<'a> {
+pub(crate) struct AnswerReplaced<'a> {
     pub model: &'a Source,
     pub number: u32,
     pub answer: &'a Value,
@@ -22,7 +22,7 @@ pub(crate) struct AskedInstead<'a> {
 /// Checks whether none of `answers` would be right for command `number`, and whether the recorded answers of `others`
 /// are right.
 #[derive(Clone, Copy, Drop)]
-pub(crate) struct AskedNoneOf<'a> {
+pub(crate) struct AnswersExcluded<'a> {
     pub model: &'a Source,
     pub number: u32,
     pub answers: &'a [Value],
@@ -30,7 +30,7 @@ pub(crate) struct AskedNoneOf<'a> {
     pub others: &'a [u32],
 }
 
-impl<'a> Condition for AskedInstead<'a> {
+impl<'a> Condition for AnswerReplaced<'a> {
     ghost use Rattle.pst_reasons.specs.Allowed.{asks_at};
     ghost use Rattle.pst_reasons.specs.Allowed as spec;
 
@@ -55,7 +55,7 @@ impl<'a> Condition for AskedInstead<'a> {
     }
 }
 
-impl<'a> Condition for AskedNoneOf<'a> {
+impl<'a> Condition for AnswersExcluded<'a> {
     ghost use Rattle.pst_reasons.specs.Allowed.{asks_at, none_is_right};
 
     ghost asked = { λ a m s e. asks_at a.number (λ t d. none_is_right a.model.now t d a.answers.now)
@@ -69,7 +69,7 @@ impl<'a> Condition for AskedNoneOf<'a> {
         event: &Event,
     ) -> Result<Result<bool, Fault>, AllocError> {
         if event.number == self.number {
-            return match one_is_right(self.model, alloc, state, event, self.answers)? {
+            return match right_answer_is_unique(self.model, alloc, state, event, self.answers)? {
                 Ok(right) => Ok(Ok(!right)),
                 Err(fault) => Ok(Err(fault)),
             };

@@ -6,15 +6,15 @@ ghost use Rattle.pst_judge.specs.Verdict.{first_broken};
 ghost use Rattle.pst_reasons.specs.Reasons.{AreRising, IsCore, IsImpossible, IsLeastTrue, IsNeeded, IsUnexplained, is_among, number_of_commands, without};
 
 use crate::asked::SomePostconditions;
-use crate::numbers::{commands_in, no_numbers, numbers_to, split_last, without};
+use crate::numbers::{count_commands, no_numbers, numbers_to, push_without, split_last};
 use pst_case::{History, Shaped};
 use pst_eval::Callbacks;
-use pst_judge::{Verdict, verdict_asking};
+use pst_judge::{Verdict, verdict_with_condition};
 use std::alloc::{AllocError, Global};
 
 /// Returns the lexicographically first interleaving that is true to its end if only the postconditions of the commands
 /// `first` and `rest` are checked. `None` if no interleaving is.
-fn true_merge<C: Callbacks>(
+fn interleaving_of_core<C: Callbacks>(
     callbacks: &C,
     alloc: Global,
     shaped: &Shaped,
@@ -30,7 +30,7 @@ fn true_merge<C: Callbacks>(
         (λ word. IsLeastTrue m shaped.now.case history.now numbers word.items)) }
 {
     let asked = SomePostconditions { first, rest };
-    match verdict_asking(callbacks, &asked, alloc, shaped, history)? {
+    match verdict_with_condition(callbacks, &asked, alloc, shaped, history)? {
         Verdict::Explained(word) => Ok(Some(word)),
         Verdict::Faulted(_) => Ok(None),
         Verdict::Unexplained(_) => Ok(None),
@@ -64,7 +64,7 @@ fn leave_out_one<C: Callbacks>(
     ensures rising { IfOk result (λ core. AreRising 0 (number_of_commands shaped.now.case)
         (first.now ++ core.items)) }
 {
-    let merge = true_merge(callbacks, alloc, shaped, history, first, core.as_slice())?;
+    let merge = interleaving_of_core(callbacks, alloc, shaped, history, first, core.as_slice())?;
     let Some(_word) = merge else {
         return Ok(core);
     };
@@ -106,7 +106,7 @@ fn leave_out<C: Callbacks>(
 /// still impossible. So it prefers a core of commands with small numbers. Other commands may have answered anything.
 /// The core is empty if every interleaving faults in `init` or `next`, whatever was answered. The function takes one
 /// search for each command.
-pub fn core<C: Callbacks>(
+pub fn minimal_core<C: Callbacks>(
     callbacks: &C,
     alloc: Global,
     shaped: &Shaped,
@@ -120,14 +120,14 @@ pub fn core<C: Callbacks>(
         (λ core. IsCore (C.model callbacks.now) shaped.now.case history.now core.items) }
     ensures rising { IfOk result (λ core. AreRising 0 (number_of_commands shaped.now.case) core.items) }
 {
-    let numbers = numbers_to(alloc, commands_in(shaped))?;
+    let numbers = numbers_to(alloc, count_commands(shaped))?;
     let core = no_numbers(alloc);
     leave_out(callbacks, alloc, shaped, history, numbers.as_slice(), core)
 }
 
 /// Returns the first interleaving that is true to its end if only the postconditions of `core` without `number` are
 /// checked.
-pub fn merge_without<C: Callbacks>(
+pub fn interleaving_without<C: Callbacks>(
     callbacks: &C,
     alloc: Global,
     shaped: &Shaped,
@@ -143,9 +143,9 @@ pub fn merge_without<C: Callbacks>(
     ensures { IfOk result (λ word. IsLeastTrue (C.model callbacks.now) shaped.now.case history.now
         (without number core.now) word.items) }
 {
-    let others = without(number, core, no_numbers(alloc))?;
+    let others = push_without(number, core, no_numbers(alloc))?;
     let others = others.as_slice();
-    let Some(word) = true_merge(callbacks, alloc, shaped, history, others, &[])? else {
+    let Some(word) = interleaving_of_core(callbacks, alloc, shaped, history, others, &[])? else {
         unreachable!()
     };
     Ok(word)

@@ -14,10 +14,10 @@ mod numbers;
 mod searching;
 mod state_list;
 
-pub use allowing::{AllowedValues, Candidates, allowed};
+pub use allowing::{AllowedValues, Candidates, find_allowed_values};
 pub use asked::SomePostconditions;
-pub use cores::{core, merge_without};
+pub use cores::{interleaving_without, minimal_core};
 pub use laws::equality_has_one_answer;
-pub use numbers::{letters_in, without};
-pub use searching::{is_allowed, merge_beyond};
+pub use numbers::{count_branch_commands, push_without};
+pub use searching::{interleaving_beyond, is_allowed};
 pub use state_list::states;

@@ -39,7 +39,11 @@ pub(crate) fn split_last(numbers: &[u32]) -> Option<(&u32, &[u32])>
 }
 
 /// Returns `others`, followed by `numbers` without `number`.
-pub fn without(number: u32, numbers: &[u32], mut others: Vec<u32>) -> Result<Vec<u32>, AllocError>
+pub fn push_without(
+    number: u32,
+    numbers: &[u32],
+    mut others: Vec<u32>,
+) -> Result<Vec<u32>, AllocError>
     ensures { IfOk result (λ all. all.items ≡ others.items ++ without number numbers.now) }
 {
     let Some((first, rest)) = split_first(numbers) else {
@@ -48,7 +52,7 @@ pub fn without(number: u32, numbers: &[u32], mut others: Vec<u32>) -> Result<Vec
     if *first != number {
         others.push(*first)?;
     }
-    without(number, rest, others)
+    push_without(number, rest, others)
 }
 
 fn split_parts(branches: &[Items<Command>]) -> Option<(&Items<Command>, &[Items<Command>])>
@@ -59,24 +63,24 @@ fn split_parts(branches: &[Items<Command>]) -> Option<(&Items<Command>, &[Items<
 }
 
 /// Returns how many commands the branches have together.
-pub fn letters_in(branches: &[Items<Command>]) -> usize
+pub fn count_branch_commands(branches: &[Items<Command>]) -> usize
     requires { length (joined branches.now) ≤ 16 }
     ensures { result ≡ length (joined branches.now) }
 {
     let Some((branch, branches)) = split_parts(branches) else {
         return 0;
     };
-    branch.len() + letters_in(branches)
+    branch.len() + count_branch_commands(branches)
 }
 
 /// Returns how many commands a case has.
-pub(crate) fn commands_in(shaped: &Shaped) -> u32
+pub(crate) fn count_commands(shaped: &Shaped) -> u32
     ensures { result ≡ number_of_commands shaped.now.case }
 {
     let case = shaped.case();
     let prefix = case.prefix.len();
     let branches = case.branches.as_slice();
-    let letters = letters_in(branches);
+    let letters = count_branch_commands(branches);
     let suffix = case.suffix.len();
     (prefix + letters + suffix) as u32
 }

@@ -6,17 +6,17 @@ ghost use Rattle.pst_grid.specs.declared.answer.Ending.TheVariants.{AllTrue};
 ghost use Rattle.pst_judge.specs.Verdict.{EndsAsking, first_broken};
 ghost use Rattle.pst_reasons.specs.Allowed.{AreAll, IsBeyond, IsWhetherAllowed};
 
-use crate::asked_instead::{AskedInstead, AskedNoneOf};
+use crate::asked_instead::{AnswerReplaced, AnswersExcluded};
 use pst_case::{History, Shaped};
 use pst_eval::Callbacks;
-use pst_judge::{Condition, Verdict, verdict_asking};
+use pst_judge::{Condition, Verdict, verdict_with_condition};
 use pst_model::Source;
 use pst_value::Value;
 use std::alloc::{AllocError, Global};
 
 /// Returns an interleaving that is true to its end if `condition` is checked for each event. `None` if no interleaving
 /// is.
-fn true_merge<C: Callbacks, A: Condition>(
+fn explaining_interleaving<C: Callbacks, A: Condition>(
     callbacks: &C,
     condition: &A,
     alloc: Global,
@@ -31,7 +31,7 @@ fn true_merge<C: Callbacks, A: Condition>(
         ((v : List ℕ) → EndsAsking m asked shaped.now.case history.now AllTrue v → ⊥)
         (λ word. EndsAsking m asked shaped.now.case history.now AllTrue word.items)) }
 {
-    match verdict_asking(callbacks, condition, alloc, shaped, history)? {
+    match verdict_with_condition(callbacks, condition, alloc, shaped, history)? {
         Verdict::Explained(word) => Ok(Some(word)),
         Verdict::Faulted(_) => Ok(None),
         Verdict::Unexplained(_) => Ok(None),
@@ -58,13 +58,13 @@ pub fn is_allowed<C: Callbacks>(
     ensures { IfOk result (λ is. IsWhetherAllowed (C.model callbacks.now) shaped.now.case history.now
         others.now number is answer.now) }
 {
-    let asked = AskedInstead {
+    let asked = AnswerReplaced {
         model,
         number,
         answer,
         others,
     };
-    match true_merge(callbacks, &asked, alloc, shaped, history)? {
+    match explaining_interleaving(callbacks, &asked, alloc, shaped, history)? {
         Some(_word) => Ok(true),
         None => Ok(false),
     }
@@ -72,7 +72,7 @@ pub fn is_allowed<C: Callbacks>(
 
 /// Returns an interleaving in which the answers of `others` are right and none of `answers` would be right for command
 /// `number`, if there is one.
-pub fn merge_beyond<C: Callbacks>(
+pub fn interleaving_beyond<C: Callbacks>(
     callbacks: &C,
     alloc: Global,
     model: &Source,
@@ -90,11 +90,11 @@ pub fn merge_beyond<C: Callbacks>(
         (AreAll m shaped.now.case history.now others.now number answers.now)
         (λ word. IsBeyond m shaped.now.case history.now others.now number answers.now word.items)) }
 {
-    let asked = AskedNoneOf {
+    let asked = AnswersExcluded {
         model,
         number,
         answers,
         others,
     };
-    true_merge(callbacks, &asked, alloc, shaped, history)
+    explaining_interleaving(callbacks, &asked, alloc, shaped, history)
 }

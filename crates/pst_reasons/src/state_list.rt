@@ -11,7 +11,7 @@ ghost use Rattle.pst_reasons.specs.States.{AllFit, OnLast, branch_states, event_
 ghost use Rattle.pst_value.specs.declared.ty.Ty.{Ty};
 ghost use Rattle.pst_value.specs.declared.value.Value.{Value};
 
-use crate::numbers::letters_in;
+use crate::numbers::count_branch_commands;
 use pst_case::{History, Shaped};
 use pst_eval::Callbacks;
 use pst_grid::StepOutcome;
@@ -27,7 +27,7 @@ fn split_first(events: &[Event]) -> Option<(&Event, &[Event])>
 
 /// Appends to `states` the state after each event in turn, up to the first event that is not true. If all are true, the
 /// result also has the last state.
-fn along<C: Callbacks, A: Condition>(
+fn append_states<C: Callbacks, A: Condition>(
     callbacks: &C,
     condition: &A,
     alloc: Global,
@@ -51,7 +51,7 @@ fn along<C: Callbacks, A: Condition>(
         StepOutcome::Stop(_) => Ok((states, None)),
         StepOutcome::Next(next) => {
             states.push(next.copy(alloc)?)?;
-            along(callbacks, condition, alloc, next, events, states)
+            append_states(callbacks, condition, alloc, next, events, states)
         }
     }
 }
@@ -131,11 +131,11 @@ fn after_prefix<C: Callbacks, A: Condition>(
     let Some(last) = last else {
         return Ok(states);
     };
-    if word.len() < letters_in(parts) {
+    if word.len() < count_branch_commands(parts) {
         return Ok(states);
     }
     let suffix = branches.suffix.as_slice();
-    let (states, _) = along(
+    let (states, _) = append_states(
         branches.callbacks,
         branches.condition,
         alloc,
@@ -173,7 +173,7 @@ pub fn states<C: Callbacks, A: Condition>(
     };
     states.push(state.copy(alloc)?)?;
     let prefix = prefix_of(alloc, shaped, history, results)?;
-    let (states, last) = along(
+    let (states, last) = append_states(
         callbacks,
         condition,
         alloc,

@@ -3,12 +3,12 @@ use Rattle.std.specs.Prelude.{◌≡◌, Ok, Err}
 use Rattle.pst_case.specs.declared.history.Run.{Run}
 use Rattle.pst_judge.specs.Judgement.{IsJudgement}
 use Rattle.pst_model.specs.declared.model.Source.{Source}
-use Rattle.pst_rejudge.specs.declared.each.Answer.{Answer}
-use Rattle.pst_rejudge.specs.declared.each.Answer.TheVariants.{Judged, Refused}
+use Rattle.pst_rejudge.specs.declared.each.ItemResult.{ItemResult}
+use Rattle.pst_rejudge.specs.declared.each.ItemResult.TheVariants.{Judged, Refused}
 use Rattle.pst_runs.specs.Items.{item_of}
 use Rattle.pst_sexpr.specs.declared.form.Form.{Form}
 
 -- the judgement on the run that a tree spells; or why the tree is refused
-abbrev pub IsAnswer : Source → Form → Answer → Type 0
+abbrev pub IsAnswer : Source → Form → ItemResult → Type 0
 IsAnswer m form (Judged judged) = (run : Run) × (item_of m form ≡ Ok run) × IsJudgement m run judged
 IsAnswer m form (Refused kind command) = item_of m form ≡ Err (record { kind = kind; command = command })

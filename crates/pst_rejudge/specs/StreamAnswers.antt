@@ -3,8 +3,8 @@ use Rattle.std.specs.Prelude.{◌≡◌, ◌≤◌, ℕ, true, false, List, [], 
 use Rattle.std.specs.List.{AllZip}
 use Rattle.pst_json_runs.specs.Lines.{has_json, line_form}
 use Rattle.pst_rejudge.specs.Answers.{IsAnswer}
-use Rattle.pst_rejudge.specs.declared.each.Answer.{Answer}
-use Rattle.pst_rejudge.specs.declared.each.Answer.TheVariants.{Refused}
+use Rattle.pst_rejudge.specs.declared.each.ItemResult.{ItemResult}
+use Rattle.pst_rejudge.specs.declared.each.ItemResult.TheVariants.{Refused}
 use Rattle.pst_model.specs.declared.model.Source.{Source}
 use Rattle.pst_runs.specs.declared.fault.RunFaultKind.TheVariants.{BadForm}
 use Rattle.pst_sexpr.specs.Reading.{max_bytes, Spells}
@@ -21,17 +21,17 @@ pub data SpellsItem (m : Source) (line : List ℕ) (form : Form) : Type 0 where
   json : has_json line ≡ true → length line ≤ max_bytes → form ≡ line_form m line → SpellsItem m line form
 
 -- what is answered of the item that the line spells; or, where it spells none, `BadForm` of command 0
-pub data IsLineAnswer (m : Source) (line : List ℕ) (answer : Answer) : Type 0 where
+pub data IsLineAnswer (m : Source) (line : List ℕ) (answer : ItemResult) : Type 0 where
   item : (form : Form) → SpellsItem m line form → IsAnswer m form answer → IsLineAnswer m line answer
   no_item : ((form : Form) → SpellsItem m line form → ⊥) → answer ≡ Refused BadForm 0 → IsLineAnswer m line answer
 
 -- the same of a line without JSON
-pub data IsTreeAnswer (m : Source) (line : List ℕ) (answer : Answer) : Type 0 where
+pub data IsTreeAnswer (m : Source) (line : List ℕ) (answer : ItemResult) : Type 0 where
   tree_item : (form : Form) → IsTreeFile line form → IsAnswer m form answer → IsTreeAnswer m line answer
   no_tree : ((form : Form) → IsTreeFile line form → ⊥) → answer ≡ Refused BadForm 0 → IsTreeAnswer m line answer
 
 -- the answers to lines that spell one item each are the answers to these items
 abbrev pub LinesAreItems : Type 0
 LinesAreItems =
-    (m : Source) (lines : List (List ℕ)) (forms : List Form) (answers : List Answer)
+    (m : Source) (lines : List (List ℕ)) (forms : List Form) (answers : List ItemResult)
     → AllZip (SpellsItem m) lines forms → AllZip (IsLineAnswer m) lines answers → AllZip (IsAnswer m) forms answers

@@ -3,7 +3,7 @@ ghost use Rattle.std.specs.Prelude.{◌≡◌, ◌<◌, ℕ, suc, List, length, 
 ghost use Rattle.pst_rejudge.specs.Blocks.{IsBlock};
 ghost use Rattle.pst_sexpr.specs.Reading.{max_bytes};
 
-use crate::each::Answer;
+use crate::each::ItemResult;
 use crate::keeping::{keep_bytes, last_lines};
 use crate::stream_judging::line_answers;
 use crate::stream_reading::{Unread, read_some};
@@ -21,7 +21,7 @@ const MAX_KEPT: usize = MAX_BYTES + 1;
 #[derive(Drop)]
 pub struct Block {
     /// The answers, in the order of the lines.
-    pub answers: Vec<Answer>,
+    pub answers: Vec<ItemResult>,
     /// Whether the reader has ended: no line comes after these.
     pub is_last: bool,
 }

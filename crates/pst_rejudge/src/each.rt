@@ -6,7 +6,7 @@ ghost use Rattle.pst_rejudge.specs.Answers.{IsAnswer};
 
 use crate::reading::read_one;
 use crate::sharing::may_share_models;
-use crate::steps::Steps;
+use crate::steps::ProgressCounter;
 use pst_eval::Callbacks;
 use pst_judge::{Judged, judge_one};
 use pst_model::Typed;
@@ -18,7 +18,7 @@ use std::thread::Threads;
 
 /// The judgement on an item, or why it is refused.
 #[derive(Debug, Drop)]
-pub enum Answer {
+pub enum ItemResult {
     /// It was read, and this is the judgement on it.
     Judged(Judged),
     /// It is refused for this reason.
@@ -36,24 +36,24 @@ pub fn answer_of<C: Callbacks>(
     alloc: Global,
     typed: &Typed,
     tree: &Tree,
-) -> Result<Answer, AllocError>
+) -> Result<ItemResult, AllocError>
     requires { typed.now ≡ C.model callbacks.now }
     ensures { IfOk result (IsAnswer (C.model callbacks.now) tree.now) }
 {
     match read_one(alloc, typed, tree)? {
-        Ok(run) => Ok(Answer::Judged(judge_one(callbacks, alloc, &run)?)),
-        Err(RunFault { kind, command, .. }) => Ok(Answer::Refused { kind, command }),
+        Ok(run) => Ok(ItemResult::Judged(judge_one(callbacks, alloc, &run)?)),
+        Err(RunFault { kind, command, .. }) => Ok(ItemResult::Refused { kind, command }),
     }
 }
 
 /// Reads and judges the item that a tree spells, and counts it in `steps`.
-fn answer_counted<C: Callbacks>(
+fn answer_with_progress<C: Callbacks>(
     callbacks: &C,
     alloc: Global,
     typed: &Typed,
     tree: &Tree,
-    steps: &Steps,
-) -> Result<Answer, AllocError>
+    steps: &ProgressCounter,
+) -> Result<ItemResult, AllocError>
     requires { typed.now ≡ C.model callbacks.now }
     ensures { IfOk result (IsAnswer (C.model callbacks.now) tree.now) }
 {
@@ -72,8 +72,8 @@ pub fn judge_each<C: Callbacks + Sync, R: Threads + Sync>(
     alloc: Global,
     typed: &Typed,
     trees: &[Tree],
-    steps: &Steps,
-) -> Result<Vec<Answer>, AllocError>
+    steps: &ProgressCounter,
+) -> Result<Vec<ItemResult>, AllocError>
     requires { typed.now ≡ C.model callbacks.now }
     ensures { IfOk result (λ all. AllZip (IsAnswer (C.model callbacks.now)) trees.now all.items) }
 {
@@ -82,10 +82,10 @@ pub fn judge_each<C: Callbacks + Sync, R: Threads + Sync>(
         .par_iter()
         .with_min_len(1)
         .map(
-            |tree: &Tree| -> Result<Answer, AllocError>
+            |tree: &Tree| -> Result<ItemResult, AllocError>
                 requires { typed.now ≡ C.model callbacks.now }
                 ensures { IfOk result (IsAnswer (C.model callbacks.entry.now) tree.now) }
-            { answer_counted(callbacks, alloc, typed, tree, steps) },
+            { answer_with_progress(callbacks, alloc, typed, tree, steps) },
         )
-        .collect::<Result<Vec<Answer>, AllocError>>(rt, alloc)?
+        .collect::<Result<Vec<ItemResult>, AllocError>>(rt, alloc)?
 }

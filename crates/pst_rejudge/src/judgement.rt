@@ -5,7 +5,7 @@ ghost use Rattle.pst_judge.specs.declared.judgement.Judged.TheVariants as judged
 
 use crate::add::{add_number, add_words};
 use crate::field::{Field, Name};
-use crate::merge::merge_text;
+use crate::merge::interleaving_text;
 use pst_eval::FaultPlace;
 use pst_judge::{Judged, Verdict, Why};
 use pst_runs::RunFaultKind;
@@ -21,14 +21,14 @@ fn add_place(alloc: Global, fields: &mut Vec<Field>, place: &FaultPlace) -> Resu
 }
 
 /// Adds an interleaving, the numbers of its branches.
-fn add_merge(
+fn add_interleaving(
     alloc: Global,
     fields: &mut Vec<Field>,
     branches: &Vec<usize>,
 ) -> Result<(), AllocError>
     ensures { OnOk result (fields.new.items ≡ fields.old.items ++ merge_field branches.now.items ∷ []) }
 {
-    let merge = merge_text(alloc, branches.as_slice())?;
+    let merge = interleaving_text(alloc, branches.as_slice())?;
     fields.push(Field::Words(Name::Merge, merge))?;
     Ok(())
 }
@@ -40,7 +40,7 @@ fn add_verdict(alloc: Global, fields: &mut Vec<Field>, verdict: &Verdict) -> Res
     match verdict {
         Verdict::Explained(word) => {
             add_words(alloc, fields, Name::Verdict, "explained")?;
-            add_merge(alloc, fields, word)
+            add_interleaving(alloc, fields, word)
         }
         Verdict::Faulted(place) => {
             add_words(alloc, fields, Name::Verdict, "fault")?;
@@ -58,19 +58,19 @@ fn add_verdict(alloc: Global, fields: &mut Vec<Field>, verdict: &Verdict) -> Res
 }
 
 /// Adds why a case is not valid.
-fn add_why(alloc: Global, fields: &mut Vec<Field>, why: &Why) -> Result<(), AllocError>
+fn add_reason(alloc: Global, fields: &mut Vec<Field>, why: &Why) -> Result<(), AllocError>
     ensures { OnOk result (fields.new.items ≡ fields.old.items ++ outcome_fields (judged.Invalid why.now)) }
 {
     match why {
         Why::PreFalse { command, merge } => {
             add_words(alloc, fields, Name::Verdict, "prefalse")?;
             add_number(fields, Name::Command, *command as u64)?;
-            add_merge(alloc, fields, merge)
+            add_interleaving(alloc, fields, merge)
         }
         Why::CallbackFault { place, merge } => {
             add_words(alloc, fields, Name::Verdict, "casefault")?;
             add_place(alloc, fields, place)?;
-            add_merge(alloc, fields, merge)
+            add_interleaving(alloc, fields, merge)
         }
         Why::NoMemory => {
             add_words(alloc, fields, Name::Verdict, "refused")?;
@@ -92,7 +92,7 @@ pub fn judged_fields(
     match judged {
         Judged::Verdict(verdict) => add_verdict(alloc, &mut fields, verdict)?,
         Judged::Valid => add_words(alloc, &mut fields, Name::Verdict, "valid")?,
-        Judged::Invalid(why) => add_why(alloc, &mut fields, why)?,
+        Judged::Invalid(why) => add_reason(alloc, &mut fields, why)?,
     }
     Ok(fields)
 }

@@ -4,11 +4,11 @@ ghost use Rattle.pst_rejudge.specs.Parts.{IsJudgedPart, joined};
 ghost use Rattle.pst_rejudge.specs.Places.{StandsIn};
 
 use crate::parts::parts_of;
-use crate::places::{in_order, in_places};
+use crate::places::{in_order, place_parts};
 use crate::reading::PartFault;
 use crate::sharing::{may_send_parts, may_share_models};
-use crate::steps::Steps;
-use crate::taking::{JudgedPart, take_parts};
+use crate::steps::ProgressCounter;
+use crate::taking::{JudgedPart, judge_remaining_parts};
 use pst_case::Run;
 use pst_eval::Callbacks;
 use pst_judge::Judged;
@@ -55,7 +55,7 @@ pub fn judge_in_parts<C: Callbacks + Sync, R: Threads + Sync>(
     typed: &Typed,
     input: &[u8],
     keeps: bool,
-    steps: &Steps,
+    steps: &ProgressCounter,
 ) -> Result<Option<JudgedParts>, AllocError>
     requires { typed.now ≡ C.model callbacks.now }
     ensures { IfOk result (λ read. IfSome read
@@ -74,7 +74,7 @@ pub fn judge_in_parts<C: Callbacks + Sync, R: Threads + Sync>(
                 requires { typed.now ≡ C.model callbacks.now }
                 ensures { IfOk result (λ taken. All (StandsIn (C.model callbacks.entry.now) keeps parts.entry.items) taken.items) }
             {
-                take_parts(
+                judge_remaining_parts(
                     callbacks,
                     alloc,
                     typed,
@@ -88,7 +88,7 @@ pub fn judge_in_parts<C: Callbacks + Sync, R: Threads + Sync>(
         .collect::<Result<Vec<Vec<JudgedPart>>, PartFault>>(rt, alloc)?;
     match taken {
         Ok(lists) => {
-            let places = in_places(alloc, parts.as_slice(), lists)?;
+            let places = place_parts(alloc, parts.as_slice(), lists)?;
             in_order(alloc, places)
         }
         Err(PartFault::NotRead) => Ok(None),

@@ -31,7 +31,7 @@ mod taking;
 use crate::sharing::may_share_runs;
 pub use add::{add_number, add_words};
 pub use blocks::{Block, StreamFault, next_block};
-pub use each::{Answer, answer_of, judge_each};
+pub use each::{ItemResult, answer_of, judge_each};
 pub use field::{Field, Name};
 pub use judgement::{judged_fields, refused_fields};
 pub use judging::{JudgedParts, judge_in_parts};
@@ -46,14 +46,14 @@ pub use refusal::{accepted_fields, refusal_fields};
 pub use sharing::may_share_models;
 use std::alloc::{AllocError, Global};
 use std::thread::Threads;
-pub use steps::Steps;
+pub use steps::ProgressCounter;
 
 /// Judges an item, and counts it in `steps`.
-fn judge_counted<C: Callbacks>(
+fn judge_with_progress<C: Callbacks>(
     callbacks: &C,
     alloc: Global,
     run: &Run,
-    steps: &Steps,
+    steps: &ProgressCounter,
 ) -> Result<Judged, AllocError>
     requires { MayBeJudged (C.model callbacks.now) run.now }
     ensures { IfOk result (IsJudgement (C.model callbacks.now) run.now) }
@@ -65,12 +65,12 @@ fn judge_counted<C: Callbacks>(
 
 /// Returns the judgement of each item, in the order of the items: what `judge_one` gives of it. Several threads
 /// judge the items at once, and count them in `steps`.
-pub fn rejudge_counting<C: Callbacks + Sync, R: Threads + Sync>(
+pub fn rejudge_with_progress<C: Callbacks + Sync, R: Threads + Sync>(
     rt: &R,
     callbacks: &C,
     alloc: Global,
     runs: &[Run],
-    steps: &Steps,
+    steps: &ProgressCounter,
 ) -> Result<Vec<Judged>, AllocError>
     requires { All (MayBeJudged (C.model callbacks.now)) runs.now }
     ensures { IfOk result (λ all. AllZip (IsJudgement (C.model callbacks.now)) runs.now all.items) }
@@ -82,7 +82,7 @@ pub fn rejudge_counting<C: Callbacks + Sync, R: Threads + Sync>(
             |run: &Run| -> Result<Judged, AllocError>
                 requires { MayBeJudged (C.model callbacks.now) run.now }
                 ensures { IfOk result (IsJudgement (C.model callbacks.entry.now) run.now) }
-            { judge_counted(callbacks, alloc, run, steps) },
+            { judge_with_progress(callbacks, alloc, run, steps) },
         )
         .collect::<Result<Vec<Judged>, AllocError>>(rt, alloc)?
 }
@@ -98,5 +98,5 @@ pub fn rejudge<C: Callbacks + Sync, R: Threads + Sync>(
     requires { All (MayBeJudged (C.model callbacks.now)) runs.now }
     ensures { IfOk result (λ all. AllZip (IsJudgement (C.model callbacks.now)) runs.now all.items) }
 {
-    rejudge_counting(rt, callbacks, alloc, runs, &Steps::new())
+    rejudge_with_progress(rt, callbacks, alloc, runs, &ProgressCounter::new())
 }

@@ -19,7 +19,7 @@ fn letter(branch: usize) -> &'static str
 }
 
 /// Returns the letters of an interleaving's branches, or `-` if it is empty.
-pub fn merge_text(alloc: Global, branches: &[usize]) -> Result<Text, AllocError>
+pub fn interleaving_text(alloc: Global, branches: &[usize]) -> Result<Text, AllocError>
     ensures { IfOk result (λ text. text ≡ word_text branches.now) }
 {
     if branches.is_empty() {

@@ -12,7 +12,7 @@ use crate::taking::JudgedPart;
 use std::alloc::{AllocError, Global};
 
 /// An empty place for each part.
-fn no_parts(alloc: Global, parts: &[&[u8]]) -> Result<Vec<Option<JudgedRuns>>, AllocError>
+fn empty_places(alloc: Global, parts: &[&[u8]]) -> Result<Vec<Option<JudgedRuns>>, AllocError>
     ensures { IfOk result (λ places. (m : Source) (keeps : Bool) → AreFilled m keeps parts.now places.items) }
 {
     let mut places = Vec::with_capacity(alloc, parts.len())?;
@@ -23,7 +23,10 @@ fn no_parts(alloc: Global, parts: &[&[u8]]) -> Result<Vec<Option<JudgedRuns>>, A
 }
 
 /// The places with parts put into them.
-fn put(mut places: Vec<Option<JudgedRuns>>, taken: Vec<JudgedPart>) -> Vec<Option<JudgedRuns>>
+fn fill_places(
+    mut places: Vec<Option<JudgedRuns>>,
+    taken: Vec<JudgedPart>,
+) -> Vec<Option<JudgedRuns>>
     ensures { (m : Source) (keeps : Bool) (parts : List (Bor (List ℕ))) → AreFilled m keeps parts places.items
         → All (StandsIn m keeps parts) taken.items → AreFilled m keeps parts result.items }
 {
@@ -37,7 +40,7 @@ fn put(mut places: Vec<Option<JudgedRuns>>, taken: Vec<JudgedPart>) -> Vec<Optio
 }
 
 /// All parts that were taken, each in its place.
-pub(crate) fn in_places(
+pub(crate) fn place_parts(
     alloc: Global,
     parts: &[&[u8]],
     lists: Vec<Vec<JudgedPart>>,
@@ -45,9 +48,9 @@ pub(crate) fn in_places(
     ensures { IfOk result (λ places. (m : Source) (keeps : Bool)
         → All (λ taken. All (StandsIn m keeps parts.now) taken.items) lists.items → AreFilled m keeps parts.now places.items) }
 {
-    let mut places = no_parts(alloc, parts)?;
+    let mut places = empty_places(alloc, parts)?;
     for taken in lists {
-        places = put(places, taken);
+        places = fill_places(places, taken);
     }
     Ok(places)
 }

@@ -55,7 +55,7 @@ impl From<AllocError> for PartFault {
 }
 
 /// Why a part is not read: the fault of its trees.
-fn unread(fault: SexprFault) -> PartFault {
+fn part_fault(fault: SexprFault) -> PartFault {
     if fault.kind == FaultKind::NoMemory {
         PartFault::NoMemory
     } else {
@@ -74,7 +74,7 @@ pub(crate) fn runs_of_part(
 {
     let trees = match read(alloc, bytes) {
         Ok(trees) => trees,
-        Err(fault) => return Err(unread(fault)),
+        Err(fault) => return Err(part_fault(fault)),
     };
     match read_runs(alloc, typed, trees.as_slice()) {
         Ok(runs) => Ok(runs),

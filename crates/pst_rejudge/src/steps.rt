@@ -4,15 +4,15 @@ use std::sync::atomic::{AtomicU64, Ordering};
 
 /// How far a command is, for another thread to look at.
 #[derive(Drop)]
-pub struct Steps {
+pub struct ProgressCounter {
     done: AtomicU64,
     all: AtomicU64,
 }
 
-impl Steps {
+impl ProgressCounter {
     /// Nothing is done, and how much there is to do is not known.
-    pub fn new() -> Steps {
-        Steps {
+    pub fn new() -> ProgressCounter {
+        ProgressCounter {
             done: AtomicU64::new(0),
             all: AtomicU64::new(0),
         }
@@ -32,7 +32,7 @@ impl Steps {
     }
 
     /// There are `all` items, and none of them is done yet.
-    pub fn expect(&self, all: usize) {
+    pub fn set_total(&self, all: usize) {
         self.done.store(0, Ordering::SeqCst);
         self.all.store(all as u64, Ordering::SeqCst);
     }

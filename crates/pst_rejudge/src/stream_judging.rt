@@ -4,7 +4,7 @@ ghost use Rattle.std.specs.List.{AllZip};
 ghost use Rattle.pst_json_runs.specs.Lines.{has_json};
 ghost use Rattle.pst_rejudge.specs.StreamAnswers.{IsLineAnswer, IsTreeAnswer};
 
-use crate::each::{Answer, answer_of};
+use crate::each::{ItemResult, answer_of};
 use crate::sharing::may_share_models;
 use pst_eval::Callbacks;
 use pst_json_runs::{has_json, json_tree};
@@ -24,11 +24,11 @@ fn tree_answer<C: Callbacks>(
     alloc: Global,
     typed: &Typed,
     line: &[u8],
-) -> Result<Answer, AllocError>
+) -> Result<ItemResult, AllocError>
     requires { typed.now ≡ C.model callbacks.now }
     ensures { IfOk result (IsTreeAnswer (C.model callbacks.now) line.now) }
 {
-    let refused = Answer::Refused {
+    let refused = ItemResult::Refused {
         kind: RunFaultKind::BadForm,
         command: 0,
     };
@@ -53,13 +53,13 @@ fn json_answer<C: Callbacks>(
     alloc: Global,
     typed: &Typed,
     line: &[u8],
-) -> Result<Answer, AllocError>
+) -> Result<ItemResult, AllocError>
     requires model { typed.now ≡ C.model callbacks.now }
     requires json { has_json line.now ≡ true }
     ensures { IfOk result (IsLineAnswer (C.model callbacks.now) line.now) }
 {
     if line.len() > MAX_BYTES {
-        return Ok(Answer::Refused {
+        return Ok(ItemResult::Refused {
             kind: RunFaultKind::BadForm,
             command: 0,
         });
@@ -75,7 +75,7 @@ fn line_answer<C: Callbacks>(
     alloc: Global,
     typed: &Typed,
     line: &[u8],
-) -> Result<Answer, AllocError>
+) -> Result<ItemResult, AllocError>
     requires { typed.now ≡ C.model callbacks.now }
     ensures { IfOk result (IsLineAnswer (C.model callbacks.now) line.now) }
 {
@@ -93,7 +93,7 @@ pub(crate) fn line_answers<C: Callbacks + Sync, R: Threads + Sync>(
     alloc: Global,
     typed: &Typed,
     lines: &[Vec<u8>],
-) -> Result<Vec<Answer>, AllocError>
+) -> Result<Vec<ItemResult>, AllocError>
     requires { typed.now ≡ C.model callbacks.now }
     ensures { IfOk result (λ answers.
         AllZip (λ line. IsLineAnswer (C.model callbacks.now) line.items) lines.now answers.items) }
@@ -103,10 +103,10 @@ pub(crate) fn line_answers<C: Callbacks + Sync, R: Threads + Sync>(
         .par_iter()
         .with_min_len(FEW_LINES)
         .map(
-            |line: &Vec<u8>| -> Result<Answer, AllocError>
+            |line: &Vec<u8>| -> Result<ItemResult, AllocError>
                 requires { typed.now ≡ C.model callbacks.now }
                 ensures { IfOk result (IsLineAnswer (C.model callbacks.entry.now) line.now.items) }
             { line_answer(callbacks, alloc, typed, line.as_slice()) },
         )
-        .collect::<Result<Vec<Answer>, AllocError>>(rt, alloc)?
+        .collect::<Result<Vec<ItemResult>, AllocError>>(rt, alloc)?
 }

@@ -8,7 +8,7 @@ ghost use Rattle.pst_rejudge.specs.Judging.{MayBeJudged};
 
 use crate::judging::JudgedRuns;
 use crate::reading::{PartFault, runs_of_part};
-use crate::steps::Steps;
+use crate::steps::ProgressCounter;
 use pst_case::Run;
 use pst_eval::Callbacks;
 use pst_judge::{Judged, judge_one};
@@ -30,7 +30,7 @@ fn judged_runs<C: Callbacks>(
     callbacks: &C,
     alloc: Global,
     runs: &[Run],
-    steps: &Steps,
+    steps: &ProgressCounter,
 ) -> Result<Vec<Judged>, AllocError>
     requires { All (MayBeJudged (C.model callbacks.now)) runs.now }
     ensures { IfOk result (λ all. AllZip (IsJudgement (C.model callbacks.now)) runs.now all.items) }
@@ -50,7 +50,7 @@ fn judged_part<C: Callbacks>(
     typed: &Typed,
     bytes: &[u8],
     keeps: bool,
-    steps: &Steps,
+    steps: &ProgressCounter,
 ) -> Result<JudgedRuns, PartFault>
     requires { typed.now ≡ C.model callbacks.now }
     ensures { IfOk result (HoldsPart (C.model callbacks.now) keeps bytes.now) }
@@ -64,14 +64,14 @@ fn judged_part<C: Callbacks>(
 }
 
 /// Reads and judges one part after another until none is left. No other thread takes these parts.
-pub(crate) fn take_parts<C: Callbacks>(
+pub(crate) fn judge_remaining_parts<C: Callbacks>(
     callbacks: &C,
     alloc: Global,
     typed: &Typed,
     parts: &[&[u8]],
     keeps: bool,
     next: &AtomicUsize,
-    steps: &Steps,
+    steps: &ProgressCounter,
 ) -> Result<Vec<JudgedPart>, PartFault>
     requires { typed.now ≡ C.model callbacks.now }
     ensures { IfOk result (λ taken. All (StandsIn (C.model callbacks.now) keeps parts.now) taken.items) }

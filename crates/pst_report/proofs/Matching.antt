@@ -5,7 +5,7 @@ use Rattle.pst_report.specs.Kinds.{own_failure}
 use Rattle.pst_report.specs.Matching.{IsMatching, AreMatching}
 use Rattle.pst_shrink.specs.Shrinking.{first_of, IsTrail}
 use Rattle.pst_shrink.specs.declared.shrunk.Shrunk.{Shrunk}
-use Rattle.pst_shrink.specs.declared.shrunk.Taken.{Taken}
+use Rattle.pst_shrink.specs.declared.shrunk.FailingCase.{FailingCase}
 use Rattle.pst_trial.specs.Driving.{Histories}
 use Rattle.pst_trial.specs.JudgedRuns.{IsAnswer}
 use Rattle.pst_trial.specs.PlanView.{PlanView}
@@ -14,7 +14,7 @@ use Rattle.pst_trial.specs.declared.outcome.TrialOutcome.TheVariants.{Failed}
 use Rattle.pst_trial.specs.declared.run.JudgedRun.{JudgedRun}
 
 module _ (may_drive : Histories) (m : Source) (repeats : ℕ) where
-  last_matches : (before : List (Taken JudgedRun)) (last : Taken JudgedRun)
+  last_matches : (before : List (FailingCase JudgedRun)) (last : FailingCase JudgedRun)
       → IsMatching m (first_of before last) → IsTrail (IsAnswer may_drive m repeats) before last
       → IsMatching m last
   last_matches [] last h trail = h

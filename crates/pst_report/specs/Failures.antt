@@ -9,20 +9,20 @@ use Rattle.pst_report.specs.declared.failures.ShrunkFailure.{ShrunkFailure}
 use Rattle.pst_runs.specs.Lines.{line_of}
 use Rattle.pst_runs.specs.Written.{run_form}
 use Rattle.pst_shrink.specs.declared.shrunk.Shrunk.{Shrunk}
-use Rattle.pst_shrink.specs.declared.shrunk.Taken.{Taken}
+use Rattle.pst_shrink.specs.declared.shrunk.FailingCase.{FailingCase}
 use Rattle.pst_trial.specs.RecordView.{RecordView}
 use Rattle.pst_trial.specs.declared.run.JudgedRun.{JudgedRun}
 
 -- the case without its replies
-abbrev pub case_of : Source → Taken JudgedRun → Run
+abbrev pub case_of : Source → FailingCase JudgedRun → Run
 case_of m t = record { shaped = record { model = m; case = t.case }; history = None }
 
 -- the case as a tree on one line
-abbrev pub case_line : Source → Taken JudgedRun → List ℕ
+abbrev pub case_line : Source → FailingCase JudgedRun → List ℕ
 case_line m t = line_of (run_form m (case_of m t))
 
 -- the texts are those of a case with the history that it broke with, and of the verdict
-pub record IsFailureOf (m : Source) (t : Taken JudgedRun) (failure : ShrunkFailure) : Type 0 where
+pub record IsFailureOf (m : Source) (t : FailingCase JudgedRun) (failure : ShrunkFailure) : Type 0 where
   pub case : failure.case.items ≡ case_line m t
   pub run : failure.run.items ≡ run_line m t
   pub verdict : string_bytes failure.verdict ≡ verdict_text t.history.verdict

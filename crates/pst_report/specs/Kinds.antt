@@ -10,14 +10,14 @@ use Rattle.pst_report.specs.declared.kind.EntryKind.TheVariants.{Passed, Unexpla
 use Rattle.pst_report.specs.declared.kind.EntryKind.TheVariants.{GenFaulted, Lost, Undrawn}
 use Rattle.pst_shrink.specs.Shrinking.{first_of}
 use Rattle.pst_shrink.specs.declared.shrunk.Shrunk.{Shrunk}
-use Rattle.pst_shrink.specs.declared.shrunk.Taken.{Taken}
+use Rattle.pst_shrink.specs.declared.shrunk.FailingCase.{FailingCase}
 use Rattle.pst_trial.specs.RecordView.{RecordView}
 use Rattle.pst_trial.specs.declared.outcome.TrialOutcome.{TrialOutcome}
 use Rattle.pst_trial.specs.declared.outcome.TrialOutcome.TheVariants as outcome
 use Rattle.pst_trial.specs.declared.run.JudgedRun.{JudgedRun}
 
 -- the trial's own failing run: the first that was shrunk
-abbrev pub own_failure : Shrunk JudgedRun → Taken JudgedRun
+abbrev pub own_failure : Shrunk JudgedRun → FailingCase JudgedRun
 own_failure s = first_of s.before s.last
 
 -- a failed trial, by the verdict on its own failing run (which is never explained)

@@ -4,11 +4,11 @@ use Rattle.pst_case.specs.Matches.{matches}
 use Rattle.pst_model.specs.declared.model.Source.{Source}
 use Rattle.pst_report.specs.Kinds.{own_failure}
 use Rattle.pst_shrink.specs.declared.shrunk.Shrunk.{Shrunk}
-use Rattle.pst_shrink.specs.declared.shrunk.Taken.{Taken}
+use Rattle.pst_shrink.specs.declared.shrunk.FailingCase.{FailingCase}
 use Rattle.pst_trial.specs.declared.run.JudgedRun.{JudgedRun}
 
 -- the history matches the case
-abbrev pub IsMatching : Source → Taken JudgedRun → Type 0
+abbrev pub IsMatching : Source → FailingCase JudgedRun → Type 0
 IsMatching m t = matches m t.case t.history.history ≡ true
 
 -- the first and the last history match their cases

@@ -15,10 +15,10 @@ use Rattle.pst_report.specs.declared.kind.EntryKind.{EntryKind}
 use Rattle.pst_report.specs.declared.kind.EntryKind.TheVariants as kind
 use Rattle.pst_runs.specs.Lines.{line_of}
 use Rattle.pst_runs.specs.Written.{run_form}
-use Rattle.pst_shrink.specs.declared.shrunk.Ending.{Ending}
-use Rattle.pst_shrink.specs.declared.shrunk.Ending.TheVariants.{Minimal, Stopped}
+use Rattle.pst_shrink.specs.declared.shrunk.ShrinkEnd.{ShrinkEnd}
+use Rattle.pst_shrink.specs.declared.shrunk.ShrinkEnd.TheVariants.{Minimal, Stopped}
 use Rattle.pst_shrink.specs.declared.shrunk.Shrunk.{Shrunk}
-use Rattle.pst_shrink.specs.declared.shrunk.Taken.{Taken}
+use Rattle.pst_shrink.specs.declared.shrunk.FailingCase.{FailingCase}
 use Rattle.pst_trial.specs.PlanView.{PlanView}
 use Rattle.pst_trial.specs.RecordView.{RecordView}
 use Rattle.pst_trial.specs.declared.run.JudgedRun.{JudgedRun}
@@ -107,20 +107,20 @@ count_lines entries = judged_lines entries ++ missing_lines entries
 
 -- ---- the least failure
 
-abbrev pub ending_name : Ending → List ℕ
+abbrev pub ending_name : ShrinkEnd → List ℕ
 ending_name Minimal = codes "minimal"
 ending_name Stopped = codes "stopped"
 
 -- the case with the history that it broke with
-abbrev pub run_of : Source → Taken JudgedRun → Run
+abbrev pub run_of : Source → FailingCase JudgedRun → Run
 run_of m t = record { shaped = record { model = m; case = t.case }; history = Some t.history.history }
 
 -- the run as a tree on one line
-abbrev pub run_line : Source → Taken JudgedRun → List ℕ
+abbrev pub run_line : Source → FailingCase JudgedRun → List ℕ
 run_line m t = line_of (run_form m (run_of m t))
 
 -- `least NUMBER VERDICT`
-abbrev pub least_line : ℕ → Taken JudgedRun → List ℕ
+abbrev pub least_line : ℕ → FailingCase JudgedRun → List ℕ
 least_line number t =
     codes "least " ++ (decimal number ++ (codes " " ++ (verdict_text t.history.verdict ++ line_end)))
 
@@ -130,15 +130,15 @@ steps_line s =
     codes "steps " ++ (decimal (length s.before) ++ (codes " " ++ (ending_name s.ending ++ line_end)))
 
 -- the verdict on the last run
-abbrev pub last_line : Taken JudgedRun → List ℕ
+abbrev pub last_line : FailingCase JudgedRun → List ℕ
 last_line t = verdict_text t.history.verdict ++ line_end
 
 -- `least NUMBER VERDICT` and `from RUN`: the trial's own failing run
-abbrev pub own_lines : Source → ℕ → Taken JudgedRun → List ℕ
+abbrev pub own_lines : Source → ℕ → FailingCase JudgedRun → List ℕ
 own_lines m number t = least_line number t ++ codes "from " ++ run_line m t
 
 -- `to RUN` and its verdict: the last run
-abbrev pub last_lines : Source → Taken JudgedRun → List ℕ
+abbrev pub last_lines : Source → FailingCase JudgedRun → List ℕ
 last_lines m t = codes "to " ++ run_line m t ++ last_line t
 
 -- the five lines of a number whose trial failed

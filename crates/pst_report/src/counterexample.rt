@@ -8,7 +8,7 @@ use pst_case::{Run, shape};
 use pst_model::Typed;
 use pst_runs::write_runs;
 use pst_sexpr::Out;
-use pst_shrink::{Ending, Shrunk, Taken};
+use pst_shrink::{FailingCase, ShrinkEnd, Shrunk};
 use pst_trial::JudgedRun;
 use std::alloc::{AllocError, Global};
 
@@ -16,7 +16,7 @@ use std::alloc::{AllocError, Global};
 pub(crate) fn run_of(
     alloc: Global,
     typed: &Typed,
-    taken: &Taken<JudgedRun>,
+    taken: &FailingCase<JudgedRun>,
 ) -> Result<Run, AllocError>
     ensures { IfOk result (λ run. run ≡ spec.run_of typed.now taken.now) }
 {
@@ -35,7 +35,7 @@ pub(crate) fn run_of(
 pub(crate) fn run_line(
     alloc: Global,
     typed: &Typed,
-    taken: &Taken<JudgedRun>,
+    taken: &FailingCase<JudgedRun>,
 ) -> Result<Vec<u8>, AllocError>
     requires { IsMatching typed.now taken.now }
     ensures { IfOk result (λ line. line.items ≡ spec.run_line typed.now taken.now) }
@@ -49,7 +49,11 @@ pub(crate) fn run_line(
 }
 
 /// `least NUMBER VERDICT`.
-fn least_line(alloc: Global, number: usize, taken: &Taken<JudgedRun>) -> Result<String, AllocError>
+fn least_line(
+    alloc: Global,
+    number: usize,
+    taken: &FailingCase<JudgedRun>,
+) -> Result<String, AllocError>
     ensures { IfOk result (λ line. string_bytes line ≡ spec.least_line number taken.now) }
 {
     let verdict = &taken.history.verdict;
@@ -57,12 +61,12 @@ fn least_line(alloc: Global, number: usize, taken: &Taken<JudgedRun>) -> Result<
 }
 
 /// `minimal` or `stopped`.
-pub(crate) fn ending_name(ending: Ending) -> &'static str
+pub(crate) fn ending_name(ending: ShrinkEnd) -> &'static str
     ensures { result.now ≡ spec.ending_name ending }
 {
     match ending {
-        Ending::Minimal => "minimal",
-        Ending::Stopped => "stopped",
+        ShrinkEnd::Minimal => "minimal",
+        ShrinkEnd::Stopped => "stopped",
     }
 }
 
@@ -76,7 +80,7 @@ fn steps_line(alloc: Global, shrunk: &Shrunk<JudgedRun>) -> Result<String, Alloc
 }
 
 /// The verdict on the last run.
-fn last_line(alloc: Global, taken: &Taken<JudgedRun>) -> Result<String, AllocError>
+fn last_line(alloc: Global, taken: &FailingCase<JudgedRun>) -> Result<String, AllocError>
     ensures { IfOk result (λ line. string_bytes line ≡ spec.last_line taken.now) }
 {
     let verdict = &taken.history.verdict;
@@ -88,7 +92,7 @@ fn own_lines(
     alloc: Global,
     typed: &Typed,
     number: usize,
-    taken: &Taken<JudgedRun>,
+    taken: &FailingCase<JudgedRun>,
 ) -> Result<Vec<u8>, AllocError>
     requires { IsMatching typed.now taken.now }
     ensures { IfOk result (λ lines. lines.items ≡ spec.own_lines typed.now number taken.now) }
@@ -100,7 +104,11 @@ fn own_lines(
 }
 
 /// The last run, and its verdict.
-fn last_lines(alloc: Global, typed: &Typed, taken: &Taken<JudgedRun>) -> Result<Vec<u8>, AllocError>
+fn last_lines(
+    alloc: Global,
+    typed: &Typed,
+    taken: &FailingCase<JudgedRun>,
+) -> Result<Vec<u8>, AllocError>
     requires { IsMatching typed.now taken.now }
     ensures { IfOk result (λ lines. lines.items ≡ spec.last_lines typed.now taken.now) }
 {

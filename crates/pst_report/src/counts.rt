@@ -5,7 +5,7 @@ ghost use Rattle.pst_report.specs.Text as spec;
 
 use crate::kind::{EntryKind, count_of};
 use crate::least::least_fault;
-use crate::losses::losses;
+use crate::losses::lost_trials_text;
 use pst_ledger::Entry;
 use pst_trial::Record;
 use std::alloc::{AllocError, Global};
@@ -43,7 +43,7 @@ fn lost_line(alloc: Global, entries: &[Entry<Record>]) -> Result<String, AllocEr
     ensures { IfOk result (λ line. string_bytes line ≡ spec.lost_line entries.now) }
 {
     let count = count_of(EntryKind::Lost, entries);
-    let losses = losses(alloc, entries)?;
+    let losses = lost_trials_text(alloc, entries)?;
     let losses = losses.as_str();
     format!(in alloc; "lost {count}{losses}\n")
 }

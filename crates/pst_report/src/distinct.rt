@@ -31,7 +31,7 @@ fn has_case(failures: &[NumberedFailure], case: &[u8]) -> bool
 }
 
 /// Adds the failure that the case of a trial was shrunk to, if the trial failed and no failure in the list has the same case.
-fn keep(
+fn push_if_distinct(
     alloc: Global,
     failures: &mut Vec<NumberedFailure>,
     number: usize,
@@ -61,7 +61,7 @@ pub fn distinct_failures(
     let mut failures = Vec::new(alloc);
     for (number, entry) in entries.iter().enumerate() {
         if let Entry::Done(record) = entry {
-            keep(alloc, &mut failures, number, record)?;
+            push_if_distinct(alloc, &mut failures, number, record)?;
         }
     }
     Ok(failures)

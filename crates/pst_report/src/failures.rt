@@ -9,7 +9,7 @@ use pst_case::Run;
 use pst_model::Typed;
 use pst_runs::write_runs;
 use pst_sexpr::Out;
-use pst_shrink::Taken;
+use pst_shrink::FailingCase;
 use pst_trial::{JudgedRun, Record};
 use std::alloc::{AllocError, Global};
 
@@ -25,7 +25,11 @@ pub struct ShrunkFailure {
 }
 
 /// The case as a tree, and a line end.
-fn case_line(alloc: Global, typed: &Typed, taken: &Taken<JudgedRun>) -> Result<Vec<u8>, AllocError>
+fn case_line(
+    alloc: Global,
+    typed: &Typed,
+    taken: &FailingCase<JudgedRun>,
+) -> Result<Vec<u8>, AllocError>
     ensures { IfOk result (λ line. line.items ≡ case_line typed.now taken.now) }
 {
     let Run { shaped, history: _ } = run_of(alloc, typed, taken)?;
@@ -44,7 +48,7 @@ fn case_line(alloc: Global, typed: &Typed, taken: &Taken<JudgedRun>) -> Result<V
 fn failure_text(
     alloc: Global,
     typed: &Typed,
-    taken: &Taken<JudgedRun>,
+    taken: &FailingCase<JudgedRun>,
 ) -> Result<ShrunkFailure, AllocError>
     requires { IsMatching typed.now taken.now }
     ensures { IfOk result (IsFailureOf typed.now taken.now) }

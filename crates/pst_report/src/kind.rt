@@ -5,7 +5,7 @@ ghost use Rattle.pst_shrink.specs.Shrinking.{first_of};
 
 use pst_judge::Verdict;
 use pst_ledger::Entry;
-use pst_shrink::{Shrunk, Taken};
+use pst_shrink::{FailingCase, Shrunk};
 use pst_trial::{JudgedRun, Record, TrialOutcome};
 
 /// How a trial ended.
@@ -40,7 +40,7 @@ impl EntryKind {
 }
 
 /// The trial's own failing run: the first that was shrunk.
-pub fn own_failure(shrunk: &Shrunk<JudgedRun>) -> &Taken<JudgedRun>
+pub fn own_failure(shrunk: &Shrunk<JudgedRun>) -> &FailingCase<JudgedRun>
     ensures { result.now ≡ spec.own_failure shrunk.now }
 {
     match shrunk.before.as_slice().first() {

@@ -7,7 +7,7 @@ use pst_trial::Record;
 use std::alloc::{AllocError, Global};
 
 /// ` NUMBER:CAUSE`.
-fn loss(alloc: Global, number: usize, cause: &Cause) -> Result<String, AllocError>
+fn lost_trial_text(alloc: Global, number: usize, cause: &Cause) -> Result<String, AllocError>
     ensures { IfOk result (λ text. string_bytes text ≡ spec.loss number cause.now) }
 {
     let name = cause.name();
@@ -15,13 +15,13 @@ fn loss(alloc: Global, number: usize, cause: &Cause) -> Result<String, AllocErro
 }
 
 /// ` NUMBER:CAUSE` for each lost number, in order.
-pub fn losses(alloc: Global, entries: &[Entry<Record>]) -> Result<String, AllocError>
+pub fn lost_trials_text(alloc: Global, entries: &[Entry<Record>]) -> Result<String, AllocError>
     ensures { IfOk result (λ text. string_bytes text ≡ spec.losses 0 entries.now) }
 {
     let mut text = String::new(alloc);
     for (number, entry) in entries.iter().enumerate() {
         if let Entry::Lost(cause) = entry {
-            text.push_str(loss(alloc, number, cause)?.as_str())?;
+            text.push_str(lost_trial_text(alloc, number, cause)?.as_str())?;
         }
     }
     Ok(text)

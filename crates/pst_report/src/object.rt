@@ -11,7 +11,7 @@ use crate::status::CampaignStatus;
 use pst_ledger::{Closed, Entry};
 use pst_model::Typed;
 use pst_rejudge::{Field, Name, add_number, add_words};
-use pst_shrink::{Shrunk, Taken};
+use pst_shrink::{FailingCase, Shrunk};
 use pst_trial::{JudgedRun, Plan, Record, Settings};
 use pst_value::Text;
 use std::alloc::{AllocError, Global};
@@ -107,7 +107,11 @@ pub fn report_fields(
 }
 
 /// A case with its replies as a tree, without a line end.
-fn tree_text(alloc: Global, typed: &Typed, taken: &Taken<JudgedRun>) -> Result<Text, AllocError>
+fn tree_text(
+    alloc: Global,
+    typed: &Typed,
+    taken: &FailingCase<JudgedRun>,
+) -> Result<Text, AllocError>
     requires { IsMatching typed.now taken.now }
 {
     let mut line = run_line(alloc, typed, taken)?;
@@ -124,7 +128,7 @@ fn add_run(
     fields: &mut Vec<Field>,
     typed: &Typed,
     names: (Name, Name),
-    taken: &Taken<JudgedRun>,
+    taken: &FailingCase<JudgedRun>,
 ) -> Result<(), AllocError>
     requires { IsMatching typed.now taken.now }
 {
@@ -159,7 +163,7 @@ fn add_shrunk(
 }
 
 /// The lost numbers, each with its cause, such as `3:Panicked`.
-fn losses(alloc: Global, entries: &[Entry<Record>]) -> Result<Vec<Text>, AllocError> {
+fn lost_trial_texts(alloc: Global, entries: &[Entry<Record>]) -> Result<Vec<Text>, AllocError> {
     let mut losses = Vec::new(alloc);
     for (number, entry) in entries.iter().enumerate() {
         if let Entry::Lost(cause) = entry {
@@ -182,7 +186,7 @@ pub fn add_failure(
 ) -> Result<(), AllocError>
     requires { AreOf plan.now 0 entries.now }
 {
-    fields.push(Field::Lines(Name::Losses, losses(alloc, entries)?))?;
+    fields.push(Field::Lines(Name::Losses, lost_trial_texts(alloc, entries)?))?;
     if let Some((number, shrunk)) = least_failure(plan, entries) {
         add_number(fields, Name::Least, number as u64)?;
         add_shrunk(alloc, fields, plan.typed(), shrunk)?;

@@ -9,7 +9,7 @@ use pst_case::{History, Run};
 use pst_eval::Plain;
 use pst_judge::{Verdict, verdict};
 use pst_model::Typed;
-use pst_reasons::core;
+use pst_reasons::minimal_core;
 use pst_runs::read_runs;
 use pst_typing::{items_of, load};
 use std::alloc::{AllocError, Global};
@@ -39,8 +39,8 @@ fn found_text(
     let core = match found {
         Verdict::Explained(_) => return String::from_str(alloc, "explained"),
         Verdict::Broken(_) => return String::from_str(alloc, "broken"),
-        Verdict::Faulted(_) => core(&Plain::new(typed), alloc, &run.shaped, history)?,
-        Verdict::Unexplained(_) => core(&Plain::new(typed), alloc, &run.shaped, history)?,
+        Verdict::Faulted(_) => minimal_core(&Plain::new(typed), alloc, &run.shaped, history)?,
+        Verdict::Unexplained(_) => minimal_core(&Plain::new(typed), alloc, &run.shaped, history)?,
     };
     core_text(alloc, core.as_slice())
 }

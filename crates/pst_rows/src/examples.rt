@@ -1,7 +1,7 @@
 //! Judges files of items and compares what is written with the comments in them.
 
 use crate::requests::Request;
-use pst_cli::{Status, judge_text, judge_text_keeping_on};
+use pst_cli::{Status, judge_text, judge_text_keep_going};
 use pst_sexpr::Out;
 use pst_sources::joined;
 use std::alloc::{AllocError, Global};
@@ -59,7 +59,7 @@ pub fn comments_answer<R: Threads + Sync>(
     let status = if before.is_empty() {
         judge_text(rt, alloc, input.as_slice(), &mut out)
     } else {
-        judge_text_keeping_on(rt, alloc, input.as_slice(), &mut out)
+        judge_text_keep_going(rt, alloc, input.as_slice(), &mut out)
     };
     compared(alloc, text, out.into_inner().as_slice(), status)
 }

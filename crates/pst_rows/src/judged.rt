@@ -1,7 +1,7 @@
 //! The warnings on judged items.
 
 use crate::requests::Request;
-use pst_cli::{Shown, judge_file, judge_file_keeping_on};
+use pst_cli::{Shown, judge_file, judge_file_keep_going};
 use pst_sexpr::Out;
 use pst_sources::{Input, joined};
 use pst_warnings::{warnings_on_answers, warnings_on_runs};
@@ -34,7 +34,7 @@ fn on_runs<R: Threads + Sync>(rt: &R, alloc: Global, input: Input<'_>) -> Warnin
 fn on_answers<R: Threads + Sync>(rt: &R, alloc: Global, input: Input<'_>) -> Warnings {
     let Input { files: _, bytes } = input;
     let mut out = Out::new(Vec::new(alloc));
-    let (_, answered) = judge_file_keeping_on(rt, alloc, bytes, Shown::All, &mut out);
+    let (_, answered) = judge_file_keep_going(rt, alloc, bytes, Shown::All, &mut out);
     let Some(answered) = answered else {
         return Ok(None);
     };

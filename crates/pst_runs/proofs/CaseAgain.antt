@@ -15,7 +15,7 @@ use Rattle.pst_runs.proofs.Last.{last_behind}
 use Rattle.pst_runs.proofs.Limits.{not_over, shaped-within}
 use Rattle.pst_runs.specs.Commands as commands
 use Rattle.pst_runs.specs.Forms as reading
-use Rattle.pst_runs.specs.declared.commands.Spelled.{Spelled}
+use Rattle.pst_runs.specs.declared.commands.SpelledCommand.{SpelledCommand}
 use Rattle.pst_runs.specs.declared.commands.SpelledCase.{SpelledCase}
 use Rattle.pst_runs.specs.Values.{each}
 use Rattle.pst_sexpr.specs.Parts.{and_then, headed}
@@ -174,7 +174,7 @@ module _ (m : Source) where
 
   pub case_is : (c : Case) → CaseAgain m c → reading.case_of m (sections c) ≡ Some (whole_case c)
   case_is c a =
-      let case : List Spelled → List (List Spelled) → List Spelled → Option SpelledCase = λ p bs s. Some (record { prefix = p; branches = bs; suffix = s }) in
+      let case : List SpelledCommand → List (List SpelledCommand) → List SpelledCommand → Option SpelledCase = λ p bs s. Some (record { prefix = p; branches = bs; suffix = s }) in
       let branches = reading.branches_of m (branches_forms m c.branches) in
       let suffix = reading.suffix_of m (suffix_trees c.suffix) in
       ap (λ o. and_then o (λ p. and_then branches (λ bs. and_then suffix (case p bs)))) (commands_read (codes "prefix") c.prefix refl a.prefix)

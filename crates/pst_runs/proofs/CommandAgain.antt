@@ -13,7 +13,7 @@ use Rattle.pst_model.specs.Language.{KeepsLanguage, holds_map}
 use Rattle.pst_model.specs.Levels as ty_levels
 use Rattle.pst_model.specs.Names.{is_between, is_name_byte, is_name}
 use Rattle.pst_model.specs.Operations.{HasOperations, max_levels as max_ty_levels}
-use Rattle.pst_model.specs.Parts.{number_of, operation_of, parameters_of, types_of}
+use Rattle.pst_model.specs.Parts.{operation_number, operation_of, parameters_of, types_of}
 use Rattle.pst_model.specs.declared.model.Op.{Op}
 use Rattle.pst_model.specs.declared.model.Param.{Param}
 use Rattle.pst_model.specs.declared.model.Source.{Source}
@@ -22,8 +22,8 @@ use Rattle.pst_model.specs.Kinds.{holds_call}
 use Rattle.pst_model.specs.WellTyped.{WellModel}
 use Rattle.pst_runs.specs.Commands.{present, are_present, arguments_of, spelled, command_in, command_of, commands_of}
 use Rattle.pst_runs.specs.Forms.{branch_of}
-use Rattle.pst_runs.specs.declared.commands.Spelled.{Spelled}
-use Rattle.pst_runs.specs.declared.commands.Spelled.TheVariants.{Whole, Partial}
+use Rattle.pst_runs.specs.declared.commands.SpelledCommand.{SpelledCommand}
+use Rattle.pst_runs.specs.declared.commands.SpelledCommand.TheVariants.{Whole, Partial}
 use Rattle.pst_runs.specs.Values.{each, value_in, in_arguments}
 use Rattle.pst_sexpr.specs.Parts.{and_then, word_of, word_at, node_of, node_at}
 use Rattle.pst_sexpr.proofs.Made.{word_is_tree}
@@ -154,7 +154,7 @@ abbrev command : ℕ → List Value → Command
 command op args = record { op = op; args = args }
 
 -- commands, each spelled whole
-abbrev pub whole_part : List Command → List Spelled
+abbrev pub whole_part : List Command → List SpelledCommand
 whole_part cs = map (λ c. Whole c) cs
 
 -- the tree of a command has a spelling and is read as the command, whose operation is known and whose arguments fit
@@ -163,7 +163,7 @@ pub record CommandAgain (m : Source) (c : Command) : Type 0 where
   pub known : operation_of m.items c.op ≡ Some operation
   pub sized : Sized 33 (command_form m c)
   pub reads : command_of m (command_form m c) ≡ Some (Whole c)
-  pub number : number_of m.items (name_of m c.op) ≡ Some c.op
+  pub number : operation_number m.items (name_of m c.op) ≡ Some c.op
   pub vars : List Ty
   pub few : length vars ≤ 88
   pub fit : fit_each (map (fits vars vars (parameters_of m.items)) c.args) (types_of operation.params) ≡ true
@@ -202,8 +202,8 @@ module _ (m : Source) (model : WellModel m) (has : HasOperations m.items) (langu
         each_again (in_arguments m) vars vars (parameters_of m.items) (λ n t e. variable_within vars n t few e) c.args ts (omega arith) calls maps closed fit_in,
       )
 
-  number_is : (c : Command) (o : Op) → operation_of m.items c.op ≡ Some o → number_of m.items (name_of m c.op) ≡ Some c.op
-  number_is c o is = ap (λ q. number_of m.items (name_in q)) is ∙ (has c.op o is).number
+  number_is : (c : Command) (o : Op) → operation_of m.items c.op ≡ Some o → operation_number m.items (name_of m c.op) ≡ Some c.op
+  number_is c o is = ap (λ q. operation_number m.items (name_in q)) is ∙ (has c.op o is).number
 
   named_again : (vars : List Ty) (c : Command) (o : Op) → length vars ≤ 88 → operation_of m.items c.op ≡ Some o → args_fit m vars vars c.op c.args ≡ true
       → list_any holds_reference c.args ≡ false → CommandAgain m c
@@ -229,7 +229,7 @@ module _ (m : Source) (model : WellModel m) (has : HasOperations m.items) (langu
         sized = node_sized (more_sized (word_sized 32 name lawful) (all_wider 32 again.sized low)) (omega arith);
         reads =
             ap (λ q. and_then q (command_in m)) (node_is (Word name ∷ forms))
-            ∙ ap (λ q. and_then q (λ name. Some (spelled (number_of m.items name) values))) (word_is name)
+            ∙ ap (λ q. and_then q (λ name. Some (spelled (operation_number m.items name) values))) (word_is name)
             ∙ ap (λ q. Some (spelled q values)) (number_is c o is)
             ∙ ap (λ b. Some (if b then Whole (command c.op (present values)) else Partial (command c.op (present values)))) args.all
             ∙ ap (λ vs. Some (Whole (command c.op vs))) args.values;

@@ -1,11 +1,11 @@
 -- The commands that trees spell.
 use Rattle.std.specs.Prelude.{ℕ, Bool, true, false, if◌then◌else◌, List, [], ◌∷◌, map, Option, Some, None}
-use Rattle.pst_model.specs.Parts.{number_of}
+use Rattle.pst_model.specs.Parts.{operation_number}
 use Rattle.pst_model.specs.declared.model.Source.{Source}
 use Rattle.pst_runs.specs.Values.{each, value_of, in_arguments}
 use Rattle.pst_sexpr.specs.Parts.{and_then, word_of, node_of}
-use Rattle.pst_runs.specs.declared.commands.Spelled.{Spelled}
-use Rattle.pst_runs.specs.declared.commands.Spelled.TheVariants.{Whole, Partial, Unknown}
+use Rattle.pst_runs.specs.declared.commands.SpelledCommand.{SpelledCommand}
+use Rattle.pst_runs.specs.declared.commands.SpelledCommand.TheVariants.{Whole, Partial, Unknown}
 use Rattle.pst_sexpr.specs.declared.form.Form.{Form}
 use Rattle.pst_value.specs.declared.value.Value.{Value}
 
@@ -26,20 +26,20 @@ abbrev pub arguments_of : Source → List Form → List (Option Value)
 arguments_of m forms = map (value_of (in_arguments m)) forms
 
 -- the command of an operation, if there is one, with the arguments that spell values
-abbrev pub spelled : Option ℕ → List (Option Value) → Spelled
+abbrev pub spelled : Option ℕ → List (Option Value) → SpelledCommand
 spelled None args = Unknown
 spelled (Some op) args =
     if are_present args then Whole (record { op = op; args = present args })
     else Partial (record { op = op; args = present args })
 
-abbrev pub command_in : Source → List Form → Option Spelled
+abbrev pub command_in : Source → List Form → Option SpelledCommand
 command_in m [] = None
 command_in m (first ∷ args) =
-    and_then (word_of first) (λ name. Some (spelled (number_of m.items name) (arguments_of m args)))
+    and_then (word_of first) (λ name. Some (spelled (operation_number m.items name) (arguments_of m args)))
 
 -- the name of an operation, and then arguments
-abbrev pub command_of : Source → Form → Option Spelled
+abbrev pub command_of : Source → Form → Option SpelledCommand
 command_of m form = and_then (node_of form) (command_in m)
 
-abbrev pub commands_of : Source → List Form → Option (List Spelled)
+abbrev pub commands_of : Source → List Form → Option (List SpelledCommand)
 commands_of m forms = each (command_of m) forms

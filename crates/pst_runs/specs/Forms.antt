@@ -6,7 +6,7 @@ use Rattle.pst_model.specs.declared.model.Source.{Source}
 use Rattle.pst_runs.specs.Commands.{commands_of}
 use Rattle.pst_runs.specs.Values.{each}
 use Rattle.pst_sexpr.specs.Parts.{and_then, word_of, node_of}
-use Rattle.pst_runs.specs.declared.commands.Spelled.{Spelled}
+use Rattle.pst_runs.specs.declared.commands.SpelledCommand.{SpelledCommand}
 use Rattle.pst_runs.specs.declared.commands.SpelledCase.{SpelledCase}
 use Rattle.pst_sexpr.specs.declared.form.Form.{Form}
 
@@ -20,31 +20,31 @@ abbrev pub section : List ℕ → Form → Option (List Form)
 section name form = and_then (node_of form) (section_in name)
 
 -- the commands of a section
-abbrev pub section_commands : Source → List ℕ → Form → Option (List Spelled)
+abbrev pub section_commands : Source → List ℕ → Form → Option (List SpelledCommand)
 section_commands m name form = and_then (section name form) (commands_of m)
 
 -- ---- the branches
 
 -- `(left ..) (right ..)`
-abbrev pub two_branches : Source → (left right : Form) → Option (List (List Spelled))
+abbrev pub two_branches : Source → (left right : Form) → Option (List (List SpelledCommand))
 two_branches m left right =
     and_then (section_commands m (codes "left") left) (λ l.
     and_then (section_commands m (codes "right") right) (λ r. Some (l ∷ r ∷ [])))
 
-abbrev pub branch_of : Source → Form → Option (List Spelled)
+abbrev pub branch_of : Source → Form → Option (List SpelledCommand)
 branch_of m form = and_then (node_of form) (commands_of m)
 
 abbrev pub are_two_to_four : List Form → Bool
 are_two_to_four forms = nat_le 2 (length forms) && nat_le (length forms) 4
 
-abbrev pub each_branch : Source → List Form → Option (List (List Spelled))
+abbrev pub each_branch : Source → List Form → Option (List (List SpelledCommand))
 each_branch m forms = if are_two_to_four forms then each (branch_of m) forms else None
 
 -- `(branches (..) (..) ..)`, two to four of them
-abbrev pub many_branches : Source → Form → Option (List (List Spelled))
+abbrev pub many_branches : Source → Form → Option (List (List SpelledCommand))
 many_branches m form = and_then (section (codes "branches") form) (each_branch m)
 
-abbrev pub branches_of : Source → List Form → Option (List (List Spelled))
+abbrev pub branches_of : Source → List Form → Option (List (List SpelledCommand))
 branches_of m (left ∷ right ∷ []) = two_branches m left right
 branches_of m (branches ∷ []) = many_branches m branches
 branches_of m _ = None
@@ -75,7 +75,7 @@ abbrev pub sections_of : List Form → Sections
 sections_of parts = cut_at parts (front_and_last parts)
 
 -- a case without a suffix has one of no commands
-abbrev pub suffix_of : Source → Option (List Form) → Option (List Spelled)
+abbrev pub suffix_of : Source → Option (List Form) → Option (List SpelledCommand)
 suffix_of m None = Some []
 suffix_of m (Some forms) = commands_of m forms
 

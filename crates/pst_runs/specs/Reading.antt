@@ -8,19 +8,19 @@ use Rattle.pst_case.specs.declared.fault.CaseFaultKind.{CaseFaultKind}
 use Rattle.pst_case.specs.declared.fault.CaseFaultKind.TheVariants.{UnknownOp, BadArgument, ForwardVar, CrossVar, OverLimit, NoMemory}
 use Rattle.pst_model.specs.declared.model.Source.{Source}
 use Rattle.pst_runs.specs.Commands.{present}
-use Rattle.pst_runs.specs.declared.commands.Spelled.{Spelled}
-use Rattle.pst_runs.specs.declared.commands.Spelled.TheVariants.{Whole, Partial, Unknown}
+use Rattle.pst_runs.specs.declared.commands.SpelledCommand.{SpelledCommand}
+use Rattle.pst_runs.specs.declared.commands.SpelledCommand.TheVariants.{Whole, Partial, Unknown}
 use Rattle.pst_runs.specs.declared.commands.SpelledCase.{SpelledCase}
 
 -- ---- what can be read
 
-abbrev pub readable : Spelled → Option Command
+abbrev pub readable : SpelledCommand → Option Command
 readable (Whole c) = Some c
 readable (Partial c) = Some c
 readable Unknown = None
 
 -- without the commands whose operation is unknown, and without the arguments that spell no value
-abbrev pub readable_part : List Spelled → List Command
+abbrev pub readable_part : List SpelledCommand → List Command
 readable_part cs = present (map readable cs)
 
 abbrev pub readable_case : SpelledCase → Case
@@ -33,18 +33,18 @@ readable_case c =
 
 -- ---- what cannot be read
 
-abbrev pub unread : Spelled → Option CaseFaultKind
+abbrev pub unread : SpelledCommand → Option CaseFaultKind
 unread (Whole c) = None
 unread (Partial c) = Some BadArgument
 unread Unknown = Some UnknownOp
 
 -- the first command of a part that cannot be read whole, where the part's first command has the number
-abbrev pub part_unread : ℕ → List Spelled → Option CaseFault
+abbrev pub part_unread : ℕ → List SpelledCommand → Option CaseFault
 part_unread number [] = None
 part_unread number (c ∷ cs) = or_else (at_command number (unread c)) (part_unread (number + 1) cs)
 
 -- the first one of branches before which so many commands stand
-abbrev pub branches_unread : ℕ → List (List Spelled) → Option CaseFault
+abbrev pub branches_unread : ℕ → List (List SpelledCommand) → Option CaseFault
 branches_unread before [] = None
 branches_unread before (b ∷ bs) =
     or_else (part_unread (before + 1) b) (branches_unread (before + length b) bs)

@@ -1,19 +1,19 @@
 //! The commands that trees spell.
 ghost use Rattle.std.specs.Prelude.{◌≡◌, ◌++◌, IfOk, map, option_copied};
-ghost use Rattle.pst_model.specs.Parts.{number_of};
+ghost use Rattle.pst_model.specs.Parts.{operation_number};
 ghost use Rattle.pst_runs.specs.Commands as spec;
 
 use crate::room::with_room;
 use crate::values::{Spelling, value_of};
 use pst_case::Command;
-use pst_model::{Typed, number_of};
+use pst_model::{Typed, operation_number};
 use pst_sexpr::{Form, node_of, word_of};
 use pst_value::{Items, Text, Value};
 use std::alloc::{AllocError, Global};
 
 /// A command as a tree spells it.
 #[derive(Drop)]
-pub enum Spelled {
+pub enum SpelledCommand {
     /// Each argument spells a value.
     Whole(Command),
     /// An argument spells no value. The others are kept.
@@ -25,9 +25,9 @@ pub enum Spelled {
 /// A case as trees spell it.
 #[derive(Drop)]
 pub struct SpelledCase {
-    pub prefix: Items<Spelled>,
-    pub branches: Items<Items<Spelled>>,
-    pub suffix: Items<Spelled>,
+    pub prefix: Items<SpelledCommand>,
+    pub branches: Items<Items<SpelledCommand>>,
+    pub suffix: Items<SpelledCommand>,
 }
 
 /// The values that arguments spell, and whether each argument spells a value.
@@ -39,10 +39,10 @@ struct Arguments {
 
 /// Returns the number of the operation `name`.
 #[tactic(auto, using(crate::proofs::Named::named))]
-fn op_of(typed: &Typed, name: &Text) -> Option<u32>
-    ensures { result ≡ number_of typed.now.items name.now }
+fn find_operation(typed: &Typed, name: &Text) -> Option<u32>
+    ensures { result ≡ operation_number typed.now.items name.now }
 {
-    let number = number_of(typed.source().items.as_slice(), name.as_bytes())?;
+    let number = operation_number(typed.source().items.as_slice(), name.as_bytes())?;
     Some(number as u32)
 }
 
@@ -64,7 +64,11 @@ fn arguments_of(alloc: Global, typed: &Typed, forms: &[Form]) -> Result<Argument
     Ok(Arguments { values, are_all })
 }
 
-fn command_of(alloc: Global, typed: &Typed, form: &Form) -> Result<Option<Spelled>, AllocError>
+fn command_of(
+    alloc: Global,
+    typed: &Typed,
+    form: &Form,
+) -> Result<Option<SpelledCommand>, AllocError>
     ensures { IfOk result (λ command. command ≡ spec.command_of typed.now form.now) }
 {
     let Some(parts) = node_of(form) else {
@@ -77,14 +81,14 @@ fn command_of(alloc: Global, typed: &Typed, form: &Form) -> Result<Option<Spelle
         return Ok(None);
     };
     let Arguments { values, are_all } = arguments_of(alloc, typed, arguments)?;
-    let Some(op) = op_of(typed, name) else {
-        return Ok(Some(Spelled::Unknown));
+    let Some(op) = find_operation(typed, name) else {
+        return Ok(Some(SpelledCommand::Unknown));
     };
     let command = Command { op, args: values };
     if are_all {
-        Ok(Some(Spelled::Whole(command)))
+        Ok(Some(SpelledCommand::Whole(command)))
     } else {
-        Ok(Some(Spelled::Partial(command)))
+        Ok(Some(SpelledCommand::Partial(command)))
     }
 }
 
@@ -93,7 +97,7 @@ pub fn commands_of(
     alloc: Global,
     typed: &Typed,
     forms: &[Form],
-) -> Result<Option<Items<Spelled>>, AllocError>
+) -> Result<Option<Items<SpelledCommand>>, AllocError>
     ensures { IfOk result (λ commands. commands ≡ spec.commands_of typed.now forms.now) }
 {
     let mut commands = with_room(alloc, forms.len())?;

@@ -5,7 +5,7 @@ ghost use Rattle.pst_runs.specs.Forms as spec;
 ghost use Rattle.pst_runs.specs.Shown.{shown_option, shown_sections};
 ghost use Rattle.pst_sexpr.specs.Parts.{node_of};
 
-use crate::commands::{Spelled, SpelledCase, commands_of};
+use crate::commands::{SpelledCase, SpelledCommand, commands_of};
 use crate::room::with_room;
 use pst_model::Typed;
 use pst_sexpr::{Form, node_of, word_of};
@@ -44,7 +44,7 @@ fn section_commands(
     typed: &Typed,
     name: &str,
     form: &Form,
-) -> Result<Option<Items<Spelled>>, AllocError>
+) -> Result<Option<Items<SpelledCommand>>, AllocError>
     ensures { IfOk result (λ commands. commands ≡ spec.section_commands typed.now name.now form.now) }
 {
     match section(name, form) {
@@ -57,7 +57,7 @@ fn branch_of(
     alloc: Global,
     typed: &Typed,
     form: &Form,
-) -> Result<Option<Items<Spelled>>, AllocError>
+) -> Result<Option<Items<SpelledCommand>>, AllocError>
     ensures { IfOk result (λ commands. commands ≡ spec.branch_of typed.now form.now) }
 {
     match node_of(form) {
@@ -72,7 +72,7 @@ fn two_branches(
     typed: &Typed,
     left: &Form,
     right: &Form,
-) -> Result<Option<Items<Items<Spelled>>>, AllocError>
+) -> Result<Option<Items<Items<SpelledCommand>>>, AllocError>
     ensures { IfOk result (λ branches. branches ≡ spec.two_branches typed.now left.now right.now) }
 {
     let Some(left) = section_commands(alloc, typed, "left", left)? else {
@@ -97,7 +97,7 @@ fn each_branch(
     alloc: Global,
     typed: &Typed,
     forms: &[Form],
-) -> Result<Option<Items<Items<Spelled>>>, AllocError>
+) -> Result<Option<Items<Items<SpelledCommand>>>, AllocError>
     ensures { IfOk result (λ branches. branches ≡ spec.each_branch typed.now forms.now) }
 {
     if !are_two_to_four(forms) {
@@ -117,7 +117,7 @@ fn branches_of(
     alloc: Global,
     typed: &Typed,
     forms: &[Form],
-) -> Result<Option<Items<Items<Spelled>>>, AllocError>
+) -> Result<Option<Items<Items<SpelledCommand>>>, AllocError>
     ensures { IfOk result (λ branches. branches ≡ spec.branches_of typed.now forms.now) }
 {
     match forms {
@@ -162,7 +162,7 @@ fn suffix_of(
     alloc: Global,
     typed: &Typed,
     suffix: Option<&[Form]>,
-) -> Result<Option<Items<Spelled>>, AllocError>
+) -> Result<Option<Items<SpelledCommand>>, AllocError>
     ensures { IfOk result (λ commands. commands ≡ spec.suffix_of typed.now (option_copied suffix.entry)) }
 {
     match suffix {

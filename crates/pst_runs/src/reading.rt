@@ -3,7 +3,7 @@ ghost use Rattle.std.specs.Prelude.{◌≡◌, ◌<◌, ◌+◌, ◌^◌, false,
 ghost use Rattle.pst_case.specs.Shape.{joined};
 ghost use Rattle.pst_runs.specs.Reading as spec;
 
-use crate::commands::{Spelled, SpelledCase};
+use crate::commands::{SpelledCase, SpelledCommand};
 use crate::room::with_room;
 use pst_case::{
     Case, CaseFault, CaseFaultKind, Command, Shaped, are_over_limit, joined_len, shape,
@@ -13,15 +13,18 @@ use pst_value::Items;
 use std::alloc::{AllocError, Global};
 
 /// Returns the commands of a part without those of unknown operations.
-fn readable_part(alloc: Global, commands: Items<Spelled>) -> Result<Items<Command>, AllocError>
+fn readable_part(
+    alloc: Global,
+    commands: Items<SpelledCommand>,
+) -> Result<Items<Command>, AllocError>
     ensures { IfOk result (λ readable. readable ≡ spec.readable_part commands) }
 {
     let mut readable = with_room(alloc, commands.len())?;
     for command in commands.into_vec() {
         match command {
-            Spelled::Whole(command) => readable.push(command)?,
-            Spelled::Partial(command) => readable.push(command)?,
-            Spelled::Unknown => {}
+            SpelledCommand::Whole(command) => readable.push(command)?,
+            SpelledCommand::Partial(command) => readable.push(command)?,
+            SpelledCommand::Unknown => {}
         }
     }
     Ok(readable)
@@ -29,7 +32,7 @@ fn readable_part(alloc: Global, commands: Items<Spelled>) -> Result<Items<Comman
 
 fn readable_branches(
     alloc: Global,
-    branches: Items<Items<Spelled>>,
+    branches: Items<Items<SpelledCommand>>,
 ) -> Result<Items<Items<Command>>, AllocError>
     ensures { IfOk result (λ readable. readable ≡ map spec.readable_part branches) }
 {
@@ -57,18 +60,18 @@ fn readable_case(alloc: Global, case: SpelledCase) -> Result<Case, AllocError>
 }
 
 /// Returns why a command cannot be read whole, if it cannot.
-fn unread(command: &Spelled) -> Option<CaseFaultKind>
+fn unread(command: &SpelledCommand) -> Option<CaseFaultKind>
     ensures { result ≡ spec.unread command.now }
 {
     match command {
-        Spelled::Whole(_) => None,
-        Spelled::Partial(_) => Some(CaseFaultKind::BadArgument),
-        Spelled::Unknown => Some(CaseFaultKind::UnknownOp),
+        SpelledCommand::Whole(_) => None,
+        SpelledCommand::Partial(_) => Some(CaseFaultKind::BadArgument),
+        SpelledCommand::Unknown => Some(CaseFaultKind::UnknownOp),
     }
 }
 
 /// Returns the fault of the first command that cannot be read whole. The commands are numbered from `number` on.
-fn part_unread(number: u32, commands: &[Spelled]) -> Option<CaseFault>
+fn part_unread(number: u32, commands: &[SpelledCommand]) -> Option<CaseFault>
     requires { number + length commands.now < 2 ^ 32 }
     ensures { result ≡ spec.part_unread number commands.now }
 {
@@ -83,7 +86,7 @@ fn part_unread(number: u32, commands: &[Spelled]) -> Option<CaseFault>
 }
 
 /// Returns the fault of the first command of the branches that cannot be read whole. `before` commands precede them.
-fn branches_unread(before: u32, branches: &[Items<Spelled>]) -> Option<CaseFault>
+fn branches_unread(before: u32, branches: &[Items<SpelledCommand>]) -> Option<CaseFault>
     requires { before + length (joined branches.now) + 1 < 2 ^ 32 }
     ensures { result ≡ spec.branches_unread before branches.now }
 {

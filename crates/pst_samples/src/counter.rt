@@ -26,7 +26,7 @@ impl<R: Wait> Counter<R> {
         }
     }
 
-    fn increased(&self) -> Result<Value, CallFault>
+    fn increment(&self) -> Result<Value, CallFault>
         ensures { MatchResult result IsInt (λ f. f ≡ Refused) }
     {
         let mut number = self.number.lock(&self.rt);
@@ -58,7 +58,7 @@ impl<R: Wait + Drop + Send + Sync> System for Counter<R> {
             return Ok(Value::Int(number));
         }
         if is_bare(call, "inc") {
-            return self.increased();
+            return self.increment();
         }
         Err(CallFault::Refused)
     }

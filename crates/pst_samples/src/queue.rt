@@ -44,7 +44,7 @@ impl<R: Wait> Queue<R> {
     }
 
     /// Takes the oldest item, if there is one.
-    fn taken(&self) -> Result<Items<Value>, AllocError>
+    fn take_oldest(&self) -> Result<Items<Value>, AllocError>
         ensures { IfOk result AreAtMostOneInt }
     {
         let mut items = self.items.lock(&self.rt);
@@ -73,7 +73,7 @@ impl<R: Wait + Drop + Send + Sync> System for Queue<R> {
 
     fn call(&self, call: &RealCall) -> Result<Value, CallFault> {
         if is_bare(call, "take") {
-            return match self.taken() {
+            return match self.take_oldest() {
                 Ok(items) => Ok(Value::List(items)),
                 Err(AllocError) => Err(CallFault::NoMemory),
             };

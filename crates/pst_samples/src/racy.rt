@@ -25,7 +25,7 @@ impl Racy {
         }
     }
 
-    fn increased(&self) -> Result<Value, CallFault>
+    fn increment(&self) -> Result<Value, CallFault>
         ensures { MatchResult result IsInt (λ f. f ≡ Refused) }
     {
         let number = self.number.load(Ordering::SeqCst);
@@ -57,7 +57,7 @@ impl System for Racy {
             return Ok(Value::Int(self.number.load(Ordering::SeqCst)));
         }
         if is_bare(call, "inc") {
-            return self.increased();
+            return self.increment();
         }
         Err(CallFault::Refused)
     }

@@ -30,7 +30,7 @@ impl<R: Wait> Registry<R> {
         }
     }
 
-    fn opened(&self) -> Result<Value, CallFault>
+    fn open_number(&self) -> Result<Value, CallFault>
         ensures { MatchResult result IsInt (λ f. f ≡ NoMemory) }
     {
         let mut numbers = self.numbers.lock(&self.rt);
@@ -44,7 +44,7 @@ impl<R: Wait> Registry<R> {
     }
 
     /// Closes a number: whether it was open.
-    fn closed(&self, number: i64) -> bool {
+    fn close_number(&self, number: i64) -> bool {
         let Ok(at) = usize::try_from(number) else {
             return false;
         };
@@ -82,10 +82,10 @@ impl<R: Wait + Drop + Send + Sync> System for Registry<R> {
 
     fn call(&self, call: &RealCall) -> Result<Value, CallFault> {
         if is_bare(call, "new") {
-            return self.opened();
+            return self.open_number();
         }
         if let Some(number) = number_of(call, "close") {
-            return Ok(Value::Bool(self.closed(number)));
+            return Ok(Value::Bool(self.close_number(number)));
         }
         if let Some(number) = number_of(call, "read") {
             let answer = if self.is_open(number) { number } else { -1 };

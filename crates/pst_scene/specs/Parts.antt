@@ -1,8 +1,8 @@
 -- How the faulty part of an expression is found.
 use Rattle.std.specs.Prelude.{◌≡◌, ℕ, ◌+◌, ◌<◌, ◌≤◌, ⊤, List, map, reverse, Option, Some, None}
 use Rattle.pst_scene.specs.Outcomes.{outcome_at}
-use Rattle.pst_scene.specs.declared.attempt.All.{All}
-use Rattle.pst_scene.specs.declared.attempt.All.TheVariants.{Give as AllGive, Faults as AllFault, Stuck as AllStuck}
+use Rattle.pst_scene.specs.declared.attempt.TriedAll.{TriedAll}
+use Rattle.pst_scene.specs.declared.attempt.TriedAll.TheVariants.{Give as AllGive, Faults as AllFault, Stuck as AllStuck}
 use Rattle.pst_scene.specs.declared.attempt.Tried.{Tried}
 use Rattle.pst_scene.specs.declared.attempt.Tried.TheVariants.{Gives as Gives', Faults as Faults', Stuck as Stuck'}
 use Rattle.pst_scene.specs.declared.descent.Visited.{Visited}
@@ -34,7 +34,7 @@ pub record FirstFaults (m : Expr → Mean) (es : List Expr) (env : Env) (turns :
   pub lighter : weight e ≤ total (map weight es)
 
 -- what evaluating expressions comes to
-abbrev pub AttemptsAll : (Expr → Mean) → List Expr → Env → ℕ → All → Type 0
+abbrev pub AttemptsAll : (Expr → Mean) → List Expr → Env → ℕ → TriedAll → Type 0
 AttemptsAll m es env turns (AllGive vs left) = all (map m es) env turns ≡ Gives (vs, left)
 AttemptsAll m es env turns (AllFault e left why) = FirstFaults m es env turns e.now left why
 AttemptsAll m es env turns AllStuck = all (map m es) env turns ≡ Stuck

@@ -36,7 +36,7 @@ pub enum Tried {
 
 /// The result of evaluating several expressions.
 #[derive(Drop)]
-pub enum All<'a> {
+pub enum TriedAll<'a> {
     /// Their values, and how many turns are left.
     Give(Items<Value>, u32),
     /// The first expression that faults, the turns left for it, and its fault.
@@ -46,7 +46,7 @@ pub enum All<'a> {
 }
 
 /// Evaluates an expression.
-pub fn attempt(
+pub fn try_evaluate(
     expr: &Expr,
     context: &Context<'_>,
     env: &Env<'_>,
@@ -69,22 +69,22 @@ pub fn attempt_all<'a>(
     context: &Context<'_>,
     env: &Env<'_>,
     turns: u32,
-) -> Result<All<'a>, AllocError>
+) -> Result<TriedAll<'a>, AllocError>
     ensures { IfOk result (AttemptsAll (mean_in context.now) exprs.now (env_of env.now) turns) }
 {
     let mut values = Items::new(context.alloc);
     let mut left = turns;
     for expr in exprs {
-        match attempt(expr, context, env, left)? {
+        match try_evaluate(expr, context, env, left)? {
             Tried::Gives(value, more) => {
                 values.push(value)?;
                 left = more;
             }
-            Tried::Faults(fault) => return Ok(All::Faults(expr, left, fault)),
-            Tried::Stuck => return Ok(All::Stuck),
+            Tried::Faults(fault) => return Ok(TriedAll::Faults(expr, left, fault)),
+            Tried::Stuck => return Ok(TriedAll::Stuck),
         }
     }
-    Ok(All::Give(values, left))
+    Ok(TriedAll::Give(values, left))
 }
 
 fn split_last(items: &[Item]) -> Option<(&Item, &[Item])>
@@ -118,7 +118,7 @@ pub fn function_named<'a>(items: &'a [Item], name: &[u8]) -> Option<(&'a Fun, &'
 }
 
 /// The expression itself, with its names.
-pub fn here<'a>(
+pub fn faulty_part_here<'a>(
     expr: &'a Expr,
     site: &Site<'a>,
     env: &Env<'_>,

@@ -1,7 +1,7 @@
 //! The commands of a case with their places and replies.
 
 use crate::letters::letter;
-use crate::spelling::{add, add_command, add_number, add_reply, add_variable};
+use crate::spelling::{add_command, add_number, add_reply, add_str, add_variable};
 use pst_case::{Case, Command, History, Reply};
 use pst_model::Source;
 use pst_value::Items;
@@ -79,7 +79,7 @@ fn part_calls<'a>(
 }
 
 /// Returns the number after the last of `commands`, which are numbered from `first` on.
-fn behind(first: u32, commands: &[Command]) -> u32 {
+fn number_after(first: u32, commands: &[Command]) -> u32 {
     let mut number = first;
     for _command in commands {
         number = number.saturating_add(1);
@@ -103,7 +103,7 @@ fn branch_calls<'a>(
             None => &[],
         };
         calls.push(part_calls(alloc, CasePart::Branch(index), number, commands, answers)?)?;
-        number = behind(number, commands);
+        number = number_after(number, commands);
     }
     Ok((calls, number))
 }
@@ -117,7 +117,7 @@ pub fn calls_with<'a>(
     suffix: &'a [Reply],
 ) -> Result<Calls<'a>, AllocError> {
     let commands = case.prefix.as_slice();
-    let number = behind(1, commands);
+    let number = number_after(1, commands);
     let prefix = part_calls(alloc, CasePart::Prefix, 1, commands, prefix)?;
     let (branches, number) = branch_calls(alloc, number, case.branches.as_slice(), branches)?;
     let suffix = part_calls(
@@ -162,7 +162,7 @@ impl<'a> Call<'a> {
     /// Adds the place of the command and its spelling, as `L2 (put 1)`.
     fn add_text(&self, out: &mut Vec<u8>, alloc: Global, model: &Source) -> Result<(), AllocError> {
         self.add_place(out)?;
-        add(out, " ")?;
+        add_str(out, " ")?;
         add_command(out, alloc, model, self.command)
     }
 
@@ -181,7 +181,7 @@ impl<'a> Call<'a> {
         model: &Source,
     ) -> Result<(), AllocError> {
         self.add_text(out, alloc, model)?;
-        add(out, " -> ")?;
+        add_str(out, " -> ")?;
         match self.reply {
             Some(reply) => add_reply(out, alloc, model, reply),
             None => add_variable(out, alloc, self.number),

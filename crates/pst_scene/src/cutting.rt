@@ -4,27 +4,27 @@ ghost use Rattle.std.specs.Prelude.{◌≡◌, ◌≤◌, IfOk, length};
 use std::alloc::{AllocError, Global};
 
 /// Returns whether a byte is a continuation byte of a UTF-8 character.
-fn goes_on(byte: u8) -> bool {
+fn is_continuation_byte(byte: u8) -> bool {
     byte >= 0x80 && byte < 0xC0
 }
 
 /// Returns the first `end` bytes of a text, without those of a character that ends after them.
-fn beginning(text: &[u8], end: usize) -> &[u8]
+fn whole_characters(text: &[u8], end: usize) -> &[u8]
     requires { end ≤ length text.now }
     ensures { length result.now ≤ end }
 {
-    if end > 0 && end < text.len() && goes_on(text[end]) {
-        return beginning(text, end - 1);
+    if end > 0 && end < text.len() && is_continuation_byte(text[end]) {
+        return whole_characters(text, end - 1);
     }
     &text[..end]
 }
 
 /// Returns a text without the continuation bytes at its beginning.
-fn ending(text: &[u8]) -> &[u8]
+fn without_continuation(text: &[u8]) -> &[u8]
     ensures { length result.now ≤ length text.now }
 {
     match text.split_first() {
-        Some((first, rest)) if goes_on(*first) => ending(rest),
+        Some((first, rest)) if is_continuation_byte(*first) => without_continuation(rest),
         _ => text,
     }
 }
@@ -32,7 +32,7 @@ fn ending(text: &[u8]) -> &[u8]
 /// Returns `text` if it has at most `width` bytes. Otherwise returns its beginning and its end with `..` between them,
 /// so that they fit, or an empty text if not even `..` fits. A character of several bytes is kept or left out as a
 /// whole.
-pub fn cut(alloc: Global, text: &[u8], width: usize) -> Result<Vec<u8>, AllocError>
+pub fn cut_in_middle(alloc: Global, text: &[u8], width: usize) -> Result<Vec<u8>, AllocError>
     ensures fits { IfOk result (λ cut. length cut.items ≤ width) }
     ensures whole { IfOk result (λ cut. length text.now ≤ width → cut.items ≡ text.now) }
 {
@@ -44,8 +44,8 @@ pub fn cut(alloc: Global, text: &[u8], width: usize) -> Result<Vec<u8>, AllocErr
     }
     let kept = width - 2;
     let behind = kept / 2;
-    let mut cut = Vec::from_slice(alloc, beginning(text, kept - behind))?;
+    let mut cut = Vec::from_slice(alloc, whole_characters(text, kept - behind))?;
     cut.extend_from_slice(b"..")?;
-    cut.extend_from_slice(ending(&text[text.len() - behind..]))?;
+    cut.extend_from_slice(without_continuation(&text[text.len() - behind..]))?;
     Ok(cut)
 }

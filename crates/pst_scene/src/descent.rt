@@ -11,7 +11,9 @@ ghost use Rattle.pst_operators.specs.Operators as operators;
 ghost use Rattle.pst_scene.specs.Outcomes.{outcome_at};
 ghost use Rattle.pst_scene.specs.Parts.{Appends, SameIfSome, Visits};
 
-use crate::attempt::{All, Site, Tried, attempt, attempt_all, function_named, here, split_first};
+use crate::attempt::{
+    Site, Tried, TriedAll, attempt_all, faulty_part_here, function_named, split_first, try_evaluate,
+};
 use crate::faulty::FaultyPart;
 use crate::parts::deciding_part;
 use pst_eval::{Context, Env};
@@ -32,7 +34,11 @@ pub enum Visited<'a> {
 }
 
 /// The list that is built with one more item.
-fn appended<'a>(built: Items<Value>, value: Value, left: u32) -> Result<Visited<'a>, AllocError>
+fn push_to_built<'a>(
+    built: Items<Value>,
+    value: Value,
+    left: u32,
+) -> Result<Visited<'a>, AllocError>
     ensures { IfOk result (Appends (operators.append built value) left) }
 {
     match append(built, value) {
@@ -55,62 +61,38 @@ pub fn in_expr<'a>(
 {
     let context = &site.context;
     match expr {
-        Expr::Let(name, bound, body) => match attempt(bound.get(), context, env, turns)? {
+        Expr::Let(name, bound, body) => match try_evaluate(bound.get(), context, env, turns)? {
             Tried::Faults(_) => in_expr(bound.get(), site, env, turns),
             Tried::Gives(value, left) => {
                 let inner = Env::With(name.as_bytes(), &value, &*env);
                 in_expr(body.get(), site, &inner, left)
             }
-            Tried::Stuck => here(expr, site, env, turns),
+            Tried::Stuck => faulty_part_here(expr, site, env, turns),
         },
         Expr::Apply(name, parts) => match attempt_all(parts.as_slice(), context, env, turns)? {
-            All::Faults(part, left, _) => in_expr(part, site, env, left),
-            All::Give(arguments, left) => {
+            TriedAll::Faults(part, left, _) => in_expr(part, site, env, left),
+            TriedAll::Give(arguments, left) => {
                 match in_body(name.as_bytes(), arguments.as_slice(), site, left)? {
                     Some(part) => Ok(part),
-                    None => here(expr, site, env, turns),
+                    None => faulty_part_here(expr, site, env, turns),
                 }
             }
-            All::Stuck => here(expr, site, env, turns),
+            TriedAll::Stuck => faulty_part_here(expr, site, env, turns),
         },
         Expr::For(clauses, body) => {
             let built = Items::new(context.alloc);
             match in_clauses(clauses.as_slice(), body.get(), site, env, turns, built)? {
                 Visited::Part(part, _) => Ok(part),
-                _ => here(expr, site, env, turns),
+                _ => faulty_part_here(expr, site, env, turns),
             }
         }
-        Expr::Fold(name, list, acc, first, body) => {
-            match attempt(list.get(), context, env, turns)? {
-                Tried::Faults(_) => in_expr(list.get(), site, env, turns),
-                Tried::Gives(value, left) => match items_of(value) {
-                    Ok(items) => match attempt(first.get(), context, env, left)? {
-                        Tried::Faults(_) => in_expr(first.get(), site, env, left),
-                        Tried::Gives(first, left) => {
-                            match in_items(
-                                body.get(),
-                                name.as_bytes(),
-                                acc.as_bytes(),
-                                items.as_slice(),
-                                first,
-                                site,
-                                env,
-                                left,
-                            )? {
-                                Some(part) => Ok(part),
-                                None => here(expr, site, env, turns),
-                            }
-                        }
-                        Tried::Stuck => here(expr, site, env, turns),
-                    },
-                    Err(_) => here(expr, site, env, turns),
-                },
-                Tried::Stuck => here(expr, site, env, turns),
-            }
-        }
+        Expr::Fold(_, _, _, _, _) => match in_fold(expr, site, env, turns)? {
+            Some(part) => Ok(part),
+            None => faulty_part_here(expr, site, env, turns),
+        },
         _ => match deciding_part(expr, context, env, turns)? {
             Some((part, left)) => in_expr(part, site, env, left),
-            None => here(expr, site, env, turns),
+            None => faulty_part_here(expr, site, env, turns),
         },
     }
 }
@@ -150,6 +132,46 @@ fn in_body<'a>(
     Ok(Some(in_expr(&function.body, &inner, &frame, left)?))
 }
 
+/// The part of a fold that has no value by itself, if it is not the whole fold. `None` of any other form.
+#[cycle(descent)]
+fn in_fold<'a>(
+    expr: &'a Expr,
+    site: &Site<'a>,
+    env: &Env<'_>,
+    turns: u32,
+) -> Result<Option<FaultyPart<'a>>, AllocError>
+    ensures { IfOk result
+        (SameIfSome site.now.context.items.now (mean_in site.now.context expr.now (env_of env.now) turns)) }
+{
+    let Expr::Fold(name, list, acc, first, body) = expr else {
+        return Ok(None);
+    };
+    let context = &site.context;
+    match try_evaluate(list.get(), context, env, turns)? {
+        Tried::Faults(_) => Ok(Some(in_expr(list.get(), site, env, turns)?)),
+        Tried::Gives(value, left) => match items_of(value) {
+            Ok(items) => match try_evaluate(first.get(), context, env, left)? {
+                Tried::Faults(_) => Ok(Some(in_expr(first.get(), site, env, left)?)),
+                Tried::Gives(first, left) => {
+                    in_items(
+                        body.get(),
+                        name.as_bytes(),
+                        acc.as_bytes(),
+                        items.as_slice(),
+                        first,
+                        site,
+                        env,
+                        left,
+                    )
+                }
+                Tried::Stuck => Ok(None),
+            },
+            Err(_) => Ok(None),
+        },
+        Tried::Stuck => Ok(None),
+    }
+}
+
 /// The part of the body of a fold that has no value by itself, of the first item for which it has none.
 #[cycle(descent)]
 fn in_items<'a>(
@@ -174,7 +196,7 @@ fn in_items<'a>(
         }
         let outer = Env::With(&*name, item, &*env);
         let inner = Env::With(&*acc, &built, &outer);
-        match attempt(body, &site.context, &inner, left)? {
+        match try_evaluate(body, &site.context, &inner, left)? {
             Tried::Faults(_) => return Ok(Some(in_expr(body, site, &inner, left)?)),
             Tried::Gives(next, more) => {
                 built = next;
@@ -203,14 +225,14 @@ fn in_clauses<'a>(
 {
     let context = &site.context;
     let Some((first, rest)) = split_first(clauses) else {
-        return match attempt(body, context, env, turns)? {
+        return match try_evaluate(body, context, env, turns)? {
             Tried::Faults(fault) => { Ok(Visited::Part(in_expr(body, site, env, turns)?, fault)) }
-            Tried::Gives(value, left) => appended(built, value, left),
+            Tried::Gives(value, left) => push_to_built(built, value, left),
             Tried::Stuck => Ok(Visited::Itself),
         };
     };
     match first {
-        Clause::In(name, list) => match attempt(list, context, env, turns)? {
+        Clause::In(name, list) => match try_evaluate(list, context, env, turns)? {
             Tried::Faults(fault) => { Ok(Visited::Part(in_expr(list, site, env, turns)?, fault)) }
             Tried::Gives(value, left) => match items_of(value) {
                 Ok(items) => {
@@ -229,7 +251,7 @@ fn in_clauses<'a>(
             },
             Tried::Stuck => Ok(Visited::Itself),
         },
-        Clause::When(test) => match attempt(test, context, env, turns)? {
+        Clause::When(test) => match try_evaluate(test, context, env, turns)? {
             Tried::Faults(fault) => { Ok(Visited::Part(in_expr(test, site, env, turns)?, fault)) }
             Tried::Gives(Value::Bool(true), left) => {
                 in_clauses(rest, body, site, env, left, built)

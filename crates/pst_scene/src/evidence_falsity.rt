@@ -51,7 +51,7 @@ fn is_something(evidence: &Evidence) -> bool {
 }
 
 /// The values that a comparison or its negation compares, if the expression is one.
-fn compared(
+fn compared_values(
     alloc: Global,
     model: &Source,
     expr: &Expr,
@@ -72,7 +72,7 @@ fn compared(
 }
 
 /// The expression itself, with what is known of it.
-fn whole<'a>(
+fn whole_expression<'a>(
     alloc: Global,
     model: &Source,
     expr: &'a Expr,
@@ -82,7 +82,7 @@ fn whole<'a>(
 {
     let evidence = match wanted_by_part(alloc, model, expr, env)? {
         Some(value) => Evidence::Wants(value),
-        None => compared(alloc, model, expr, env)?,
+        None => compared_values(alloc, model, expr, env)?,
     };
     Ok(FalsePart {
         part: expr,
@@ -105,15 +105,15 @@ fn false_part_of<'a>(
         Some(false) => {}
         _ => return Ok(None),
     }
-    match inner_part(alloc, model, expr, env)? {
+    match false_part_within(alloc, model, expr, env)? {
         Some(found) => Ok(Some(found)),
-        None => Ok(Some(whole(alloc, model, expr, env)?)),
+        None => Ok(Some(whole_expression(alloc, model, expr, env)?)),
     }
 }
 
 /// The part that makes the first false conjunct false, or the chosen one of an `if` if something is known of that part.
 #[cycle(falsity)]
-fn inner_part<'a>(
+fn false_part_within<'a>(
     alloc: Global,
     model: &Source,
     expr: &'a Expr,

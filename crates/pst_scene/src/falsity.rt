@@ -3,8 +3,8 @@
 use crate::calls::Call;
 use crate::evidence_falsity::{Evidence, FalsePart, false_part};
 use crate::scene::Scene;
-use crate::texts::{expression_text, joined, operation, text_of, value_text};
-use crate::walk::arguments;
+use crate::texts::{expression_text, join_texts, operation_of_call, text_of, value_text};
+use crate::walk::recorded_arguments;
 use pst_case::Reply;
 use pst_eval::Env;
 use pst_model::Source;
@@ -21,8 +21,8 @@ fn wanted_text(
     let value = value_text(alloc, model, value)?;
     let value = value.as_slice();
     match part {
-        None => joined(alloc, &[b"the model says ", value]),
-        Some(part) => joined(alloc, &[part, b" is false: the model says ", value]),
+        None => join_texts(alloc, &[b"the model says ", value]),
+        Some(part) => join_texts(alloc, &[part, b" is false: the model says ", value]),
     }
 }
 
@@ -36,7 +36,7 @@ fn compared_text(
 ) -> Result<Vec<u8>, AllocError> {
     let first = value_text(alloc, model, first)?;
     let second = value_text(alloc, model, second)?;
-    joined(
+    join_texts(
         alloc,
         &[
             part,
@@ -63,7 +63,7 @@ fn part_text(
             wanted_text(alloc, model, shown, value)
         }
         Evidence::Compares(first, second) => compared_text(alloc, model, part, first, second),
-        Evidence::Nothing => joined(alloc, &[part, b" is false"]),
+        Evidence::Nothing => join_texts(alloc, &[part, b" is false"]),
     }
 }
 
@@ -90,13 +90,13 @@ pub fn falsity_of<'a>(
     call: &Call<'_>,
     state: &Value,
 ) -> Result<Falsity<'a>, AllocError> {
-    let Some(operation) = operation(scene, call) else {
+    let Some(operation) = operation_of_call(scene, call) else {
         return Ok(Falsity::Unknown);
     };
     let Some(Reply::Value(reply)) = call.reply else {
         return Ok(Falsity::Unknown);
     };
-    let args = arguments(alloc, scene, call)?;
+    let args = recorded_arguments(alloc, scene, call)?;
     let frame = Env::Frame(operation.params.as_slice(), args.as_slice());
     let outer = Env::With(b"s", &*state, &frame);
     let inner = Env::With(b"r", reply, &outer);

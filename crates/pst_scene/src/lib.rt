@@ -32,24 +32,24 @@ mod words;
 
 pub use binding::{Binding, bindings_of};
 pub use calls::{Call, Calls, CasePart};
-pub use cutting::cut;
+pub use cutting::cut_in_middle;
 pub use evaluating::evaluate;
 pub use evidence_falsity::{Evidence, FalsePart, false_part};
 pub use falsity::{Falsity, falsity_of, falsity_text};
 pub use faulty::{FaultyPart, faulty_part};
 pub use forms::{add_form, add_quoted};
 pub use letters::add_word;
-pub use order::{call_numbered, count_before, first_calls, in_order, next_calls};
+pub use order::{call_numbered, calls_in_order, count_before, first_calls, next_calls};
 pub use outcome::{DeadEnd, Outcome, dead_end_text, outcome_of};
 pub use page::Page;
 pub use scene::{Scene, scene_of};
-pub use spelling::{add, add_number, add_reply, add_value};
+pub use spelling::{add_number, add_reply, add_str, add_value};
 pub use style::Style;
-pub use table::{Cell, Table, two};
-pub use texts::{expression_text, joined, operation, text_of, value_text};
+pub use table::{Cell, Table, two_cells};
+pub use texts::{expression_text, join_texts, operation_of_call, text_of, value_text};
 pub use walk::{
-    PreAnswer, arguments, calls_before, initial_state, precondition, reference, state_before,
-    state_behind, states_along,
+    PreAnswer, calls_before, evaluate_precondition, initial_state, recorded_arguments,
+    reference_to_result, state_after, state_before, states_along,
 };
 pub use wanted::{wanted_reply, wants_one_reply};
 pub use words::words_of;

@@ -15,7 +15,7 @@ fn count_of(word: &[usize], branch: usize) -> usize {
 }
 
 /// Returns the next command of `branch` after the interleaving `word`.
-fn call_behind<'a>(calls: &Calls<'a>, word: &[usize], branch: usize) -> Option<Call<'a>> {
+fn next_call<'a>(calls: &Calls<'a>, word: &[usize], branch: usize) -> Option<Call<'a>> {
     let commands = calls.branches.get(branch)?;
     commands.get(count_of(word, branch)).copied()
 }
@@ -29,7 +29,7 @@ fn add_calls<'a>(order: &mut Vec<Call<'a>>, calls: &[Call<'a>]) -> Result<(), Al
 
 /// Returns the commands of the prefix, those of the branches in the order of the interleaving `word`, and those of the
 /// suffix.
-pub fn in_order<'a>(
+pub fn calls_in_order<'a>(
     alloc: Global,
     calls: &Calls<'a>,
     word: &[usize],
@@ -38,7 +38,7 @@ pub fn in_order<'a>(
     add_calls(&mut order, calls.prefix.as_slice())?;
     for (index, branch) in word.iter().enumerate() {
         let before = word.get(..index).unwrap_or(&[]);
-        if let Some(call) = call_behind(calls, before, *branch) {
+        if let Some(call) = next_call(calls, before, *branch) {
             order.push(call)?;
         }
     }
@@ -54,7 +54,7 @@ fn next_of_branches<'a>(
 ) -> Result<Vec<Call<'a>>, AllocError> {
     let mut next = Vec::new(alloc);
     for branch in 0..calls.branches.len() {
-        if let Some(call) = call_behind(calls, word, branch) {
+        if let Some(call) = next_call(calls, word, branch) {
             next.push(call)?;
         }
     }

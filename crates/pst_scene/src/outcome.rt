@@ -4,8 +4,8 @@ use crate::calls::Call;
 use crate::evaluating::evaluate;
 use crate::falsity::{Falsity, falsity_of, falsity_text};
 use crate::scene::Scene;
-use crate::texts::{joined, operation, text_of};
-use crate::walk::{PreAnswer, arguments, precondition, state_behind};
+use crate::texts::{join_texts, operation_of_call, text_of};
+use crate::walk::{PreAnswer, evaluate_precondition, recorded_arguments, state_after};
 use pst_case::Reply;
 use pst_eval::Env;
 use pst_model::Source;
@@ -44,10 +44,10 @@ fn is_right(
     call: &Call<'_>,
     answer: &Value,
 ) -> Result<bool, AllocError> {
-    let Some(operation) = operation(scene, call) else {
+    let Some(operation) = operation_of_call(scene, call) else {
         return Ok(false);
     };
-    let args = arguments(alloc, scene, call)?;
+    let args = recorded_arguments(alloc, scene, call)?;
     let frame = Env::Frame(operation.params.as_slice(), args.as_slice());
     let outer = Env::With(b"s", &*state, &frame);
     let inner = Env::With(b"r", answer, &outer);
@@ -62,20 +62,20 @@ fn next_state<'a>(
     state: &Value,
     call: &Call<'_>,
 ) -> Result<Outcome<'a>, AllocError> {
-    match state_behind(alloc, scene, state, call)? {
+    match state_after(alloc, scene, state, call)? {
         Some(next) => Ok(Outcome::Leads(next)),
         None => Ok(Outcome::Refused(DeadEnd::NextFaults)),
     }
 }
 
 /// Returns the outcome of a command of a case that was not run, by its precondition.
-fn of_case<'a>(
+fn outcome_of_case<'a>(
     alloc: Global,
     scene: &Scene<'a>,
     state: &Value,
     call: &Call<'_>,
 ) -> Result<Outcome<'a>, AllocError> {
-    match precondition(alloc, scene, state, call)? {
+    match evaluate_precondition(alloc, scene, state, call)? {
         PreAnswer::Holds => next_state(alloc, scene, state, call),
         PreAnswer::Fails => Ok(Outcome::Refused(DeadEnd::PreFalse)),
         PreAnswer::Faults(fault) => Ok(Outcome::Refused(DeadEnd::PreFaults(fault))),
@@ -83,7 +83,7 @@ fn of_case<'a>(
 }
 
 /// Returns the outcome of a command that answered a value, by its postcondition.
-fn of_answer<'a>(
+fn outcome_of_answer<'a>(
     alloc: Global,
     scene: &Scene<'a>,
     state: &Value,
@@ -105,8 +105,8 @@ pub fn outcome_of<'a>(
     call: &Call<'_>,
 ) -> Result<Outcome<'a>, AllocError> {
     match call.reply {
-        None => of_case(alloc, scene, state, call),
-        Some(Reply::Value(answer)) => of_answer(alloc, scene, state, call, answer),
+        None => outcome_of_case(alloc, scene, state, call),
+        Some(Reply::Value(answer)) => outcome_of_answer(alloc, scene, state, call, answer),
         Some(_) => Ok(Outcome::Refused(DeadEnd::NoValue)),
     }
 }
@@ -120,7 +120,7 @@ pub fn dead_end_text(
     match dead_end {
         DeadEnd::PreFalse => text_of(alloc, "pre is false"),
         DeadEnd::PreFaults(fault) => {
-            joined(alloc, &[b"pre faults with ", fault.name().as_bytes()])
+            join_texts(alloc, &[b"pre faults with ", fault.name().as_bytes()])
         }
         DeadEnd::PostFails(falsity) => falsity_text(alloc, model, falsity),
         DeadEnd::NoValue => text_of(alloc, "it answered no value"),

@@ -1,6 +1,6 @@
 //! Lines of a width.
 
-use crate::cutting::cut;
+use crate::cutting::cut_in_middle;
 use crate::style::{END, Style};
 use std::alloc::{AllocError, Global};
 
@@ -105,7 +105,7 @@ impl Page {
             self.add_styled(style, text)?;
             return Ok(text.len());
         }
-        let text = cut(alloc, text, width)?;
+        let text = cut_in_middle(alloc, text, width)?;
         self.add_styled(style, text.as_slice())?;
         Ok(text.len())
     }
@@ -134,7 +134,7 @@ impl Page {
             self.text.push(b'\n')?;
         }
         self.add_spaces(indent)?;
-        let word = cut(alloc, word, self.width.saturating_sub(indent))?;
+        let word = cut_in_middle(alloc, word, self.width.saturating_sub(indent))?;
         self.text.extend_from_slice(word.as_slice())?;
         Ok(indent.saturating_add(word.len()).max(1))
     }

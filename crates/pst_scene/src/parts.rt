@@ -4,7 +4,7 @@ ghost use Rattle.std.specs.Prelude.{IfOk, MatchOption};
 ghost use Rattle.pst_eval.specs.Env.{env_of};
 ghost use Rattle.pst_scene.specs.Parts.{Decides};
 
-use crate::attempt::{All, Tried, attempt, attempt_all};
+use crate::attempt::{Tried, TriedAll, attempt_all, try_evaluate};
 use pst_eval::{Context, Env};
 use pst_model::Expr;
 use pst_value::Value;
@@ -14,7 +14,7 @@ use std::alloc::AllocError;
 type DecidingPart<'a> = Option<(&'a Expr, u32)>;
 
 /// The test of an `if`, or the chosen one of the others.
-fn of_if<'a>(
+fn deciding_part_of_if<'a>(
     expr: &'a Expr,
     context: &Context<'_>,
     env: &Env<'_>,
@@ -26,7 +26,7 @@ fn of_if<'a>(
     let Expr::If(test, then, other) = expr else {
         return Ok(None);
     };
-    match attempt(test.get(), context, env, turns)? {
+    match try_evaluate(test.get(), context, env, turns)? {
         Tried::Faults(_) => Ok(Some((test.get(), turns))),
         Tried::Gives(Value::Bool(true), left) => Ok(Some((then.get(), left))),
         Tried::Gives(Value::Bool(false), left) => Ok(Some((other.get(), left))),
@@ -35,7 +35,7 @@ fn of_if<'a>(
 }
 
 /// The operand of an `and` that faults.
-fn of_and<'a>(
+fn faulty_part_of_and<'a>(
     expr: &'a Expr,
     context: &Context<'_>,
     env: &Env<'_>,
@@ -47,10 +47,10 @@ fn of_and<'a>(
     let Expr::And(first, second) = expr else {
         return Ok(None);
     };
-    match attempt(first.get(), context, env, turns)? {
+    match try_evaluate(first.get(), context, env, turns)? {
         Tried::Faults(_) => Ok(Some((first.get(), turns))),
         Tried::Gives(Value::Bool(true), left) => {
-            match attempt(second.get(), context, env, left)? {
+            match try_evaluate(second.get(), context, env, left)? {
                 Tried::Faults(_) => Ok(Some((second.get(), left))),
                 _ => Ok(None),
             }
@@ -60,7 +60,7 @@ fn of_and<'a>(
 }
 
 /// The operand of an `or` that faults.
-fn of_or<'a>(
+fn faulty_part_of_or<'a>(
     expr: &'a Expr,
     context: &Context<'_>,
     env: &Env<'_>,
@@ -72,10 +72,10 @@ fn of_or<'a>(
     let Expr::Or(first, second) = expr else {
         return Ok(None);
     };
-    match attempt(first.get(), context, env, turns)? {
+    match try_evaluate(first.get(), context, env, turns)? {
         Tried::Faults(_) => Ok(Some((first.get(), turns))),
         Tried::Gives(Value::Bool(false), left) => {
-            match attempt(second.get(), context, env, left)? {
+            match try_evaluate(second.get(), context, env, left)? {
                 Tried::Faults(_) => Ok(Some((second.get(), left))),
                 _ => Ok(None),
             }
@@ -85,7 +85,7 @@ fn of_or<'a>(
 }
 
 /// The operand of an operator of one that faults.
-fn of_unary<'a>(
+fn faulty_part_of_unary<'a>(
     expr: &'a Expr,
     context: &Context<'_>,
     env: &Env<'_>,
@@ -97,14 +97,14 @@ fn of_unary<'a>(
     let Expr::Unary(_, operand) = expr else {
         return Ok(None);
     };
-    match attempt(operand.get(), context, env, turns)? {
+    match try_evaluate(operand.get(), context, env, turns)? {
         Tried::Faults(_) => Ok(Some((operand.get(), turns))),
         _ => Ok(None),
     }
 }
 
 /// The tuple of an `at` that faults.
-fn of_at<'a>(
+fn faulty_part_of_at<'a>(
     expr: &'a Expr,
     context: &Context<'_>,
     env: &Env<'_>,
@@ -116,14 +116,14 @@ fn of_at<'a>(
     let Expr::At(tuple, _) = expr else {
         return Ok(None);
     };
-    match attempt(tuple.get(), context, env, turns)? {
+    match try_evaluate(tuple.get(), context, env, turns)? {
         Tried::Faults(_) => Ok(Some((tuple.get(), turns))),
         _ => Ok(None),
     }
 }
 
 /// The operand of an operator of two that faults.
-fn of_binary<'a>(
+fn faulty_part_of_binary<'a>(
     expr: &'a Expr,
     context: &Context<'_>,
     env: &Env<'_>,
@@ -135,9 +135,9 @@ fn of_binary<'a>(
     let Expr::Binary(_, first, second) = expr else {
         return Ok(None);
     };
-    match attempt(first.get(), context, env, turns)? {
+    match try_evaluate(first.get(), context, env, turns)? {
         Tried::Faults(_) => Ok(Some((first.get(), turns))),
-        Tried::Gives(_, left) => match attempt(second.get(), context, env, left)? {
+        Tried::Gives(_, left) => match try_evaluate(second.get(), context, env, left)? {
             Tried::Faults(_) => Ok(Some((second.get(), left))),
             _ => Ok(None),
         },
@@ -146,7 +146,7 @@ fn of_binary<'a>(
 }
 
 /// The map, the key or the value of a `put` that faults.
-fn of_put<'a>(
+fn faulty_part_of_put<'a>(
     expr: &'a Expr,
     context: &Context<'_>,
     env: &Env<'_>,
@@ -158,24 +158,24 @@ fn of_put<'a>(
     let Expr::Put(map, key, value) = expr else {
         return Ok(None);
     };
-    let left = match attempt(map.get(), context, env, turns)? {
+    let left = match try_evaluate(map.get(), context, env, turns)? {
         Tried::Faults(_) => return Ok(Some((map.get(), turns))),
         Tried::Gives(_, left) => left,
         Tried::Stuck => return Ok(None),
     };
-    let fewer = match attempt(key.get(), context, env, left)? {
+    let fewer = match try_evaluate(key.get(), context, env, left)? {
         Tried::Faults(_) => return Ok(Some((key.get(), left))),
         Tried::Gives(_, fewer) => fewer,
         Tried::Stuck => return Ok(None),
     };
-    match attempt(value.get(), context, env, fewer)? {
+    match try_evaluate(value.get(), context, env, fewer)? {
         Tried::Faults(_) => Ok(Some((value.get(), fewer))),
         _ => Ok(None),
     }
 }
 
 /// The part of a tuple that faults.
-fn of_tuple<'a>(
+fn faulty_part_of_tuple<'a>(
     expr: &'a Expr,
     context: &Context<'_>,
     env: &Env<'_>,
@@ -188,13 +188,13 @@ fn of_tuple<'a>(
         return Ok(None);
     };
     match attempt_all(parts.as_slice(), context, env, turns)? {
-        All::Faults(part, left, _) => Ok(Some((part, left))),
+        TriedAll::Faults(part, left, _) => Ok(Some((part, left))),
         _ => Ok(None),
     }
 }
 
 /// The item of a list that faults.
-fn of_list<'a>(
+fn faulty_part_of_list<'a>(
     expr: &'a Expr,
     context: &Context<'_>,
     env: &Env<'_>,
@@ -207,13 +207,13 @@ fn of_list<'a>(
         return Ok(None);
     };
     match attempt_all(items.as_slice(), context, env, turns)? {
-        All::Faults(part, left, _) => Ok(Some((part, left))),
+        TriedAll::Faults(part, left, _) => Ok(Some((part, left))),
         _ => Ok(None),
     }
 }
 
 /// The argument of a call that faults.
-fn of_call<'a>(
+fn faulty_part_of_call<'a>(
     expr: &'a Expr,
     context: &Context<'_>,
     env: &Env<'_>,
@@ -226,7 +226,7 @@ fn of_call<'a>(
         return Ok(None);
     };
     match attempt_all(arguments.as_slice(), context, env, turns)? {
-        All::Faults(part, left, _) => Ok(Some((part, left))),
+        TriedAll::Faults(part, left, _) => Ok(Some((part, left))),
         _ => Ok(None),
     }
 }
@@ -243,16 +243,16 @@ pub fn deciding_part<'a>(
         (λ p. Decides context.now expr.now (env_of env.now) turns p.0.now p.1)) }
 {
     match expr {
-        Expr::If(_, _, _) => of_if(expr, context, env, turns),
-        Expr::And(_, _) => of_and(expr, context, env, turns),
-        Expr::Or(_, _) => of_or(expr, context, env, turns),
-        Expr::Unary(_, _) => of_unary(expr, context, env, turns),
-        Expr::At(_, _) => of_at(expr, context, env, turns),
-        Expr::Binary(_, _, _) => of_binary(expr, context, env, turns),
-        Expr::Put(_, _, _) => of_put(expr, context, env, turns),
-        Expr::Tuple(_) => of_tuple(expr, context, env, turns),
-        Expr::List(_, _) => of_list(expr, context, env, turns),
-        Expr::Call(_, _) => of_call(expr, context, env, turns),
+        Expr::If(_, _, _) => deciding_part_of_if(expr, context, env, turns),
+        Expr::And(_, _) => faulty_part_of_and(expr, context, env, turns),
+        Expr::Or(_, _) => faulty_part_of_or(expr, context, env, turns),
+        Expr::Unary(_, _) => faulty_part_of_unary(expr, context, env, turns),
+        Expr::At(_, _) => faulty_part_of_at(expr, context, env, turns),
+        Expr::Binary(_, _, _) => faulty_part_of_binary(expr, context, env, turns),
+        Expr::Put(_, _, _) => faulty_part_of_put(expr, context, env, turns),
+        Expr::Tuple(_) => faulty_part_of_tuple(expr, context, env, turns),
+        Expr::List(_, _) => faulty_part_of_list(expr, context, env, turns),
+        Expr::Call(_, _) => faulty_part_of_call(expr, context, env, turns),
         _ => Ok(None),
     }
 }

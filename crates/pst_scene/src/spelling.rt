@@ -7,7 +7,7 @@ use pst_value::{Key, Value};
 use std::alloc::{AllocError, Global};
 
 /// Adds a text.
-pub fn add(out: &mut Vec<u8>, text: &str) -> Result<(), AllocError> {
+pub fn add_str(out: &mut Vec<u8>, text: &str) -> Result<(), AllocError> {
     out.extend_from_slice(text.as_bytes())
 }
 
@@ -26,17 +26,17 @@ fn add_integer(out: &mut Vec<u8>, alloc: Global, number: i64) -> Result<(), Allo
         return add_number(out, number as usize);
     }
     let text = format!(in alloc; "{number}")?;
-    add(out, text.as_str())
+    add_str(out, text.as_str())
 }
 
 /// Adds the variable of a command.
 pub fn add_variable(out: &mut Vec<u8>, alloc: Global, number: u32) -> Result<(), AllocError> {
     let text = format!(in alloc; "${number}")?;
-    add(out, text.as_str())
+    add_str(out, text.as_str())
 }
 
 fn add_truth(out: &mut Vec<u8>, holds: bool) -> Result<(), AllocError> {
-    add(out, if holds { "true" } else { "false" })
+    add_str(out, if holds { "true" } else { "false" })
 }
 
 fn add_key(out: &mut Vec<u8>, alloc: Global, key: &Key) -> Result<(), AllocError> {
@@ -50,7 +50,7 @@ fn add_key(out: &mut Vec<u8>, alloc: Global, key: &Key) -> Result<(), AllocError
 /// Adds the name of an operation, by its number from 0.
 pub fn add_operation(out: &mut Vec<u8>, model: &Source, number: u32) -> Result<(), AllocError> {
     match operation_of(model.items.as_slice(), number as usize) {
-        Some(operation) => add(out, operation.name.as_str()),
+        Some(operation) => add_str(out, operation.name.as_str()),
         None => Ok(()),
     }
 }
@@ -69,15 +69,15 @@ pub fn add_value(
         Value::Bool(holds) => add_truth(out, *holds),
         Value::Text(text) => add_quoted(out, text.as_bytes()),
         Value::Tuple(parts) => {
-            add(out, "(tuple")?;
+            add_str(out, "(tuple")?;
             add_values(out, alloc, model, parts.as_slice())
         }
         Value::List(parts) => {
-            add(out, "(list")?;
+            add_str(out, "(list")?;
             add_values(out, alloc, model, parts.as_slice())
         }
         Value::Map(keys, values) => {
-            add(out, "(map")?;
+            add_str(out, "(map")?;
             add_entries(
                 out,
                 alloc,
@@ -89,11 +89,11 @@ pub fn add_value(
         Value::Var(number) => add_variable(out, alloc, *number),
         Value::Ref(number, value) => {
             add_variable(out, alloc, *number)?;
-            add(out, "=")?;
+            add_str(out, "=")?;
             add_value(out, alloc, model, value.get())
         }
         Value::Call(operation, args) => {
-            add(out, "(")?;
+            add_str(out, "(")?;
             add_operation(out, model, *operation)?;
             add_values(out, alloc, model, args.as_slice())
         }
@@ -109,10 +109,10 @@ fn add_values(
     values: &[Value],
 ) -> Result<(), AllocError> {
     for value in values {
-        add(out, " ")?;
+        add_str(out, " ")?;
         add_value(out, alloc, model, value)?;
     }
-    add(out, ")")
+    add_str(out, ")")
 }
 
 /// Adds the entries of a map, a space before each, and the bracket that closes them.
@@ -127,16 +127,16 @@ fn add_entries(
     let mut rest = keys;
     for value in values {
         let Some((key, others)) = rest.split_first() else {
-            return add(out, ")");
+            return add_str(out, ")");
         };
-        add(out, " (")?;
+        add_str(out, " (")?;
         add_key(out, alloc, key)?;
-        add(out, " ")?;
+        add_str(out, " ")?;
         add_value(out, alloc, model, value)?;
-        add(out, ")")?;
+        add_str(out, ")")?;
         rest = others;
     }
-    add(out, ")")
+    add_str(out, ")")
 }
 
 /// Adds a command as items spell it.
@@ -146,7 +146,7 @@ pub fn add_command(
     model: &Source,
     command: &Command,
 ) -> Result<(), AllocError> {
-    add(out, "(")?;
+    add_str(out, "(")?;
     add_operation(out, model, command.op)?;
     add_values(out, alloc, model, command.args.as_slice())
 }
@@ -160,8 +160,8 @@ pub fn add_reply(
 ) -> Result<(), AllocError> {
     match reply {
         Reply::Value(value) => add_value(out, alloc, model, value),
-        Reply::Misfit => add(out, "misfit"),
-        Reply::Failed => add(out, "failed"),
-        Reply::NotRun => add(out, "not-run"),
+        Reply::Misfit => add_str(out, "misfit"),
+        Reply::Failed => add_str(out, "failed"),
+        Reply::NotRun => add_str(out, "not-run"),
     }
 }

@@ -38,9 +38,10 @@ impl Cell {
     }
 }
 
-/// Where a cell of a table ends in the text of the table.
+/// The end of a cell of a table.
 #[derive(Clone, Copy, Drop)]
 struct CellEnd {
+    /// The offset in the text of the table after the last byte of the cell.
     end: usize,
     /// The cell's column, from 0.
     column: usize,
@@ -55,14 +56,14 @@ pub struct Table {
     cells: Vec<CellEnd>,
     /// The width of the widest cell of each column.
     widths: Vec<usize>,
-    /// Where the last cell ends.
+    /// The end of the last cell in `text`.
     end: usize,
     /// The column of the next cell.
     column: usize,
 }
 
 /// A row of two cells of plain text.
-pub fn two(alloc: Global, first: Vec<u8>, second: Vec<u8>) -> Result<Vec<Cell>, AllocError> {
+pub fn two_cells(alloc: Global, first: Vec<u8>, second: Vec<u8>) -> Result<Vec<Cell>, AllocError> {
     let mut row = Vec::new(alloc);
     row.push(Cell::plain(first))?;
     row.push(Cell::plain(second))?;
@@ -94,7 +95,7 @@ fn small_and_large(widths: &[usize], share: usize) -> (usize, usize) {
 
 /// Returns the widths of columns that may have `room` bytes together. Each column that needs at most an equal share
 /// keeps its width, and the others share the rest equally.
-fn fitted(alloc: Global, widths: &[usize], room: usize) -> Result<Vec<usize>, AllocError> {
+fn fit_widths(alloc: Global, widths: &[usize], room: usize) -> Result<Vec<usize>, AllocError> {
     let share = room.checked_div(widths.len()).unwrap_or(0);
     let (sum, large) = small_and_large(widths, share);
     let most = room.saturating_sub(sum).checked_div(large).unwrap_or(0);
@@ -214,7 +215,7 @@ impl Table {
         if sum_of(widths) <= room {
             return self.write_in(page, alloc, indent, widths);
         }
-        let widths = fitted(alloc, widths, room)?;
+        let widths = fit_widths(alloc, widths, room)?;
         self.write_in(page, alloc, indent, widths.as_slice())
     }
 

@@ -3,7 +3,7 @@
 use crate::calls::Call;
 use crate::forms::add_form;
 use crate::scene::Scene;
-use crate::spelling::{add, add_value};
+use crate::spelling::{add_str, add_value};
 use pst_model::{Expr, Op, Source, operation_of};
 use pst_print::expr_form;
 use pst_sexpr::Form;
@@ -11,7 +11,7 @@ use pst_value::Value;
 use std::alloc::{AllocError, Global};
 
 /// Returns the parts, joined to one text.
-pub fn joined(alloc: Global, parts: &[&[u8]]) -> Result<Vec<u8>, AllocError> {
+pub fn join_texts(alloc: Global, parts: &[&[u8]]) -> Result<Vec<u8>, AllocError> {
     let mut text = Vec::new(alloc);
     for part in parts {
         text.extend_from_slice(part)?;
@@ -22,7 +22,7 @@ pub fn joined(alloc: Global, parts: &[&[u8]]) -> Result<Vec<u8>, AllocError> {
 /// A text of one part.
 pub fn text_of(alloc: Global, part: &str) -> Result<Vec<u8>, AllocError> {
     let mut text = Vec::new(alloc);
-    add(&mut text, part)?;
+    add_str(&mut text, part)?;
     Ok(text)
 }
 
@@ -41,6 +41,6 @@ pub fn expression_text(alloc: Global, expression: &Expr) -> Result<Vec<u8>, Allo
 }
 
 /// The operation of a command.
-pub fn operation<'a>(scene: &Scene<'a>, call: &Call<'_>) -> Option<&'a Op> {
+pub fn operation_of_call<'a>(scene: &Scene<'a>, call: &Call<'_>) -> Option<&'a Op> {
     operation_of(scene.model.items.as_slice(), call.command.op as usize)
 }

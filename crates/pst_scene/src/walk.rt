@@ -2,12 +2,12 @@
 
 use crate::calls::Call;
 use crate::evaluating::evaluate;
-use crate::order::{count_before, first_calls, in_order};
+use crate::order::{calls_in_order, count_before, first_calls};
 use crate::scene::Scene;
-use crate::texts::operation;
+use crate::texts::operation_of_call;
 use pst_case::Reply;
 use pst_eval::Env;
-use pst_model::{Expr, opening_of};
+use pst_model::{Expr, initial_state_of};
 use pst_operators::Stop;
 use pst_value::{Boxed, Fault, Items, Value};
 use std::alloc::{AllocError, Global};
@@ -24,7 +24,7 @@ pub enum PreAnswer {
 }
 
 /// Returns the arguments of a command, with recorded results for variables.
-pub fn arguments(
+pub fn recorded_arguments(
     alloc: Global,
     scene: &Scene<'_>,
     call: &Call<'_>,
@@ -37,7 +37,7 @@ pub fn arguments(
 }
 
 /// Returns the reference to the result of a command, or its variable if no result was recorded.
-pub fn reference(alloc: Global, call: &Call<'_>) -> Result<Value, AllocError> {
+pub fn reference_to_result(alloc: Global, call: &Call<'_>) -> Result<Value, AllocError> {
     match call.reply {
         Some(Reply::Value(value)) => Ok(Value::Ref(
             call.number,
@@ -49,7 +49,7 @@ pub fn reference(alloc: Global, call: &Call<'_>) -> Result<Value, AllocError> {
 
 /// Returns the initial state. `None` if the model gives none, or `init` cannot be evaluated.
 pub fn initial_state(alloc: Global, scene: &Scene<'_>) -> Result<Option<Value>, AllocError> {
-    match opening_of(scene.model.items.as_slice()) {
+    match initial_state_of(scene.model.items.as_slice()) {
         Some(opening) => {
             let outcome = evaluate(alloc, scene.model, opening, &Env::Frame(&[], &[]))?;
             Ok(outcome.ok())
@@ -59,17 +59,17 @@ pub fn initial_state(alloc: Global, scene: &Scene<'_>) -> Result<Option<Value>, 
 }
 
 /// Returns the state after a command. `None` if its `next` cannot be evaluated.
-pub fn state_behind(
+pub fn state_after(
     alloc: Global,
     scene: &Scene<'_>,
     state: &Value,
     call: &Call<'_>,
 ) -> Result<Option<Value>, AllocError> {
-    let Some(operation) = operation(scene, call) else {
+    let Some(operation) = operation_of_call(scene, call) else {
         return Ok(None);
     };
-    let args = arguments(alloc, scene, call)?;
-    let result = reference(alloc, call)?;
+    let args = recorded_arguments(alloc, scene, call)?;
+    let result = reference_to_result(alloc, call)?;
     let frame = Env::Frame(operation.params.as_slice(), args.as_slice());
     let outer = Env::With(b"s", &*state, &frame);
     let inner = Env::With(b"r", &result, &outer);
@@ -88,7 +88,7 @@ pub fn states_along(
         return Ok(states);
     };
     for call in calls {
-        let Some(next) = state_behind(alloc, scene, &state, call)? else {
+        let Some(next) = state_after(alloc, scene, &state, call)? else {
             break;
         };
         states.push(state)?;
@@ -105,7 +105,7 @@ pub fn calls_before<'a>(
     word: &[usize],
     call: &Call<'_>,
 ) -> Result<Vec<Call<'a>>, AllocError> {
-    let order = in_order(alloc, &scene.calls, word)?;
+    let order = calls_in_order(alloc, &scene.calls, word)?;
     let count = count_before(order.as_slice(), call.number);
     first_calls(alloc, order.as_slice(), count)
 }
@@ -126,19 +126,19 @@ pub fn state_before(
 }
 
 /// Returns the result of the precondition of a command on `state`.
-pub fn precondition(
+pub fn evaluate_precondition(
     alloc: Global,
     scene: &Scene<'_>,
     state: &Value,
     call: &Call<'_>,
 ) -> Result<PreAnswer, AllocError> {
-    let Some(operation) = operation(scene, call) else {
+    let Some(operation) = operation_of_call(scene, call) else {
         return Ok(PreAnswer::Holds);
     };
     if let Expr::Bool(true) = operation.pre {
         return Ok(PreAnswer::Holds);
     }
-    let args = arguments(alloc, scene, call)?;
+    let args = recorded_arguments(alloc, scene, call)?;
     let frame = Env::Frame(operation.params.as_slice(), args.as_slice());
     let env = Env::With(b"s", &*state, &frame);
     match evaluate(alloc, scene.model, &operation.pre, &env)? {

@@ -53,7 +53,7 @@ pub fn is_integer(word: &Text) -> bool
 }
 
 /// The number with one more digit, if it has at most 64 bits.
-fn next(number: u64, digit: u8) -> Option<u64>
+fn with_digit(number: u64, digit: u8) -> Option<u64>
     ensures { result ≡ spec.in_u64 (number * 10 + (digit - 48)) }
 {
     number
@@ -67,7 +67,7 @@ pub fn magnitude_of(digits: &[u8]) -> Option<u64>
 {
     let mut number = 0;
     for digit in digits {
-        number = next(number, *digit)?;
+        number = with_digit(number, *digit)?;
     }
     Some(number)
 }

@@ -223,7 +223,7 @@ impl Scanner {
 
     /// Adds bytes of the word or text.
     #[tactic(auto, using(crate::proofs::Skips::span_ascii))]
-    fn add(&mut self, alloc: Global, span: &[u8]) -> Result<(), AllocError>
+    fn extend_token(&mut self, alloc: Global, span: &[u8]) -> Result<(), AllocError>
         requires { IsSpan self.old.mode span.now }
         ensures { OnOk result (self.new ≡ spec.with_part (self.old.part ++ span.now) self.old) }
     {
@@ -248,7 +248,7 @@ impl Scanner {
             self.step(alloc, place, bytes[place])?;
             return Ok(place + 1);
         }
-        self.add(alloc, span)?;
+        self.extend_token(alloc, span)?;
         Ok(place + span.len())
     }
 

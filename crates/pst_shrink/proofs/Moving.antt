@@ -4,18 +4,18 @@ use Rattle.pst_case.specs.declared.case.Case.{Case}
 use Rattle.pst_shrink.specs.Candidates.{candidates}
 use Rattle.pst_shrink.specs.Outcomes.{Answers, passed_outcome}
 use Rattle.pst_shrink.specs.Shrinking.{ArePassed, IsTaken, first_of, IsTrail, IsShrunk}
-use Rattle.pst_shrink.specs.declared.attempt.Outcome.{Outcome}
-use Rattle.pst_shrink.specs.declared.attempt.Outcome.TheVariants.{Broke}
-use Rattle.pst_shrink.specs.declared.shrunk.Taken.{Taken}
+use Rattle.pst_shrink.specs.declared.attempt.AttemptOutcome.{AttemptOutcome}
+use Rattle.pst_shrink.specs.declared.attempt.AttemptOutcome.TheVariants.{Broke}
+use Rattle.pst_shrink.specs.declared.shrunk.FailingCase.{FailingCase}
 use Rattle.pst_shrink.specs.declared.shrunk.Shrunk.{Shrunk}
 
-module _ {H : Type 0} (S R : Answers H) (to : (c : Case) (o : Outcome H) → S c o → R c o) where
+module _ {H : Type 0} (S R : Answers H) (to : (c : Case) (o : AttemptOutcome H) → S c o → R c o) where
   pub passed_moves : (cs : List Case) (ts : List (Option (List H))) → ArePassed S cs ts → ArePassed R cs ts
   passed_moves cs [] h = tt
   passed_moves [] (t ∷ ts) h = h
   passed_moves (c ∷ cs) (t ∷ ts) h = (to c (passed_outcome t) h.0, passed_moves cs ts h.1)
 
-  pub taken_moves : (c : Case) (u : Taken H) → IsTaken S c u → IsTaken R c u
+  pub taken_moves : (c : Case) (u : FailingCase H) → IsTaken S c u → IsTaken R c u
   taken_moves c u h = record {
     tried = h.tried;
     passed = passed_moves (candidates c) h.tried h.passed;
@@ -24,11 +24,11 @@ module _ {H : Type 0} (S R : Answers H) (to : (c : Case) (o : Outcome H) → S c
     broke = to u.case (Broke h.earlier u.history) h.broke;
   }
 
-  pub trail_moves : (ts : List (Taken H)) (last : Taken H) → IsTrail S ts last → IsTrail R ts last
+  pub trail_moves : (ts : List (FailingCase H)) (last : FailingCase H) → IsTrail S ts last → IsTrail R ts last
   trail_moves [] last h = tt
   trail_moves (t ∷ ts) last h = (taken_moves t.case (first_of ts last) h.0, trail_moves ts last h.1)
 
-  pub shrunk_moves : (first : Taken H) (old new limit : ℕ) (s : Shrunk H)
+  pub shrunk_moves : (first : FailingCase H) (old new limit : ℕ) (s : Shrunk H)
       → IsShrunk S first old new limit s → IsShrunk R first old new limit s
   shrunk_moves first old new limit s h = record {
     begins = h.begins;

@@ -7,7 +7,7 @@ use pst_value::Items;
 
 /// The result of an attempt at a case.
 #[derive(Debug, Drop)]
-pub enum Outcome<H> {
+pub enum AttemptOutcome<H> {
     /// The case is not valid, so it was not driven.
     NotValid,
     /// The case was driven, and each of these histories holds.
@@ -20,7 +20,7 @@ pub enum Outcome<H> {
 pub trait Attempt {
     ghost use Rattle.std.specs.Prelude.{ℕ};
     ghost use Rattle.pst_case.specs.declared.case.Case.{Case};
-    ghost use Rattle.pst_shrink.specs.declared.attempt.Outcome.{Outcome};
+    ghost use Rattle.pst_shrink.specs.declared.attempt.AttemptOutcome.{AttemptOutcome};
 
     /// What is kept of one run of a case.
     type History: Drop;
@@ -29,7 +29,7 @@ pub trait Attempt {
     type Fault: Drop;
 
     /// The outcomes that it may return for a case.
-    ghost answers: { Self → Case → Outcome Self.History → Type 0 };
+    ghost answers: { Self → Case → AttemptOutcome Self.History → Type 0 };
 
     /// The faults that it may return.
     ghost fails: { Self → Self.Fault → Type 0 };
@@ -41,7 +41,7 @@ pub trait Attempt {
     ghost keeps: { Self → Self → Type 0 };
 
     /// Tries a case. `Err` if it could not be driven.
-    fn attempt(&mut self, case: &Case) -> Result<Outcome<Self::History>, Self::Fault>
+    fn attempt(&mut self, case: &Case) -> Result<AttemptOutcome<Self::History>, Self::Fault>
         requires { driven self.old < 2 ^ 32 }
         ensures answer { IfOk result (λ o. answers self.old case.now o) }
         ensures fault { IfErr result (λ f. fails self.old f) }

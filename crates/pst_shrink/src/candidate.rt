@@ -3,14 +3,14 @@ ghost use Rattle.std.specs.Prelude.{◌≡◌, ◌+◌, ◌^◌, ◌<◌, IfOk, 
 ghost use Rattle.pst_case.specs.Shape.{commands_of};
 ghost use Rattle.pst_shrink.specs.Candidates as spec;
 
-use crate::parts::{count_commands, other_branch_commands, other_commands, uses};
+use crate::parts::{count_commands, is_used, other_branch_commands, other_commands};
 use crate::renumbering::{Renumbering, numbers_by};
 use pst_case::{Case, Command, renumber_command, renumber_commands};
 use pst_value::Items;
 use std::alloc::{AllocError, Global};
 
 /// The case without command `number`.
-fn without(alloc: Global, case: &Case, number: u32) -> Result<Case, AllocError>
+fn without_command(alloc: Global, case: &Case, number: u32) -> Result<Case, AllocError>
     requires room { length (commands_of case.now) + 1 < 2 ^ 32 }
     ensures { IfOk result (λ smaller. smaller ≡ spec.without number case.now) }
 {
@@ -33,7 +33,12 @@ fn without(alloc: Global, case: &Case, number: u32) -> Result<Case, AllocError>
 }
 
 /// The case with a command of a branch, which has the number, moved to the end of the prefix.
-fn moved(alloc: Global, case: &Case, number: u32, command: &Command) -> Result<Case, AllocError>
+fn with_command_moved(
+    alloc: Global,
+    case: &Case,
+    number: u32,
+    command: &Command,
+) -> Result<Case, AllocError>
     requires room { length (commands_of case.now) + 1 < 2 ^ 32 }
     ensures { IfOk result (λ smaller. smaller ≡ spec.moved number command.now case.now) }
 {
@@ -54,22 +59,22 @@ fn moved(alloc: Global, case: &Case, number: u32, command: &Command) -> Result<C
 }
 
 /// The cases without one command whose variable no command uses, by command number.
-fn drops(alloc: Global, case: &Case) -> Result<Items<Case>, AllocError>
+fn cases_without_command(alloc: Global, case: &Case) -> Result<Items<Case>, AllocError>
     requires room { length (commands_of case.now) + 1 < 2 ^ 32 }
     ensures { IfOk result (λ all. all ≡ spec.drops case.now (length (commands_of case.now))) }
 {
     let mut all = Items::new(alloc);
     for before in 0..count_commands(case) {
         let number = before + 1;
-        if !uses(case, number) {
-            all.push(without(alloc, case, number)?)?;
+        if !is_used(case, number) {
+            all.push(without_command(alloc, case, number)?)?;
         }
     }
     Ok(all)
 }
 
 /// The cases with the first command of one branch moved to the end of the prefix, branch by branch.
-fn moves(alloc: Global, case: &Case) -> Result<Items<Case>, AllocError>
+fn cases_with_command_moved(alloc: Global, case: &Case) -> Result<Items<Case>, AllocError>
     requires room { length (commands_of case.now) + 1 < 2 ^ 32 }
     ensures { IfOk result
         (λ all. all ≡ spec.moves case.now (spec.first_of_branches case.now) case.now.branches) }
@@ -78,7 +83,7 @@ fn moves(alloc: Global, case: &Case) -> Result<Items<Case>, AllocError>
     let mut first = case.prefix.len() as u32 + 1;
     for branch in case.branches.as_slice() {
         if let Some(command) = branch.as_slice().first() {
-            all.push(moved(alloc, case, first, command)?)?;
+            all.push(with_command_moved(alloc, case, first, command)?)?;
         }
         first += branch.len() as u32;
     }
@@ -93,7 +98,7 @@ pub fn candidates(alloc: Global, case: &Case) -> Result<Items<Case>, AllocError>
     requires room { length (commands_of case.now) + 1 < 2 ^ 32 }
     ensures { IfOk result (λ all. all ≡ spec.candidates case.now) }
 {
-    let mut all = drops(alloc, case)?;
-    all.append(moves(alloc, case)?)?;
+    let mut all = cases_without_command(alloc, case)?;
+    all.append(cases_with_command_moved(alloc, case)?)?;
     Ok(all)
 }

@@ -12,10 +12,10 @@ mod round;
 mod shrinking;
 mod shrunk;
 
-pub use attempt::{Attempt, Outcome};
+pub use attempt::{Attempt, AttemptOutcome};
 pub use candidate::candidates;
 pub use fault::ShrinkFault;
 pub use laws::candidates_are_lesser;
 pub use renumbering::Renumbering;
 pub use shrinking::shrink;
-pub use shrunk::{Ending, Shrunk, Taken};
+pub use shrunk::{FailingCase, ShrinkEnd, Shrunk};

@@ -52,7 +52,7 @@ fn any_branch_uses(branches: &[Items<Command>], number: u32) -> bool
 
 /// Whether some command uses the variable of the command with this number, or has a reference to its result.
 #[tactic(auto, using(crate::proofs::Counting::searching))]
-pub(crate) fn uses(case: &Case, number: u32) -> bool
+pub(crate) fn is_used(case: &Case, number: u32) -> bool
     ensures { result ≡ is_used number case.now }
 {
     any_uses(case.prefix.as_slice(), number)

@@ -4,7 +4,7 @@ ghost use Rattle.pst_case.specs.Shape.{commands_of};
 ghost use Rattle.pst_shrink.specs.Rounds.{IsRound};
 ghost use Rattle.pst_shrink.specs.Shrinking.{FaultIsReal};
 
-use crate::{Attempt, Ending, Outcome, ShrinkFault, Taken, candidates};
+use crate::{Attempt, AttemptOutcome, FailingCase, ShrinkEnd, ShrinkFault, candidates};
 use pst_case::Case;
 use pst_value::Items;
 use std::alloc::Global;
@@ -13,9 +13,9 @@ use std::alloc::Global;
 #[derive(Debug, Drop)]
 pub(crate) enum Round<H> {
     /// The first candidate that broke, and how many cases may still be driven.
-    Took(Taken<H>, u32),
+    Took(FailingCase<H>, u32),
     /// None broke: the histories of each attempted candidate, or `None` for one that is not valid.
-    Ended(Items<Option<Items<H>>>, Ending),
+    Ended(Items<Option<Items<H>>>, ShrinkEnd),
 }
 
 /// Tries the candidates of a case in order, up to the first that breaks, and drives at most `limit` of them.
@@ -39,23 +39,23 @@ pub(crate) fn try_candidates<A: Attempt>(
     let mut left = limit;
     for candidate in all {
         if left == 0 {
-            return Ok(Round::Ended(tried, Ending::Stopped));
+            return Ok(Round::Ended(tried, ShrinkEnd::Stopped));
         }
         let outcome = match attempt.attempt(candidate) {
             Ok(outcome) => outcome,
             Err(fault) => return Err(ShrinkFault::Attempt(fault)),
         };
         match outcome {
-            Outcome::NotValid => tried.push(None)?,
-            Outcome::Held(histories) => {
+            AttemptOutcome::NotValid => tried.push(None)?,
+            AttemptOutcome::Held(histories) => {
                 left -= 1;
                 tried.push(Some(histories))?;
             }
-            Outcome::Broke(_, history) => {
+            AttemptOutcome::Broke(_, history) => {
                 let case = candidate.copy(alloc)?;
-                return Ok(Round::Took(Taken { case, history }, left - 1));
+                return Ok(Round::Took(FailingCase { case, history }, left - 1));
             }
         }
     }
-    Ok(Round::Ended(tried, Ending::Minimal))
+    Ok(Round::Ended(tried, ShrinkEnd::Minimal))
 }

@@ -4,7 +4,7 @@ ghost use Rattle.pst_shrink.specs.Weight.{weight};
 ghost use Rattle.pst_shrink.specs.Shrinking.{IsShrunk, FaultIsReal};
 
 use crate::round::{Round, try_candidates};
-use crate::{Attempt, ShrinkFault, Shrunk, Taken};
+use crate::{Attempt, FailingCase, ShrinkFault, Shrunk};
 use pst_case::Case;
 use pst_value::Items;
 use std::alloc::Global;
@@ -31,7 +31,7 @@ pub fn shrink<A: Attempt>(
     ensures keeps { A.keeps attempt.old attempt.new }
 {
     let mut before = Items::new(alloc);
-    let mut last = Taken {
+    let mut last = FailingCase {
         case: first,
         history,
     };

@@ -27,7 +27,7 @@ pub fn first_item(input: &[u8]) -> Option<&'static str> {
 }
 
 /// Returns what messages call an item that the word `head` heads.
-fn called(head: Option<&'static str>) -> &'static str {
+fn item_noun(head: Option<&'static str>) -> &'static str {
     match head {
         Some("model2") => "model",
         Some(word) => word,
@@ -48,7 +48,7 @@ pub fn closed_item(input: &[u8], stray: usize) -> Option<ClosedItem> {
         let head = head_at(input, span.start);
         last = Some(ClosedItem {
             span,
-            called: called(head),
+            called: item_noun(head),
         });
         if head.is_some() {
             item = last;

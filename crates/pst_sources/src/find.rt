@@ -4,7 +4,7 @@ use crate::scan::tree_at;
 use crate::span::Span;
 
 /// Returns the tree after the first `count` trees from `from` on.
-fn behind(input: &[u8], from: usize, count: usize) -> Span {
+fn tree_after(input: &[u8], from: usize, count: usize) -> Span {
     let mut at = from;
     for _ in 0..count {
         at = tree_at(input, at).end;
@@ -13,8 +13,8 @@ fn behind(input: &[u8], from: usize, count: usize) -> Span {
 }
 
 /// Returns tree `number`, from 0, of those that begin at `from` and end before a `)` or the end of the input.
-fn numbered(input: &[u8], from: usize, number: usize) -> Option<Span> {
-    let span = behind(input, from, number);
+fn tree_numbered(input: &[u8], from: usize, number: usize) -> Option<Span> {
+    let span = tree_after(input, from, number);
     if input.get(span.start) == Some(&b')') || span.start == span.end {
         None
     } else {
@@ -25,7 +25,7 @@ fn numbered(input: &[u8], from: usize, number: usize) -> Option<Span> {
 /// Returns part `number`, from 0, of the node `tree`.
 fn part_of(input: &[u8], tree: Span, number: usize) -> Option<Span> {
     if input.get(tree.start) == Some(&b'(') {
-        numbered(input, tree.start.saturating_add(1), number)
+        tree_numbered(input, tree.start.saturating_add(1), number)
     } else {
         None
     }
@@ -54,7 +54,7 @@ pub fn span_of(input: &[u8], path: &[usize]) -> Span {
     let Some((first, rest)) = path.split_first() else {
         return all;
     };
-    match numbered(input, 0, *first) {
+    match tree_numbered(input, 0, *first) {
         Some(tree) => span_in(input, tree, rest),
         None => all,
     }

@@ -27,6 +27,6 @@ pub use input::{FilePart, Input, LastLine};
 pub use laws::starts;
 pub use notice::{Notice, NoticePlace, Notices, notice_text, place_in, text_of};
 pub use open::{Unclosed, open_item};
-pub use scan::{State, after, is_space, tree_at};
+pub use scan::{State, is_space, state_after, tree_at};
 pub use shown::{LineStart, Place, first_line, line_from, place_of, place_on};
 pub use span::Span;

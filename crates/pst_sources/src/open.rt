@@ -1,6 +1,6 @@
 //! Finds the item that is probably not closed if a `)` is missing.
 
-use crate::scan::{State, after, is_bracket, is_space};
+use crate::scan::{State, is_bracket, is_space, state_after};
 use crate::span::Span;
 
 /// An item that is probably not closed.
@@ -108,7 +108,7 @@ pub fn open_item(input: &[u8]) -> Option<Unclosed> {
         } else if is_bracket(state, byte, b')') {
             depth = depth.saturating_sub(1);
         }
-        state = after(state, byte);
+        state = state_after(state, byte);
     }
     let item = bracket(last?);
     Some(Unclosed { item, next: None })

@@ -39,7 +39,7 @@ fn outside(byte: u8) -> State {
 }
 
 /// Returns the state after `byte` in `state`.
-pub fn after(state: State, byte: u8) -> State {
+pub fn state_after(state: State, byte: u8) -> State {
     match state {
         State::Between | State::Word => outside(byte),
         State::Comment => {
@@ -67,7 +67,7 @@ pub fn is_bracket(state: State, byte: u8, bracket: u8) -> bool {
 pub fn skip_blank(input: &[u8], from: usize) -> usize {
     let mut state = State::Between;
     for at in from..input.len() {
-        state = after(state, input[at]);
+        state = state_after(state, input[at]);
         let is_blank = state == State::Comment || is_space(input[at]) && state == State::Between;
         if !is_blank {
             return at;
@@ -98,7 +98,7 @@ fn closed_end(input: &[u8], from: usize) -> usize {
             depth = depth.saturating_sub(1);
         }
         let was_text = state == State::Text;
-        state = after(state, byte);
+        state = state_after(state, byte);
         let has_ended = byte == b')' || was_text;
         if depth == 0 && state == State::Between && has_ended {
             return at.saturating_add(1);

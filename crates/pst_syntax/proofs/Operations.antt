@@ -11,7 +11,7 @@ use Rattle.std.proofs.lemmas.Slice.Eq.{bytes_eq-Decides}
 use Rattle.pst_model.specs.Language.{holds_map, IsWithoutMaps, KeepsLanguage}
 use Rattle.pst_model.specs.Levels.{levels}
 use Rattle.pst_model.specs.Operations.{HasOperations}
-use Rattle.pst_model.specs.Parts.{operations_of, operation_of, number_of, types_of}
+use Rattle.pst_model.specs.Parts.{operations_of, operation_of, operation_number, types_of}
 use Rattle.pst_model.specs.declared.model.Item.{Item}
 use Rattle.pst_model.specs.declared.model.Item.TheVariants as item
 use Rattle.pst_model.specs.declared.model.Op.{Op}
@@ -36,26 +36,26 @@ kept_step false None r' h n e = absurd (cc)
 kept_step false (Some k) r' h n e = ap (option_map suc) (h k refl) ∙ e
 
 -- the number of an operation stays where one more item comes
-number_kept : (seen : List Item) (i : Item) (x : List ℕ) (n : ℕ) → number_of seen x ≡ Some n → number_of (seen ++ i ∷ []) x ≡ Some n
+number_kept : (seen : List Item) (i : Item) (x : List ℕ) (n : ℕ) → operation_number seen x ≡ Some n → operation_number (seen ++ i ∷ []) x ≡ Some n
 number_kept [] i x n e = absurd (cc)
 number_kept (item.State t ∷ seen) i x n e = number_kept seen i x n e
 number_kept (item.Init t ∷ seen) i x n e = number_kept seen i x n e
 number_kept (item.Command t ∷ seen) i x n e = number_kept seen i x n e
 number_kept (item.Fun t ∷ seen) i x n e = number_kept seen i x n e
-number_kept (item.Op o ∷ seen) i x n e = kept_step (bytes_eq o.name x) (number_of seen x) (number_of (seen ++ i ∷ []) x) (number_kept seen i x) n e
+number_kept (item.Op o ∷ seen) i x n e = kept_step (bytes_eq o.name x) (operation_number seen x) (operation_number (seen ++ i ∷ []) x) (number_kept seen i x) n e
 
 new_step : (b rest : Bool) (r : Option ℕ) (k : ℕ) → (rest ≡ false → r ≡ Some k) → (b || rest) ≡ false → (if b then Some 0 else option_map suc r) ≡ Some (suc k)
 new_step true rest r k h e = absurd (cc)
 new_step false rest r k h e = ap (option_map suc) (h e)
 
 -- an operation of a new name gets the next number
-number_new : (seen : List Item) (o : Op) → list_any (is_op_named o.name) seen ≡ false → number_of (seen ++ item.Op o ∷ []) o.name ≡ Some (length (operations_of seen))
+number_new : (seen : List Item) (o : Op) → list_any (is_op_named o.name) seen ≡ false → operation_number (seen ++ item.Op o ∷ []) o.name ≡ Some (length (operations_of seen))
 number_new [] o e = ap (λ b. if b then Some 0 else option_map suc None) ((bytes_eq-Decides o.name o.name).1 refl)
 number_new (item.State t ∷ seen) o e = number_new seen o e
 number_new (item.Init t ∷ seen) o e = number_new seen o e
 number_new (item.Command t ∷ seen) o e = number_new seen o e
 number_new (item.Fun t ∷ seen) o e = number_new seen o e
-number_new (item.Op p ∷ seen) o e = new_step (bytes_eq p.name o.name) (list_any (is_op_named o.name) seen) (number_of (seen ++ item.Op o ∷ []) o.name) (length (operations_of seen)) (number_new seen o) e
+number_new (item.Op p ∷ seen) o e = new_step (bytes_eq p.name o.name) (list_any (is_op_named o.name) seen) (operation_number (seen ++ item.Op o ∷ []) o.name) (length (operations_of seen)) (number_new seen o) e
 
 one_counted : (i : Item) (items : List Item) → length (operations_of (i ∷ items)) ≡ cond (is_op i) (1 + length (operations_of items)) (length (operations_of items))
 one_counted (item.State t) items = refl
@@ -191,7 +191,7 @@ read_op maps seen x ps t callbacks o e =
 -- each operation of the items is well read, and the first of its name
 record EachOp (maps : Bool) (items : List Item) (at : ℕ) (o : Op) : Type 0 where
   name : is_name o.name ≡ true
-  number : number_of items o.name ≡ Some at
+  number : operation_number items o.name ≡ Some at
   result : nat_le (levels o.result) ty_room ≡ true
   parameters : list_all (λ param. nat_le (levels param.ty) ty_room) o.params ≡ true
   plain : maps ≡ false → IsWithoutMaps o
@@ -212,7 +212,7 @@ one_more maps seen i number o all read (inl e) =
     record { name = each.name; number = number_kept seen i o.name number each.number; result = each.result; parameters = each.parameters; plain = each.plain }
 one_more maps seen i number o all read (inr e) =
     let each = read o e.0 in
-    let last : number_of (seen ++ i ∷ []) o.name ≡ Some (length (operations_of seen)) = ap (λ i. number_of (seen ++ i ∷ []) o.name) e.0 ∙ number_new seen o each.new in
+    let last : operation_number (seen ++ i ∷ []) o.name ≡ Some (length (operations_of seen)) = ap (λ i. operation_number (seen ++ i ∷ []) o.name) e.0 ∙ number_new seen o each.new in
     record { name = each.name; number = last ∙ ap Some (sym e.1); result = each.result; parameters = each.parameters; plain = each.plain }
 
 read_parts : (maps : Bool) (seen : List Item) (shape : ItemShape) (i : Item) → item_parts maps seen shape ≡ Ok i → ReadItem maps seen i

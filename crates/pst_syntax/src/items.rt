@@ -16,7 +16,7 @@ use crate::item_shapes::{
 };
 use crate::limits::{MAX_DECLARED, MAX_EXPR_LEVELS, MAX_PARTS, MAX_TY_LEVELS};
 use crate::names::{declared, is_free, is_name};
-use crate::read::{expr, ty};
+use crate::read::{read_expr, read_ty};
 use pst_model::{Expr, Fun, Item, Op, Param};
 use pst_sexpr::Form;
 use pst_value::{Boxed, Items, Text, Ty};
@@ -26,14 +26,14 @@ use std::alloc::Global;
 fn whole_ty(alloc: Global, has_maps: bool, form: &Form) -> Result<Ty, FaultKind>
     ensures { Gives result (spec.whole_ty has_maps form.now) }
 {
-    ty(alloc, has_maps, form, MAX_TY_LEVELS)
+    read_ty(alloc, has_maps, form, MAX_TY_LEVELS)
 }
 
 /// Reads an expression that is part of no other expression.
 fn whole_expr(alloc: Global, has_maps: bool, form: &Form) -> Result<Expr, FaultKind>
     ensures { Gives result (spec.whole_expr has_maps form.now) }
 {
-    expr(alloc, has_maps, form, MAX_EXPR_LEVELS)
+    read_expr(alloc, has_maps, form, MAX_EXPR_LEVELS)
 }
 
 fn is_param(params: &[Param], word: &Text) -> bool

@@ -46,13 +46,13 @@ fn used_operation(alloc: Global, name: &Text) -> Result<Text, FaultKind>
 }
 
 /// An integer, if it has at most 64 bits.
-fn int(word: &Text) -> Option<Expr>
+fn read_int(word: &Text) -> Option<Expr>
     ensures { ok_or result OverLimit ≡ spec.int_of word.now }
 {
     Some(Expr::Int(value_of(word)?))
 }
 
-fn text(alloc: Global, text: &Text) -> Result<Expr, FaultKind>
+fn read_text(alloc: Global, text: &Text) -> Result<Expr, FaultKind>
     ensures { Gives result (spec.text_of text.now) }
 {
     if text.len() > LIMIT {
@@ -77,9 +77,9 @@ fn application(alloc: Global, function: &Text, arguments: Items<Expr>) -> Result
 }
 
 /// Reads a type with `room` levels of room. `has_maps` says whether the language has maps.
-#[cycle(ty)]
+#[cycle(read_ty)]
 #[tactic(auto, using(crate::proofs::Rooms::ty_rooms))]
-pub fn ty(alloc: Global, has_maps: bool, form: &Form, room: usize) -> Result<Ty, FaultKind>
+pub fn read_ty(alloc: Global, has_maps: bool, form: &Form, room: usize) -> Result<Ty, FaultKind>
     ensures { Gives result (spec.ty_of has_maps room form.now) }
 {
     let Some(shape) = ty_shape(has_maps, form) else {
@@ -91,7 +91,7 @@ pub fn ty(alloc: Global, has_maps: bool, form: &Form, room: usize) -> Result<Ty,
     ty_parts(alloc, has_maps, &shape, room - 1)
 }
 
-#[cycle(ty)]
+#[cycle(read_ty)]
 fn ty_parts(
     alloc: Global,
     has_maps: bool,
@@ -117,28 +117,28 @@ fn ty_parts(
     }
 }
 
-#[cycle(ty)]
+#[cycle(read_ty)]
 fn boxed_ty(alloc: Global, has_maps: bool, form: &Form, room: usize) -> Result<Boxed<Ty>, FaultKind>
     ensures { Gives result (spec.ty_of has_maps room form.now) }
 {
-    Ok(Boxed::new(alloc, ty(alloc, has_maps, form, room)?)?)
+    Ok(Boxed::new(alloc, read_ty(alloc, has_maps, form, room)?)?)
 }
 
-#[cycle(ty)]
+#[cycle(read_ty)]
 fn tys(alloc: Global, has_maps: bool, forms: &[Form], room: usize) -> Result<Items<Ty>, FaultKind>
     ensures { Gives result (spec.each (spec.ty_of has_maps room) forms.now) }
 {
     let mut types = Items::new(alloc);
     for form in forms {
-        types.push(ty(alloc, has_maps, form, room)?)?;
+        types.push(read_ty(alloc, has_maps, form, room)?)?;
     }
     Ok(types)
 }
 
 /// Reads an expression with `room` levels of room. `has_maps` says whether the language has maps.
-#[cycle(expr)]
+#[cycle(read_expr)]
 #[tactic(auto, using(crate::proofs::Rooms::expr_rooms))]
-pub fn expr(alloc: Global, has_maps: bool, form: &Form, room: usize) -> Result<Expr, FaultKind>
+pub fn read_expr(alloc: Global, has_maps: bool, form: &Form, room: usize) -> Result<Expr, FaultKind>
     ensures { Gives result (spec.expr_of has_maps room form.now) }
 {
     let Some(shape) = shape_of(has_maps, form) else {
@@ -150,7 +150,7 @@ pub fn expr(alloc: Global, has_maps: bool, form: &Form, room: usize) -> Result<E
     expr_parts(alloc, has_maps, &shape, room - 1)
 }
 
-#[cycle(expr)]
+#[cycle(read_expr)]
 fn expr_parts(
     alloc: Global,
     has_maps: bool,
@@ -162,12 +162,12 @@ fn expr_parts(
         (shown shape.now)) }
 {
     match shape {
-        Shape::Integer(word) => int(word).ok_or(FaultKind::OverLimit),
+        Shape::Integer(word) => read_int(word).ok_or(FaultKind::OverLimit),
         Shape::Truth(truth) => Ok(Expr::Bool(*truth)),
-        Shape::Quoted(bytes) => text(alloc, bytes),
+        Shape::Quoted(bytes) => read_text(alloc, bytes),
         Shape::Used(name) => Ok(Expr::Name(name.copy(alloc)?)),
-        Shape::Let(name, value, body) => let_in(alloc, has_maps, name, value, body, room),
-        Shape::If(test, yes, no) => choice(alloc, has_maps, test, yes, no, room),
+        Shape::Let(name, value, body) => read_let(alloc, has_maps, name, value, body, room),
+        Shape::If(test, yes, no) => read_if(alloc, has_maps, test, yes, no, room),
         Shape::And(a, b) => {
             let a = boxed(alloc, has_maps, a, room)?;
             Ok(Expr::And(a, boxed(alloc, has_maps, b, room)?))
@@ -181,15 +181,18 @@ fn expr_parts(
             let a = boxed(alloc, has_maps, a, room)?;
             Ok(Expr::Binary(*operator, a, boxed(alloc, has_maps, b, room)?))
         }
-        Shape::Tuple(items) => tuple(alloc, has_maps, items, room),
+        Shape::Tuple(items) => read_tuple(alloc, has_maps, items, room),
         Shape::At(tuple, place) => {
             item_at(boxed(alloc, has_maps, tuple, room)?, place).ok_or(FaultKind::OverLimit)
         }
-        Shape::List(item, items) => list(alloc, has_maps, item, items, room),
-        Shape::For(parts, body) => comprehension(alloc, has_maps, parts, body, room),
-        Shape::Fold(shape) => fold(alloc, has_maps, shape, room),
-        Shape::Map(key, value) => Ok(Expr::Map(*key, ty(alloc, has_maps, value, MAX_TY_LEVELS)?)),
-        Shape::Put(map, key, value) => put(alloc, has_maps, map, key, value, room),
+        Shape::List(item, items) => read_list(alloc, has_maps, item, items, room),
+        Shape::For(parts, body) => read_for(alloc, has_maps, parts, body, room),
+        Shape::Fold(shape) => read_fold(alloc, has_maps, shape, room),
+        Shape::Map(key, value) => Ok(Expr::Map(
+            *key,
+            read_ty(alloc, has_maps, value, MAX_TY_LEVELS)?,
+        )),
+        Shape::Put(map, key, value) => read_put(alloc, has_maps, map, key, value, room),
         Shape::Call(operation, arguments) => {
             let operation = used_operation(alloc, operation)?;
             Ok(Expr::Call(operation, exprs(alloc, has_maps, arguments, room)?))
@@ -200,16 +203,16 @@ fn expr_parts(
     }
 }
 
-#[cycle(expr)]
+#[cycle(read_expr)]
 fn boxed(alloc: Global, has_maps: bool, form: &Form, room: usize) -> Result<Boxed<Expr>, FaultKind>
     ensures { Gives result (spec.expr_of has_maps room form.now) }
 {
-    Ok(Boxed::new(alloc, expr(alloc, has_maps, form, room)?)?)
+    Ok(Boxed::new(alloc, read_expr(alloc, has_maps, form, room)?)?)
 }
 
 /// A tuple of few items.
-#[cycle(expr)]
-fn tuple(alloc: Global, has_maps: bool, items: &[Form], room: usize) -> Result<Expr, FaultKind>
+#[cycle(read_expr)]
+fn read_tuple(alloc: Global, has_maps: bool, items: &[Form], room: usize) -> Result<Expr, FaultKind>
     ensures { Gives result
         (spec.expr_parts has_maps (spec.ty_of has_maps ty_room) (spec.expr_of has_maps room)
         (Tuple items.now)) }
@@ -221,8 +224,8 @@ fn tuple(alloc: Global, has_maps: bool, items: &[Form], room: usize) -> Result<E
 }
 
 /// A list of items of a type.
-#[cycle(expr)]
-fn list(
+#[cycle(read_expr)]
+fn read_list(
     alloc: Global,
     has_maps: bool,
     item: &Form,
@@ -233,13 +236,13 @@ fn list(
         (spec.expr_parts has_maps (spec.ty_of has_maps ty_room) (spec.expr_of has_maps room)
         (ListOf item.now items.now)) }
 {
-    let item = ty(alloc, has_maps, item, MAX_TY_LEVELS)?;
+    let item = read_ty(alloc, has_maps, item, MAX_TY_LEVELS)?;
     Ok(Expr::List(item, exprs(alloc, has_maps, items, room)?))
 }
 
 /// A body that sees a value under a name.
-#[cycle(expr)]
-fn let_in(
+#[cycle(read_expr)]
+fn read_let(
     alloc: Global,
     has_maps: bool,
     name: &Text,
@@ -257,8 +260,8 @@ fn let_in(
 }
 
 /// One of two expressions, by a test.
-#[cycle(expr)]
-fn choice(
+#[cycle(read_expr)]
+fn read_if(
     alloc: Global,
     has_maps: bool,
     test: &Form,
@@ -276,8 +279,8 @@ fn choice(
 }
 
 /// A comprehension.
-#[cycle(expr)]
-fn comprehension(
+#[cycle(read_expr)]
+fn read_for(
     alloc: Global,
     has_maps: bool,
     parts: &[Form],
@@ -291,13 +294,13 @@ fn comprehension(
     if parts.len() > MAX_PARTS {
         return Err(FaultKind::OverLimit);
     }
-    let clauses = clauses(alloc, has_maps, parts, room)?;
+    let clauses = read_clauses(alloc, has_maps, parts, room)?;
     Ok(Expr::For(clauses, boxed(alloc, has_maps, body, room)?))
 }
 
 /// A fold over a list.
-#[cycle(expr)]
-fn fold(
+#[cycle(read_expr)]
+fn read_fold(
     alloc: Global,
     has_maps: bool,
     shape: &FoldShape<'_>,
@@ -322,8 +325,8 @@ fn fold(
 }
 
 /// A map with a key and its value.
-#[cycle(expr)]
-fn put(
+#[cycle(read_expr)]
+fn read_put(
     alloc: Global,
     has_maps: bool,
     map: &Form,
@@ -340,7 +343,7 @@ fn put(
     Ok(Expr::Put(map, key, boxed(alloc, has_maps, value, room)?))
 }
 
-#[cycle(expr)]
+#[cycle(read_expr)]
 fn exprs(
     alloc: Global,
     has_maps: bool,
@@ -351,13 +354,13 @@ fn exprs(
 {
     let mut expressions = Items::new(alloc);
     for form in forms {
-        expressions.push(expr(alloc, has_maps, form, room)?)?;
+        expressions.push(read_expr(alloc, has_maps, form, room)?)?;
     }
     Ok(expressions)
 }
 
-#[cycle(expr)]
-fn clauses(
+#[cycle(read_expr)]
+fn read_clauses(
     alloc: Global,
     has_maps: bool,
     forms: &[Form],
@@ -368,13 +371,13 @@ fn clauses(
 {
     let mut clauses = Items::new(alloc);
     for form in forms {
-        clauses.push(clause(alloc, has_maps, form, room)?)?;
+        clauses.push(read_clause(alloc, has_maps, form, room)?)?;
     }
     Ok(clauses)
 }
 
-#[cycle(expr)]
-fn clause(alloc: Global, has_maps: bool, form: &Form, room: usize) -> Result<Clause, FaultKind>
+#[cycle(read_expr)]
+fn read_clause(alloc: Global, has_maps: bool, form: &Form, room: usize) -> Result<Clause, FaultKind>
     ensures { Gives result (spec.clause_of has_maps (spec.expr_of has_maps room) form.now) }
 {
     let Some(shape) = clause_shape(form) else {
@@ -383,8 +386,8 @@ fn clause(alloc: Global, has_maps: bool, form: &Form, room: usize) -> Result<Cla
     match shape {
         ClauseShape::In(name, list) => {
             let name = bound(alloc, has_maps, name)?;
-            Ok(Clause::In(name, expr(alloc, has_maps, list, room)?))
+            Ok(Clause::In(name, read_expr(alloc, has_maps, list, room)?))
         }
-        ClauseShape::When(test) => Ok(Clause::When(expr(alloc, has_maps, test, room)?)),
+        ClauseShape::When(test) => Ok(Clause::When(read_expr(alloc, has_maps, test, room)?)),
     }
 }

@@ -4,25 +4,40 @@ use pst_clients::{ClientAnswer, Clients, Connection, Notes, answer_of, call_line
 use pst_system::{RealCall, System};
 use pst_value::{Boxed, Items, Key, KeyTy, Text, Ty, Value};
 use std::alloc::{AllocError, Global};
+use std::rt::Files;
 use std::sync::{Arc, Wait};
 use std::test::Fail;
 
 /// Clients whose lines are known.
 type KnownClients<'a, H> = Clients<H, &'a [u8], Vec<u8>>;
 
-/// One client that prints these lines, whatever the request. The model has one operation, with an integer
-/// result.
-fn one_client<'a, H: Wait + Send + Sync + Drop>(
+/// One client at these pipes. The model has one operation, with an integer result.
+fn client_at<'a, H: Wait + Files + Send + Sync + Drop>(
+    rt: H,
+    alloc: Global,
+    notes: &Arc<Notes, Global>,
+    connection: Connection<&'a [u8], Vec<u8>>,
+) -> Result<KnownClients<'a, H>, AllocError> {
+    let mut results = Items::new(alloc);
+    results.push(Ty::Int)?;
+    let mut clients = Clients::new(rt, alloc, 0, false, results, Arc::try_clone(notes)?);
+    clients.add(connection)?;
+    Ok(clients)
+}
+
+/// One client that prints these lines, whatever the request.
+fn one_client<'a, H: Wait + Files + Send + Sync + Drop>(
     rt: H,
     alloc: Global,
     notes: &Arc<Notes, Global>,
     lines: &'a str,
 ) -> Result<KnownClients<'a, H>, AllocError> {
-    let mut results = Items::new(alloc);
-    results.push(Ty::Int)?;
-    let mut clients = Clients::new(rt, alloc, 0, false, results, Arc::try_clone(notes)?);
-    clients.add(Connection::new(alloc, lines.as_bytes(), Vec::new(alloc)))?;
-    Ok(clients)
+    client_at(
+        rt,
+        alloc,
+        notes,
+        Connection::new(alloc, lines.as_bytes(), Vec::new(alloc)),
+    )
 }
 
 /// The call `(put ARG)`.
@@ -34,7 +49,7 @@ fn put(alloc: Global, arg: Value) -> Result<RealCall, AllocError> {
 }
 
 /// The answers to one reset and then `calls` calls, each after a space.
-fn answers<H: Wait + Send + Sync + Drop>(
+fn answers<H: Wait + Files + Send + Sync + Drop>(
     alloc: Global,
     clients: &mut KnownClients<'_, H>,
     calls: u32,
@@ -105,6 +120,34 @@ fn a_client_is_started_again_by_a_reset(rt: HostRuntime) -> Result<(), Fail> {
     let text = format!(in alloc; "{before}{behind}")?;
     let wanted = " Ok(()) Ok(Int(7)) Err(Refused) Err(Refused) Ok(()) Ok(Int(8))";
     assert_eq!(rt; text.as_str(), wanted);
+    Ok(())
+}
+
+/// What a client prints that prints lines too many, with the line that the program writes to its pipe at each
+/// reset and reads up to.
+const STRAY_LINES: &str =
+    "\x18pst\ntrue\n7\ndebug\nmore\n\x18pst\n\x18pst\ntrue\n8\n\x18pst\n9\ntrue\n\x18pst\n\x18pst\ntrue\nlate\n\x18pst\ntrue\n";
+
+#[test]
+fn a_reset_fails_after_a_line_too_many(rt: HostRuntime) -> Result<(), Fail> {
+    let alloc = rt.alloc();
+    let notes = Arc::new(alloc, Notes::new(alloc)?)?;
+    let pipe = String::from_str(alloc, "answers")?;
+    std::fs::write(&rt, pipe.as_str(), "")?;
+    let client = Connection::new(alloc, STRAY_LINES.as_bytes(), Vec::new(alloc)).at_pipe(pipe);
+    let mut clients = client_at(rt, alloc, &notes, client)?;
+    let mut text = String::new(alloc);
+    for calls in [1u32, 0, 1, 0, 0, 0] {
+        text.push_str(answers(alloc, &mut clients, calls)?.as_str())?;
+    }
+    let wanted = " Ok(()) Ok(Int(7)) Err(Refused) Ok(()) Ok(Int(8)) Err(Refused) Ok(()) Ok(())";
+    assert_eq!(rt; text.as_str(), wanted);
+    let wanted =
+        "client 1-1: [\"put\",1] was followed by a line too many: debug; print one line for each line, and log lines to standard error
+client 1-1: [\"reset\"] was followed by a line too many: true; print one line for each line, and log lines to standard error
+client 1-1: [\"reset\"] was followed by a line too many: late; print one line for each line, and log lines to standard error
+";
+    assert_eq!(rt; notes.text()?.as_str(), wanted);
     Ok(())
 }
 

@@ -2,7 +2,7 @@
 
 use crate::driving::is_driven_so;
 use crate::hostile::Odd;
-use pst_driver::{MOST_KEPT, Misfits, Overheard, misfits_text};
+use pst_driver::{MOST_KEPT, MisfitRecorder, Misfits, misfits_text};
 use pst_system::BoxedSystem;
 use pst_tests::support::{COUNTER, SAYING};
 use pst_tests::systems::{Liar, NoGet};
@@ -19,7 +19,7 @@ const TWO_MISFITS: &str =
 fn misfits_over(alloc: Global, model: &str) -> Result<Arc<Misfits, Global>, AllocError> {
     let misfits = Misfits::new(alloc)?;
     if let Ok(file) = load(alloc, model.as_bytes())? {
-        misfits.compare_with(file.typed);
+        misfits.set_model(file.typed);
     }
     Ok(Arc::new(alloc, misfits)?)
 }
@@ -30,7 +30,7 @@ fn misfits_over(alloc: Global, model: &str) -> Result<Arc<Misfits, Global>, Allo
 fn eight_misfits_are_kept(rt: HostRuntime) -> Result<(), Fail> {
     let alloc = rt.alloc();
     let misfits = misfits_over(alloc, COUNTER)?;
-    let mut liar: BoxedSystem = Box::new(alloc, Overheard::new(Liar, Some(misfits.clone()?)))?;
+    let mut liar: BoxedSystem = Box::new(alloc, MisfitRecorder::new(Liar, Some(misfits.clone()?)))?;
     for _ in 0..5u8 {
         assert!(rt; is_driven_so(&rt, alloc, COUNTER, TWO_MISFITS, &mut liar) == Some(true));
     }
@@ -50,7 +50,7 @@ fn odd_answers_are_spelled(rt: HostRuntime) -> Result<(), Fail> {
     let misfits = misfits_over(alloc, SAYING)?;
     let mut odd: BoxedSystem = Box::new(
         alloc,
-        Overheard::new(Odd::new(alloc), Some(misfits.clone()?)),
+        MisfitRecorder::new(Odd::new(alloc), Some(misfits.clone()?)),
     )?;
     let item = "(run (prefix (inc)) (left) (right) (replies (misfit) () ()))";
     for _ in 0..3u8 {
@@ -71,7 +71,7 @@ fn what_fits_is_not_noted(rt: HostRuntime) -> Result<(), Fail> {
     let misfits = misfits_over(alloc, COUNTER)?;
     let mut no_get: BoxedSystem = Box::new(
         alloc,
-        Overheard::new(NoGet::new(), Some(misfits.clone()?)),
+        MisfitRecorder::new(NoGet::new(), Some(misfits.clone()?)),
     )?;
     let item =
         "(run (prefix (inc)) (left (get) (inc)) (right (inc)) (replies (1) (failed not-run) (2)))";
@@ -89,7 +89,7 @@ fn nothing_is_noted_without_a_model(rt: HostRuntime) -> Result<(), Fail> {
     let alloc = rt.alloc();
     let misfits = Arc::new(alloc, Misfits::new(alloc)?)?;
     for place in [Some(misfits.clone()?), None] {
-        let mut liar: BoxedSystem = Box::new(alloc, Overheard::new(Liar, place))?;
+        let mut liar: BoxedSystem = Box::new(alloc, MisfitRecorder::new(Liar, place))?;
         assert!(rt; is_driven_so(&rt, alloc, COUNTER, TWO_MISFITS, &mut liar) == Some(true));
     }
     assert_eq!(rt; misfits.count(), 0);

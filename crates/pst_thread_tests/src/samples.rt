@@ -1,6 +1,6 @@
 //! What `pst run` writes of cases that are driven on the sample systems.
 
-use pst_cli::{Absence, Status, known_system, refuse_text, run_text};
+use pst_cli::{Absence, Status, is_known_system, refuse_text, run_text};
 use pst_samples::{Counter, Meet, Queue, Registry, Stuck};
 use pst_sexpr::Out;
 use pst_system::BoxedSystem;
@@ -165,7 +165,7 @@ fn callers_are_driven_at_once(rt: HostRuntime) -> Result<(), Fail> {
 
 #[test]
 fn other_systems_are_refused(rt: HostRuntime) {
-    assert!(rt; known_system("meet") && !known_system("none"));
+    assert!(rt; is_known_system("meet") && !is_known_system("none"));
     let mut out = Out::new(Vec::new(rt.alloc()));
     assert_eq!(rt;
         refuse_text(Absence::NoSystem("none"), &mut out),

@@ -7,9 +7,9 @@ use Rattle.pst_case.specs.declared.history.History.{History}
 use Rattle.pst_model.specs.declared.model.Source.{Source}
 use Rattle.pst_shrink.proofs.Moving.{shrunk_moves}
 use Rattle.pst_shrink.specs.Weight.{weight}
-use Rattle.pst_shrink.specs.declared.attempt.Outcome.TheVariants.{Held, Broke}
+use Rattle.pst_shrink.specs.declared.attempt.AttemptOutcome.TheVariants.{Held, Broke}
 use Rattle.pst_shrink.specs.declared.shrunk.Shrunk.{Shrunk}
-use Rattle.pst_trial.specs.Moving.{answer_moves}
+use Rattle.pst_trial.specs.Moving.{answer_moves, answer_moves_in}
 use Rattle.pst_trial.specs.Driving.{Histories}
 use Rattle.pst_trial.specs.JudgedRuns.{is_explained, IsJudgedRun, AreExplained, IsAnswer}
 use Rattle.pst_trial.specs.PlanView.{PlanView}
@@ -40,15 +40,28 @@ module _ (may_drive : Histories) (p : PlanView) (k : ℕ) where
   )
   tried_sound c (Failed earlier s) generated h = (c, generated, h)
 
+-- by two relations of the histories of the cases of the plan's model
+module _ (D E : Histories) (p : PlanView)
+    (to : (c : Case) (h : History) → D (record { model = p.model; case = c }) h → E (record { model = p.model; case = c }) h) where
+  failure_moves_in : (c : Case) (earlier : List JudgedRun) (s : Shrunk JudgedRun)
+      → IsFailure D p c earlier s → IsFailure E p c earlier s
+  failure_moves_in c earlier s f = record {
+    run = f.run;
+    broke = answer_moves_in D E p.model to p.settings.repeats c (Broke earlier f.run) f.broke;
+    driven = f.driven;
+    shrunk = shrunk_moves _ _ (λ d o. answer_moves_in D E p.model to p.settings.repeats d o) _ _ _ _ _ f.shrunk;
+  }
+
+  pub sound_moves_in : (k : ℕ) (o : TrialOutcome) → IsSoundBy D p k o → IsSoundBy E p k o
+  sound_moves_in k (GenFaulted place) h = h
+  sound_moves_in k (Passed c rs) h =
+      (h.0, answer_moves_in D E p.model to p.settings.repeats c (Held rs) h.1)
+  sound_moves_in k (Failed earlier s) h = (h.0, h.1, failure_moves_in h.0 earlier s h.2)
+
 module _ (D E : Histories) (to : (v : OfModel) (h : History) → D v h → E v h) (p : PlanView) where
   pub failure_moves : (c : Case) (earlier : List JudgedRun) (s : Shrunk JudgedRun)
       → IsFailure D p c earlier s → IsFailure E p c earlier s
-  failure_moves c earlier s f = record {
-    run = f.run;
-    broke = answer_moves D E to p.model p.settings.repeats c (Broke earlier f.run) f.broke;
-    driven = f.driven;
-    shrunk = shrunk_moves _ _ (λ d o. answer_moves D E to p.model p.settings.repeats d o) _ _ _ _ _ f.shrunk;
-  }
+  failure_moves = failure_moves_in D E p (λ c h. to (record { model = p.model; case = c }) h)
 
   pub tried_moves : (c : Case) (o : TrialOutcome) → IsTried D p c o → IsTried E p c o
   tried_moves c (GenFaulted place) h = h
@@ -56,9 +69,12 @@ module _ (D E : Histories) (to : (v : OfModel) (h : History) → D v h → E v h
   tried_moves c (Failed earlier s) h = failure_moves c earlier s h
 
   pub sound_moves : (k : ℕ) (o : TrialOutcome) → IsSoundBy D p k o → IsSoundBy E p k o
-  sound_moves k (GenFaulted place) h = h
-  sound_moves k (Passed c rs) h = (h.0, answer_moves D E to p.model p.settings.repeats c (Held rs) h.1)
-  sound_moves k (Failed earlier s) h = (h.0, h.1, failure_moves h.0 earlier s h.2)
+  sound_moves = sound_moves_in D E p (λ c h. to (record { model = p.model; case = c }) h)
+
+-- where the histories of one model's cases may be recorded, and the plan has that model
+pub sound_of_model : (D : Histories) (m : Source) (p : PlanView) (k : ℕ) (o : TrialOutcome) → p.model ≡ m
+    → IsSoundBy (λ v h. v.model ≡ m → D v h) p k o → IsSoundBy D p k o
+sound_of_model D m p k o same = sound_moves_in _ D p (λ c h given. given same) k o
 
 -- without a word of the histories that may be recorded
 pub sound_alone : (D : Histories) (p : PlanView) (k : ℕ) (o : TrialOutcome)

@@ -11,7 +11,7 @@ use Rattle.pst_judge.specs.declared.verdicts.Verdict.{Verdict}
 use Rattle.pst_judge.specs.declared.verdicts.Verdict.TheVariants.{Explained, Faulted, Unexplained, Broken}
 use Rattle.pst_model.specs.declared.model.Source.{Source}
 use Rattle.pst_shrink.specs.Outcomes.{Answers}
-use Rattle.pst_shrink.specs.declared.attempt.Outcome.TheVariants.{NotValid, Held, Broke}
+use Rattle.pst_shrink.specs.declared.attempt.AttemptOutcome.TheVariants.{NotValid, Held, Broke}
 use Rattle.pst_trial.specs.Driving.{Histories, Faults}
 use Rattle.pst_trial.specs.declared.run.JudgedRun.{JudgedRun}
 

@@ -6,25 +6,34 @@ use Rattle.pst_case.specs.declared.history.History.{History}
 use Rattle.pst_driver.specs.declared.fault.DriveFault.{DriveFault}
 use Rattle.pst_model.specs.declared.model.Source.{Source}
 use Rattle.pst_shrink.specs.Outcomes.{IsKept}
-use Rattle.pst_shrink.specs.declared.attempt.Outcome.{Outcome}
-use Rattle.pst_shrink.specs.declared.attempt.Outcome.TheVariants.{NotValid, Held, Broke}
+use Rattle.pst_shrink.specs.declared.attempt.AttemptOutcome.{AttemptOutcome}
+use Rattle.pst_shrink.specs.declared.attempt.AttemptOutcome.TheVariants.{NotValid, Held, Broke}
 use Rattle.pst_trial.specs.Driving.{Histories, Faults, IsSteady}
 use Rattle.pst_trial.specs.JudgedRuns.{IsJudgedRun, AreExplained, IsAnswer, MayFail}
 use Rattle.pst_trial.specs.PlanView.{PlanView}
 use Rattle.pst_trial.specs.declared.run.JudgedRun.{JudgedRun}
 
+-- by two relations of the histories of one model's cases
+module _ (D E : Histories) (m : Source)
+    (to : (c : Case) (h : History) → D (record { model = m; case = c }) h → E (record { model = m; case = c }) h) where
+  pub run_moves_in : (c : Case) (r : JudgedRun) → IsJudgedRun D m c r → IsJudgedRun E m c r
+  run_moves_in c r j = record { matching = j.matching; judged = j.judged; driven = to c r.history j.driven }
+
+  explained_moves_in : (c : Case) (rs : List JudgedRun) → AreExplained D m c rs → AreExplained E m c rs
+  explained_moves_in c [] all = tt
+  explained_moves_in c (r ∷ rs) all = (run_moves_in c r all.0, all.1, explained_moves_in c rs all.2)
+
+  pub answer_moves_in : (n : ℕ) (c : Case) (o : AttemptOutcome JudgedRun) → IsAnswer D m n c o → IsAnswer E m n c o
+  answer_moves_in n c NotValid a = a
+  answer_moves_in n c (Held rs) a = (a.0, explained_moves_in c rs a.1, a.2)
+  answer_moves_in n c (Broke rs r) a = (a.0, explained_moves_in c rs a.1, a.2, run_moves_in c r a.3, a.4)
+
 module _ (D E : Histories) (to : (v : OfModel) (h : History) → D v h → E v h) (m : Source) where
   pub run_moves : (c : Case) (r : JudgedRun) → IsJudgedRun D m c r → IsJudgedRun E m c r
-  run_moves c r j = record { matching = j.matching; judged = j.judged; driven = to _ r.history j.driven }
+  run_moves = run_moves_in D E m (λ c h. to (record { model = m; case = c }) h)
 
-  pub explained_moves : (c : Case) (rs : List JudgedRun) → AreExplained D m c rs → AreExplained E m c rs
-  explained_moves c [] all = tt
-  explained_moves c (r ∷ rs) all = (run_moves c r all.0, all.1, explained_moves c rs all.2)
-
-  pub answer_moves : (n : ℕ) (c : Case) (o : Outcome JudgedRun) → IsAnswer D m n c o → IsAnswer E m n c o
-  answer_moves n c NotValid a = a
-  answer_moves n c (Held rs) a = (a.0, explained_moves c rs a.1, a.2)
-  answer_moves n c (Broke rs r) a = (a.0, explained_moves c rs a.1, a.2, run_moves c r a.3, a.4)
+  pub answer_moves : (n : ℕ) (c : Case) (o : AttemptOutcome JudgedRun) → IsAnswer D m n c o → IsAnswer E m n c o
+  answer_moves = answer_moves_in D E m (λ c h. to (record { model = m; case = c }) h)
 
 pub fault_moves : (P Q : Faults) → ((v : OfModel) (f : DriveFault) → P v f → Q v f) → (f : DriveFault)
     → MayFail P f → MayFail Q f
@@ -32,11 +41,11 @@ fault_moves P Q to f (inl h) = inl (h.0, to h.0 f h.1)
 fault_moves P Q to f (inr h) = inr h
 
 module _ {D E : Histories} {P Q : Faults} (steady : IsSteady E D Q P) where
-  pub answer_before : (m : Source) (n : ℕ) (c : Case) (o : Outcome JudgedRun)
+  pub answer_before : (m : Source) (n : ℕ) (c : Case) (o : AttemptOutcome JudgedRun)
       → IsAnswer E m n c o → IsAnswer D m n c o
   answer_before m = answer_moves E D (λ v h. (steady.driving v h).0) m
 
-  pub answer_after : (m : Source) (n : ℕ) (c : Case) (o : Outcome JudgedRun)
+  pub answer_after : (m : Source) (n : ℕ) (c : Case) (o : AttemptOutcome JudgedRun)
       → IsAnswer D m n c o → IsAnswer E m n c o
   answer_after m = answer_moves D E (λ v h. (steady.driving v h).1) m
 

@@ -5,7 +5,7 @@ use Rattle.pst_eval.specs.declared.place.FaultPlace.{FaultPlace}
 use Rattle.pst_gen.specs.Draws.{Draws}
 use Rattle.pst_gen.specs.Generated.{IsGenerated}
 use Rattle.pst_shrink.specs.Shrinking.{IsShrunk}
-use Rattle.pst_shrink.specs.declared.attempt.Outcome.TheVariants.{Held, Broke}
+use Rattle.pst_shrink.specs.declared.attempt.AttemptOutcome.TheVariants.{Held, Broke}
 use Rattle.pst_shrink.specs.declared.shrunk.Shrunk.{Shrunk}
 use Rattle.pst_trial.specs.Driving.{Histories}
 use Rattle.pst_trial.specs.JudgedRuns.{IsAnswer}

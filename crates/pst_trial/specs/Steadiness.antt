@@ -3,7 +3,7 @@ use Rattle.pst_driver.proofs.Real.{Wider}
 use Rattle.pst_driver.proofs.Widening.{driven_wider, drive_fault_wider}
 use Rattle.pst_driver.specs.Driven.{IsDriven, IsDriveFault}
 use Rattle.pst_system.specs.Kept.{Answers, Fails, ResetFails, AreKept}
-use Rattle.pst_trial.specs.Driving.{IsSteady}
+use Rattle.pst_trial.specs.Driving.{Histories, Faults, IsSteady}
 
 pub kept_same : (A : Answers) (F : Fails) (R : ResetFails) → AreKept A A F F R R
 kept_same A F R = record {
@@ -28,6 +28,10 @@ kept_on k l = record {
     λ h. (k.resetting f).1 ((l.resetting f).1 h),
   );
 }
+
+-- relations that are the same
+pub steady_same : (D : Histories) (P : Faults) → IsSteady D D P P
+steady_same D P = record { driving = λ v h. ((λ x. x), (λ x. x)); failing = λ v f. ((λ x. x), (λ x. x)) }
 
 module _ {A B : Answers} {F G : Fails} {R S : ResetFails} (kept : AreKept B A G F S R) where
   wide : Wider B A G F

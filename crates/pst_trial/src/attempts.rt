@@ -8,9 +8,9 @@ use crate::plan::Plan;
 use crate::run::JudgedRun;
 use pst_case::Case;
 use pst_driver::DriveFault;
-use pst_gen::if_accepted;
+use pst_gen::valid_or_none;
 use pst_judge::{Valid, verdict};
-use pst_shrink::{Attempt, Outcome};
+use pst_shrink::{Attempt, AttemptOutcome};
 use pst_value::Items;
 use std::alloc::Global;
 
@@ -41,7 +41,7 @@ pub(crate) fn drive_repeatedly<D: Driver>(
     plan: &Plan,
     driver: &mut D,
     valid: &Valid,
-) -> Result<Outcome<JudgedRun>, DriveFault>
+) -> Result<AttemptOutcome<JudgedRun>, DriveFault>
     requires model { valid.now.model ≡ plan.now.model }
     ensures answer { IfOk result
         (IsAnswer (D.may_drive driver.old) plan.now.model plan.now.settings.repeats valid.now.case) }
@@ -57,11 +57,11 @@ pub(crate) fn drive_repeatedly<D: Driver>(
             Err(fault) => return Err(fault),
         };
         if !run.is_explained() {
-            return Ok(Outcome::Broke(runs, run));
+            return Ok(AttemptOutcome::Broke(runs, run));
         }
         runs.push(run)?;
     }
-    Ok(Outcome::Held(runs))
+    Ok(AttemptOutcome::Held(runs))
 }
 
 /// Attempts at the shrink candidates of a trial: each that is valid by the plan's model is driven up to
@@ -95,11 +95,11 @@ impl<'a, D: Driver> Attempt for Attempts<'a, D> {
     ghost keeps = { λ a b. (b.plan.now ≡ a.plan.now) × (b.driver.ghost_name ≡ a.driver.ghost_name)
         × D.keeps a.driver.now b.driver.now };
 
-    fn attempt(&mut self, case: &Case) -> Result<Outcome<JudgedRun>, DriveFault> {
+    fn attempt(&mut self, case: &Case) -> Result<AttemptOutcome<JudgedRun>, DriveFault> {
         let case = case.copy(self.alloc)?;
-        let accepted = if_accepted(self.plan.compiled(), self.alloc, self.plan.typed(), case)?;
+        let accepted = valid_or_none(self.plan.compiled(), self.alloc, self.plan.typed(), case)?;
         let Some(valid) = accepted else {
-            return Ok(Outcome::NotValid);
+            return Ok(AttemptOutcome::NotValid);
         };
         self.driver.candidate_begins(self.driven);
         let outcome = match drive_repeatedly(self.alloc, self.plan, self.driver, &valid) {

@@ -8,6 +8,7 @@
 
 mod attempts;
 mod cases;
+mod crews;
 mod driver;
 mod outcome;
 mod plan;
@@ -20,6 +21,7 @@ mod threads;
 mod trials;
 
 pub use cases::trial_case;
+pub use crews::{CrewDriver, trial_with};
 pub use driver::Driver;
 pub use outcome::TrialOutcome;
 pub use plan::Plan;
@@ -30,6 +32,6 @@ pub use settings::{
     MAX_BRANCHES, MAX_COMMANDS, MAX_LIMIT, MAX_REPEATS, MAX_SUFFIX, MAX_TRIALS, Settings,
 };
 pub use sharing::may_share_records;
-pub use shrinking::Shrinking;
-pub use threads::{ThreadDriver, trial, trial_counting};
+pub use shrinking::ShrinkProgress;
+pub use threads::{ThreadDriver, trial, trial_with_progress};
 pub use trials::trial_by;

@@ -6,7 +6,7 @@ ghost use Rattle.pst_case.specs.contracts.case.Case.{the_row as case_row};
 ghost use Rattle.pst_eval.specs.contracts.place.FaultPlace.{the_row as place_row};
 ghost use Rattle.pst_value.specs.contracts.items.Items.{the_row as items_row};
 ghost use Rattle.pst_shrink.specs.contracts.shrunk.Shrunk.{the_row as shrunk_row};
-ghost use Rattle.pst_shrink.specs.contracts.shrunk.Taken.{the_row as taken_row};
+ghost use Rattle.pst_shrink.specs.contracts.shrunk.FailingCase.{the_row as taken_row};
 ghost use Rattle.pst_trial.specs.contracts.run.JudgedRun.{the_row as run_row};
 ghost use Rattle.pst_trial.specs.contracts.outcome.TrialOutcome.{the_row as outcome_row};
 ghost use Rattle.pst_trial.specs.contracts.plan.Plan.{the_row as plan_row};
@@ -19,7 +19,7 @@ use pst_compile::Compiled;
 use pst_eval::FaultPlace;
 use pst_machine::Code;
 use pst_model::Typed;
-use pst_shrink::Taken;
+use pst_shrink::FailingCase;
 use pst_value::Items;
 
 /// What is `Send` may be sent to a thread.
@@ -56,10 +56,10 @@ fn may_share_taken()
     ensures tried_sent { IsSend (items_row (option_row (items_row run_row))) }
     ensures tried_shared { IsSync (items_row (option_row (items_row run_row))) }
 {
-    may_send::<Taken<JudgedRun>>();
-    may_share::<Taken<JudgedRun>>();
-    may_send::<Items<Taken<JudgedRun>>>();
-    may_share::<Items<Taken<JudgedRun>>>();
+    may_send::<FailingCase<JudgedRun>>();
+    may_share::<FailingCase<JudgedRun>>();
+    may_send::<Items<FailingCase<JudgedRun>>>();
+    may_share::<Items<FailingCase<JudgedRun>>>();
     may_send::<Items<Option<Items<JudgedRun>>>>();
     may_share::<Items<Option<Items<JudgedRun>>>>()
 }

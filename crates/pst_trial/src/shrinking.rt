@@ -9,38 +9,38 @@ const MORE_CANDIDATES: u64 = 1_000_000;
 ///
 /// Of several trials that are shrunk at once, it names the one that began last.
 #[derive(Drop)]
-pub struct Shrinking {
-    /// One number for the trial and its candidates: `word_of` both. 0 if no trial is shrunk.
+pub struct ShrinkProgress {
+    /// One number for the trial and its candidates, by `pack_progress`. 0 if no trial is shrunk.
     word: AtomicU64,
 }
 
 /// One number for a trial that is shrunk and for how many candidates it has driven. It is not 0.
-fn word_of(trial: u64, driven: u64) -> u64 {
+fn pack_progress(trial: u64, driven: u64) -> u64 {
     let above = trial.saturating_add(1).saturating_mul(MORE_CANDIDATES);
     above.saturating_add(driven % MORE_CANDIDATES)
 }
 
-/// What `word_of` made a number of: the trial and its candidates. Nothing if the number is 0.
-fn parts_of(word: u64) -> Option<(u64, u64)> {
+/// What `pack_progress` made a number of: the trial and its candidates. Nothing if the number is 0.
+fn unpack_progress(word: u64) -> Option<(u64, u64)> {
     let trial = (word / MORE_CANDIDATES).checked_sub(1)?;
     Some((trial, word % MORE_CANDIDATES))
 }
 
-impl Shrinking {
+impl ShrinkProgress {
     /// No trial is shrunk.
-    pub fn new() -> Shrinking {
-        Shrinking {
+    pub fn new() -> ShrinkProgress {
+        ShrinkProgress {
             word: AtomicU64::new(0),
         }
     }
 
     /// The trial that is shrunk, and how many candidates it has driven. Nothing if no trial is shrunk.
     pub fn current(&self) -> Option<(u64, u64)> {
-        parts_of(self.word.load(Ordering::SeqCst))
+        unpack_progress(self.word.load(Ordering::SeqCst))
     }
 
     /// Whether this trial is named as the one that is shrunk.
-    fn names(&self, trial: u64) -> bool {
+    fn is_shrinking(&self, trial: u64) -> bool {
         match self.current() {
             Some((named, _)) => named == trial,
             None => false,
@@ -49,14 +49,15 @@ impl Shrinking {
 
     /// A candidate of a trial is driven next, after `driven` others.
     pub fn begin_candidate(&self, trial: u64, driven: u64) {
-        if driven == 0 || self.current().is_none() || self.names(trial) {
-            self.word.store(word_of(trial, driven), Ordering::SeqCst);
+        if driven == 0 || self.current().is_none() || self.is_shrinking(trial) {
+            self.word
+                .store(pack_progress(trial, driven), Ordering::SeqCst);
         }
     }
 
     /// A trial has ended. If another is shrunk meanwhile, it is named at its next candidate.
     pub fn end_trial(&self, trial: u64) {
-        if self.names(trial) {
+        if self.is_shrinking(trial) {
             self.word.store(0, Ordering::SeqCst);
         }
     }

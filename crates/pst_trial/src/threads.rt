@@ -10,7 +10,7 @@ use crate::TrialFault;
 use crate::driver::Driver;
 use crate::plan::Plan;
 use crate::record::Record;
-use crate::shrinking::Shrinking;
+use crate::shrinking::ShrinkProgress;
 use crate::trials::trial_by;
 use pst_case::History;
 use pst_driver::{DriveFault, run};
@@ -32,7 +32,7 @@ pub struct ThreadDriver<'a, R: Threads + Wait> {
     /// The number of the trial.
     pub number: u64,
     /// Counts the candidates that are driven while the trial is shrunk.
-    pub shrinking: &'a Shrinking,
+    pub shrinking: &'a ShrinkProgress,
 }
 
 impl<'a, R: Threads + Wait> Driver for ThreadDriver<'a, R> {
@@ -101,17 +101,17 @@ pub fn trial<R: Threads + Wait>(
         (fails system.new) (fails system.old)
         (reset_fails system.new) (reset_fails system.old) }
 {
-    trial_counting(rt, alloc, plan, number, system, &Shrinking::new())
+    trial_with_progress(rt, alloc, plan, number, system, &ShrinkProgress::new())
 }
 
 /// Does what [`trial`] does, and counts in `shrinking` the candidates that it drives while the case is shrunk.
-pub fn trial_counting<R: Threads + Wait>(
+pub fn trial_with_progress<R: Threads + Wait>(
     rt: &R,
     alloc: Global,
     plan: &Arc<Plan>,
     number: u64,
     system: &mut BoxedSystem,
-    shrinking: &Shrinking,
+    shrinking: &ShrinkProgress,
 ) -> Result<Record, TrialFault>
     ensures plan { IfOk result (λ r. r.plan ≡ arc_value plan.now) }
     ensures number { IfOk result (λ r. r.number ≡ number) }

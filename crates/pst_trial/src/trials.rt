@@ -2,7 +2,7 @@
 ghost use Rattle.std.specs.Prelude.{◌≡◌, ◌+◌, ◌^◌, ◌<◌, IfOk, IfErr};
 ghost use Rattle.std.specs.Arc.{arc_value};
 ghost use Rattle.pst_shrink.specs.Weight.{weight};
-ghost use Rattle.pst_shrink.specs.declared.attempt.Outcome.TheVariants.{Broke};
+ghost use Rattle.pst_shrink.specs.declared.attempt.AttemptOutcome.TheVariants.{Broke};
 ghost use Rattle.pst_trial.specs.JudgedRuns.{IsAnswer, MayFail};
 ghost use Rattle.pst_trial.specs.Sound.{IsSoundBy, IsTried};
 
@@ -17,13 +17,13 @@ use crate::run::JudgedRun;
 use pst_case::Case;
 use pst_driver::DriveFault;
 use pst_judge::Valid;
-use pst_shrink::{Outcome, ShrinkFault, shrink};
+use pst_shrink::{AttemptOutcome, ShrinkFault, shrink};
 use pst_value::Items;
 use std::alloc::Global;
 use std::sync::Arc;
 
 /// Shrinks a case that has a run that is not explained.
-fn shrunk_case<D: Driver>(
+fn shrink_case<D: Driver>(
     alloc: Global,
     plan: &Plan,
     driver: &mut D,
@@ -53,7 +53,7 @@ fn shrunk_case<D: Driver>(
 }
 
 /// Drives a valid case, and shrinks it if a run is not explained.
-fn tried_case<D: Driver>(
+fn try_case<D: Driver>(
     alloc: Global,
     plan: &Plan,
     driver: &mut D,
@@ -71,9 +71,9 @@ fn tried_case<D: Driver>(
     };
     let case = valid.into_shaped().into_case();
     match outcome {
-        Outcome::Held(runs) => Ok(TrialOutcome::Passed { case, runs }),
-        Outcome::Broke(earlier, run) => shrunk_case(alloc, plan, driver, case, earlier, run),
-        Outcome::NotValid => unreachable!(),
+        AttemptOutcome::Held(runs) => Ok(TrialOutcome::Passed { case, runs }),
+        AttemptOutcome::Broke(earlier, run) => shrink_case(alloc, plan, driver, case, earlier, run),
+        AttemptOutcome::NotValid => unreachable!(),
     }
 }
 
@@ -90,7 +90,7 @@ fn outcome_of<D: Driver>(
     ensures keeps { D.keeps driver.old driver.new }
 {
     match trial_case(alloc, plan, number)? {
-        Ok(valid) => tried_case(alloc, plan, driver, valid),
+        Ok(valid) => try_case(alloc, plan, driver, valid),
         Err(place) => Ok(TrialOutcome::GenFaulted(place)),
     }
 }

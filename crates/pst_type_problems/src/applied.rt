@@ -1,12 +1,12 @@
 //! Applications of functions and calls of operations.
 
 use crate::diagnose::BlamedPart;
-use crate::operands::wanted_type;
+use crate::operands::wanted_type_of_operand;
 use crate::trees::tree_in;
 use pst_model::{Fun, Item, Param};
 use pst_problems::{
     FoundProblem, Problem, Signature, below, counted, in_place_of, is_of_maps, nearest_head,
-    noted_at, operation, unknown_among, with_note, wrong,
+    operation_named, problem_at, problem_with_note_at_part, unknown_among, with_note,
 };
 use pst_sexpr::word_of;
 use pst_typing::Kind;
@@ -94,7 +94,7 @@ fn ill_argument(
     let called = param.name.as_str();
     let name = declared.name;
     let what = format_args!("the parameter {called} of `{name}`");
-    let refused = wanted_type(leaf, what, part, &wanted, found)?;
+    let refused = wanted_type_of_operand(leaf, what, part, &wanted, found)?;
     with_signature(leaf, refused, declared)
 }
 
@@ -119,7 +119,7 @@ fn wrong_argument_count(leaf: &BlamedPart<'_>, declared: &Signature<'_>) -> Foun
     let name = declared.name;
     let takes = counted(declared.params.len(), "argument");
     let found = leaf.kinds.len();
-    let refused = wrong(
+    let refused = problem_at(
         leaf.alloc,
         leaf.path,
         format_args!("`{name}` takes {takes}, here it has {found}"),
@@ -166,7 +166,7 @@ pub fn call_problem(leaf: &BlamedPart<'_>) -> FoundProblem {
         return Ok(None);
     };
     let name = name.as_str();
-    match operation(leaf.context.items, name) {
+    match operation_named(leaf.context.items, name) {
         Some(op) => {
             let declared = Signature {
                 name,
@@ -180,12 +180,12 @@ pub fn call_problem(leaf: &BlamedPart<'_>) -> FoundProblem {
 }
 
 /// The problem of a function that no item declares, with a note.
-fn no_function_noted<N: Display + Drop>(
+fn unknown_function_noted<N: Display + Drop>(
     leaf: &BlamedPart<'_>,
     name: &str,
     note: N,
 ) -> FoundProblem {
-    noted_at(
+    problem_with_note_at_part(
         leaf.alloc,
         leaf.path,
         0,
@@ -196,37 +196,37 @@ fn no_function_noted<N: Display + Drop>(
 
 /// The problem of a function that no item declares, with the known name that is probably meant, or with the known
 /// functions.
-fn no_function_near(leaf: &BlamedPart<'_>, name: &str) -> FoundProblem {
+fn unknown_function_near(leaf: &BlamedPart<'_>, name: &str) -> FoundProblem {
     match nearest_head(leaf.alloc, leaf.has_maps, name)? {
-        Some(hint) => no_function_noted(leaf, name, hint),
+        Some(hint) => unknown_function_noted(leaf, name, hint),
         None => unknown_at(leaf, 0, name, false),
     }
 }
 
 /// The problem of a function that no item declares.
-fn no_function(leaf: &BlamedPart<'_>, name: &str) -> FoundProblem {
+fn unknown_function_problem(leaf: &BlamedPart<'_>, name: &str) -> FoundProblem {
     if let Some(hint) = in_place_of(name) {
-        return no_function_noted(leaf, name, format_args!("hint: {hint}"));
+        return unknown_function_noted(leaf, name, format_args!("hint: {hint}"));
     }
     if is_of_maps(name) {
         let hint = "hint: a model with maps begins with `(model2 NAME ..)`";
-        return no_function_noted(leaf, name, hint);
+        return unknown_function_noted(leaf, name, hint);
     }
-    if operation(leaf.context.items, name).is_some() {
-        return no_function_noted(
+    if operation_named(leaf.context.items, name).is_some() {
+        return unknown_function_noted(
             leaf,
             name,
             format_args!("hint: `{name}` is an operation: a call of it is `(call {name} ..)`"),
         );
     }
-    no_function_near(leaf, name)
+    unknown_function_near(leaf, name)
 }
 
 /// The problem of a declared function that may not be applied here, if it may not.
 fn later_function_problem(leaf: &BlamedPart<'_>, fun: &Fun) -> FoundProblem {
     let name = fun.name.as_str();
     if function(leaf.context.earlier, name).is_none() {
-        return noted_at(
+        return problem_with_note_at_part(
             leaf.alloc,
             leaf.path,
             0,
@@ -235,7 +235,7 @@ fn later_function_problem(leaf: &BlamedPart<'_>, fun: &Fun) -> FoundProblem {
         );
     }
     if fun.is_post && !leaf.context.is_post {
-        return noted_at(
+        return problem_with_note_at_part(
             leaf.alloc,
             leaf.path,
             0,
@@ -249,7 +249,7 @@ fn later_function_problem(leaf: &BlamedPart<'_>, fun: &Fun) -> FoundProblem {
 /// The problem of an application of a function, if it has one.
 pub fn application_problem(leaf: &BlamedPart<'_>, name: &str) -> FoundProblem {
     let Some(fun) = function(leaf.context.items, name) else {
-        return no_function(leaf, name);
+        return unknown_function_problem(leaf, name);
     };
     let declared = Signature {
         name,

@@ -2,13 +2,16 @@
 
 use crate::applied::{application_problem, call_problem};
 use crate::lists::{fold_problem, for_problem, list_problem, nth_problem};
-use crate::operands::{ill_first, wanted_map, wanted_sequence, wanted_tuple, wanted_type};
+use crate::operands::{
+    first_operand_problem, map_wanted_problem, sequence_wanted_problem, tuple_wanted_problem,
+    wanted_type_of_operand,
+};
 use crate::spelling::spelled;
 use crate::trees::head_word;
 use pst_model::{Expr, Op};
 use pst_problems::{
-    FoundProblem, Listed, Problem, is_of_maps, key_word, nearest, noted, operation, with_note,
-    wrong, wrong_at,
+    FoundProblem, Listed, Problem, is_of_maps, key_word, nearest, operation_named, problem_at,
+    problem_at_part, problem_with_note, with_note,
 };
 use pst_sexpr::{Form, word_of};
 use pst_typing::{Context, Kind, KindForm};
@@ -47,22 +50,24 @@ fn fixed_hint(name: &str) -> Option<&'static str> {
     match name {
         "s" => Some("hint: only callbacks see the state `s`: give it as a parameter"),
         "r" => Some("hint: only next and post see the result `r`"),
+        "state" | "self" => Some("hint: callbacks see the state as `s`"),
+        "result" => Some("hint: next and post see the result as `r`"),
         "null" => Some("hint: there is no null; an option is a list: `(list int)`"),
         _ => None,
     }
 }
 
 /// The problem of the name `name`, which nothing has here. A note lists the names that the part sees.
-fn no_meaning(leaf: &BlamedPart<'_>, name: &str) -> FoundProblem {
+fn meaningless_name_problem(leaf: &BlamedPart<'_>, name: &str) -> FoundProblem {
     let called = leaf.called;
     let what = format_args!("{called}: nothing has the name `{name}` here");
-    let found = wrong(leaf.alloc, leaf.path, what)?;
+    let found = problem_at(leaf.alloc, leaf.path, what)?;
     with_names(leaf, found)
 }
 
 /// The problem of the name `name`, which nothing has here, with a hint.
 fn unknown_noted<N: Display + Drop>(leaf: &BlamedPart<'_>, name: &str, hint: N) -> FoundProblem {
-    with_note(leaf.alloc, no_meaning(leaf, name)?, hint)
+    with_note(leaf.alloc, meaningless_name_problem(leaf, name)?, hint)
 }
 
 /// The problem of the name of the operation `op` in the place of a call of it.
@@ -81,12 +86,22 @@ fn unknown_name_problem(leaf: &BlamedPart<'_>, name: &str) -> FoundProblem {
     if let Some(hint) = fixed_hint(name) {
         return unknown_noted(leaf, name, hint);
     }
-    if let Some(op) = operation(leaf.context.items, name) {
+    if let Some(op) = operation_named(leaf.context.items, name) {
         return named_operation(leaf, op);
     }
     match nearest(leaf.alloc, leaf.names, name)? {
         Some(hint) => unknown_noted(leaf, name, hint),
-        None => no_meaning(leaf, name),
+        None => meaningless_name_problem(leaf, name),
+    }
+}
+
+/// The problem `found` of a part of the form `head`, with a hint if the part is a text or a list to add.
+fn with_join_hint(alloc: Global, found: Option<Problem>, head: &str, kind: &Kind) -> FoundProblem {
+    match kind.form(alloc)? {
+        KindForm::Text | KindForm::List(_) if head == "+" => {
+            with_note(alloc, found, "hint: `(++ a b)` joins texts or lists")
+        }
+        _ => Ok(found),
     }
 }
 
@@ -96,7 +111,14 @@ fn each_of(leaf: &BlamedPart<'_>, head: &str, wanted: &Ty) -> FoundProblem {
     for (place, kind) in leaf.kinds.iter().enumerate() {
         if !kind.same(leaf.alloc, &wanted)? {
             let part = place.saturating_add(1);
-            return wanted_type(leaf, format_args!("`{head}`"), part, &wanted, kind);
+            let found = wanted_type_of_operand(
+                leaf,
+                format_args!("`{head}`"),
+                part,
+                &wanted,
+                kind,
+            )?;
+            return with_join_hint(leaf.alloc, found, head, kind);
         }
     }
     Ok(None)
@@ -108,9 +130,9 @@ fn if_problem(leaf: &BlamedPart<'_>) -> FoundProblem {
         return Ok(None);
     };
     let truth = Kind::of(leaf.alloc, &Ty::Bool)?;
-    match wanted_type(leaf, "the test of `if`", 1, &truth, test)? {
+    match wanted_type_of_operand(leaf, "the test of `if`", 1, &truth, test)? {
         Some(found) => Ok(Some(found)),
-        None => wanted_type(leaf, "the branches of `if` differ", 3, yes, no),
+        None => wanted_type_of_operand(leaf, "the branches of `if` differ", 3, yes, no),
     }
 }
 
@@ -118,22 +140,28 @@ fn if_problem(leaf: &BlamedPart<'_>) -> FoundProblem {
 fn order_problem(leaf: &BlamedPart<'_>, head: &str, first: &Kind, second: &Kind) -> FoundProblem {
     match first.form(leaf.alloc)? {
         KindForm::Int | KindForm::Text => {
-            wanted_type(leaf, format_args!("`{head}`"), 2, first, second)
+            wanted_type_of_operand(leaf, format_args!("`{head}`"), 2, first, second)
         }
-        _ => ill_first(leaf, format_args!("`{head}` compares int or text"), first),
+        _ => first_operand_problem(leaf, format_args!("`{head}` compares int or text"), first),
     }
 }
 
 /// The problem of a comparison by `=`, if it has one.
 fn equality_problem(leaf: &BlamedPart<'_>, first: &Kind, second: &Kind) -> FoundProblem {
-    if let Some(found) = wanted_type(leaf, "`=` compares values of one type", 2, first, second)? {
+    if let Some(found) = wanted_type_of_operand(
+        leaf,
+        "`=` compares values of one type",
+        2,
+        first,
+        second,
+    )? {
         return Ok(Some(found));
     }
     if !first.holds_ref(leaf.alloc)? {
         return Ok(None);
     }
     let found = spelled(leaf.alloc, first)?;
-    noted(
+    problem_with_note(
         leaf.alloc,
         leaf.path,
         format_args!("`=` cannot compare references outside post, found {found}"),
@@ -144,21 +172,21 @@ fn equality_problem(leaf: &BlamedPart<'_>, first: &Kind, second: &Kind) -> Found
 /// The problem of a `same`, if it has one.
 fn same_problem(leaf: &BlamedPart<'_>, first: &Kind, second: &Kind) -> FoundProblem {
     match first.form(leaf.alloc)? {
-        KindForm::Ref(_) => wanted_type(
+        KindForm::Ref(_) => wanted_type_of_operand(
             leaf,
             "`same` compares references of one type",
             2,
             first,
             second,
         ),
-        _ => ill_first(leaf, "`same` compares references", first),
+        _ => first_operand_problem(leaf, "`same` compares references", first),
     }
 }
 
 /// The problem of a `deref`, if it has one.
 fn deref_problem(leaf: &BlamedPart<'_>) -> FoundProblem {
     if !leaf.context.is_post {
-        return noted(
+        return problem_with_note(
             leaf.alloc,
             leaf.path,
             "`deref` is only allowed in post and in postfuns",
@@ -166,9 +194,26 @@ fn deref_problem(leaf: &BlamedPart<'_>) -> FoundProblem {
         );
     }
     match leaf.kinds.first() {
-        Some(found) => ill_first(leaf, "`deref` takes a reference", found),
+        Some(found) => first_operand_problem(leaf, "`deref` takes a reference", found),
         None => Ok(None),
     }
+}
+
+/// The problem of a `++` of a list of the kind `list` and something else, if it has one, with a hint if that
+/// is an item.
+fn list_join_problem(
+    leaf: &BlamedPart<'_>,
+    list: &Kind,
+    item: &Kind,
+    other: &Kind,
+) -> FoundProblem {
+    let refused = wanted_type_of_operand(leaf, "`++` joins values of one type", 2, list, other)?;
+    if !item.same(leaf.alloc, other)? {
+        return Ok(refused);
+    }
+    let shown = spelled(leaf.alloc, item)?;
+    let hint = format_args!("hint: a list of one item is `(list {shown} x)`");
+    with_note(leaf.alloc, refused, hint)
 }
 
 /// The problem of a `len` or a `++`, if it has one.
@@ -177,10 +222,11 @@ fn sequence_problem(leaf: &BlamedPart<'_>, head: &str) -> FoundProblem {
         return Ok(None);
     };
     match (first.form(leaf.alloc)?, leaf.kinds.get(1)) {
-        (KindForm::Text | KindForm::List(_), Some(second)) => {
-            wanted_type(leaf, "`++` joins values of one type", 2, first, second)
+        (KindForm::Text, Some(second)) => {
+            wanted_type_of_operand(leaf, "`++` joins values of one type", 2, first, second)
         }
-        _ => wanted_sequence(leaf, head, first),
+        (KindForm::List(item), Some(second)) => list_join_problem(leaf, first, &item, second),
+        _ => sequence_wanted_problem(leaf, head, first),
     }
 }
 
@@ -190,12 +236,12 @@ fn at_problem(leaf: &BlamedPart<'_>) -> FoundProblem {
         return Ok(None);
     };
     let KindForm::Tuple(items) = found.form(leaf.alloc)? else {
-        return wanted_tuple(leaf, found);
+        return tuple_wanted_problem(leaf, found);
     };
     let number = items.len();
     let shown = spelled(leaf.alloc, found)?;
     let what = format_args!("the tuple has {number} items: {shown}");
-    wrong_at(leaf.alloc, leaf.path, 2, what)
+    problem_at_part(leaf.alloc, leaf.path, 2, what)
 }
 
 /// The type of the values that are keys of the type `keys`.
@@ -215,7 +261,7 @@ fn ill_key(leaf: &BlamedPart<'_>, keys: KeyTy) -> FoundProblem {
     let wanted = Kind::of(leaf.alloc, &key_type(keys))?;
     let word = key_word(keys);
     let what = format_args!("the keys of the map are {word}");
-    wanted_type(leaf, what, 2, &wanted, found)
+    wanted_type_of_operand(leaf, what, 2, &wanted, found)
 }
 
 /// The problem of a key or a value of another type than those of the map, if there is one.
@@ -224,7 +270,7 @@ fn ill_entry(leaf: &BlamedPart<'_>, keys: KeyTy, value: &Kind) -> FoundProblem {
         return Ok(Some(found));
     }
     match leaf.kinds.get(2) {
-        Some(found) => wanted_type(leaf, "the values of the map", 3, value, found),
+        Some(found) => wanted_type_of_operand(leaf, "the values of the map", 3, value, found),
         None => Ok(None),
     }
 }
@@ -236,12 +282,12 @@ fn map_problem(leaf: &BlamedPart<'_>, head: &str) -> FoundProblem {
     };
     match map.form(leaf.alloc)? {
         KindForm::Map(keys, value) => ill_entry(leaf, keys, &value),
-        _ => wanted_map(leaf, head, map),
+        _ => map_wanted_problem(leaf, head, map),
     }
 }
 
 /// What is wrong with an operator of two parts, by its head.
-fn of_two(leaf: &BlamedPart<'_>, head: &str) -> FoundProblem {
+fn binary_problem(leaf: &BlamedPart<'_>, head: &str) -> FoundProblem {
     let [first, second] = leaf.kinds else {
         return Ok(None);
     };
@@ -255,17 +301,17 @@ fn of_two(leaf: &BlamedPart<'_>, head: &str) -> FoundProblem {
 }
 
 /// What is wrong with an operator, by its head.
-fn of_operator(leaf: &BlamedPart<'_>, head: &str) -> FoundProblem {
+fn operator_problem(leaf: &BlamedPart<'_>, head: &str) -> FoundProblem {
     match head {
         "and" | "or" | "not" => each_of(leaf, head, &Ty::Bool),
         "+" | "-" | "*" | "div" | "rem" | "range" => each_of(leaf, head, &Ty::Int),
         "len" | "++" => sequence_problem(leaf, head),
-        _ => of_two(leaf, head),
+        _ => binary_problem(leaf, head),
     }
 }
 
 /// What is wrong with a form of expressions, by its head.
-fn of_form(leaf: &BlamedPart<'_>, head: &str) -> FoundProblem {
+fn expression_form_problem(leaf: &BlamedPart<'_>, head: &str) -> FoundProblem {
     match head {
         "if" => if_problem(leaf),
         "deref" => deref_problem(leaf),
@@ -275,13 +321,13 @@ fn of_form(leaf: &BlamedPart<'_>, head: &str) -> FoundProblem {
         "fold" => fold_problem(leaf),
         "call" => call_problem(leaf),
         _ if leaf.has_maps && is_of_maps(head) => map_problem(leaf, head),
-        _ => of_operator(leaf, head),
+        _ => operator_problem(leaf, head),
     }
 }
 
 /// What is wrong with a form of expressions, or else with the application of a function, by the head.
-fn of_head(leaf: &BlamedPart<'_>, head: &str) -> FoundProblem {
-    match of_form(leaf, head)? {
+fn problem_by_head(leaf: &BlamedPart<'_>, head: &str) -> FoundProblem {
+    match expression_form_problem(leaf, head)? {
         Some(found) => Ok(Some(found)),
         None => application_problem(leaf, head),
     }
@@ -292,8 +338,8 @@ pub fn diagnose(leaf: &BlamedPart<'_>) -> FoundProblem {
     if let Some(word) = word_of(leaf.form) {
         return unknown_name_problem(leaf, word.as_str());
     }
-    match of_head(leaf, head_word(leaf.form))? {
+    match problem_by_head(leaf, head_word(leaf.form))? {
         Some(found) => Ok(Some(found)),
-        None => wrong(leaf.alloc, leaf.path, "this has no type"),
+        None => problem_at(leaf.alloc, leaf.path, "this has no type"),
     }
 }

@@ -1,11 +1,13 @@
 //! What is wrong with places in lists, with lists, comprehensions and folds.
 
 use crate::diagnose::BlamedPart;
-use crate::operands::{wanted_list, wanted_type, with_reference_hint, with_references_hint};
+use crate::operands::{
+    list_wanted_problem, wanted_type_of_operand, with_reference_hint, with_references_hint,
+};
 use crate::spelling::spelled;
 use crate::trees::{clauses_of, goes_over_list};
 use pst_model::Expr;
-use pst_problems::{FoundProblem, TypeText, noted, wrong_at};
+use pst_problems::{FoundProblem, TypeText, problem_at_part, problem_with_note};
 use pst_sexpr::Form;
 use pst_typing::{Kind, KindForm};
 use pst_value::Ty;
@@ -16,15 +18,15 @@ pub fn nth_problem(leaf: &BlamedPart<'_>, list: &Kind, place: &Kind) -> FoundPro
     match (list.form(leaf.alloc)?, place.form(leaf.alloc)?) {
         (KindForm::List(_), _) => {
             let int = Kind::of(leaf.alloc, &Ty::Int)?;
-            wanted_type(leaf, "`nth`", 2, &int, place)
+            wanted_type_of_operand(leaf, "`nth`", 2, &int, place)
         }
-        (KindForm::Int, KindForm::List(_)) => noted(
+        (KindForm::Int, KindForm::List(_)) => problem_with_note(
             leaf.alloc,
             leaf.path,
             "`nth` takes a list and a place, found int and a list",
             "hint: in the other order the two fit: `(nth LIST PLACE)`",
         ),
-        _ => wanted_list(leaf.alloc, leaf.path, "`nth`", 1, list),
+        _ => list_wanted_problem(leaf.alloc, leaf.path, "`nth`", 1, list),
     }
 }
 
@@ -33,7 +35,7 @@ fn ill_item(leaf: &BlamedPart<'_>, part: usize, wanted: &Ty, found: &Kind) -> Fo
     let wants = TypeText(wanted);
     let has = spelled(leaf.alloc, found)?;
     let what = format_args!("an item of the list: expected {wants}, found {has}");
-    let refused = wrong_at(leaf.alloc, leaf.path, part, what)?;
+    let refused = problem_at_part(leaf.alloc, leaf.path, part, what)?;
     with_references_hint(leaf.alloc, refused, &Kind::of(leaf.alloc, wanted)?, found)
 }
 
@@ -64,11 +66,11 @@ fn ill_clause(leaf: &BlamedPart<'_>, clause: &Form, place: usize, found: &Kind) 
     let mut path = Vec::from_slice(leaf.alloc, leaf.path)?;
     path.extend_from_slice(&[1, place])?;
     if goes_over_list(clause) {
-        return wanted_list(leaf.alloc, path.as_slice(), "`in`", 2, found);
+        return list_wanted_problem(leaf.alloc, path.as_slice(), "`in`", 2, found);
     }
     let has = spelled(leaf.alloc, found)?;
     let what = format_args!("`when`: expected bool, found {has}");
-    let refused = wrong_at(leaf.alloc, path.as_slice(), 1, what)?;
+    let refused = problem_at_part(leaf.alloc, path.as_slice(), 1, what)?;
     with_reference_hint(leaf.alloc, refused, found)
 }
 
@@ -88,14 +90,14 @@ pub fn for_problem(leaf: &BlamedPart<'_>) -> FoundProblem {
 /// The problem of a fold over no list, or with a body of another type than its first value.
 pub fn fold_problem(leaf: &BlamedPart<'_>) -> FoundProblem {
     match leaf.kinds {
-        [_, first, body] => wanted_type(
+        [_, first, body] => wanted_type_of_operand(
             leaf,
             "the body of the fold has the type of its first value",
             5,
             first,
             body,
         ),
-        [list, ..] => wanted_list(leaf.alloc, leaf.path, "`fold`", 2, list),
+        [list, ..] => list_wanted_problem(leaf.alloc, leaf.path, "`fold`", 2, list),
         [] => Ok(None),
     }
 }

@@ -2,7 +2,9 @@
 
 use crate::diagnose::BlamedPart;
 use crate::spelling::{spelled, spelled_as_value};
-use pst_problems::{FoundProblem, Problem, below, noted, with_note, wrong, wrong_at};
+use pst_problems::{
+    FoundProblem, Problem, below, problem_at, problem_at_part, problem_with_note, with_note,
+};
 use pst_typing::{Kind, KindForm};
 use std::alloc::{AllocError, Global};
 use std::fmt::Display;
@@ -57,7 +59,7 @@ fn with_keys_hint(alloc: Global, refused: Option<Problem>, found: &Kind) -> Foun
 }
 
 /// The problem of the expression at `path`, which has the type `found` instead of `wanted`.
-pub fn other_type<D: Display + Drop>(
+pub fn other_type_problem<D: Display + Drop>(
     alloc: Global,
     path: &[usize],
     what: D,
@@ -66,7 +68,7 @@ pub fn other_type<D: Display + Drop>(
 ) -> FoundProblem {
     let wants = spelled(alloc, wanted)?;
     let has = spelled(alloc, found)?;
-    let refused = wrong(
+    let refused = problem_at(
         alloc,
         path,
         format_args!("{what}: expected {wants}, found {has}"),
@@ -75,7 +77,7 @@ pub fn other_type<D: Display + Drop>(
 }
 
 /// The problem of part `part` of a tree, if its type `found` is another than `wanted`.
-pub fn wanted_type<D: Display + Drop>(
+pub fn wanted_type_of_operand<D: Display + Drop>(
     leaf: &BlamedPart<'_>,
     what: D,
     part: usize,
@@ -86,13 +88,17 @@ pub fn wanted_type<D: Display + Drop>(
         return Ok(None);
     }
     let path = below(leaf.path, leaf.alloc, part)?;
-    other_type(leaf.alloc, path.as_slice(), what, wanted, found)
+    other_type_problem(leaf.alloc, path.as_slice(), what, wanted, found)
 }
 
 /// The problem of the first part, which has another kind than its form takes.
-pub fn ill_first<D: Display + Drop>(leaf: &BlamedPart<'_>, what: D, found: &Kind) -> FoundProblem {
+pub fn first_operand_problem<D: Display + Drop>(
+    leaf: &BlamedPart<'_>,
+    what: D,
+    found: &Kind,
+) -> FoundProblem {
     let has = spelled(leaf.alloc, found)?;
-    let refused = wrong_at(
+    let refused = problem_at_part(
         leaf.alloc,
         leaf.path,
         1,
@@ -102,8 +108,8 @@ pub fn ill_first<D: Display + Drop>(leaf: &BlamedPart<'_>, what: D, found: &Kind
 }
 
 /// The problem of the first part of `at`, which is no tuple.
-pub fn wanted_tuple(leaf: &BlamedPart<'_>, found: &Kind) -> FoundProblem {
-    let refused = ill_first(leaf, "`at` takes a tuple", found)?;
+pub fn tuple_wanted_problem(leaf: &BlamedPart<'_>, found: &Kind) -> FoundProblem {
+    let refused = first_operand_problem(leaf, "`at` takes a tuple", found)?;
     match found.form(leaf.alloc)? {
         KindForm::List(_) => with_note(
             leaf.alloc,
@@ -115,13 +121,17 @@ pub fn wanted_tuple(leaf: &BlamedPart<'_>, found: &Kind) -> FoundProblem {
 }
 
 /// The problem of a form that takes a text or a list, and whose first part is neither.
-pub fn wanted_sequence(leaf: &BlamedPart<'_>, head: &str, found: &Kind) -> FoundProblem {
-    let refused = ill_first(leaf, format_args!("`{head}` takes a text or a list"), found)?;
+pub fn sequence_wanted_problem(leaf: &BlamedPart<'_>, head: &str, found: &Kind) -> FoundProblem {
+    let refused = first_operand_problem(
+        leaf,
+        format_args!("`{head}` takes a text or a list"),
+        found,
+    )?;
     with_keys_hint(leaf.alloc, refused, found)
 }
 
 /// The problem of part `part` of the tree that `path` leads to, which is no list.
-pub fn wanted_list(
+pub fn list_wanted_problem(
     alloc: Global,
     path: &[usize],
     what: &str,
@@ -129,7 +139,7 @@ pub fn wanted_list(
     found: &Kind,
 ) -> FoundProblem {
     let has = spelled(alloc, found)?;
-    let refused = wrong_at(
+    let refused = problem_at_part(
         alloc,
         path,
         part,
@@ -140,16 +150,16 @@ pub fn wanted_list(
 }
 
 /// The problem of a form of maps whose first part is no map.
-pub fn wanted_map(leaf: &BlamedPart<'_>, head: &str, found: &Kind) -> FoundProblem {
+pub fn map_wanted_problem(leaf: &BlamedPart<'_>, head: &str, found: &Kind) -> FoundProblem {
     let is_second = match leaf.kinds.get(1) {
         Some(second) => matches!(second.form(leaf.alloc)?, KindForm::Map(_, _)),
         None => false,
     };
     if !is_second {
-        return ill_first(leaf, format_args!("`{head}`: expected a map"), found);
+        return first_operand_problem(leaf, format_args!("`{head}`: expected a map"), found);
     }
     let found = spelled(leaf.alloc, found)?;
-    noted(
+    problem_with_note(
         leaf.alloc,
         leaf.path,
         format_args!("`{head}` takes the map first, found {found}"),

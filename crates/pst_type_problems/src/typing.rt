@@ -1,13 +1,15 @@
 //! Models that are not well typed.
 
 use crate::diagnose::{BlamedPart, diagnose};
-use crate::operands::other_type;
+use crate::operands::other_type_problem;
 use crate::trees::{enter_part, head_word, tree_in};
 use crate::walk::{names_in, part_at};
 use pst_model::{Expr, Fun, Item, Op, Source, state_of};
-use pst_problems::{FoundProblem, MOST_PROBLEMS, Problem, noted, tell, wrong};
+use pst_problems::{
+    FoundProblem, MOST_PROBLEMS, Problem, problem_at, problem_with_note, push_problem, with_note,
+};
 use pst_sexpr::{Form, node_of};
-use pst_typing::{Blame, Context, Found, Kind, Scope, find, holds_call, holds_ref};
+use pst_typing::{Blame, Context, Found, Kind, Scope, holds_call, holds_ref, infer};
 use pst_value::Ty;
 use std::alloc::{AllocError, Global};
 
@@ -81,7 +83,15 @@ fn wanted_type_problem(alloc: Global, site: &Site<'_>, found: &Kind) -> FoundPro
     if found.same(alloc, site.wanted)? {
         return Ok(None);
     }
-    other_type(alloc, site.path, site.called, site.wanted, found)
+    let refused = other_type_problem(alloc, site.path, site.called, site.wanted, found)?;
+    if site.called == "next" && head_word(site.form) == "=" {
+        return with_note(
+            alloc,
+            refused,
+            "hint: `=` compares: write the new state alone",
+        );
+    }
+    Ok(refused)
 }
 
 /// Adds what is wrong with the type of an expression: one problem for each part that is to blame.
@@ -92,11 +102,14 @@ fn tell_expression(
     scope: &Scope<'_>,
     site: &Site<'_>,
 ) -> Result<(), AllocError> {
-    match find(expr, context, scope)? {
-        Found::Kind(kind) => tell(problems, wanted_type_problem(context.alloc, site, &kind)?),
+    match infer(expr, context, scope)? {
+        Found::Kind(kind) => push_problem(
+            problems,
+            wanted_type_problem(context.alloc, site, &kind)?,
+        ),
         Found::Blamed(blames) => {
             for blame in blames.as_slice() {
-                tell(problems, blame_problem(expr, context, scope, site, blame)?)?;
+                push_problem(problems, blame_problem(expr, context, scope, site, blame)?)?;
             }
             Ok(())
         }
@@ -194,13 +207,13 @@ fn declared_type_problem(op: &Op, here: ItemSite<'_>) -> FoundProblem {
     for (place, param) in op.params.as_slice().iter().enumerate() {
         if holds_call(&param.ty) {
             let what = "the parameter of an operation cannot hold a `call`";
-            return wrong(alloc, &[0, number, 2, place, 1], what);
+            return problem_at(alloc, &[0, number, 2, place, 1], what);
         }
     }
     if !holds_ref(&op.result) {
         return Ok(None);
     }
-    noted(
+    problem_with_note(
         alloc,
         &[0, number, 3],
         "the result of an operation cannot hold a `ref` or a `call`",
@@ -214,7 +227,7 @@ fn tell_operation(
     op: &Op,
     here: ItemSite<'_>,
 ) -> Result<(), AllocError> {
-    tell(problems, declared_type_problem(op, here)?)?;
+    push_problem(problems, declared_type_problem(op, here)?)?;
     tell_pre(problems, op, here)?;
     tell_next(problems, op, here)?;
     tell_post(problems, op, here)
@@ -290,7 +303,7 @@ fn tell_command(
 fn state_type_problem(state: &Ty, here: ItemSite<'_>) -> FoundProblem {
     if holds_call(state) {
         let what = "the state cannot hold a `call`";
-        wrong(here.alloc, &[0, here.number, 1], what)
+        problem_at(here.alloc, &[0, here.number, 1], what)
     } else {
         Ok(None)
     }
@@ -307,7 +320,7 @@ fn tell_item(
         Item::Op(op) => tell_operation(problems, op, here),
         Item::Init(expr) => tell_init(problems, expr, here),
         Item::Command(expr) => tell_command(problems, expr, here),
-        Item::State(state) => tell(problems, state_type_problem(state, here)?),
+        Item::State(state) => push_problem(problems, state_type_problem(state, here)?),
     }
 }
 
@@ -341,9 +354,9 @@ pub fn type_problems(
             tell_item(&mut problems, item, here)?;
         }
         if is_first && problems.is_empty() {
-            tell(
+            push_problem(
                 &mut problems,
-                wrong(alloc, &[0, place], "the item is not well typed")?,
+                problem_at(alloc, &[0, place], "the item is not well typed")?,
             )?;
         }
     }

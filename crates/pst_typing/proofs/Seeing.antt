@@ -4,14 +4,14 @@ use Rattle.std.proofs.lemmas.List.{take_more}
 use Rattle.pst_model.specs.Rules.{context_of}
 use Rattle.pst_model.specs.declared.model.Param.{Param}
 use Rattle.pst_typing.specs.Scope.{name_seen}
-use Rattle.pst_typing.specs.declared.scope.Seen.{Seen}
+use Rattle.pst_typing.specs.declared.scope.TypedName.{TypedName}
 
 map_end : {A B : Type 0} (f : A → B) (xs : List A) (x : A) → map f (xs ++ x ∷ []) ≡ map f xs ++ f x ∷ []
 map_end f [] x = refl
 map_end f (y ∷ xs) x = ap (λ ys. f y ∷ ys) (map_end f xs x)
 
 -- one parameter more
-pub seen_more : (seen more : List Seen) (s : Seen) (ps : List Param) (i : ℕ) (p : Param) → i < length ps → p ≡ get_or ps i p → map name_seen seen ≡ context_of (take i ps)
+pub seen_more : (seen more : List TypedName) (s : TypedName) (ps : List Param) (i : ℕ) (p : Param) → i < length ps → p ≡ get_or ps i p → map name_seen seen ≡ context_of (take i ps)
     → more ≡ seen ++ s ∷ [] → s.name ≡ p.name → s.kind ≡ p.ty → map name_seen more ≡ context_of (take (i + 1) ps)
 seen_more seen more s ps i p room is known ends name kind =
     ap (map name_seen) ends ∙ map_end name_seen seen s ∙ ap (λ c. c ++ name_seen s ∷ []) known

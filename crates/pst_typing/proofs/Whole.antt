@@ -1,7 +1,7 @@
 -- A model that was read has a state, an opening state and calls.
 use Rattle.std.proofs.Common.{◌≡◌, List, [], ◌∷◌, Some, refl}
 use Rattle.std.specs.List.{count_by}
-use Rattle.pst_model.specs.Parts.{state_of, opening_of, calls_of}
+use Rattle.pst_model.specs.Parts.{state_of, initial_state_of, calls_of}
 use Rattle.pst_model.specs.declared.expr.Expr.{Expr}
 use Rattle.pst_model.specs.declared.model.Item.{Item}
 use Rattle.pst_model.specs.declared.model.Item.TheVariants as item
@@ -18,7 +18,7 @@ state_there (item.Command e ∷ items) h = state_there items h
 state_there (item.Fun f ∷ items) h = state_there items h
 state_there (item.Op o ∷ items) h = state_there items h
 
-opening_there : (items : List Item) → count_by is_init items ≡ 1 → (e : Expr) × (opening_of items ≡ Some e)
+opening_there : (items : List Item) → count_by is_init items ≡ 1 → (e : Expr) × (initial_state_of items ≡ Some e)
 opening_there [] h = absurd (cc)
 opening_there (item.State S ∷ items) h = opening_there items h
 opening_there (item.Init e ∷ items) h = (e, refl)

@@ -1,7 +1,7 @@
 -- The type that the rules give an expression, if there is one, form by form.
 use Rattle.std.specs.Prelude.{◌&&◌, ◌||◌, not, ℕ, ◌^◌, nat_lt, nat_le, Bool, true, false, if◌then◌else◌, List, [], ◌∷◌, length, Option, Some, None}
 use Rattle.pst_model.specs.Kinds.{holds_ref}
-use Rattle.pst_model.specs.Parts.{Name, number_of, operation_of, types_of}
+use Rattle.pst_model.specs.Parts.{Name, operation_number, operation_of, types_of}
 use Rattle.pst_model.specs.Rules.{Context, type_named, signature, key_type}
 use Rattle.pst_model.specs.declared.expr.Binary.{Binary}
 use Rattle.pst_model.specs.declared.expr.Binary.TheVariants.{Add, Sub, Mul, Div, Rem, Less, LessEqual, Equal, Same, Append, Nth, Range, Get, Has, Del}
@@ -164,7 +164,7 @@ built_type (Clause-F.When e ∷ cs) body G = where_true (is_ty (e G) ty.Bool) (b
 
 -- the operation of a name, whose number has 32 bits
 abbrev pub operation_called : List Item → Name → Option Op
-operation_called items x = number_of items x >>= (λ n. where_true (nat_lt n (2 ^ 32)) (operation_of items n))
+operation_called items x = operation_number items x >>= (λ n. where_true (nat_lt n (2 ^ 32)) (operation_of items n))
 
 -- a body that sees a value's name
 abbrev pub let_type : Name → Finds → Finds → Finds

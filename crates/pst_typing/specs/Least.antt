@@ -1,6 +1,6 @@
 -- The least item that is not well typed, and what the check of a model answers.
 use Rattle.std.specs.Prelude.{◌≡◌, ℕ, ◌+◌, List, [], ◌∷◌, ◌++◌, length, reverse, Option, Some, None}
-use Rattle.pst_model.specs.Parts.{state_of, opening_of, calls_of}
+use Rattle.pst_model.specs.Parts.{state_of, initial_state_of, calls_of}
 use Rattle.pst_model.specs.WellTyped.{WellItem, WellItems, WellModel}
 use Rattle.pst_model.specs.declared.expr.Expr.{Expr}
 use Rattle.pst_model.specs.declared.model.Item.{Item}
@@ -12,7 +12,7 @@ pub record IsWhole (source : Source) : Type 0 where
   pub state : Ty
   pub state_is : state_of source.items ≡ Some state
   pub opening : Expr
-  pub opening_is : opening_of source.items ≡ Some opening
+  pub opening_is : initial_state_of source.items ≡ Some opening
   pub calls : Expr
   pub calls_is : calls_of source.items ≡ Some calls
 

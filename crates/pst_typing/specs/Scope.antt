@@ -8,14 +8,14 @@ use Rattle.pst_typing.specs.Decision.{Finds, Part, type_of, part_of}
 use Rattle.pst_typing.specs.declared.context.Context.{Context as Surroundings}
 use Rattle.pst_typing.specs.declared.scope.Names.{Names, Outer, With' as Within}
 use Rattle.pst_typing.specs.declared.scope.Scope.{Scope, Parameters, With'}
-use Rattle.pst_typing.specs.declared.scope.Seen.{Seen}
+use Rattle.pst_typing.specs.declared.scope.TypedName.{TypedName}
 use Rattle.pst_value.specs.declared.ty.Ty.{Ty}
 
 abbrev pub names_of : Scope → Context
 names_of (Parameters params) = context_of params.now
 names_of (With' name kind r outer) = (name.now, kind.now) ∷ names_of outer
 
-abbrev pub name_seen : Seen → Name × Ty
+abbrev pub name_seen : TypedName → Name × Ty
 name_seen s = (s.name, s.kind)
 
 abbrev pub names_in : Names → Context

@@ -12,8 +12,8 @@ use crate::blame::{Blame, Found};
 use crate::context::Context;
 use crate::kinds::Kind;
 use crate::operators::{
-    binary_type, copied, int_type, kept, keys_type, kind_of, part_type, text_type, unary_type,
-    values_type, where_true,
+    binary_type, copy_kind, int_type, keys_type, kind_if, kind_of, part_type, text_type,
+    unary_type, values_type, where_true,
 };
 use crate::refusal::Refusal;
 use crate::scope::{Names, find_name, function_called, operation_called};
@@ -22,7 +22,7 @@ use pst_value::{Items, KeyTy, LIMIT, Ty};
 use std::alloc::{AllocError, Global};
 
 /// The kind of an expression by the kinds of its parts. If it has none, it is to blame itself.
-pub fn judged(
+pub fn kind_by_parts(
     expr: &Expr,
     context: &Context<'_>,
     names: &Names<'_>,
@@ -30,7 +30,7 @@ pub fn judged(
 ) -> Result<Found, AllocError>
     ensures { IfOk result (λ found. IsJudged (spec.by_parts context.now (names_in names.now) expr.now kinds) kinds found) }
 {
-    match judge(expr, context, names, kinds.as_slice()) {
+    match kind_of_whole(expr, context, names, kinds.as_slice()) {
         Ok(kind) => Ok(Found::Kind(kind)),
         Err(Refusal::Ill) => {
             let path = Items::new(context.alloc);
@@ -43,7 +43,7 @@ pub fn judged(
 }
 
 /// The kind of an expression by the kinds of its parts.
-fn judge(
+fn kind_of_whole(
     expr: &Expr,
     context: &Context<'_>,
     names: &Names<'_>,
@@ -57,26 +57,26 @@ fn judge(
         Expr::Bool(_) => kind_of(alloc, &Ty::Bool),
         Expr::Text(text) => text_type(alloc, text.as_bytes()),
         Expr::Name(name) => find_name(names, name.as_bytes()),
-        Expr::Let(_, _, _) => copied(kinds.get(1)),
-        Expr::If(_, _, _) => of_if(alloc, kinds),
-        Expr::And(_, _) => of_both(alloc, kinds),
-        Expr::Or(_, _) => of_both(alloc, kinds),
-        Expr::Unary(operator, _) => of_unary(context, *operator, kinds),
-        Expr::Binary(operator, _, _) => of_binary(context, *operator, kinds),
-        Expr::Tuple(_) => of_tuple(alloc, kinds),
-        Expr::At(_, place) => of_at(alloc, kinds, *place),
-        Expr::List(ty, exprs) => of_list(alloc, ty, exprs.len(), kinds),
-        Expr::For(clauses, _) => of_for(alloc, clauses.as_slice(), kinds),
-        Expr::Fold(_, _, _, _, _) => of_fold(alloc, kinds),
-        Expr::Map(keys, ty) => of_map(alloc, *keys, ty),
-        Expr::Put(_, _, _) => of_put(alloc, kinds),
-        Expr::Call(name, _) => of_call(context, name.as_bytes(), kinds),
-        Expr::Apply(name, _) => of_applied(context, name.as_bytes(), kinds),
+        Expr::Let(_, _, _) => copy_kind(kinds.get(1)),
+        Expr::If(_, _, _) => kind_of_if(alloc, kinds),
+        Expr::And(_, _) => kind_of_and_or(alloc, kinds),
+        Expr::Or(_, _) => kind_of_and_or(alloc, kinds),
+        Expr::Unary(operator, _) => kind_of_unary(context, *operator, kinds),
+        Expr::Binary(operator, _, _) => kind_of_binary(context, *operator, kinds),
+        Expr::Tuple(_) => kind_of_tuple(alloc, kinds),
+        Expr::At(_, place) => kind_of_at(alloc, kinds, *place),
+        Expr::List(ty, exprs) => kind_of_list(alloc, ty, exprs.len(), kinds),
+        Expr::For(clauses, _) => kind_of_for(alloc, clauses.as_slice(), kinds),
+        Expr::Fold(_, _, _, _, _) => kind_of_fold(alloc, kinds),
+        Expr::Map(keys, ty) => kind_of_map(alloc, *keys, ty),
+        Expr::Put(_, _, _) => kind_of_put(alloc, kinds),
+        Expr::Call(name, _) => kind_of_call(context, name.as_bytes(), kinds),
+        Expr::Apply(name, _) => kind_of_apply(context, name.as_bytes(), kinds),
     }
 }
 
 /// The kind of two of one kind, which a test picks from.
-fn of_if(alloc: Global, kinds: &[Kind]) -> Result<Kind, Refusal>
+fn kind_of_if(alloc: Global, kinds: &[Kind]) -> Result<Kind, Refusal>
     ensures { Answers (spec.of_if kinds.now) result }
 {
     let [test, yes, no] = kinds else {
@@ -85,11 +85,11 @@ fn of_if(alloc: Global, kinds: &[Kind]) -> Result<Kind, Refusal>
     if !test.is(alloc, &Ty::Bool)? {
         return Err(Refusal::Ill);
     }
-    kept(no.same(alloc, yes)?, yes)
+    kind_if(no.same(alloc, yes)?, yes)
 }
 
 /// `bool`, of two tests.
-fn of_both(alloc: Global, kinds: &[Kind]) -> Result<Kind, Refusal>
+fn kind_of_and_or(alloc: Global, kinds: &[Kind]) -> Result<Kind, Refusal>
     ensures { Answers (spec.of_both kinds.now) result }
 {
     let [first, second] = kinds else {
@@ -102,7 +102,7 @@ fn of_both(alloc: Global, kinds: &[Kind]) -> Result<Kind, Refusal>
 }
 
 /// The kind that an operator of one operand gives.
-fn of_unary(context: &Context<'_>, operator: Unary, kinds: &[Kind]) -> Result<Kind, Refusal>
+fn kind_of_unary(context: &Context<'_>, operator: Unary, kinds: &[Kind]) -> Result<Kind, Refusal>
     ensures { Answers (spec.of_unary context.now.is_post operator kinds.now) result }
 {
     let [operand] = kinds else {
@@ -112,7 +112,7 @@ fn of_unary(context: &Context<'_>, operator: Unary, kinds: &[Kind]) -> Result<Ki
 }
 
 /// The kind that an operator of two operands gives.
-fn of_binary(context: &Context<'_>, operator: Binary, kinds: &[Kind]) -> Result<Kind, Refusal>
+fn kind_of_binary(context: &Context<'_>, operator: Binary, kinds: &[Kind]) -> Result<Kind, Refusal>
     ensures { Answers (spec.of_binary context.now.is_post operator kinds.now) result }
 {
     let [first, second] = kinds else {
@@ -122,14 +122,14 @@ fn of_binary(context: &Context<'_>, operator: Binary, kinds: &[Kind]) -> Result<
 }
 
 /// The kind of tuples of kinds.
-fn of_tuple(alloc: Global, kinds: &[Kind]) -> Result<Kind, Refusal>
+fn kind_of_tuple(alloc: Global, kinds: &[Kind]) -> Result<Kind, Refusal>
     ensures { Answers (Some (tuple kinds.now)) result }
 {
     Ok(Kind::tuple(alloc, kinds)?)
 }
 
 /// The kind of an item of a tuple.
-fn of_at(alloc: Global, kinds: &[Kind], place: u64) -> Result<Kind, Refusal>
+fn kind_of_at(alloc: Global, kinds: &[Kind], place: u64) -> Result<Kind, Refusal>
     ensures { Answers (spec.of_at place kinds.now) result }
 {
     let [tuple] = kinds else {
@@ -139,7 +139,7 @@ fn of_at(alloc: Global, kinds: &[Kind], place: u64) -> Result<Kind, Refusal>
 }
 
 /// The kind of a list of `number` items, all of type `ty`.
-fn of_list(alloc: Global, ty: &Ty, number: usize, kinds: &[Kind]) -> Result<Kind, Refusal>
+fn kind_of_list(alloc: Global, ty: &Ty, number: usize, kinds: &[Kind]) -> Result<Kind, Refusal>
     ensures { Answers (spec.of_list ty.now number kinds.now) result }
 {
     if number > LIMIT {
@@ -165,7 +165,7 @@ fn all_are(alloc: Global, kinds: &[Kind], item: &Kind) -> Result<bool, AllocErro
 }
 
 /// The kind of what a comprehension lists. A clause that takes items of no list is the last part.
-fn of_for(alloc: Global, clauses: &[Clause], kinds: &[Kind]) -> Result<Kind, Refusal>
+fn kind_of_for(alloc: Global, clauses: &[Clause], kinds: &[Kind]) -> Result<Kind, Refusal>
     ensures { Answers (spec.of_for clauses.now kinds.now) result }
 {
     let Some((kind, others)) = kinds.split_first() else {
@@ -179,28 +179,28 @@ fn of_for(alloc: Global, clauses: &[Clause], kinds: &[Kind]) -> Result<Kind, Ref
             return Err(Refusal::Ill);
         }
     }
-    of_for(alloc, rest, others)
+    kind_of_for(alloc, rest, others)
 }
 
 /// The kind of what is built of a list's items.
-fn of_fold(alloc: Global, kinds: &[Kind]) -> Result<Kind, Refusal>
+fn kind_of_fold(alloc: Global, kinds: &[Kind]) -> Result<Kind, Refusal>
     ensures { Answers (spec.of_fold kinds.now) result }
 {
     let [_, first, body] = kinds else {
         return Err(Refusal::Ill);
     };
-    kept(body.same(alloc, first)?, first)
+    kind_if(body.same(alloc, first)?, first)
 }
 
 /// The kind of maps of a type of keys and a type of values.
-fn of_map(alloc: Global, keys: KeyTy, ty: &Ty) -> Result<Kind, Refusal>
+fn kind_of_map(alloc: Global, keys: KeyTy, ty: &Ty) -> Result<Kind, Refusal>
     ensures { Answers (Some (map_type keys ty.now)) result }
 {
     Ok(Kind::of(alloc, ty)?.map(alloc, keys)?)
 }
 
 /// The kind of a map with a key and its value, if both have the map's types.
-fn of_put(alloc: Global, kinds: &[Kind]) -> Result<Kind, Refusal>
+fn kind_of_put(alloc: Global, kinds: &[Kind]) -> Result<Kind, Refusal>
     ensures { Answers (spec.of_put kinds.now) result }
 {
     let [map, key, value] = kinds else {
@@ -211,11 +211,11 @@ fn of_put(alloc: Global, kinds: &[Kind]) -> Result<Kind, Refusal>
         return Err(Refusal::Ill);
     }
     let values = values_type(alloc, map)?;
-    kept(value.same(alloc, &values)?, map)
+    kind_if(value.same(alloc, &values)?, map)
 }
 
 /// `call`, if the operation `name` takes arguments of these kinds.
-fn of_call(context: &Context<'_>, name: &[u8], kinds: &[Kind]) -> Result<Kind, Refusal>
+fn kind_of_call(context: &Context<'_>, name: &[u8], kinds: &[Kind]) -> Result<Kind, Refusal>
     ensures { Answers (spec.of_call context.now.items.now name.now kinds.now) result }
 {
     let Some(operation) = operation_called(context.items, name) else {
@@ -228,7 +228,7 @@ fn of_call(context: &Context<'_>, name: &[u8], kinds: &[Kind]) -> Result<Kind, R
 }
 
 /// The kind of the result of the function `name`, if it takes arguments of these kinds.
-fn of_applied(context: &Context<'_>, name: &[u8], kinds: &[Kind]) -> Result<Kind, Refusal>
+fn kind_of_apply(context: &Context<'_>, name: &[u8], kinds: &[Kind]) -> Result<Kind, Refusal>
     ensures { Answers
         (spec.of_applied (reverse context.now.earlier.now) context.now.is_post name.now kinds.now) result }
 {

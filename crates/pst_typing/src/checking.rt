@@ -13,7 +13,7 @@ use std::alloc::{AllocError, Global};
 
 /// The number of the first item that is not well typed.
 #[tactic(auto, using(crate::proofs::Judging::judged))]
-fn judge(alloc: Global, source: &Source) -> Result<Option<usize>, AllocError>
+fn first_ill_typed_item(alloc: Global, source: &Source) -> Result<Option<usize>, AllocError>
     requires { IsWhole source.now }
     ensures { IfOk result (λ number. Judged source.now number) }
 {
@@ -33,7 +33,7 @@ pub fn check(alloc: Global, model: Model) -> Result<Typed, (Model, TypeFault)>
     model_items();
     model_operations();
     model_language();
-    match judge(alloc, model.source()) {
+    match first_ill_typed_item(alloc, model.source()) {
         Ok(None) => Ok(Typed::new(model.into_source())),
         Ok(Some(number)) => Err((model, TypeFault::Item(number))),
         Err(AllocError) => Err((model, TypeFault::NoMemory)),

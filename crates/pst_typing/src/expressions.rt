@@ -7,7 +7,7 @@ ghost use Rattle.pst_typing.specs.Scope.{names_of, names_in, type_in};
 ghost use Rattle.pst_model.specs.declared.expr.Clause.TheVariants as clause;
 
 use crate::blame::Found;
-use crate::by_parts::judged;
+use crate::by_parts::kind_by_parts;
 use crate::context::Context;
 use crate::gathered::{Gathered, item_found};
 use crate::scope::{Names, Scope, names_seen};
@@ -16,29 +16,33 @@ use pst_value::{Boxed, Text};
 use std::alloc::AllocError;
 
 /// The kind of an expression among the names of a scope, or the parts that are to blame if it has none.
-pub fn find(expr: &Expr, context: &Context<'_>, scope: &Scope<'_>) -> Result<Found, AllocError>
+pub fn infer(expr: &Expr, context: &Context<'_>, scope: &Scope<'_>) -> Result<Found, AllocError>
     ensures { IfOk result (λ found. IsFound (type_in context.now) (names_of scope.now) expr.now found) }
 {
     let seen = names_seen(context.alloc, scope)?;
-    find_kind(expr, context, &Names::Outer(seen.as_slice()))
+    infer_kind(expr, context, &Names::Outer(seen.as_slice()))
 }
 
 /// The kind of an expression. It visits all parts, and judges the expression itself if all parts have a kind.
-#[cycle(find)]
-fn find_kind(expr: &Expr, context: &Context<'_>, names: &Names<'_>) -> Result<Found, AllocError>
+#[cycle(infer)]
+fn infer_kind(expr: &Expr, context: &Context<'_>, names: &Names<'_>) -> Result<Found, AllocError>
     ensures { IfOk result (λ found. IsFound (type_in context.now) (names_in names.now) expr.now found) }
 {
-    let Gathered { kinds, blames, .. } = gather(expr, context, names)?;
+    let Gathered { kinds, blames, .. } = infer_parts(expr, context, names)?;
     if blames.is_empty() {
-        judged(expr, context, names, kinds)
+        kind_by_parts(expr, context, names, kinds)
     } else {
         Ok(Found::Blamed(blames))
     }
 }
 
 /// What is known of the parts of an expression.
-#[cycle(find)]
-fn gather(expr: &Expr, context: &Context<'_>, names: &Names<'_>) -> Result<Gathered, AllocError>
+#[cycle(infer)]
+fn infer_parts(
+    expr: &Expr,
+    context: &Context<'_>,
+    names: &Names<'_>,
+) -> Result<Gathered, AllocError>
     ensures { IfOk result (λ all. ArePartsOf (type_in context.now) (names_in names.now) expr.now all) }
 {
     match expr {
@@ -47,31 +51,31 @@ fn gather(expr: &Expr, context: &Context<'_>, names: &Names<'_>) -> Result<Gathe
         Expr::Text(_) => Ok(Gathered::new(context.alloc)),
         Expr::Name(_) => Ok(Gathered::new(context.alloc)),
         Expr::Map(_, _) => Ok(Gathered::new(context.alloc)),
-        Expr::Let(name, bound, body) => in_let(name, bound, body, context, names),
-        Expr::If(test, yes, no) => in_three(test, yes, no, context, names),
-        Expr::And(first, second) => in_two(first, second, context, names),
-        Expr::Or(first, second) => in_two(first, second, context, names),
-        Expr::Unary(_, operand) => in_one(operand, context, names),
-        Expr::Binary(_, first, second) => in_two(first, second, context, names),
-        Expr::Tuple(exprs) => in_each(exprs.as_slice(), context, names),
-        Expr::At(tuple, _) => in_one(tuple, context, names),
-        Expr::List(_, exprs) => in_each(exprs.as_slice(), context, names),
+        Expr::Let(name, bound, body) => infer_let(name, bound, body, context, names),
+        Expr::If(test, yes, no) => infer_three(test, yes, no, context, names),
+        Expr::And(first, second) => infer_two(first, second, context, names),
+        Expr::Or(first, second) => infer_two(first, second, context, names),
+        Expr::Unary(_, operand) => infer_one(operand, context, names),
+        Expr::Binary(_, first, second) => infer_two(first, second, context, names),
+        Expr::Tuple(exprs) => infer_each(exprs.as_slice(), context, names),
+        Expr::At(tuple, _) => infer_one(tuple, context, names),
+        Expr::List(_, exprs) => infer_each(exprs.as_slice(), context, names),
         Expr::For(clauses, body) => {
             let none = Gathered::new(context.alloc);
-            in_clauses(none, clauses.as_slice(), body.get(), context, names)
+            infer_clauses(none, clauses.as_slice(), body.get(), context, names)
         }
         Expr::Fold(name, list, acc, first, body) => {
-            in_fold(name, list, acc, first, body, context, names)
+            infer_fold(name, list, acc, first, body, context, names)
         }
-        Expr::Put(map, key, value) => in_three(map, key, value, context, names),
-        Expr::Call(_, exprs) => in_each(exprs.as_slice(), context, names),
-        Expr::Apply(_, exprs) => in_each(exprs.as_slice(), context, names),
+        Expr::Put(map, key, value) => infer_three(map, key, value, context, names),
+        Expr::Call(_, exprs) => infer_each(exprs.as_slice(), context, names),
+        Expr::Apply(_, exprs) => infer_each(exprs.as_slice(), context, names),
     }
 }
 
 /// A value, and a body that sees it under a name. The body is visited only if the value has a kind.
-#[cycle(find)]
-fn in_let(
+#[cycle(infer)]
+fn infer_let(
     name: &Text,
     bound: &Boxed<Expr>,
     body: &Boxed<Expr>,
@@ -83,20 +87,20 @@ fn in_let(
 {
     let alloc = context.alloc;
     let none = Gathered::new(alloc);
-    let found = find_kind(bound.get(), context, names)?;
+    let found = infer_kind(bound.get(), context, names)?;
     match found {
         Found::Blamed(blames) => none.with(alloc, Found::Blamed(blames)),
         Found::Kind(kind) => {
             let inner = Names::With(name.as_bytes(), &kind, &*names);
-            let found = find_kind(body.get(), context, &inner)?;
+            let found = infer_kind(body.get(), context, &inner)?;
             none.with(alloc, Found::Kind(kind))?.with(alloc, found)
         }
     }
 }
 
 /// One expression.
-#[cycle(find)]
-fn in_one(
+#[cycle(infer)]
+fn infer_one(
     expr: &Boxed<Expr>,
     context: &Context<'_>,
     names: &Names<'_>,
@@ -104,13 +108,13 @@ fn in_one(
     ensures { IfOk result (λ all. IsGathered (type_in context.now)
         (spec.one_part (names_in names.now) expr.now) all) }
 {
-    let found = find_kind(expr.get(), context, names)?;
+    let found = infer_kind(expr.get(), context, names)?;
     Gathered::new(context.alloc).with(context.alloc, found)
 }
 
 /// Two expressions.
-#[cycle(find)]
-fn in_two(
+#[cycle(infer)]
+fn infer_two(
     first: &Boxed<Expr>,
     second: &Boxed<Expr>,
     context: &Context<'_>,
@@ -119,14 +123,14 @@ fn in_two(
     ensures { IfOk result (λ all. IsGathered (type_in context.now)
         (spec.two_parts (names_in names.now) first.now second.now) all) }
 {
-    let all = in_one(first, context, names)?;
-    let found = find_kind(second.get(), context, names)?;
+    let all = infer_one(first, context, names)?;
+    let found = infer_kind(second.get(), context, names)?;
     all.with(context.alloc, found)
 }
 
 /// Three expressions.
-#[cycle(find)]
-fn in_three(
+#[cycle(infer)]
+fn infer_three(
     first: &Boxed<Expr>,
     second: &Boxed<Expr>,
     third: &Boxed<Expr>,
@@ -136,28 +140,32 @@ fn in_three(
     ensures { IfOk result (λ all. IsGathered (type_in context.now)
         (spec.if_parts (names_in names.now) first.now second.now third.now) all) }
 {
-    let all = in_two(first, second, context, names)?;
-    let found = find_kind(third.get(), context, names)?;
+    let all = infer_two(first, second, context, names)?;
+    let found = infer_kind(third.get(), context, names)?;
     all.with(context.alloc, found)
 }
 
 /// Expressions that see the same names.
-#[cycle(find)]
-fn in_each(exprs: &[Expr], context: &Context<'_>, names: &Names<'_>) -> Result<Gathered, AllocError>
+#[cycle(infer)]
+fn infer_each(
+    exprs: &[Expr],
+    context: &Context<'_>,
+    names: &Names<'_>,
+) -> Result<Gathered, AllocError>
     ensures { IfOk result (λ all. IsGathered (type_in context.now)
         (spec.each_part (names_in names.now) exprs.now) all) }
 {
     let mut all = Gathered::new(context.alloc);
     for expr in exprs {
-        let found = find_kind(expr, context, names)?;
+        let found = infer_kind(expr, context, names)?;
         all = all.with(context.alloc, found)?;
     }
     Ok(all)
 }
 
 /// A fold over a list. The body is visited only if what it sees has kinds.
-#[cycle(find)]
-fn in_fold(
+#[cycle(infer)]
+fn infer_fold(
     name: &Text,
     list: &Boxed<Expr>,
     acc: &Text,
@@ -171,10 +179,10 @@ fn in_fold(
         body.now) all) }
 {
     let alloc = context.alloc;
-    let found = find_kind(list.get(), context, names)?;
+    let found = infer_kind(list.get(), context, names)?;
     let item = item_found(alloc, &found)?;
     let all = Gathered::new(alloc).with(alloc, found)?;
-    let found = find_kind(first.get(), context, names)?;
+    let found = infer_kind(first.get(), context, names)?;
     let Some(item) = item else {
         return all.with(alloc, found);
     };
@@ -183,7 +191,7 @@ fn in_fold(
         Found::Kind(kind) => {
             let outer = Names::With(name.as_bytes(), &item, &*names);
             let inner = Names::With(acc.as_bytes(), &kind, &outer);
-            let found = find_kind(body.get(), context, &inner)?;
+            let found = infer_kind(body.get(), context, &inner)?;
             all.with(alloc, Found::Kind(kind))?.with(alloc, found)
         }
     }
@@ -191,8 +199,8 @@ fn in_fold(
 
 /// The clauses and the body of a comprehension, after the parts that are known. What follows a clause that takes
 /// items of no list is not visited.
-#[cycle(find)]
-fn in_clauses(
+#[cycle(infer)]
+fn infer_clauses(
     all: Gathered,
     clauses: &[Clause],
     body: &Expr,
@@ -204,25 +212,25 @@ fn in_clauses(
 {
     match split_first(clauses) {
         None => {
-            let found = find_kind(body, context, names)?;
+            let found = infer_kind(body, context, names)?;
             all.with(context.alloc, found)
         }
         Some((first, rest)) => match first {
             Clause::In(name, list) => {
-                in_items(all, name.as_bytes(), list, rest, body, context, names)
+                infer_items(all, name.as_bytes(), list, rest, body, context, names)
             }
             Clause::When(test) => {
-                let found = find_kind(test, context, names)?;
+                let found = infer_kind(test, context, names)?;
                 let all = all.with(context.alloc, found)?;
-                in_clauses(all, rest, body, context, names)
+                infer_clauses(all, rest, body, context, names)
             }
         },
     }
 }
 
 /// A clause that takes the items of a list, and what follows it.
-#[cycle(find)]
-fn in_items(
+#[cycle(infer)]
+fn infer_items(
     all: Gathered,
     name: &[u8],
     list: &Expr,
@@ -234,13 +242,13 @@ fn in_items(
     ensures { IfOk result (λ more. AreClausesOf (type_in context.now) (names_in names.now)
         (clause.In name.now list.now ∷ rest.now) body.now all more) }
 {
-    let found = find_kind(list, context, names)?;
+    let found = infer_kind(list, context, names)?;
     let item = item_found(context.alloc, &found)?;
     let all = all.with(context.alloc, found)?;
     match item {
         Some(item) => {
             let inner = Names::With(&*name, &item, &*names);
-            in_clauses(all, rest, body, context, &inner)
+            infer_clauses(all, rest, body, context, &inner)
         }
         None => Ok(all),
     }

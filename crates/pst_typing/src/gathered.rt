@@ -71,7 +71,7 @@ fn with_blames(
 {
     let mut all = blames;
     for blame in more.into_vec() {
-        all.push(inside(alloc, number, blame)?)?;
+        all.push(blame_within_part(alloc, number, blame)?)?;
     }
     let mut all = all.into_vec();
     all.truncate(MOST_BLAMES);
@@ -79,7 +79,7 @@ fn with_blames(
 }
 
 /// A blame within part `number`, as a blame within the whole.
-fn inside(alloc: Global, number: usize, blame: Blame) -> Result<Blame, AllocError>
+fn blame_within_part(alloc: Global, number: usize, blame: Blame) -> Result<Blame, AllocError>
     ensures { IfOk result (λ outer. outer ≡ spec.inside number blame) }
 {
     let Blame { path: inner, kinds } = blame;

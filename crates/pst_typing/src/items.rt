@@ -8,7 +8,7 @@ ghost use Rattle.pst_value.specs.declared.ty.Ty.TheVariants.{Bool as truth, List
 
 use crate::blame::Found;
 use crate::context::Context;
-use crate::expressions::find;
+use crate::expressions::infer;
 use crate::kinds::Kind;
 use crate::scope::Scope;
 use crate::types::{holds_call, holds_ref, parameters_hold_call};
@@ -25,7 +25,7 @@ fn has_type(
 ) -> Result<bool, AllocError>
     ensures { IfOk result (λ has. has ≡ is_ty (type_in context.now expr.now (names_of scope.now)) kind.now) }
 {
-    match find(expr, context, scope)? {
+    match infer(expr, context, scope)? {
         Found::Kind(found) => found.same(context.alloc, kind),
         Found::Blamed(_) => Ok(false),
     }
@@ -85,7 +85,12 @@ fn has_post(alloc: Global, items: &[Item], state: &Ty, op: &Op) -> Result<bool, 
     has_type(&op.post, &truth, &context, &scope)
 }
 
-fn well_operation(alloc: Global, items: &[Item], state: &Ty, op: &Op) -> Result<bool, AllocError>
+fn is_well_typed_operation(
+    alloc: Global,
+    items: &[Item],
+    state: &Ty,
+    op: &Op,
+) -> Result<bool, AllocError>
     ensures { IfOk result (λ well. well ≡ spec.well_operation items.now state.now op.now) }
 {
     if parameters_hold_call(op.params.as_slice()) {
@@ -104,7 +109,12 @@ fn well_operation(alloc: Global, items: &[Item], state: &Ty, op: &Op) -> Result<
 }
 
 /// Whether an expression over all functions has a type in mode plain, among no names.
-fn has_opening(alloc: Global, items: &[Item], state: &Ty, expr: &Expr) -> Result<bool, AllocError>
+fn is_well_typed_initial_state(
+    alloc: Global,
+    items: &[Item],
+    state: &Ty,
+    expr: &Expr,
+) -> Result<bool, AllocError>
     ensures { IfOk result (λ has. has ≡ spec.has_type items.now false [] expr.now state.now) }
 {
     let context = Context {
@@ -117,7 +127,12 @@ fn has_opening(alloc: Global, items: &[Item], state: &Ty, expr: &Expr) -> Result
     has_type(expr, &state, &context, &Scope::Parameters(&[]))
 }
 
-fn has_calls(alloc: Global, items: &[Item], state: &Ty, expr: &Expr) -> Result<bool, AllocError>
+fn is_well_typed_command(
+    alloc: Global,
+    items: &[Item],
+    state: &Ty,
+    expr: &Expr,
+) -> Result<bool, AllocError>
     ensures { IfOk result (λ has. has ≡
         spec.has_type items.now false ((rules.name_s, state.now) ∷ []) expr.now (list call)) }
 {
@@ -135,7 +150,7 @@ fn has_calls(alloc: Global, items: &[Item], state: &Ty, expr: &Expr) -> Result<b
 }
 
 /// Whether an item is well typed, over the type of the state and the items before it.
-pub fn well_item(
+pub fn is_well_typed_item(
     alloc: Global,
     items: &[Item],
     state: &Ty,
@@ -146,8 +161,8 @@ pub fn well_item(
 {
     match item {
         Item::State(ty) => Ok(!holds_call(ty)),
-        Item::Init(expr) => has_opening(alloc, items, state, expr),
-        Item::Command(expr) => has_calls(alloc, items, state, expr),
+        Item::Init(expr) => is_well_typed_initial_state(alloc, items, state, expr),
+        Item::Command(expr) => is_well_typed_command(alloc, items, state, expr),
         Item::Fun(fun) => {
             let context = Context {
                 alloc,
@@ -159,7 +174,7 @@ pub fn well_item(
             let scope = Scope::Parameters(fun.params.as_slice());
             has_type(&fun.body, &result, &context, &scope)
         }
-        Item::Op(op) => well_operation(alloc, items, state, op),
+        Item::Op(op) => is_well_typed_operation(alloc, items, state, op),
     }
 }
 
@@ -169,7 +184,7 @@ pub fn first_ill(alloc: Global, items: &[Item], state: &Ty) -> Result<Option<usi
     ensures { IfOk result (λ number. number ≡ spec.first_ill items.now state.now 1 [] items.now) }
 {
     for at in 0..items.len() {
-        if !well_item(alloc, items, state, &items[..at], &items[at])? {
+        if !is_well_typed_item(alloc, items, state, &items[..at], &items[at])? {
             return Ok(Some(at + 1));
         }
     }

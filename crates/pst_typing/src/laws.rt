@@ -25,6 +25,6 @@ pub fn ill_is_not_well()
 {}
 
 /// A model has at most one least item that is not well typed.
-pub fn one_is_ill()
+pub fn ill_typed_item_is_unique()
     ensures { OneIsIll }
 {}

@@ -23,10 +23,12 @@ mod types;
 pub use blame::{Blame, Found};
 pub use checking::check;
 pub use context::Context;
-pub use expressions::find;
-pub use items::{first_ill, well_item};
+pub use expressions::infer;
+pub use items::{first_ill, is_well_typed_item};
 pub use kinds::{Kind, KindForm};
-pub use laws::{first_ill_is_least, ill_is_not_well, items_are_exact, one_is_ill, types_are_exact};
+pub use laws::{
+    first_ill_is_least, ill_is_not_well, ill_typed_item_is_unique, items_are_exact, types_are_exact,
+};
 pub use load_refusal::Refusal;
 pub use loading::{ModelFile, items_of, load};
 pub use parts::{model_name, operation_name, operation_parameters, operation_result};

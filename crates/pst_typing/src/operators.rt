@@ -25,7 +25,7 @@ pub fn kind_of(alloc: Global, ty: &Ty) -> Result<Kind, Refusal>
 }
 
 /// A copy of a kind, if there is one.
-pub fn copied(kind: Option<&Kind>) -> Result<Kind, Refusal>
+pub fn copy_kind(kind: Option<&Kind>) -> Result<Kind, Refusal>
     ensures { Answers (option_copied kind.entry) result }
 {
     match kind {
@@ -46,7 +46,7 @@ pub fn where_true(alloc: Global, test: bool, ty: &Ty) -> Result<Kind, Refusal>
 }
 
 /// A kind, if a test is passed.
-pub fn kept(test: bool, kind: &Kind) -> Result<Kind, Refusal>
+pub fn kind_if(test: bool, kind: &Kind) -> Result<Kind, Refusal>
     ensures { Answers (spec.where_true test (Some kind.now)) result }
 {
     if test {
@@ -85,7 +85,7 @@ fn both_int(alloc: Global, first: &Kind, second: &Kind) -> Result<bool, AllocErr
 }
 
 /// Whether both are `int`, or both `text`.
-fn are_ordered(alloc: Global, first: &Kind, second: &Kind) -> Result<bool, AllocError>
+fn are_orderable(alloc: Global, first: &Kind, second: &Kind) -> Result<bool, AllocError>
     ensures { IfOk result (λ are. are ≡ spec.are_ordered first.now second.now) }
 {
     if !first.same(alloc, second)? {
@@ -98,7 +98,7 @@ fn are_ordered(alloc: Global, first: &Kind, second: &Kind) -> Result<bool, Alloc
 }
 
 /// Whether `=` compares them: in mode post any type, else one without references.
-fn are_compared(
+fn are_comparable(
     alloc: Global,
     is_post: bool,
     first: &Kind,
@@ -208,7 +208,7 @@ pub fn part_type(alloc: Global, tuple: &Kind, place: u64) -> Result<Kind, Refusa
     if place == 0 {
         return Err(Refusal::Ill);
     }
-    copied(kinds.get(place as usize - 1))
+    copy_kind(kinds.get(place as usize - 1))
 }
 
 /// The kind of what `nth` takes out of the first at the second.
@@ -247,7 +247,7 @@ fn range_type(alloc: Global, first: &Kind, second: &Kind) -> Result<Kind, Refusa
 {
     let both = both_int(alloc, first, second)?;
     let ints = Kind::of(alloc, &Ty::Int)?.list(alloc)?;
-    kept(both, &ints)
+    kind_if(both, &ints)
 }
 
 /// The kind of an operator's value, by that of its operand.
@@ -287,18 +287,18 @@ pub fn binary_type(
             where_true(alloc, both_int(alloc, first, second)?, &Ty::Int)
         }
         Binary::Less | Binary::LessEqual => {
-            where_true(alloc, are_ordered(alloc, first, second)?, &Ty::Bool)
+            where_true(alloc, are_orderable(alloc, first, second)?, &Ty::Bool)
         }
         Binary::Equal => {
-            let are = are_compared(alloc, is_post, first, second)?;
+            let are = are_comparable(alloc, is_post, first, second)?;
             where_true(alloc, are, &Ty::Bool)
         }
         Binary::Same => where_true(alloc, are_references(alloc, first, second)?, &Ty::Bool),
-        Binary::Append => kept(are_joined(alloc, first, second)?, first),
+        Binary::Append => kind_if(are_joined(alloc, first, second)?, first),
         Binary::Nth => nth_type(alloc, first, second),
         Binary::Get => get_type(alloc, first, second),
         Binary::Has => where_true(alloc, has_keys(alloc, first, second)?, &Ty::Bool),
-        Binary::Del => kept(has_keys(alloc, first, second)?, first),
+        Binary::Del => kind_if(has_keys(alloc, first, second)?, first),
         Binary::Range => range_type(alloc, first, second),
     }
 }

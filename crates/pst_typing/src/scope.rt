@@ -7,9 +7,9 @@ ghost use Rattle.pst_typing.specs.Answers.{Answers};
 ghost use Rattle.pst_typing.specs.Scope.{names_of, names_in, name_seen};
 
 use crate::kinds::Kind;
-use crate::operators::copied;
+use crate::operators::copy_kind;
 use crate::refusal::Refusal;
-use pst_model::{Fun, Item, Op, Param, number_of, operation_of};
+use pst_model::{Fun, Item, Op, Param, operation_number, operation_of};
 use pst_value::Items;
 use std::alloc::{AllocError, Global};
 
@@ -24,7 +24,7 @@ pub enum Scope<'a> {
 
 /// A name and its kind.
 #[derive(Drop)]
-pub struct Seen {
+pub struct TypedName {
     pub name: Items<u8>,
     pub kind: Kind,
 }
@@ -33,26 +33,26 @@ pub struct Seen {
 #[derive(Drop)]
 pub enum Names<'a> {
     /// The names that the whole expression sees.
-    Outer(&'a [Seen]),
+    Outer(&'a [TypedName]),
     /// One more name, and the outer ones.
     With(&'a [u8], &'a Kind, &'a Names<'a>),
 }
 
 /// The names of parameters, with the kinds of their types.
-fn seen_parameters(alloc: Global, params: &[Param]) -> Result<Items<Seen>, AllocError>
+fn seen_parameters(alloc: Global, params: &[Param]) -> Result<Items<TypedName>, AllocError>
     ensures { IfOk result (λ seen. map name_seen seen ≡ rules.context_of params.now) }
 {
     let mut seen = Items::new(alloc);
     for param in params {
         let name = Items::from_slice(alloc, param.name.as_bytes())?;
         let kind = Kind::of(alloc, &param.ty)?;
-        seen.push(Seen { name, kind })?;
+        seen.push(TypedName { name, kind })?;
     }
     Ok(seen)
 }
 
 /// The names of a scope, with the kinds of their types.
-pub fn names_seen(alloc: Global, scope: &Scope<'_>) -> Result<Items<Seen>, AllocError>
+pub fn names_seen(alloc: Global, scope: &Scope<'_>) -> Result<Items<TypedName>, AllocError>
     ensures { IfOk result (λ seen. map name_seen seen ≡ names_of scope.now) }
 {
     match scope {
@@ -61,7 +61,7 @@ pub fn names_seen(alloc: Global, scope: &Scope<'_>) -> Result<Items<Seen>, Alloc
             let name = Items::from_slice(alloc, name)?;
             let kind = kind.copy()?;
             let mut seen = Items::new(alloc);
-            seen.push(Seen { name, kind })?;
+            seen.push(TypedName { name, kind })?;
             seen.append(names_seen(alloc, outer)?)?;
             Ok(seen)
         }
@@ -69,7 +69,7 @@ pub fn names_seen(alloc: Global, scope: &Scope<'_>) -> Result<Items<Seen>, Alloc
 }
 
 /// The kind of `name` among the names that the whole expression sees.
-fn kind_seen<'a>(seen: &'a [Seen], name: &[u8]) -> Option<&'a Kind>
+fn kind_seen<'a>(seen: &'a [TypedName], name: &[u8]) -> Option<&'a Kind>
     ensures { option_copied result ≡ rules.type_named (map name_seen seen.now) name.now }
 {
     match seen {
@@ -87,7 +87,7 @@ pub fn find_name(names: &Names<'_>, name: &[u8]) -> Result<Kind, Refusal>
     ensures { Answers (rules.type_named (names_in names.now) name.now) result }
 {
     match names {
-        Names::Outer(seen) => copied(kind_seen(seen, name)),
+        Names::Outer(seen) => copy_kind(kind_seen(seen, name)),
         Names::With(bound, kind, outer) => {
             if *bound == name {
                 return Ok(kind.copy()?);
@@ -117,7 +117,7 @@ pub fn function_called<'a>(items: &'a [Item], name: &[u8]) -> Option<&'a Fun>
 pub fn operation_called<'a>(items: &'a [Item], name: &[u8]) -> Option<&'a Op>
     ensures { option_copied result ≡ decision.operation_called items.now name.now }
 {
-    let number = number_of(items, name)?;
+    let number = operation_number(items, name)?;
     match u32::try_from(number) {
         Ok(_) => operation_of(items, number),
         Err(_) => None,

@@ -1,7 +1,7 @@
 //! The condition of a replay that checks preconditions.
 
 use pst_eval::Callbacks;
-use pst_judge::{Condition, Event, truth};
+use pst_judge::{Condition, Event, bool_in};
 use pst_value::{Fault, Value};
 use std::alloc::{AllocError, Global};
 
@@ -22,7 +22,7 @@ impl Condition for Preconditions {
         event: &Event,
     ) -> Result<Result<bool, Fault>, AllocError> {
         match callbacks.pre(alloc, event.op, state, event.args.as_slice())? {
-            Ok((answer, _)) => Ok(Ok(truth(&answer))),
+            Ok((answer, _)) => Ok(Ok(bool_in(&answer))),
             Err(fault) => Ok(Err(fault)),
         }
     }

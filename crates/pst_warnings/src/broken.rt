@@ -4,7 +4,7 @@ use pst_explain::broken_text;
 use pst_judge::{Judged, Verdict};
 use pst_messages::{parts_of_case, place_of};
 use pst_model::Typed;
-use pst_rejudge::Answer;
+use pst_rejudge::ItemResult;
 use pst_runs::read_runs;
 use pst_sexpr::{Form, Tree, node_of, read, word_of};
 use pst_sources::{Input, span_of};
@@ -153,11 +153,11 @@ pub fn broken_answer(
     typed: &Typed,
     input: Input<'_>,
     trees: &[Tree],
-    answers: &[Answer],
+    answers: &[ItemResult],
 ) -> Result<Option<String>, AllocError> {
     let mut broken = None;
     for (index, answer) in answers.iter().enumerate() {
-        if let Answer::Judged(judged) = answer {
+        if let ItemResult::Judged(judged) = answer {
             broken = with_item(broken, index.saturating_add(1), judged);
         }
     }

@@ -21,7 +21,7 @@ pub struct FailingCommand {
 }
 
 /// For each operation of a model, in their order, whether its precondition is another expression than `true`.
-pub fn conditional(alloc: Global, items: &[Item]) -> Result<Vec<bool>, AllocError> {
+pub fn have_preconditions(alloc: Global, items: &[Item]) -> Result<Vec<bool>, AllocError> {
     let mut marks = Vec::new(alloc);
     for item in items {
         if let Item::Op(op) = item {
@@ -92,7 +92,7 @@ fn number_at(case: &Case, word: &[usize], place: usize) -> usize {
 
 /// The first command of a recorded run whose precondition is not true in the interleaving `word`, which explains the
 /// run. Returns `None` if each is true, or if a result of the run is not known.
-pub fn first_failing<C: Callbacks>(
+pub fn first_false_precondition<C: Callbacks>(
     callbacks: &C,
     alloc: Global,
     run: &Run,
@@ -108,7 +108,7 @@ pub fn first_failing<C: Callbacks>(
     }
     let mut states = states(callbacks, &Preconditions, alloc, &run.shaped, history, word)?;
     let case = run.shaped.case();
-    let commands = number_of_commands(case);
+    let commands = count_commands(case);
     let count = states.len();
     if count > commands {
         return Ok(None);
@@ -123,7 +123,7 @@ pub fn first_failing<C: Callbacks>(
 }
 
 /// How many commands a case has.
-fn number_of_commands(case: &Case) -> usize {
+fn count_commands(case: &Case) -> usize {
     let branches = case.branches.as_slice();
     case.prefix
         .len()

@@ -2,7 +2,7 @@
 ghost use Rattle.std.specs.Prelude.{◌≤◌};
 
 use crate::scripts::{FaultyScript, Scripts, faulty_script};
-use crate::warning::{tree_of, warning};
+use crate::warning::{tree_number_of_item, warning};
 use pst_case::Command;
 use pst_compile::{Compiled, compile};
 use pst_eval::{Callback, FaultPlace};
@@ -47,7 +47,7 @@ fn path_of(
         Some(command) => command.op,
         None => 0,
     };
-    let tree = tree_of(item_of(items, place.callback, operation));
+    let tree = tree_number_of_item(item_of(items, place.callback, operation));
     match place.callback {
         Callback::Init | Callback::Command => Vec::from_slice(alloc, &[0, tree, 1]),
         Callback::Pre => Vec::from_slice(alloc, &[0, tree, 4, 1]),
@@ -57,7 +57,11 @@ fn path_of(
 }
 
 /// Why a script faults, in the lines of `pst explain`.
-fn explanation(alloc: Global, typed: &Typed, script: FaultyScript) -> Result<String, AllocError> {
+fn explain_script_fault(
+    alloc: Global,
+    typed: &Typed,
+    script: FaultyScript,
+) -> Result<String, AllocError> {
     let FaultyScript { commands, place } = script;
     let Some(text) = explain_script(alloc, typed, commands, place, WIDTH)? else {
         return Ok(String::new(alloc));
@@ -85,7 +89,7 @@ fn count_text(alloc: Global, scripts: &Scripts) -> Result<String, AllocError> {
 }
 
 /// The warning that scripts fault, with the explanation of the first of them, if there is one.
-pub fn fault_warnings(
+pub fn faulty_scripts_warning(
     alloc: Global,
     input: &Input<'_>,
     typed: &Typed,
@@ -112,7 +116,7 @@ pub fn fault_warnings(
         what,
         "a campaign has no case for such a script and counts it under `genfault`",
     )?;
-    faults.lines = explanation(alloc, typed, first)?;
+    faults.lines = explain_script_fault(alloc, typed, first)?;
     warnings.push(faults)?;
     Ok(warnings)
 }
@@ -139,7 +143,7 @@ pub fn genfault_text(
         return Err(AllocError);
     };
     match faulty_script(alloc, &compiled, seed, number, commands)? {
-        Some(script) => Ok(Some(explanation(alloc, compiled.typed(), script)?)),
+        Some(script) => Ok(Some(explain_script_fault(alloc, compiled.typed(), script)?)),
         None => Ok(None),
     }
 }

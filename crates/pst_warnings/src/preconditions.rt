@@ -2,7 +2,7 @@
 ghost use Rattle.std.specs.Prelude.{◌≡◌, All};
 ghost use Rattle.pst_runs.specs.Lawful.{AreLawful, IsLawful};
 
-use crate::failing::{FailingCommand, calls_marked, conditional, first_failing};
+use crate::failing::{FailingCommand, calls_marked, first_false_precondition, have_preconditions};
 use crate::places::{Spot, spot_of};
 use crate::spelling::short_value;
 use crate::warning::warning;
@@ -10,7 +10,7 @@ use pst_case::Run;
 use pst_eval::Callbacks;
 use pst_judge::{Judged, Verdict};
 use pst_model::{Source, Typed};
-use pst_rejudge::Answer;
+use pst_rejudge::ItemResult;
 use pst_runs::read_runs;
 use pst_sexpr::{Tree, read};
 use pst_sources::{Input, notice_text};
@@ -93,7 +93,7 @@ fn add_run<C: Callbacks>(
     if !calls_marked(subject.conditional.as_slice(), run.shaped.case()) {
         return Ok(());
     }
-    let Some(failing) = first_failing(callbacks, alloc, run, word)? else {
+    let Some(failing) = first_false_precondition(callbacks, alloc, run, word)? else {
         return Ok(());
     };
     if found.count < MOST {
@@ -203,11 +203,11 @@ fn add_answer<C: Callbacks>(
     subject: &Subject<'_>,
     trees: &[Tree],
     item: usize,
-    answer: &Answer,
+    answer: &ItemResult,
 ) -> Result<(), AllocError>
     requires { typed.now ≡ C.model callbacks.now }
 {
-    let Answer::Judged(judged) = answer else {
+    let ItemResult::Judged(judged) = answer else {
         return Ok(());
     };
     let Some(tree) = trees.get(item) else {
@@ -237,7 +237,7 @@ fn subject_of<'a>(
     input: Input<'a>,
 ) -> Result<Option<Subject<'a>>, AllocError> {
     let source = typed.source();
-    let conditional = conditional(alloc, source.items.as_slice())?;
+    let conditional = have_preconditions(alloc, source.items.as_slice())?;
     if !conditional.iter().any(|is_marked| *is_marked) {
         return Ok(None);
     }
@@ -295,7 +295,7 @@ pub fn warnings_on_answers<C: Callbacks>(
     typed: &Typed,
     input: Input<'_>,
     trees: &[Tree],
-    answers: &[Answer],
+    answers: &[ItemResult],
 ) -> Result<Option<String>, AllocError>
     requires { typed.now ≡ C.model callbacks.now }
 {

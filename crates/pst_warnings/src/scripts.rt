@@ -59,7 +59,7 @@ pub struct Scripts {
 
 /// Generates the script of trial `number`. `seed` and `number` choose its random words. `steps` are the steps that the
 /// callbacks may take, and afterwards the steps that are left.
-fn generated(
+fn generate_script(
     alloc: Global,
     compiled: &Compiled,
     seed: u64,
@@ -106,14 +106,14 @@ pub fn faulty_script(
     requires few { commands ≤ 64 }
 {
     let mut steps = u64::MAX;
-    match generated(alloc, compiled, seed, number, commands, &mut steps)? {
+    match generate_script(alloc, compiled, seed, number, commands, &mut steps)? {
         Script::Faulty(script) => Ok(Some(script)),
         _ => Ok(None),
     }
 }
 
 /// A mark for each operation of a model, in their order, none of them set.
-fn unmarked(alloc: Global, typed: &Typed) -> Result<Vec<bool>, AllocError> {
+fn no_operation_marks(alloc: Global, typed: &Typed) -> Result<Vec<bool>, AllocError> {
     let mut marks = Vec::new(alloc);
     for item in typed.source().items.as_slice() {
         if let Item::Op(_) = item {
@@ -124,7 +124,7 @@ fn unmarked(alloc: Global, typed: &Typed) -> Result<Vec<bool>, AllocError> {
 }
 
 /// Sets the marks of the operations that `commands` call.
-fn mark(marks: &mut Vec<bool>, commands: &[Command]) {
+fn mark_called_operations(marks: &mut Vec<bool>, commands: &[Command]) {
     for command in commands {
         if let Some(mark) = marks.get_mut(command.op as usize) {
             *mark = true;
@@ -138,7 +138,7 @@ impl Scripts {
         match script {
             Script::Whole(valid) => {
                 let case = valid.shaped().case();
-                mark(&mut self.called, case.prefix.as_slice());
+                mark_called_operations(&mut self.called, case.prefix.as_slice());
             }
             Script::Faulty(script) => {
                 self.faulty = self.faulty.saturating_add(1);
@@ -158,7 +158,7 @@ impl Scripts {
 /// Generates scripts of a model, always of the same random words, up to a limit on the scripts and on the steps.
 pub fn generated_scripts(alloc: Global, compiled: &Compiled) -> Result<Scripts, AllocError> {
     let mut scripts = Scripts {
-        called: unmarked(alloc, compiled.typed())?,
+        called: no_operation_marks(alloc, compiled.typed())?,
         count: 0,
         faulty: 0,
         first_faulty: None,
@@ -166,7 +166,7 @@ pub fn generated_scripts(alloc: Global, compiled: &Compiled) -> Result<Scripts, 
     };
     let mut steps = STEPS;
     for number in 0..SCRIPTS {
-        let script = generated(alloc, compiled, 0, u64::from(number), COMMANDS, &mut steps)?;
+        let script = generate_script(alloc, compiled, 0, u64::from(number), COMMANDS, &mut steps)?;
         scripts.add(script);
         if scripts.is_cut {
             break;

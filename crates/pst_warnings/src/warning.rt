@@ -1,6 +1,6 @@
 //! The warnings on an input.
 
-use crate::faults::fault_warnings;
+use crate::faults::faulty_scripts_warning;
 use crate::scripts::{COMMANDS, SCRIPTS, generated_scripts};
 use pst_compile::{Compiled, compile};
 use pst_model::Item;
@@ -30,7 +30,7 @@ pub fn warning<D: Display + Drop, N: Display + Drop>(
 }
 
 /// The number of the tree of item `item`, counted from 0, in its model. The head and the name of the model come first.
-pub fn tree_of(item: usize) -> usize {
+pub fn tree_number_of_item(item: usize) -> usize {
     item.saturating_add(2)
 }
 
@@ -45,7 +45,7 @@ fn none_offered(alloc: Global, input: &Input<'_>, items: &[Item]) -> Result<Noti
     warning(
         alloc,
         input,
-        &[0, tree_of(place)],
+        &[0, tree_number_of_item(place)],
         "no call may be made at first",
         "`command` lists none in the initial state, or the precondition of each is false there",
     )
@@ -61,7 +61,7 @@ fn never_called(
     warning(
         alloc,
         input,
-        &[0, tree_of(item), 1],
+        &[0, tree_number_of_item(item), 1],
         format_args!("none of {SCRIPTS} generated scripts of {COMMANDS} commands calls `{name}`"),
         "`command` does not list it in their states, or its precondition is false there",
     )
@@ -98,7 +98,7 @@ fn script_warnings(
     let items = typed.source().items.as_slice();
     let scripts = generated_scripts(alloc, compiled)?;
     if scripts.faulty > 0 {
-        return fault_warnings(alloc, input, typed, scripts);
+        return faulty_scripts_warning(alloc, input, typed, scripts);
     }
     let mut warnings = Vec::new(alloc);
     if scripts.is_cut {

@@ -68,7 +68,7 @@ pub fn branches_option<'a>(alloc: Global) -> Result<Arg<'a>, AllocError> {
 }
 
 /// Returns whether the arguments have a client, which the launcher starts and not the program.
-pub fn starts_clients(matches: &ArgMatches<'_>) -> bool {
+pub fn names_client(matches: &ArgMatches<'_>) -> bool {
     match matches.subcommand() {
         Some((_, words)) => words.get_str("client").is_some(),
         None => false,
@@ -109,7 +109,7 @@ pub fn all_messages_option<'a>(alloc: Global) -> Arg<'a> {
         .long("all-messages")
         .action(ArgAction::SetTrue)
         .help(
-            "With --keep-going: writes a message for each refused item, not only for the first 20",
+            "With --keep-going or --stream: writes a message for each refused item, not only for the first 20",
         )
 }
 
@@ -121,7 +121,6 @@ pub fn stream_option<'a>(alloc: Global) -> Result<Arg<'a>, AllocError> {
         .help("Judges the items on the lines of standard input as they come, one on each line")
         .conflicts_with("keep-going")?
         .conflicts_with("failures")?
-        .conflicts_with("all-messages")?
         .conflicts_with("format")
 }
 
@@ -175,7 +174,7 @@ pub fn output_option<'a>(alloc: Global) -> Arg<'a> {
         .short('o')
         .long("output")
         .value_name("FILE")
-        .help("Writes to FILE in place of standard output")
+        .help("Writes to FILE in place of standard output, which `-` also names")
 }
 
 /// The option that keeps standard error empty.

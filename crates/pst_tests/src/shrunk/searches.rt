@@ -2,7 +2,7 @@
 
 use crate::shrunk::cases::{case_of, is_small};
 use pst_case::{Case, Command};
-use pst_shrink::{Attempt, Ending, Outcome, ShrinkFault, Shrunk, shrink};
+use pst_shrink::{Attempt, AttemptOutcome, ShrinkEnd, ShrinkFault, Shrunk, shrink};
 use pst_value::Items;
 use std::alloc::Global;
 use std::test::Fail;
@@ -51,18 +51,18 @@ impl Attempt for Breaks {
 
     ghost keeps = { λ a b. ⊤ };
 
-    fn attempt(&mut self, case: &Case) -> Result<Outcome<u64>, u64> {
+    fn attempt(&mut self, case: &Case) -> Result<AttemptOutcome<u64>, u64> {
         if is_empty(case) {
-            return Ok(Outcome::NotValid);
+            return Ok(AttemptOutcome::NotValid);
         }
         if self.driven == self.fails_after {
             return Err(self.driven);
         }
         self.driven += 1;
         if is_broken(case) {
-            Ok(Outcome::Broke(Items::new(self.alloc), self.driven))
+            Ok(AttemptOutcome::Broke(Items::new(self.alloc), self.driven))
         } else {
-            Ok(Outcome::Held(Items::new(self.alloc)))
+            Ok(AttemptOutcome::Held(Items::new(self.alloc)))
         }
     }
 
@@ -95,11 +95,11 @@ fn shrink_two(
 #[test]
 fn a_limit_stops_the_search(rt: HostRuntime) -> Result<(), Fail> {
     let rows = [
-        (0, 0, 0, Ending::Stopped),
-        (1, 0, 0, Ending::Stopped),
-        (2, 1, 2, Ending::Stopped),
-        (3, 2, 3, Ending::Stopped),
-        (4, 2, 3, Ending::Minimal),
+        (0, 0, 0, ShrinkEnd::Stopped),
+        (1, 0, 0, ShrinkEnd::Stopped),
+        (2, 1, 2, ShrinkEnd::Stopped),
+        (3, 2, 3, ShrinkEnd::Stopped),
+        (4, 2, 3, ShrinkEnd::Minimal),
     ];
     for (limit, steps, history, ending) in rows {
         let shrunk = shrink_two(rt.alloc(), limit, 10).ok_or("no case")??;

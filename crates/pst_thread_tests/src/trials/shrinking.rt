@@ -3,10 +3,10 @@
 use crate::trials::plans::{one_command, plan_of, record_of};
 use pst_case::Case;
 use pst_eval::Plain;
-use pst_gen::if_accepted;
+use pst_gen::valid_or_none;
 use pst_model::Typed;
 use pst_samples::{Racy, Stuck};
-use pst_shrink::Ending;
+use pst_shrink::ShrinkEnd;
 use pst_system::BoxedSystem;
 use pst_tests::support::{COUNTER, ONE};
 use pst_trial::{Plan, Record, Settings, TrialOutcome, trial};
@@ -17,7 +17,7 @@ use std::thread::Threads;
 
 /// How many cases were taken while the case of a trial was shrunk, how that ended, and how many commands the
 /// last case has in its suffix.
-fn shrunk(record: &Record) -> Option<(usize, Ending, usize)> {
+fn shrunk(record: &Record) -> Option<(usize, ShrinkEnd, usize)> {
     match record.outcome() {
         TrialOutcome::Failed { shrunk, .. } => Some((
             shrunk.before.len(),
@@ -34,7 +34,7 @@ fn shrunk_on_stuck<R: Threads + Wait>(
     alloc: Global,
     settings: Settings,
     stuck: &mut BoxedSystem,
-) -> Option<(usize, Ending, usize)> {
+) -> Option<(usize, ShrinkEnd, usize)> {
     shrunk(&record_of(rt, alloc, ONE, settings, 0, stuck)?)
 }
 
@@ -43,10 +43,10 @@ fn the_limit_stops_shrinking(rt: HostRuntime) -> Result<(), Fail> {
     let alloc = rt.alloc();
     let mut stuck: BoxedSystem = Box::new(alloc, Stuck)?;
     let rows = [
-        (0, 0, Ending::Stopped),
-        (1, 0, Ending::Stopped),
-        (2, 1, Ending::Stopped),
-        (3, 1, Ending::Minimal),
+        (0, 0, ShrinkEnd::Stopped),
+        (1, 0, ShrinkEnd::Stopped),
+        (2, 1, ShrinkEnd::Stopped),
+        (3, 1, ShrinkEnd::Minimal),
     ];
     for branches in [2, 3] {
         for (limit, steps, ending) in rows {
@@ -72,7 +72,7 @@ fn a_suffix_is_shrunk(rt: HostRuntime) -> Result<(), Fail> {
         suffix: 1,
         ..Settings::default()
     };
-    let expected = Some((2, Ending::Minimal, 1));
+    let expected = Some((2, ShrinkEnd::Minimal, 1));
     assert!(rt; shrunk_on_stuck(&rt, alloc, settings, &mut stuck) == expected);
     Ok(())
 }
@@ -88,7 +88,7 @@ fn size(case: &Case) -> usize {
 
 /// Whether the case has the shape of the model and is valid by it.
 fn is_accepted(alloc: Global, typed: &Typed, case: &Case) -> Result<bool, AllocError> {
-    let accepted = if_accepted(&Plain::new(typed), alloc, typed, case.copy(alloc)?)?;
+    let accepted = valid_or_none(&Plain::new(typed), alloc, typed, case.copy(alloc)?)?;
     Ok(accepted.is_some())
 }
 

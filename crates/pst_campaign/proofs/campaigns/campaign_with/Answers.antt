@@ -4,8 +4,8 @@ use Rattle.pst_campaign.proofs.Given.{of_table, all_given}
 use Rattle.pst_campaign.proofs.campaigns.campaign_with.Goals as goal
 
 pub close-requires-clause-own : goal.close-requires-clause-own
-close-requires-clause-own g c κs within =
-    of_table (g.P.TrialRunner.may_end c.args.plan.now) (g.P.TrialRunner.may_give c.args.plan.now) c.in_ok-ledger.ledger.table c.args.systems.items c.work_at_once-worked.result.items c.work_at_once-worked.ensures
+close-requires-clause-own g c κs =
+    of_table (g.P.Worker.may_end c.args.plan.now) (g.P.Worker.may_give c.args.plan.now) c.in_ok-ledger.ledger.table c.args.systems.items c.work_at_once-worked.result.items c.work_at_once-worked.ensures
 
 pub unreachable-requires : goal.unreachable-requires
 unreachable-requires g c =
@@ -16,5 +16,5 @@ pub returns-clause-given : goal.returns-clause-given
 returns-clause-given g c =
     let some_systems : 0 < length c.args.systems.items = omega (arith, c.len-workers.ensures, c.if-workers-eq0.false, c.args.systems.ok.0) in
     let closed = c.in-Ok.ensures.1 in
-    all_given (g.P.TrialRunner.may_end c.args.plan.now) (g.P.TrialRunner.may_give c.args.plan.now) c.in_ok-ledger.ledger.table c.args.systems.items c.work_at_once-worked.result.items
+    all_given (g.P.Worker.may_end c.args.plan.now) (g.P.Worker.may_give c.args.plan.now) c.in_ok-ledger.ledger.table c.args.systems.items c.work_at_once-worked.result.items
     _ _ _ some_systems c.work_at_once-worked.ensures closed.1

@@ -24,21 +24,21 @@ work_in_threads-worked-requires-in-Err-clause-fresh g t c κs within =
     let P = IsFresh c.args.ledger.now.table in
     all_front P c.pop.new.self.items (c.in-Some.seat ∷ []) (subst (All P) c.in-Some.ensures.items c.requires.fresh)
 
-pub run-own-requires-after_bounds : goal.run-own-requires-after_bounds
-run-own-requires-after_bounds g t c κs within =
+pub run-own-requires : goal.run-own-requires
+run-own-requires g t c κs within =
     let P = IsFresh c.args.ledger.now.table in
     let fresh : IsFresh c.args.ledger.now.table c.in-Some.seat
     = all_head P c.in-Some.seat [] (all_back P c.pop.new.self.items (c.in-Some.seat ∷ []) (subst (All P) c.in-Some.ensures.items c.requires.fresh)) in
-    rw c.in-Err.ensures.err (fresh, c.requires.trials)
+    (within.0, (within.1.0, (within.1.1, rw c.in-Err.ensures.err (fresh, c.requires.trials))))
 
 pub returns-in-Ok-clause-worked : goal.returns-in-Ok-clause-worked
 returns-in-Ok-clause-worked g t c =
-    let own : IsWorked (g.P.TrialRunner.may_end c.args.plan.now) (g.P.TrialRunner.may_give c.args.plan.now c.in-Some-pop.system) c.args.ledger.now.table c.join-own.result
+    let own : IsWorked (g.P.Worker.may_end c.args.plan.now) (g.P.Worker.may_give c.args.plan.now c.in-Some-pop.system) c.args.ledger.now.table c.join-own.result
     = rw (c.in-Ok.ensures.ok, c.of.ensures) at c.join-own.ensures in
     rw (c.in-Some-pop.ensures.items, c.push_reserved.ensures.items) (zip_snoc _ _ _ _ _ c.work_in_threads-worked.ensures.worked own)
 
 pub returns-in-Err-clause-worked : goal.returns-in-Err-clause-worked
 returns-in-Err-clause-worked g t c =
-    let own : IsWorked (g.P.TrialRunner.may_end c.args.plan.now) (g.P.TrialRunner.may_give c.args.plan.now c.in-Some-pop.system) c.args.ledger.now.table c.run-own.result
+    let own : IsWorked (g.P.Worker.may_end c.args.plan.now) (g.P.Worker.may_give c.args.plan.now c.in-Some-pop.system) c.args.ledger.now.table c.run-own.result
     = rw c.in-Err.ensures.err at c.run-own.ensures in
     rw (c.in-Some-pop.ensures.items, c.push_reserved-in-Err.ensures.items) (zip_snoc _ _ _ _ _ c.work_in_threads-worked-in-Err.ensures.worked own)

@@ -8,8 +8,8 @@ use Rattle.pst_runs.proofs.Lawful.{runs_lawful}
 use Rattle.pst_runs.specs.Lawful.{AreLawful}
 use Rattle.pst_cli.proofs.judged.judged_in_order.Goals as goal
 
-pub rejudge_counting-requires-after_bounds : goal.rejudge_counting-requires-after_bounds
-rejudge_counting-requires-after_bounds g c κs within =
+pub rejudge_with_progress-requires-after_bounds : goal.rejudge_with_progress-requires-after_bounds
+rejudge_with_progress-requires-after_bounds g c κs within =
     let m = c.in-Ok.read.compiled in
     let held = rw c.in-Ok.is at c.in_ok-read.ensures in
     let OfRuns : List Run → Type 0 = λ rs. AreLawful m rs in

@@ -45,8 +45,8 @@ comprehension-returns-in_err-built t c =
     let p = err_from_is_err_and c.from_residual.result c.from_residual.ensures.1 in
     rw (p.1, p.2) (stops_on _ _ _ (rw c.new.ensures at c.in_err-built.ensures))
 
-pub fold-returns : goal.fold-returns
-fold-returns t c =
+pub eval_fold-returns : goal.eval_fold-returns
+eval_fold-returns t c =
     let e = fold_in c.args.context.now.items.now (functions_in c.args.context.now) c.args.name.now c.args.list.now c.args.acc.now c.args.first.now c.args.body.now _ (env_of c.args.env.now) c.in_ok-items.items c.in_ok-value.value c.in_ok-first.first c.args.turns.now c.eval.new.turns c.eval-2.new.turns refl (rw c.get.ensures at c.in_ok-value.ensures) c.in_ok-items.ensures (rw c.get-2.ensures at c.in_ok-first.ensures) in
     rw e (rw (c.get-3.ensures, c.as_bytes.ensures, c.as_bytes-2.ensures, c.as_slice.ensures) at c.fold_over.ensures)
 

@@ -7,23 +7,23 @@ use Rattle.pst_eval.proofs.evaluation.+eval.Given as goal
 abbrev pub decreases-eval : goal.decreases-eval
 decreases-eval l = 4 * (weight l.expr.now + functions_weight (reverse l.context.now.earlier.now))
 
-abbrev pub decreases-let_in : goal.decreases-let_in
-decreases-let_in l = 4 * (weight l.bound.now + weight l.body.now + functions_weight (reverse l.context.now.earlier.now)) + 1
+abbrev pub decreases-eval_let : goal.decreases-eval_let
+decreases-eval_let l = 4 * (weight l.bound.now + weight l.body.now + functions_weight (reverse l.context.now.earlier.now)) + 1
 
-abbrev pub decreases-choice : goal.decreases-choice
-decreases-choice l = 4 * (weight l.test.now + weight l.then.now + weight l.other.now + functions_weight (reverse l.context.now.earlier.now)) + 2
+abbrev pub decreases-eval_if : goal.decreases-eval_if
+decreases-eval_if l = 4 * (weight l.test.now + weight l.then.now + weight l.other.now + functions_weight (reverse l.context.now.earlier.now)) + 2
 
-abbrev pub decreases-both : goal.decreases-both
-decreases-both l = 4 * (weight l.first.now + weight l.second.now + functions_weight (reverse l.context.now.earlier.now)) + 2
+abbrev pub decreases-eval_and : goal.decreases-eval_and
+decreases-eval_and l = 4 * (weight l.first.now + weight l.second.now + functions_weight (reverse l.context.now.earlier.now)) + 2
 
-abbrev pub decreases-either : goal.decreases-either
-decreases-either l = 4 * (weight l.first.now + weight l.second.now + functions_weight (reverse l.context.now.earlier.now)) + 2
+abbrev pub decreases-eval_or : goal.decreases-eval_or
+decreases-eval_or l = 4 * (weight l.first.now + weight l.second.now + functions_weight (reverse l.context.now.earlier.now)) + 2
 
-abbrev pub decreases-put_in : goal.decreases-put_in
-decreases-put_in l = 4 * (weight l.map.now + weight l.key.now + weight l.value.now + functions_weight (reverse l.context.now.earlier.now)) + 1
+abbrev pub decreases-eval_put : goal.decreases-eval_put
+decreases-eval_put l = 4 * (weight l.map.now + weight l.key.now + weight l.value.now + functions_weight (reverse l.context.now.earlier.now)) + 1
 
-abbrev pub decreases-binary : goal.decreases-binary
-decreases-binary l = 4 * (weight l.left.now + weight l.right.now + functions_weight (reverse l.context.now.earlier.now)) + 1
+abbrev pub decreases-eval_binary : goal.decreases-eval_binary
+decreases-eval_binary l = 4 * (weight l.left.now + weight l.right.now + functions_weight (reverse l.context.now.earlier.now)) + 1
 
 abbrev pub decreases-eval_truth : goal.decreases-eval_truth
 decreases-eval_truth l = 4 * (weight l.expr.now + functions_weight (reverse l.context.now.earlier.now)) + 1
@@ -40,14 +40,14 @@ decreases-visit l = 4 * (total (map clause_weight l.clauses.now) + weight l.body
 abbrev pub decreases-visit_each : goal.decreases-visit_each
 decreases-visit_each l = 4 * (total (map clause_weight l.rest.now) + weight l.body.now + functions_weight (reverse l.context.now.earlier.now)) + 2
 
-abbrev pub decreases-fold : goal.decreases-fold
-decreases-fold l = 4 * (weight l.list.now + weight l.first.now + weight l.body.now + functions_weight (reverse l.context.now.earlier.now)) + 2
+abbrev pub decreases-eval_fold : goal.decreases-eval_fold
+decreases-eval_fold l = 4 * (weight l.list.now + weight l.first.now + weight l.body.now + functions_weight (reverse l.context.now.earlier.now)) + 2
 
 abbrev pub decreases-fold_over : goal.decreases-fold_over
 decreases-fold_over l = 4 * (weight l.body.now + functions_weight (reverse l.context.now.earlier.now)) + 1
 
-abbrev pub decreases-apply : goal.decreases-apply
-decreases-apply l = 4 * functions_weight (reverse l.context.now.earlier.now) + 1
+abbrev pub decreases-eval_apply : goal.decreases-eval_apply
+decreases-eval_apply l = 4 * functions_weight (reverse l.context.now.earlier.now) + 1
 
 abbrev pub invariant-eval_all-loop-expr : goal.invariant-eval_all-loop-expr
 invariant-eval_all-loop-expr l =

@@ -23,8 +23,8 @@ branches_events-requires g c =
     let b : length (joined c.as_slice-commands.result.now) ≡ length (joined c.args.shaped.now.case.branches) = ap (λ x. length (joined x)) c.as_slice-commands.ensures ∙ ap (λ x. length (joined x.branches)) c.case-case.ensures.same in
     omega (arith, h, k, n, b)
 
-pub number_behind-number-requires : goal.number_behind-number-requires
-number_behind-number-requires g c =
+pub number_after-number-requires : goal.number_after-number-requires
+number_after-number-requires g c =
     let h = prefix_within (g.C.Callbacks.model c.args.callbacks.now) c.args.shaped.now.case c.requires.shape in
     let k = branches_within (g.C.Callbacks.model c.args.callbacks.now) c.args.shaped.now.case c.requires.shape in
     let n : c.len.result ≡ length c.args.shaped.now.case.prefix = c.len.ensures ∙ ap (λ x. length x.prefix) c.case-case.ensures.same in
@@ -39,7 +39,7 @@ part_events-requires g c =
     let n : c.len.result ≡ length c.args.shaped.now.case.prefix = c.len.ensures ∙ ap (λ x. length x.prefix) c.case-case.ensures.same in
     let b : length (joined c.as_slice-commands.result.now) ≡ length (joined c.args.shaped.now.case.branches) = ap (λ x. length (joined x)) c.as_slice-commands.ensures ∙ ap (λ x. length (joined x.branches)) c.case-case.ensures.same in
     let s : length c.as_slice-commands-2.result.now ≡ length c.args.shaped.now.case.suffix = ap (λ x. length x) c.as_slice-commands-2.ensures ∙ ap (λ x. length x.suffix) c.case-case.ensures.same in
-    omega (arith, h, k, w, n, b, s, c.number_behind-number.ensures)
+    omega (arith, h, k, w, n, b, s, c.number_after-number.ensures)
 
 pub returns-clause-events : goal.returns-clause-events
 returns-clause-events g c =
@@ -50,5 +50,5 @@ pub returns-clause-suffix : goal.returns-clause-suffix
 returns-clause-suffix g c =
     let n : c.len.result ≡ length c.args.shaped.now.case.prefix = c.len.ensures ∙ ap (λ x. length x.prefix) c.case-case.ensures.same in
     let b : length (joined c.as_slice-commands.result.now) ≡ length (joined c.args.shaped.now.case.branches) = ap (λ x. length (joined x)) c.as_slice-commands.ensures ∙ ap (λ x. length (joined x.branches)) c.case-case.ensures.same in
-    let number : c.number_behind-number.result ≡ 1 + before_suffix c.args.shaped.now.case = omega (arith, n, b, c.number_behind-number.ensures) in
+    let number : c.number_after-number.result ≡ 1 + before_suffix c.args.shaped.now.case = omega (arith, n, b, c.number_after-number.ensures) in
     rw (c.new-2.ensures, c.as_slice-commands-2.ensures, c.as_slice-replies-2.ensures, c.requires.results, number, c.case-case.ensures.same) at c.in_ok-suffix.ensures

@@ -5,4 +5,4 @@ use Rattle.pst_judge.proofs.judging.verdict.Goals as goal
 pub returns-clause-faults : goal.returns-clause-faults
 returns-clause-faults g c =
     let m = g.C.Callbacks.model c.args.callbacks.now in
-    if_ok_map _ _ c.verdict_asking.result (λ v is well valid. verdict_in_post m c.args.shaped.now.case well (rw c.requires.model at c.case-case.ensures.shape) valid c.args.history.now c.requires.matches v is) c.verdict_asking.ensures
+    if_ok_map _ _ c.verdict_with_condition.result (λ v is well valid. verdict_in_post m c.args.shaped.now.case well (rw c.requires.model at c.case-case.ensures.shape) valid c.args.history.now c.requires.matches v is) c.verdict_with_condition.ensures

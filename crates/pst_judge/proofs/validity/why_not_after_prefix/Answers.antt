@@ -24,8 +24,8 @@ branches_with_numbers-requires g c =
     let b : length (joined c.as_slice-branches.result.now) ≡ length (joined c.args.shaped.now.case.branches) = ap (λ x. length (joined x)) c.as_slice-branches.ensures ∙ ap (λ x. length (joined x.branches)) c.case-case.ensures.same in
     omega (arith, h, k, n, b)
 
-pub number_behind-number-requires : goal.number_behind-number-requires
-number_behind-number-requires g c =
+pub number_after-number-requires : goal.number_after-number-requires
+number_after-number-requires g c =
     let h = prefix_within (g.C.Callbacks.model c.args.callbacks.now) c.args.shaped.now.case c.requires.shape in
     let k = branches_within (g.C.Callbacks.model c.args.callbacks.now) c.args.shaped.now.case c.requires.shape in
     let n : c.len.result ≡ length c.args.shaped.now.case.prefix = c.len.ensures ∙ ap (λ x. length x.prefix) c.case-case.ensures.same in
@@ -40,7 +40,7 @@ with_numbers-requires g c =
     let n : c.len.result ≡ length c.args.shaped.now.case.prefix = c.len.ensures ∙ ap (λ x. length x.prefix) c.case-case.ensures.same in
     let b : length (joined c.as_slice-branches.result.now) ≡ length (joined c.args.shaped.now.case.branches) = ap (λ x. length (joined x)) c.as_slice-branches.ensures ∙ ap (λ x. length (joined x.branches)) c.case-case.ensures.same in
     let s : length c.as_slice.result.now ≡ length c.args.shaped.now.case.suffix = ap (λ x. length x) c.as_slice.ensures ∙ ap (λ x. length x.suffix) c.case-case.ensures.same in
-    omega (arith, h, k, w, n, b, s, c.number_behind-number.ensures)
+    omega (arith, h, k, w, n, b, s, c.number_after-number.ensures)
 
 pub search_failing-requires-clause-commands : goal.search_failing-requires-clause-commands
 search_failing-requires-clause-commands g c =
@@ -51,7 +51,7 @@ pub search_failing-requires-clause-last : goal.search_failing-requires-clause-la
 search_failing-requires-clause-last g c =
     let n : c.len.result ≡ length c.args.shaped.now.case.prefix = c.len.ensures ∙ ap (λ x. length x.prefix) c.case-case.ensures.same in
     let b : length (joined c.as_slice-branches.result.now) ≡ length (joined c.args.shaped.now.case.branches) = ap (λ x. length (joined x)) c.as_slice-branches.ensures ∙ ap (λ x. length (joined x.branches)) c.case-case.ensures.same in
-    let number : c.number_behind-number.result ≡ 1 + before_suffix c.args.shaped.now.case = omega (arith, n, b, c.number_behind-number.ensures) in
+    let number : c.number_after-number.result ≡ 1 + before_suffix c.args.shaped.now.case = omega (arith, n, b, c.number_after-number.ensures) in
     let e = rw (c.new-2.ensures, c.as_slice.ensures, number, c.case-case.ensures.same) at c.in_ok-suffix.ensures in
     rw e (suffix_asked (g.C.Callbacks.model c.args.callbacks.now) c.args.shaped.now.case c.requires.shape)
 
@@ -62,7 +62,7 @@ pub search_failing-requires-clause-suffix : goal.search_failing-requires-clause-
 search_failing-requires-clause-suffix g c =
     let n : c.len.result ≡ length c.args.shaped.now.case.prefix = c.len.ensures ∙ ap (λ x. length x.prefix) c.case-case.ensures.same in
     let b : length (joined c.as_slice-branches.result.now) ≡ length (joined c.args.shaped.now.case.branches) = ap (λ x. length (joined x)) c.as_slice-branches.ensures ∙ ap (λ x. length (joined x.branches)) c.case-case.ensures.same in
-    let number : c.number_behind-number.result ≡ 1 + before_suffix c.args.shaped.now.case = omega (arith, n, b, c.number_behind-number.ensures) in
+    let number : c.number_after-number.result ≡ 1 + before_suffix c.args.shaped.now.case = omega (arith, n, b, c.number_after-number.ensures) in
     let e = rw (c.new-2.ensures, c.as_slice.ensures, number, c.case-case.ensures.same) at c.in_ok-suffix.ensures in
     rw e (suffix_few (g.C.Callbacks.model c.args.callbacks.now) c.args.shaped.now.case c.requires.shape)
 
@@ -70,7 +70,7 @@ pub returns : goal.returns
 returns g c =
     let n : c.len.result ≡ length c.args.shaped.now.case.prefix = c.len.ensures ∙ ap (λ x. length x.prefix) c.case-case.ensures.same in
     let b : length (joined c.as_slice-branches.result.now) ≡ length (joined c.args.shaped.now.case.branches) = ap (λ x. length (joined x)) c.as_slice-branches.ensures ∙ ap (λ x. length (joined x.branches)) c.case-case.ensures.same in
-    let number : c.number_behind-number.result ≡ 1 + before_suffix c.args.shaped.now.case = omega (arith, n, b, c.number_behind-number.ensures) in
+    let number : c.number_after-number.result ≡ 1 + before_suffix c.args.shaped.now.case = omega (arith, n, b, c.number_after-number.ensures) in
     let e = rw (c.new.ensures, c.as_slice-branches.ensures, c.len.ensures, c.case-case.ensures.same) at c.in_ok-commands.ensures in
     let s = rw (c.new-2.ensures, c.as_slice.ensures, number, c.case-case.ensures.same) at c.in_ok-suffix.ensures in
     rw (e, s) at c.search_failing.ensures

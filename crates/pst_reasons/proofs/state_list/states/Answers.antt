@@ -3,8 +3,8 @@ use Rattle.pst_case.specs.Shape.{result_types}
 use Rattle.pst_judge.proofs.Fitted.{prefix_fits, branches_each, branches_count, branches_within, suffix_fits}
 use Rattle.pst_reasons.proofs.state_list.states.Goals as goal
 
-pub along-requires : goal.along-requires
-along-requires g c =
+pub append_states-requires : goal.append_states-requires
+append_states-requires g c =
     let m = g.C.Callbacks.model c.args.callbacks.now in
     let ts = result_types m c.args.shaped.now.case in
     let f = prefix_fits m c.args.shaped.now.case c.args.history.now (rw c.requires.model at c.case-case.ensures.shape) c.requires.matches c.requires.answered in

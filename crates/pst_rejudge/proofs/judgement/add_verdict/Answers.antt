@@ -8,8 +8,8 @@ use Rattle.pst_rejudge.proofs.judgement.add_verdict.Goals as goal
 pub returns-in_ok-add_words-in-Explained : goal.returns-in_ok-add_words-in-Explained
 returns-in_ok-add_words-in-Explained c =
     let old = c.args.fields.now.items in
-    on_ok_weaker c.add_merge.result
-    (λ e. added old c.add_words.new.fields.items c.add_merge.new.fields.items (verdict (codes "explained") ∷ [])
+    on_ok_weaker c.add_interleaving.result
+    (λ e. added old c.add_words.new.fields.items c.add_interleaving.new.fields.items (verdict (codes "explained") ∷ [])
     (merge_field c.in-Explained.word.items ∷ []) c.in_ok-add_words-in-Explained.ensures e
     ∙ ap (λ v. old ++ outcome_fields (judged.Verdict v)) (sym c.in-Explained.is))
-    c.add_merge.ensures
+    c.add_interleaving.ensures

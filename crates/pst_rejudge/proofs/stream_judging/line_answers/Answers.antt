@@ -1,7 +1,7 @@
 use Rattle.std.proofs.Common.{ap, ◌∙◌, ℕ, Vec, Global, subst, IfOk}
 use Rattle.std.specs.List.{AllZip}
 use Rattle.rayon.proofs.ToStd.{slice-AllZip}
-use Rattle.pst_rejudge.specs.declared.each.Answer.{Answer}
+use Rattle.pst_rejudge.specs.declared.each.ItemResult.{ItemResult}
 use Rattle.pst_rejudge.proofs.Collected.{collected}
 use Rattle.pst_rejudge.specs.StreamAnswers.{IsLineAnswer}
 use Rattle.pst_rejudge.proofs.stream_judging.line_answers.Goals as goal
@@ -9,7 +9,7 @@ use Rattle.pst_rejudge.proofs.stream_judging.line_answers.Goals as goal
 pub returns : goal.returns
 returns g c =
     let slice = ap (λ it. it.base.slice.now) c.map.ensures.base ∙ ap (λ it. it.slice.now) c.with_min_len.ensures.base ∙ c.par_iter.ensures in
-    let answered : Vec ℕ Global → Answer → Type 0 = λ line. IsLineAnswer (g.C.Callbacks.model c.map.result.f.0.now) line.items in
+    let answered : Vec ℕ Global → ItemResult → Type 0 = λ line. IsLineAnswer (g.C.Callbacks.model c.map.result.f.0.now) line.items in
     let all = c.in_ok-collect.ensures in
     let chain = all.1 in
     subst (λ callbacks. IfOk c.in_ok-collect.field-0 (λ answers. AllZip (λ line. IsLineAnswer (g.C.Callbacks.model callbacks.now) line.items) c.args.lines.now answers.items))

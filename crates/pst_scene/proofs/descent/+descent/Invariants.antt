@@ -5,21 +5,24 @@ use Rattle.pst_eval.specs.Weight.{weight, clause_weight, functions_weight, total
 use Rattle.pst_scene.proofs.descent.+descent.Given as goal
 
 abbrev pub decreases-in_expr : goal.decreases-in_expr
-decreases-in_expr l = 4 * (weight l.expr.now + functions_weight (reverse l.site.now.context.earlier.now))
+decreases-in_expr l = 4 * (weight l.expr.now + functions_weight (reverse l.site.now.context.earlier.now)) + 1
+
+abbrev pub decreases-in_fold : goal.decreases-in_fold
+decreases-in_fold l = 4 * (weight l.expr.now + functions_weight (reverse l.site.now.context.earlier.now))
 
 abbrev pub decreases-in_body : goal.decreases-in_body
 decreases-in_body l = 4 * functions_weight (reverse l.site.now.context.earlier.now) + 1
 
 abbrev pub decreases-in_items : goal.decreases-in_items
-decreases-in_items l = 4 * (weight l.body.now + functions_weight (reverse l.site.now.context.earlier.now)) + 1
+decreases-in_items l = 4 * (weight l.body.now + functions_weight (reverse l.site.now.context.earlier.now)) + 2
 
 abbrev pub decreases-in_clauses : goal.decreases-in_clauses
 decreases-in_clauses l =
-    4 * (total (map clause_weight l.clauses.now) + weight l.body.now + functions_weight (reverse l.site.now.context.earlier.now)) + 1
+    4 * (total (map clause_weight l.clauses.now) + weight l.body.now + functions_weight (reverse l.site.now.context.earlier.now)) + 2
 
 abbrev pub decreases-in_each : goal.decreases-in_each
 decreases-in_each l =
-    4 * (total (map clause_weight l.rest.now) + weight l.body.now + functions_weight (reverse l.site.now.context.earlier.now)) + 2
+    4 * (total (map clause_weight l.rest.now) + weight l.body.now + functions_weight (reverse l.site.now.context.earlier.now)) + 3
 
 abbrev pub invariant-in_items-loop-item : goal.invariant-in_items-loop-item
 invariant-in_items-loop-item l =

@@ -5,5 +5,5 @@ use Rattle.pst_scene.proofs.evidence_falsity.+falsity.Given as goal
 abbrev pub decreases-false_part_of : goal.decreases-false_part_of
 decreases-false_part_of l = 2 * weight l.expr.now + 1
 
-abbrev pub decreases-inner_part : goal.decreases-inner_part
-decreases-inner_part l = 2 * weight l.expr.now
+abbrev pub decreases-false_part_within : goal.decreases-false_part_within
+decreases-false_part_within l = 2 * weight l.expr.now

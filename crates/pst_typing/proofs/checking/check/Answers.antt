@@ -1,8 +1,8 @@
 use Rattle.pst_typing.proofs.Whole.{whole}
 use Rattle.pst_typing.proofs.checking.check.Goals as goal
 
-pub judge-requires : goal.judge-requires
-judge-requires c = whole c.source.result.now (c.model_items.ensures c.source.result.now c.source.ensures.lawful)
+pub first_ill_typed_item-requires : goal.first_ill_typed_item-requires
+first_ill_typed_item-requires c = whole c.source.result.now (c.model_items.ensures c.source.result.now c.source.ensures.lawful)
 
 pub new-requires-clause-operations : goal.new-requires-clause-operations
 new-requires-clause-operations c = c.model_operations.ensures c.into_source.result c.into_source.ensures.lawful

@@ -4,15 +4,15 @@ use Rattle.pst_eval.proofs.plain.PlainCallbacks.init.Goals as goal
 
 pub unreachable-requires : goal.unreachable-requires
 unreachable-requires c =
-    let none = rw (c.in_default.is, c.as_slice.ensures) at c.opening_of.ensures in
+    let none = rw (c.in_default.is, c.as_slice.ensures) at c.initial_state_of.ensures in
     let some = c.source-model.ensures.well.opening_is in
     absurd (cc)
 
 pub start-requires : goal.start-requires
-start-requires c = λ stuck. init_starts c.source-model.result.now c.source-model.ensures.well ((init_is c.source-model.result.now c.in-Some.opening.now (sym (rw (c.in-Some.is, c.as_slice.ensures) at c.opening_of.ensures))) ∙ stuck)
+start-requires c = λ stuck. init_starts c.source-model.result.now c.source-model.ensures.well ((init_is c.source-model.result.now c.in-Some.opening.now (sym (rw (c.in-Some.is, c.as_slice.ensures) at c.initial_state_of.ensures))) ∙ stuck)
 
 pub returns-clause-says : goal.returns-clause-says
-returns-clause-says c = rw (sym c.source-model.ensures.same) (says_at _ _ c.start.result (sym (init_is c.source-model.result.now c.in-Some.opening.now (sym (rw (c.in-Some.is, c.as_slice.ensures) at c.opening_of.ensures)))) c.start.ensures)
+returns-clause-says c = rw (sym c.source-model.ensures.same) (says_at _ _ c.start.result (sym (init_is c.source-model.result.now c.in-Some.opening.now (sym (rw (c.in-Some.is, c.as_slice.ensures) at c.initial_state_of.ensures)))) c.start.ensures)
 
 pub returns-clause-fits : goal.returns-clause-fits
-returns-clause-fits c = rw (sym c.source-model.ensures.same) (init_gives c.source-model.result.now c.start.result c.source-model.ensures.well (says_at _ _ c.start.result (sym (init_is c.source-model.result.now c.in-Some.opening.now (sym (rw (c.in-Some.is, c.as_slice.ensures) at c.opening_of.ensures)))) c.start.ensures))
+returns-clause-fits c = rw (sym c.source-model.ensures.same) (init_gives c.source-model.result.now c.start.result c.source-model.ensures.well (says_at _ _ c.start.result (sym (init_is c.source-model.result.now c.in-Some.opening.now (sym (rw (c.in-Some.is, c.as_slice.ensures) at c.initial_state_of.ensures)))) c.start.ensures))

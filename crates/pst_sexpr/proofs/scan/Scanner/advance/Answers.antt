@@ -9,4 +9,4 @@ returns-clause-read c =
     let bytes = c.args.bytes.now in
     let span = c.span-span.result.now in
     let front = subst (λ l. IsSpanOf l span) (take_rest bytes c.args.place) c.span-span.ensures.front in
-    spanned 100 c.args.self.now c.add.new.self bytes c.args.place span c.span-span.ensures.class front c.in_ok-add.ensures
+    spanned 100 c.args.self.now c.extend_token.new.self bytes c.args.place span c.span-span.ensures.class front c.in_ok-extend_token.ensures

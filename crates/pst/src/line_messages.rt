@@ -1,0 +1,204 @@
+//! The messages on the refused lines of a stream, on standard error.
+
+use crate::input::STANDARD_INPUT;
+use pst_cli::RefusedLines;
+use pst_json_runs::has_json;
+use pst_messages::{Asked, errors_of};
+use pst_sexpr::{MAX_BYTES, read};
+use pst_sources::{
+    Input, Notices, Place, SourceFile, Span, first_item, first_line, joined, place_on, tree_at,
+};
+use std::alloc::{AllocError, Global};
+
+/// How many refused lines get messages, unless all of them do.
+pub const MOST_LINES: usize = 20;
+
+/// What is wrong with a line: the bytes, what was expected or found, and hints.
+#[derive(Drop)]
+struct LineFault {
+    span: Span,
+    what: String,
+    notes: Vec<String>,
+}
+
+/// The messages on the refused lines of a stream. Each is written as soon as its line is judged, and none is kept.
+#[derive(Drop)]
+pub struct LineMessages<'a, R: Eprint + AllocGlobal> {
+    rt: &'a R,
+    /// The name of the model's file.
+    name: &'a str,
+    /// The text of the model.
+    model: &'a [u8],
+    /// How many more lines get messages.
+    left: usize,
+    /// Whether standard error has a line that shows the progress, which a message takes the place of.
+    has_progress: bool,
+}
+
+/// Returns a copy of the bytes.
+fn copied(alloc: Global, bytes: &[u8]) -> Result<Vec<u8>, AllocError> {
+    let mut copy = Vec::new(alloc);
+    copy.extend_from_slice(bytes)?;
+    Ok(copy)
+}
+
+/// The fault of `span` without notes.
+fn fault(alloc: Global, span: Span, what: &str) -> Result<LineFault, AllocError> {
+    Ok(LineFault {
+        span,
+        what: String::from_str(alloc, what)?,
+        notes: Vec::new(alloc),
+    })
+}
+
+/// Returns the first error on the last of the files, or none.
+fn last_fault(alloc: Global, files: &[SourceFile<'_>]) -> Result<Option<LineFault>, AllocError> {
+    let text = joined(alloc, files)?;
+    let input = Input {
+        files,
+        bytes: text.as_slice(),
+    };
+    let last = files.len().saturating_sub(1);
+    let Notices { all, more: _ } = errors_of(alloc, &input, Asked::FirstItem)?;
+    for notice in all {
+        let part = input.part_at(notice.span);
+        if part.number == last {
+            return Ok(Some(LineFault {
+                span: part.span,
+                what: notice.what,
+                notes: notice.notes,
+            }));
+        }
+    }
+    Ok(None)
+}
+
+/// The file that a line is in the messages on it.
+fn line_file(alloc: Global, line: &[u8]) -> Result<SourceFile<'static>, AllocError> {
+    Ok(SourceFile {
+        name: STANDARD_INPUT,
+        bytes: copied(alloc, line)?,
+    })
+}
+
+/// Returns the fault of a line that is not one tree, or that is a model.
+fn tree_fault(alloc: Global, line: &[u8]) -> Result<Option<LineFault>, AllocError> {
+    let Ok(trees) = read(alloc, line) else {
+        return last_fault(alloc, &[line_file(alloc, line)?]);
+    };
+    let first = tree_at(line, 0);
+    if trees.is_empty() {
+        return Ok(Some(fault(alloc, first, "there is no item on this line")?));
+    }
+    if trees.len() > 1 {
+        let second = tree_at(line, first.end);
+        let what = "a second item begins here: a line of a stream has one";
+        return Ok(Some(fault(alloc, second, what)?));
+    }
+    if matches!(first_item(line), Some("model" | "model2")) {
+        let what = "this is a model: a line of a stream is a case or a run";
+        return Ok(Some(fault(alloc, first, what)?));
+    }
+    Ok(None)
+}
+
+/// Returns a note on a file of one line as a note on line `number`.
+fn note_on(alloc: Global, number: usize, note: &str) -> Result<String, AllocError> {
+    let line = format!(in alloc; "line {number}")?;
+    let place = format!(in alloc; " at {number}:")?;
+    let note = note.replace(alloc, "line 1", line.as_str())?;
+    note.as_str().replace(alloc, " at 1:", place.as_str())
+}
+
+impl<'a, R: Eprint + AllocGlobal> LineMessages<'a, R> {
+    /// The messages on lines whose model is the first tree of `input`, the text of the file `name`. There are at most
+    /// `most`.
+    pub fn new(
+        rt: &'a R,
+        name: &'a str,
+        input: &'a [u8],
+        most: usize,
+        has_progress: bool,
+    ) -> LineMessages<'a, R> {
+        let Span { start: _, end } = tree_at(input, 0);
+        LineMessages {
+            rt,
+            name,
+            model: input.get(..end).unwrap_or(input),
+            left: most,
+            has_progress,
+        }
+    }
+
+    /// Returns the fault of the item on a line, or none.
+    fn item_fault(&self, alloc: Global, line: &[u8]) -> Result<Option<LineFault>, AllocError> {
+        let model = SourceFile {
+            name: self.name,
+            bytes: copied(alloc, self.model)?,
+        };
+        last_fault(alloc, &[model, line_file(alloc, line)?])
+    }
+
+    /// Returns what is wrong with a refused line.
+    fn fault_of(&self, alloc: Global, line: &[u8]) -> Result<LineFault, AllocError> {
+        let start = Span { start: 0, end: 1 };
+        if line.len() > MAX_BYTES {
+            return fault(alloc, start, "the line is longer than 1 MiB");
+        }
+        if !has_json(line) {
+            if let Some(found) = tree_fault(alloc, line)? {
+                return Ok(found);
+            }
+        }
+        let together = self.model.len().saturating_add(line.len());
+        if together < MAX_BYTES {
+            if let Some(found) = self.item_fault(alloc, line)? {
+                return Ok(found);
+            }
+        }
+        fault(
+            alloc,
+            start,
+            "the item is refused; it is too long for a message that says why",
+        )
+    }
+
+    /// Returns the message on the refused line `number`.
+    fn message(&self, number: usize, line: &[u8]) -> Result<String, AllocError> {
+        let alloc = self.rt.alloc();
+        let LineFault { span, what, notes } = self.fault_of(alloc, line)?;
+        let Place {
+            line: _,
+            column,
+            text,
+            marks,
+        } = place_on(alloc, line, first_line(), span)?;
+        let mut message = format!(in alloc; "{STANDARD_INPUT}:{number}:{column}: {what}\n")?;
+        if !line.is_empty() {
+            message.push_str(format!(in alloc; "    {text}\n    {marks}\n")?.as_str())?;
+        }
+        for note in &notes {
+            let note = note_on(alloc, number, note.as_str())?;
+            message.push_str(format!(in alloc; "  {note}\n")?.as_str())?;
+        }
+        Ok(message)
+    }
+}
+
+impl<'a, R: Eprint + AllocGlobal> RefusedLines for LineMessages<'a, R> {
+    fn takes_more(&self) -> bool {
+        self.left > 0
+    }
+
+    fn take(&mut self, number: usize, line: &[u8]) {
+        if self.left == 0 {
+            return;
+        }
+        self.left = self.left.saturating_sub(1);
+        let rt = self.rt;
+        let begin = if self.has_progress { "\r\x1b[K" } else { "" };
+        if let Ok(message) = self.message(number, line) {
+            let _ = eprint!(rt; "{begin}{message}");
+        }
+    }
+}

@@ -1,0 +1,22 @@
+//! What is read of a pipe before it is wanted.
+
+use std::io::{BufReader, Read};
+
+/// A reader that may read more of a pipe than is wanted of it.
+pub trait Ahead {
+    /// The next byte, if it is read from the pipe already.
+    fn next_ahead(&self) -> Option<u8>;
+}
+
+impl<R: Read> Ahead for BufReader<R> {
+    fn next_ahead(&self) -> Option<u8> {
+        self.buffer().first().copied()
+    }
+}
+
+/// Known bytes are read one at a time, as they are wanted.
+impl Ahead for &[u8] {
+    fn next_ahead(&self) -> Option<u8> {
+        None
+    }
+}

@@ -1,0 +1,6 @@
+use Rattle.std.proofs.Common.{◌≡◌, ◌≤◌, take, reverse}
+use Rattle.pst_compile.specs.Code.{functions}
+use Rattle.pst_compile.proofs.names.count_functions.Given as goal
+
+abbrev pub invariant-loop-item : goal.invariant-loop-item
+invariant-loop-item l = record { within : l.count ≤ l.item-index; counted : l.count ≡ functions (reverse (take l.item-index l.items)) }

@@ -1,0 +1,66 @@
+//! Waiting for another thread's word.
+
+use crate::waiter::Waiter;
+use std::hint::spin_loop;
+use std::sync::Wait;
+use std::sync::atomic::{AtomicU64, Ordering};
+
+/// How many times a thread looks at a bell before it sleeps.
+const LOOKS: u32 = 500;
+
+/// Counts how often it was rung, and wakes those that wait for the next time.
+#[derive(Drop)]
+pub(crate) struct Bell {
+    rung: AtomicU64,
+    asleep: AtomicU64,
+}
+
+impl Bell {
+    /// A bell that was never rung: its count is 0.
+    pub(crate) fn new() -> Bell {
+        Bell {
+            rung: AtomicU64::new(0),
+            asleep: AtomicU64::new(0),
+        }
+    }
+
+    /// How often it was rung.
+    pub(crate) fn count(&self) -> u64 {
+        self.rung.load(Ordering::SeqCst)
+    }
+
+    /// Adds one to the count, and wakes those that sleep.
+    pub(crate) fn ring(&self) {
+        self.rung.fetch_add(1, Ordering::SeqCst);
+        if self.asleep.load(Ordering::SeqCst) != 0 {
+            self.rung.wake_all();
+        }
+    }
+
+    /// Waits until the count is not `seen`, and returns it: looks up to `LOOKS` times, and then sleeps.
+    pub(crate) fn wait_past<R: Wait>(&self, seen: u64) -> u64 {
+        for _ in 0..LOOKS {
+            let count = self.count();
+            if count != seen {
+                return count;
+            }
+            spin_loop();
+        }
+        self.asleep.fetch_add(1, Ordering::SeqCst);
+        let count = self.sleep_past(&Waiter::<R>::new(), seen);
+        self.asleep.fetch_sub(1, Ordering::SeqCst);
+        count
+    }
+
+    /// Sleeps until the count is not `seen`, and returns it.
+    fn sleep_past<W: Wait>(&self, waiter: &W, seen: u64) -> u64 {
+        for _ in waiter.forever() {
+            let count = self.count();
+            if count != seen {
+                return count;
+            }
+            self.rung.park(waiter, (seen & 0xffff_ffff) as u32);
+        }
+        unreachable!()
+    }
+}

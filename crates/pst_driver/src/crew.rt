@@ -1,0 +1,236 @@
+//! A system, and threads that are kept from drive to drive to run branches on it.
+ghost use Rattle.std.specs.Prelude.{◌≡◌, IfOk, IfErr, true};
+ghost use Rattle.std.specs.Thread.{IsSend, IsSync};
+ghost use Rattle.pst_driver.specs.Progress.{all_known};
+ghost use Rattle.pst_system.specs.Kept.{AreKept};
+
+use crate::arrivals::StartBarrier;
+use crate::branches::{STACK_BYTES, copy_known, may_share_model};
+use crate::desk::{Delivery, Desk, Order};
+use crate::fault::DriveFault;
+use crate::part::run_part;
+use crate::relations::{KeptSystem, Relations};
+use crate::subject::Subject;
+use crate::waiter::Waiter;
+use core::thread::{Anything, Stack};
+use pst_case::Command;
+use pst_model::{Typed, operation_of};
+use pst_value::Value;
+use std::alloc::{AllocError, Global};
+use std::sync::atomic::{AtomicU64, Ordering};
+use std::sync::{Mutex, RwLock, Wait};
+use std::thread::{Scope, Threads};
+
+/// A place for the thread of each branch.
+#[derive(Drop)]
+struct Desks<J: Relations> {
+    first: Desk<J>,
+    second: Desk<J>,
+    third: Desk<J>,
+    fourth: Desk<J>,
+}
+
+impl<J: Relations> Desks<J> {
+    /// The place of branch `number`, which counts from 0.
+    fn get(&self, number: u32) -> Option<&Desk<J>> {
+        match number {
+            0 => Some(&self.first),
+            1 => Some(&self.second),
+            2 => Some(&self.third),
+            3 => Some(&self.fourth),
+            _ => None,
+        }
+    }
+}
+
+/// A system that a worker drives, with a place for the thread of each branch. The threads are kept from drive
+/// to drive.
+#[derive(Drop)]
+pub struct Crew<J: Relations, S: Subject> {
+    pub(crate) system: RwLock<KeptSystem<J, S>>,
+    pub(crate) arrivals: StartBarrier,
+    /// How many threads have started.
+    started: AtomicU64,
+    desks: Desks<J>,
+}
+
+impl<J: Relations, S: Subject> Crew<J, S> {
+    /// A crew with no thread yet.
+    pub fn new(system: KeptSystem<J, S>) -> Crew<J, S> {
+        Crew {
+            system: RwLock::new(system),
+            arrivals: StartBarrier::new(0),
+            started: AtomicU64::new(0),
+            desks: Desks {
+                first: Desk::new(),
+                second: Desk::new(),
+                third: Desk::new(),
+                fourth: Desk::new(),
+            },
+        }
+    }
+
+    /// The place of the thread of branch `number`, if that thread has started.
+    pub(crate) fn desk(&self, number: u32) -> Option<&Desk<J>> {
+        if (number as u64) < self.started.load(Ordering::SeqCst) {
+            self.desks.get(number)
+        } else {
+            None
+        }
+    }
+
+    /// Sends all threads home. Each scope in which a crew started ends with this call, or it waits for ever.
+    pub fn dismiss(&self) {
+        self.desks.first.asked.ring();
+        self.desks.second.asked.ring();
+        self.desks.third.asked.ring();
+        self.desks.fourth.asked.ring();
+    }
+
+    /// Gives the system back, for drives without the crew. It has the relations that `J` names.
+    pub fn into_system(self) -> S
+        ensures { AreKept (S.may_answer result) J.answering (S.may_fail result) J.failing
+            (S.may_refuse_reset result) J.resetting }
+    {
+        let Crew { system, .. } = self;
+        system.into_inner().into_system()
+    }
+}
+
+/// Whether each command calls an operation of the model.
+fn are_known(typed: &Typed, commands: &[Command]) -> bool
+    ensures { result ≡ all_known typed.now commands.now }
+{
+    let Some((command, commands)) = commands.split_first() else {
+        return true;
+    };
+    match operation_of(typed.source().items.as_slice(), command.op as usize) {
+        Some(_) => are_known(typed, commands),
+        None => false,
+    }
+}
+
+/// Copies the results that are known before an order, with room for those of its commands.
+fn known_before(alloc: Global, order: &Order) -> Result<Vec<Option<Value>>, AllocError>
+    ensures { IfOk result (λ known. known.items ≡ order.now.known) }
+{
+    let mut known = copy_known(alloc, order.known.as_slice())?;
+    known.reserve(order.commands.len())?;
+    Ok(known)
+}
+
+/// Runs an order from `branch`, with a copy of the results that are known before it. `NoThread`: the model does
+/// not have an operation that it calls. `NoMemory`: an allocation failed.
+fn run_order<J: Relations, S: Subject>(
+    alloc: Global,
+    typed: &Typed,
+    system: &KeptSystem<J, S>,
+    branch: u32,
+    order: Order,
+    known: Result<Vec<Option<Value>>, AllocError>,
+) -> Result<Delivery<J>, DriveFault>
+    requires model { typed.now ≡ J.model }
+    requires known { IfOk known (λ copies. copies.items ≡ order.known) }
+{
+    if !are_known(typed, order.commands.as_slice()) {
+        return Err(DriveFault::NoThread);
+    }
+    let commands = order.commands.as_slice();
+    let replies = run_part(alloc, typed, system.system(), branch, commands, known?)?;
+    Ok(Delivery::new(order, replies))
+}
+
+/// Runs orders until there is none at a ring.
+fn run_orders<J: Relations, S: Subject, R: Wait>(
+    alloc: Global,
+    typed: &Typed,
+    system: &RwLock<KeptSystem<J, S>>,
+    arrivals: &StartBarrier,
+    desk: &Desk<J>,
+    branch: u32,
+)
+    requires { typed.now ≡ J.model }
+{
+    let waiter = Waiter::<R>::new();
+    let mut seen = 0;
+    for _ in waiter.forever() {
+        seen = desk.asked.wait_past::<R>(seen);
+        let order = desk.order.lock(&waiter).take();
+        let Some(order) = order else {
+            return;
+        };
+        let known = known_before(alloc, &order);
+        let held = system.read(&waiter);
+        arrivals.arrive::<R>();
+        let done = run_order(alloc, typed, &*held, branch, order, known);
+        drop(held);
+        *desk.done.lock(&waiter) = Some(done);
+        desk.answered.ring();
+    }
+}
+
+/// What is `Sync` may be shared by threads.
+fn may_share<T: Sync>()
+    ensures { IsSync T.row }
+{}
+
+/// What is `Send` may be sent to threads.
+fn may_send<T: Send>()
+    ensures { IsSend T.row }
+{}
+
+/// Starts the thread of branch `number`, and returns whether it started.
+fn start_thread<'s, E, J: Relations + Send + Sync, S: Subject + Send + Sync, R: Wait>(
+    _rt: &'s R,
+    alloc: Global,
+    scope: &Scope<'s, E>,
+    typed: &'s Typed,
+    crew: &'s Crew<J, S>,
+    number: u32,
+) -> bool
+    requires { typed.now ≡ J.model }
+{
+    may_share_model(typed);
+    may_send::<Command>();
+    may_send::<Value>();
+    may_send::<Order>();
+    may_send::<Delivery<J>>();
+    may_share::<Mutex<Option<Order>>>();
+    may_share::<Mutex<Option<Result<Delivery<J>, DriveFault>>>>();
+    may_share::<Desk<J>>();
+    may_send::<KeptSystem<J, S>>();
+    may_share::<KeptSystem<J, S>>();
+    may_share::<RwLock<KeptSystem<J, S>>>();
+    let Some(desk) = crew.desks.get(number) else {
+        return false;
+    };
+    let system = &crew.system;
+    let arrivals = &crew.arrivals;
+    let run = move ||
+        requires { typed.now ≡ J.model }
+    { run_orders::<J, S, R>(alloc, typed, system, arrivals, desk, number) };
+    let stack = Stack::new().stack_size(STACK_BYTES);
+    stack.spawn_scoped_with(scope, Anything, run).is_ok()
+}
+
+/// Starts the threads of `count` branches in a scope, for a crew of which none has started. They run by the
+/// model. Returns whether all have started. If one cannot be started, no later one is tried, and drives that need
+/// any of these return `NoThread`.
+pub fn start_crew<'s, E, J: Relations + Send + Sync, S: Subject + Send + Sync, R: Threads + Wait>(
+    rt: &'s R,
+    alloc: Global,
+    scope: &Scope<'s, E>,
+    typed: &'s Typed,
+    crew: &'s Crew<J, S>,
+    count: u32,
+) -> bool
+    requires { typed.now ≡ J.model }
+{
+    for number in 0..count {
+        if !start_thread(rt, alloc, scope, typed, crew, number) {
+            return false;
+        }
+        crew.started.fetch_add(1, Ordering::SeqCst);
+    }
+    true
+}

@@ -1,0 +1,133 @@
+//! Where a kept thread finds the branch that it runs, and leaves the replies.
+ghost use Rattle.std.specs.Prelude.{◌≡◌, IfOk, IfErr, IfSome};
+ghost use Rattle.pst_driver.specs.Progress.{PartRuns, IsPartFault};
+
+use crate::bell::Bell;
+use crate::fault::DriveFault;
+use crate::relations::Relations;
+use pst_case::{Command, Reply};
+use pst_value::{Items, Value};
+use std::marker::{Model, PhantomData};
+use std::sync::{Mutex, Wait};
+
+/// A branch to run, and the results that are known before it.
+#[derive(Drop)]
+pub(crate) struct Order {
+    pub commands: Items<Command>,
+    pub known: Items<Option<Value>>,
+}
+
+/// A branch that was run. Contracts see it as the order and its replies.
+#[derive(Drop)]
+pub(crate) struct Delivery<J: Relations> {
+    order: Order,
+    replies: Items<Reply>,
+    of: PhantomData<J>,
+}
+
+impl<J: Relations> Model for Delivery<J> {
+    ghost use Rattle.std.specs.Prelude.{List};
+    ghost use Rattle.std.specs.Coded.{codes};
+    ghost use Rattle.pst_case.specs.contracts.history.Reply as reply_coding;
+    ghost use Rattle.pst_case.specs.declared.history.Reply.{Reply};
+    ghost use Rattle.pst_driver.specs.Progress.{PartRuns};
+    ghost use Rattle.pst_driver.specs.contracts.desk.Order as order_coding;
+    ghost use Rattle.pst_driver.specs.declared.desk.Order.{Order};
+
+    ghost Value = { Order × List Reply };
+
+    ghost coded = { Prim.hlevel (codes, order_coding.the_row.coded, reply_coding.the_row.coded) };
+
+    ghost view = { λ d. (d.order, d.replies) };
+
+    ghost invariant = { λ d.
+        PartRuns J.model J.answering J.failing d.order.known d.order.commands d.replies };
+}
+
+impl<J: Relations> Delivery<J> {
+    /// An order that was run, with its replies.
+    pub(crate) fn new(order: Order, replies: Items<Reply>) -> Delivery<J>
+        requires { PartRuns J.model J.answering J.failing order.known order.commands replies }
+    {
+        Delivery {
+            order,
+            replies,
+            of: PhantomData,
+        }
+    }
+
+    /// The replies, if the order was to run these commands with these known results.
+    fn replies_to(
+        self,
+        commands: &Items<Command>,
+        known: &Items<Option<Value>>,
+    ) -> Option<Items<Reply>>
+        ensures { IfSome result (λ rs. PartRuns J.model J.answering J.failing known.now commands.now rs) }
+    {
+        let Delivery {
+            order,
+            replies,
+            of: _,
+        } = self;
+        if order.commands == *commands && order.known == *known {
+            Some(replies)
+        } else {
+            None
+        }
+    }
+}
+
+/// The place of one kept thread. Its worker leaves an order there and rings; the thread leaves what came of it
+/// and rings back. A ring with no order sends the thread home.
+#[derive(Drop)]
+pub(crate) struct Desk<J: Relations> {
+    pub asked: Bell,
+    pub answered: Bell,
+    pub order: Mutex<Option<Order>>,
+    pub done: Mutex<Option<Result<Delivery<J>, DriveFault>>>,
+}
+
+impl<J: Relations> Desk<J> {
+    /// A place with no order.
+    pub(crate) fn new() -> Desk<J> {
+        Desk {
+            asked: Bell::new(),
+            answered: Bell::new(),
+            order: Mutex::new(None),
+            done: Mutex::new(None),
+        }
+    }
+
+    /// Leaves an order, and rings. Returns how often the thread had rung before.
+    pub(crate) fn give<R: Wait>(&self, rt: &R, order: Order) -> u64 {
+        let seen = self.answered.count();
+        *self.order.lock(rt) = Some(order);
+        self.asked.ring();
+        seen
+    }
+
+    /// Waits until the thread has rung more than `seen` times, and takes the replies to these commands.
+    /// `NoThread`: the thread ran other ones, or none. `NoMemory`: an allocation of the thread failed.
+    pub(crate) fn collect<R: Wait>(
+        &self,
+        rt: &R,
+        seen: u64,
+        commands: &Items<Command>,
+        known: &Items<Option<Value>>,
+    ) -> Result<Items<Reply>, DriveFault>
+        ensures replies { IfOk result
+            (λ rs. PartRuns J.model J.answering J.failing known.now commands.now rs) }
+        ensures fault { IfErr result IsPartFault }
+    {
+        self.answered.wait_past::<R>(seen);
+        let done = self.done.lock(rt).take();
+        match done {
+            Some(Ok(delivery)) => match delivery.replies_to(commands, known) {
+                Some(replies) => Ok(replies),
+                None => Err(DriveFault::NoThread),
+            },
+            Some(Err(DriveFault::NoMemory)) => Err(DriveFault::NoMemory),
+            Some(Err(_)) | None => Err(DriveFault::NoThread),
+        }
+    }
+}

@@ -1,0 +1,210 @@
+//! Driving a whole case with threads that are kept.
+ghost use Rattle.std.specs.Prelude.{◌≡◌, true, IfOk, IfErr, MatchBool, MatchResult, map};
+ghost use Rattle.std.specs.List.{list_all};
+ghost use Rattle.pst_case.specs.Matches.{matches};
+ghost use Rattle.pst_case.specs.Recorded.{result_of};
+ghost use Rattle.pst_case.specs.Shape.{IsShaped};
+ghost use Rattle.pst_driver.specs.Driven.{IsDriven, IsDriveFault, all_answers, none_run};
+ghost use Rattle.pst_driver.specs.Progress.{BranchesRun, IsBranchFault};
+
+use crate::branches::{add_none_known, copy_known, count_threads};
+use crate::crew::Crew;
+use crate::desk::Order;
+use crate::driving::{all_answers, run_suffix, skip_all};
+use crate::fault::DriveFault;
+use crate::part::run_part;
+use crate::relations::Relations;
+use crate::subject::Subject;
+use pst_case::{Case, Command, History, Reply, results_of};
+use pst_judge::Valid;
+use pst_model::Typed;
+use pst_value::{Items, Value};
+use std::alloc::{AllocError, Global};
+use std::sync::Wait;
+
+fn copy_commands(alloc: Global, commands: &[Command]) -> Result<Items<Command>, AllocError>
+    ensures { IfOk result (λ copies. copies ≡ commands.now) }
+{
+    let mut copies = Items::new(alloc);
+    for command in commands {
+        copies.push(command.copy(alloc)?)?;
+    }
+    Ok(copies)
+}
+
+/// An order to run the commands with these known results.
+fn order_of(
+    alloc: Global,
+    commands: &[Command],
+    known: &[Option<Value>],
+) -> Result<Order, AllocError>
+    ensures { IfOk result (λ order. (order.commands ≡ commands.now) × (order.known ≡ known.now)) }
+{
+    Ok(Order {
+        commands: copy_commands(alloc, commands)?,
+        known: Items::from_vec(copy_known(alloc, known)?),
+    })
+}
+
+/// The replies of the branches, each that is not empty by the thread that is kept for it. The first of them is
+/// branch `number`. Its order is given before those of the others, and its replies are taken after theirs, also
+/// if theirs are not to be had: so no thread is left with an order, and none waits for one that has none.
+fn order_branches<J: Relations, S: Subject, R: Wait>(
+    rt: &R,
+    alloc: Global,
+    crew: &Crew<J, S>,
+    number: u32,
+    branches: &[Items<Command>],
+    mut known: Vec<Option<Value>>,
+) -> Result<Items<Items<Reply>>, DriveFault>
+    ensures { MatchResult result
+        (λ hs. BranchesRun J.model J.answering J.failing known.items branches.now hs)
+        (λ e. IsBranchFault branches.now e) }
+{
+    let mut replies = Items::new(alloc);
+    let Some((first, others)) = branches.split_first() else {
+        return Ok(replies);
+    };
+    let before = Items::from_vec(copy_known(alloc, known.as_slice())?);
+    add_none_known(&mut known, first.as_slice())?;
+    let next = number.saturating_add(1);
+    if first.is_empty() {
+        let more = order_branches(rt, alloc, crew, next, others, known)?;
+        replies.push(Items::new(alloc))?;
+        replies.append(more)?;
+        return Ok(replies);
+    }
+    let Some(desk) = crew.desk(number) else {
+        return Err(DriveFault::NoThread);
+    };
+    let order = order_of(alloc, first.as_slice(), before.as_slice())?;
+    let seen = desk.give(rt, order);
+    let more = order_branches(rt, alloc, crew, next, others, known);
+    if more.is_err() {
+        crew.arrivals.release();
+    }
+    let own = desk.collect(rt, seen, first, &before);
+    let more = match more {
+        Ok(more) => more,
+        Err(fault) => return Err(fault),
+    };
+    let own = match own {
+        Ok(own) => own,
+        Err(fault) => return Err(fault),
+    };
+    replies.push(own)?;
+    replies.append(more)?;
+    Ok(replies)
+}
+
+/// The replies of the branches, which run at once if the whole prefix has values, and else not at all.
+fn run_branches<J: Relations, S: Subject, R: Wait>(
+    rt: &R,
+    alloc: Global,
+    crew: &Crew<J, S>,
+    branches: &[Items<Command>],
+    prefix: &[Reply],
+) -> Result<Items<Items<Reply>>, DriveFault>
+    ensures replies { IfOk result (λ hs. MatchBool (all_answers prefix.now)
+        (BranchesRun J.model J.answering J.failing (map result_of prefix.now) branches.now hs)
+        (hs ≡ map none_run branches.now)) }
+    ensures fault { IfErr result (λ e. IsBranchFault branches.now e) }
+{
+    if !all_answers(prefix) {
+        return Ok(skip_all(alloc, branches)?);
+    }
+    let known = results_of(alloc, prefix)?;
+    crew.arrivals.set_expected(count_threads(branches));
+    order_branches(rt, alloc, crew, 0, branches, known)
+}
+
+/// Drives a case that has the shape of the model.
+fn drive_with_crew<J: Relations, S: Subject, R: Wait>(
+    rt: &R,
+    alloc: Global,
+    crew: &Crew<J, S>,
+    typed: &Typed,
+    case: &Case,
+) -> Result<History, DriveFault>
+    requires shaped { IsShaped typed.now case.now }
+    ensures driven { IfOk result (λ h. typed.now ≡ J.model
+        → IsDriven typed.now J.answering J.failing case.now h) }
+    ensures fault { IfErr result (λ e. IsDriveFault J.resetting case.now e) }
+{
+    if crew.system.write(rt).restart().is_err() {
+        return Err(DriveFault::ResetFailed);
+    }
+    let held = crew.system.read(rt);
+    let system = held.system();
+    let prefix = run_part(
+        alloc,
+        typed,
+        system,
+        0,
+        case.prefix.as_slice(),
+        Vec::new(alloc),
+    )?;
+    let branches = run_branches(rt, alloc, crew, case.branches.as_slice(), prefix.as_slice())?;
+    let so_far = History {
+        prefix,
+        branches,
+        suffix: Items::new(alloc),
+    };
+    let suffix = run_suffix(alloc, typed, system, case.suffix.as_slice(), &so_far)?;
+    let History {
+        prefix,
+        branches,
+        ..
+    } = so_far;
+    Ok(History {
+        prefix,
+        branches,
+        suffix,
+    })
+}
+
+/// The fault where the threads did not run the branches: `NoThread` if one of these is not empty.
+fn not_run(branches: &[Items<Command>]) -> DriveFault
+    ensures { IsBranchFault branches.now result }
+{
+    let Some((first, others)) = branches.split_first() else {
+        return DriveFault::NoMemory;
+    };
+    if first.is_empty() {
+        not_run(others)
+    } else {
+        DriveFault::NoThread
+    }
+}
+
+/// Does what `run` does, on the system of a crew and with its threads, which are to run by the same model. Each
+/// branch that is not empty is run by the thread that is kept for it. No other call may drive the crew
+/// meanwhile.
+///
+/// The faults are those of `run`. `NoThread`: the thread of a branch has not started. The history is compared
+/// with the model once more at the end, since no contract here says that the threads run by the same one.
+pub fn run_with<J: Relations, S: Subject, R: Wait>(
+    rt: &R,
+    alloc: Global,
+    crew: &Crew<J, S>,
+    typed: &Typed,
+    valid: &Valid,
+) -> Result<History, DriveFault>
+    requires model { valid.now.model ≡ typed.now }
+    ensures matches { IfOk result (λ h. matches typed.now valid.now.case h ≡ true) }
+    ensures driven { IfOk result (λ h. valid.now.model ≡ J.model
+        → IsDriven valid.now.model J.answering J.failing valid.now.case h) }
+    ensures fault { IfErr result (λ e. IsDriveFault J.resetting valid.now.case e) }
+{
+    let shaped = valid.shaped();
+    let case = shaped.case();
+    let history = match drive_with_crew(rt, alloc, crew, typed, case) {
+        Ok(history) => history,
+        Err(fault) => return Err(fault),
+    };
+    if history.matches(typed, shaped) {
+        Ok(history)
+    } else {
+        Err(not_run(case.branches.as_slice()))
+    }
+}

@@ -1,0 +1,180 @@
+//! The search that remembers the positions that it has searched from.
+ghost use Rattle.std.specs.Prelude.{◌≡◌, ℕ, ◌+◌, ◌-◌, ◌*◌, ◌++◌, ◌∷◌, ◌^◌, ◌<◌, ◌≤◌, length, sum, slice_index, IfOk};
+ghost use Rattle.pst_grid.specs.Answers.{IsAnswer, IsEveryAnswer};
+ghost use Rattle.pst_grid.specs.Bounds.{IsBounded};
+ghost use Rattle.pst_grid.specs.Completions.{IsAt, Completes, Begins};
+ghost use Rattle.pst_grid.specs.Covered.{IsExploredWhole};
+ghost use Rattle.pst_grid.specs.Kept.{IsFresh};
+ghost use Rattle.pst_grid.specs.Remembered.{AreAccounted, IsSearched};
+ghost use Rattle.pst_grid.specs.StepOutcomes.{AreCommands};
+
+use crate::finish::run_to_end;
+use crate::hasher::BuildWordHasher;
+use crate::position::{KeptState, Position, remember};
+use crate::search::{Goal, SearchProgress, is_done};
+use crate::{EveryAnswer, SomeAnswer, StepOutcome, Steps};
+use indexmap::IndexSet;
+use std::alloc::{AllocError, Global};
+
+/// Searches the completions of the word for the first that the search is for, and returns whether there is one. If it is
+/// true to its end, it is then the word, and otherwise it is what the search keeps.
+#[cycle(search)]
+fn explore<S: Steps>(
+    alloc: Global,
+    steps: &S,
+    lengths: &[usize],
+    goal: Goal,
+    search: &mut SearchProgress<S::Fault>,
+    seen: &mut IndexSet<Position<KeptState<S>>, BuildWordHasher>,
+    state: &S::State,
+) -> Result<bool, AllocError>
+    requires place { IsAt lengths.now search.old.done.items }
+    requires depth { sum search.old.done.items ≡ length search.old.word.items }
+    requires state { S.is_state steps.now state.now }
+    requires commands { AreCommands (S.is_command steps.now) lengths.now }
+    requires room { S.most_rest steps.now < 2 ^ 32 }
+    requires fresh { IsFresh goal search.old.best }
+    requires accounted { AreAccounted (S.outcome steps.now) (S.rest steps.now) goal lengths.now
+        (sum search.old.done.items) search.old.best seen.old.keys }
+    ensures { IfOk result (IsSearched (S.outcome steps.now) (S.rest steps.now) goal lengths.now
+        (S.most_rest steps.now) 0 (sum search.old.done.items) state.now
+        (Completes lengths.now search.old.done.items) search.old search.new seen.old.keys seen.new.keys) }
+{
+    let ended = is_done(lengths, &search.done);
+    if ended && !steps.has_rest() {
+        return Ok(!goal.is_stopped());
+    }
+    if !remember(alloc, steps, seen, &search.done, state)? {
+        return Ok(false);
+    }
+    if ended {
+        return run_to_end(alloc, steps, lengths, goal, search, state);
+    }
+    for branch in 0..lengths.len() {
+        if visit(alloc, steps, lengths, goal, search, seen, state, branch)? {
+            return Ok(true);
+        }
+    }
+    Ok(false)
+}
+
+/// Searches the completions of the word that begin with `branch`.
+#[cycle(search)]
+fn visit<S: Steps>(
+    alloc: Global,
+    steps: &S,
+    lengths: &[usize],
+    goal: Goal,
+    search: &mut SearchProgress<S::Fault>,
+    seen: &mut IndexSet<Position<KeptState<S>>, BuildWordHasher>,
+    state: &S::State,
+    branch: usize,
+) -> Result<bool, AllocError>
+    requires place { IsAt lengths.now search.old.done.items }
+    requires depth { sum search.old.done.items ≡ length search.old.word.items }
+    requires state { S.is_state steps.now state.now }
+    requires commands { AreCommands (S.is_command steps.now) lengths.now }
+    requires branch { branch < length lengths.now }
+    requires room { S.most_rest steps.now < 2 ^ 32 }
+    requires fresh { IsFresh goal search.old.best }
+    requires accounted { AreAccounted (S.outcome steps.now) (S.rest steps.now) goal lengths.now
+        (sum search.old.done.items + 1) search.old.best seen.old.keys }
+    ensures { IfOk result (IsSearched (S.outcome steps.now) (S.rest steps.now) goal lengths.now
+        (S.most_rest steps.now) 1 (sum search.old.done.items + 1) state.now
+        (Begins lengths.now search.old.done.items branch) search.old search.new seen.old.keys seen.new.keys) }
+{
+    let index = search.done[branch];
+    if index >= lengths[branch] {
+        return Ok(false);
+    }
+    search.steps = search.steps.saturating_add(1);
+    match steps.step(alloc, state, branch, index)? {
+        StepOutcome::Next(next) => {
+            search.enter(lengths, branch)?;
+            if explore(alloc, steps, lengths, goal, search, seen, &next)? {
+                return Ok(true);
+            }
+            search.leave(branch);
+            Ok(false)
+        }
+        StepOutcome::Stop(why) => {
+            search.note_next(alloc, lengths, branch, why)?;
+            Ok(goal.is_stopped())
+        }
+    }
+}
+
+/// Searches all interleavings from the state `start` for the first that the search is for. Returns whether there is one,
+/// and the search.
+fn search_all<S: Steps>(
+    alloc: Global,
+    steps: &S,
+    lengths: &[usize],
+    goal: Goal,
+    start: &S::State,
+) -> Result<(bool, SearchProgress<S::Fault>), AllocError>
+    requires state { S.is_state steps.now start.now }
+    requires commands { AreCommands (S.is_command steps.now) lengths.now }
+    requires room { S.most_rest steps.now < 2 ^ 32 }
+    ensures explored { IfOk result
+        (λ r. IsExploredWhole (S.outcome steps.now) (S.rest steps.now) goal start.now lengths.now r.1 r.0) }
+    ensures bound { IfOk result
+        (λ r. IsBounded (S.outcome steps.now) lengths.now (S.most_rest steps.now) start.now r.1.steps) }
+{
+    let mut search = SearchProgress::new(alloc, lengths)?;
+    let mut seen = IndexSet::with_hasher(alloc, BuildWordHasher::new());
+    let found = explore(alloc, steps, lengths, goal, &mut search, &mut seen, start)?;
+    // The length is not used: `len` says that the set has no repeats.
+    let _ = seen.len();
+    Ok((found, search))
+}
+
+/// Searches all interleavings of branches of these lengths, from the state `start`, for the first that is true to its
+/// end.
+///
+/// Branch `b` has `lengths[b]` commands. Interleavings are ordered as words of branch numbers. The second result is the
+/// number of steps, including those of the rest, up to `usize::MAX`: at most one per branch for each place and state
+/// that the search reaches, plus those of the rest for each state in which all branches can end.
+pub fn some<S: Steps>(
+    alloc: Global,
+    steps: &S,
+    lengths: &[usize],
+    start: &S::State,
+) -> Result<(SomeAnswer<S::Fault>, usize), AllocError>
+    requires state { S.is_state steps.now start.now }
+    requires commands { AreCommands (S.is_command steps.now) lengths.now }
+    requires room { sum lengths.now + S.most_rest steps.now < 2 ^ 32 }
+    ensures answer { IfOk result
+        (λ r. IsAnswer (S.outcome steps.now) (S.rest steps.now) lengths.now start.now r.0) }
+    ensures bound { IfOk result
+        (λ r. IsBounded (S.outcome steps.now) lengths.now (S.most_rest steps.now) start.now r.1) }
+{
+    let (found, search) = search_all(alloc, steps, lengths, Goal::ToEnd, start)?;
+    let steps_made = search.steps;
+    Ok((search.into_answer(found), steps_made))
+}
+
+/// Returns whether all interleavings of branches of these lengths, from the state `start`, are true to their ends, or
+/// else the first that is not.
+///
+/// Branch `b` has `lengths[b]` commands. Interleavings are ordered as words of branch numbers. The second result is the
+/// number of steps, including those of the rest, up to `usize::MAX`: at most one per branch for each place and state
+/// that the search reaches, plus those of the rest for each state in which all branches can end.
+pub fn every<S: Steps>(
+    alloc: Global,
+    steps: &S,
+    lengths: &[usize],
+    start: &S::State,
+) -> Result<(EveryAnswer<S::Fault>, usize), AllocError>
+    requires state { S.is_state steps.now start.now }
+    requires commands { AreCommands (S.is_command steps.now) lengths.now }
+    requires room { sum lengths.now + S.most_rest steps.now < 2 ^ 32 }
+    ensures answer { IfOk result
+        (λ r. IsEveryAnswer (S.outcome steps.now) (S.rest steps.now) lengths.now start.now r.0) }
+    ensures bound { IfOk result
+        (λ r. IsBounded (S.outcome steps.now) lengths.now (S.most_rest steps.now) start.now r.1) }
+{
+    let (_, search) = search_all(alloc, steps, lengths, Goal::Stopped, start)?;
+    let steps_made = search.steps;
+    Ok((search.into_every_answer(), steps_made))
+}
