@@ -106,8 +106,8 @@ impl Progress {
         done.saturating_add(self.lost.load(Ordering::SeqCst))
     }
 
-    /// Writes the line, `milliseconds` after the beginning, where `last` is when the last trial ended. If it
-    /// cannot be written, the campaign continues.
+    /// Writes the line. `milliseconds` is the time since the campaign began, and `last` is when the last trial ended. If
+    /// the line cannot be written, the campaign continues.
     ///
     /// While a trial is shrunk, the terminal cuts the line off where it would go on in a next row.
     fn write_line<R: Eprint>(&self, rt: &R, last: EndedTrials, milliseconds: u64) {

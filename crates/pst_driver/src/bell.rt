@@ -8,7 +8,7 @@ use std::sync::atomic::{AtomicU64, Ordering};
 /// How many times a thread looks at a bell before it sleeps.
 const LOOKS: u32 = 500;
 
-/// Counts how often it was rung, and wakes those that wait for the next time.
+/// A counter of rings, which wakes the threads that wait for the next one.
 #[derive(Drop)]
 pub(crate) struct Bell {
     rung: AtomicU64,

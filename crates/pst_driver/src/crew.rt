@@ -1,4 +1,4 @@
-//! A system, and threads that are kept from drive to drive to run branches on it.
+//! A system, and the threads that run branches on it. They stay from drive to drive.
 ghost use Rattle.std.specs.Prelude.{◌≡◌, IfOk, IfErr, true};
 ghost use Rattle.std.specs.Thread.{IsSend, IsSync};
 ghost use Rattle.pst_driver.specs.Progress.{all_known};
@@ -140,7 +140,7 @@ fn run_order<J: Relations, S: Subject>(
     Ok(Delivery::new(order, replies))
 }
 
-/// Runs orders until there is none at a ring.
+/// Runs an order after each ring, and ends at a ring without an order.
 fn run_orders<J: Relations, S: Subject, R: Wait>(
     alloc: Global,
     typed: &Typed,

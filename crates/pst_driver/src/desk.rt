@@ -1,4 +1,4 @@
-//! Where a kept thread finds the branch that it runs, and leaves the replies.
+//! The place where a branch thread finds the branch that it runs, and leaves the replies.
 ghost use Rattle.std.specs.Prelude.{◌≡◌, IfOk, IfErr, IfSome};
 ghost use Rattle.pst_driver.specs.Progress.{PartRuns, IsPartFault};
 
@@ -98,7 +98,7 @@ impl<J: Relations> Desk<J> {
         }
     }
 
-    /// Leaves an order, and rings. Returns how often the thread had rung before.
+    /// Leaves an order, and rings. Returns the number of rings of the thread before the order.
     pub(crate) fn give<R: Wait>(&self, rt: &R, order: Order) -> u64 {
         let seen = self.answered.count();
         *self.order.lock(rt) = Some(order);

@@ -1,4 +1,4 @@
-//! A handle for waiting that threads need not share.
+//! A handle for waiting. Each thread makes its own, so the runtime is not shared.
 
 use std::marker::PhantomData;
 use std::sync::Wait;

@@ -73,7 +73,7 @@ fn reach_in_frame(params: &[Param], values: &[Value], name: &[u8]) -> Option<u64
     reach_in_frame(params, values, name)
 }
 
-/// A bound for the value of a name.
+/// Returns a bound for the value of `name`.
 fn reach_of_name(names: &Names<'_>, name: &[u8]) -> Option<u64>
     ensures { IfSome result (NameReaches names.now name.now) }
 {

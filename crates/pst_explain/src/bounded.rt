@@ -105,8 +105,8 @@ impl<'a, C: Callbacks> Bounded<'a, C> {
         self.steps_left.set(left.saturating_sub(steps));
     }
 
-    /// Takes the steps of `calls` callbacks that something else evaluates: for each the most of a call so far. Returns
-    /// `AllocError` if no steps are left.
+    /// Takes the steps of `calls` callbacks that something else evaluates. Each counts as the longest call so far.
+    /// Returns `AllocError` if no steps are left.
     pub fn take_calls(&self, calls: usize) -> Result<(), AllocError> {
         self.begin()?;
         let steps = self.most_of_a_call.get().saturating_mul(calls as u64);

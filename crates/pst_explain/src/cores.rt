@@ -105,7 +105,7 @@ fn search_answer<'a, C: Callbacks>(
     Ok(())
 }
 
-/// Returns the answer of a command of a core, of which nothing is known yet.
+/// Returns the answer of a command of a core, before its allowed values are known.
 fn unknown_answer<'a>(
     alloc: Global,
     scene: &Scene<'a>,

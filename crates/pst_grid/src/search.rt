@@ -227,8 +227,8 @@ impl<F: Drop> SearchProgress<F> {
         }
     }
 
-    /// The answer of a finished search for an interleaving that is not true to its end: the one that is kept, if there
-    /// is one.
+    /// Returns the answer of a finished search for an interleaving that is not true to its end: the interleaving that
+    /// the search kept, if there is one.
     pub(crate) fn into_every_answer(self) -> EveryAnswer<F>
         ensures { MatchOption self.best.fault
             (MatchOption self.best.furthest (result ≡ EveryAnswer.All)

@@ -95,7 +95,7 @@ fn closed_end(line: &[u8], start: usize) -> usize {
     line.len()
 }
 
-/// The bytes of the first value from `from` on. They are empty if there is none before a closing bracket.
+/// Returns the bytes of the first value from `from` on. The span is empty if a closing bracket comes first.
 pub fn value_at(line: &[u8], from: usize) -> Span {
     let start = skip_space(line, from);
     let end = match line.get(start) {

@@ -32,7 +32,7 @@ pub enum Role {
     DeepType,
     /// An expression.
     Expression,
-    /// An expression that may not stand so deep.
+    /// An expression that is nested too deep.
     DeepExpression,
     /// A clause of a comprehension.
     Clause,

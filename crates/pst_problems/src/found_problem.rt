@@ -146,7 +146,7 @@ pub fn bad_name_problem(alloc: Global, path: &[usize], word: &Text) -> FoundProb
     problem_at(alloc, path, what)
 }
 
-/// The problem of a name with too many bytes.
+/// Returns the problem of `word`, a name with too many bytes.
 pub fn long_name_problem(alloc: Global, path: &[usize], word: &Text) -> FoundProblem {
     let length = word.len();
     let what = format_args!("the name has {length} bytes, at most {MAX_NAME}");

@@ -25,7 +25,7 @@ use crate::whole_faults::{
 use pst_sexpr::Form;
 use pst_syntax::{FaultKind, FunShape, ItemShape, OpShape, is_free, is_name};
 
-/// Adds the faults of a state at `path`. `stands` says whether there is one already.
+/// Adds the faults of the state at `path`. `stands` is true if there was a state before it.
 fn add_state_faults(
     walk: Walk,
     faults: &mut Faults,

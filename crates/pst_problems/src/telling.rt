@@ -1,4 +1,4 @@
-//! Faults with their places, as many as are asked for.
+//! Faults with their places, up to a limit.
 
 ghost use Rattle.std.specs.Prelude.{◌≡◌, ◌∷◌, [], OnOk, map};
 ghost use Rattle.pst_problems.specs.Kept.{keep};
@@ -18,7 +18,7 @@ pub struct Walk {
     pub alloc: Global,
     /// Whether the language of the model has maps.
     pub has_maps: bool,
-    /// How many faults are asked for.
+    /// The maximum number of faults.
     pub limit: usize,
 }
 

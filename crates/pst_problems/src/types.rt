@@ -152,8 +152,8 @@ fn item_type_length(model: &Form, path: &[usize]) -> usize {
     length
 }
 
-/// The problem of a type with the fault `kind`, which is the type of the items of a list that is written out
-/// or stands in it.
+/// Returns the problem of a type with the fault `kind`. The type is the item type of a list expression, or a part of
+/// this type.
 pub fn item_type_problem(
     alloc: Global,
     has_maps: bool,

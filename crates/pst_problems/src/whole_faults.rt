@@ -1,4 +1,4 @@
-//! The faults of types and expressions that stand in no other, with their places.
+//! The faults of whole types and expressions, which are no parts of others, with their places.
 
 ghost use Rattle.std.specs.Prelude.{◌≡◌, not, OnOk};
 ghost use Rattle.pst_problems.specs.Kept.{keep};
@@ -41,8 +41,8 @@ pub fn add_whole_expr_faults(
     add_expr_part_faults(walk, faults, path, number, form, MAX_EXPR_LEVELS)
 }
 
-/// Adds the faults of a callback or an item with an expression at `path`. `stands` says whether there is one
-/// already.
+/// Adds the faults of a callback or an item with an expression at `path`. `stands` is true if there was one before
+/// it.
 pub fn add_single_expression_faults(
     walk: Walk,
     faults: &mut Faults,

@@ -1,4 +1,4 @@
-//! Trials on a system, with threads that are kept from drive to drive.
+//! Trials on a system, with branch threads that stay from drive to drive.
 ghost use Rattle.std.specs.Prelude.{◌≡◌, IfOk, IfErr};
 ghost use Rattle.std.specs.Arc.{arc_value};
 ghost use Rattle.pst_driver.specs.Driven.{IsDriven, IsDriveFault};
