@@ -10,7 +10,7 @@ use std::rt::Runtime;
 use std::{env, io};
 
 /// Returns whether a line is a tip that does not help here: no file or system of a user has a name like an option's.
-fn is_no_tip(line: &str) -> bool {
+fn is_unhelpful_tip(line: &str) -> bool {
     line.starts_with("  tip: to pass '")
 }
 
@@ -75,7 +75,7 @@ fn error_text(alloc: Global, started: &[String], error: &Error) -> Result<String
     let mut text = String::new(alloc);
     let mut was_empty = false;
     for line in whole.as_str().lines() {
-        let is_left_out = is_no_tip(line) || line.is_empty() && was_empty;
+        let is_left_out = is_unhelpful_tip(line) || line.is_empty() && was_empty;
         if !is_left_out {
             text.push_str(line)?;
             text.push_str("\n")?;

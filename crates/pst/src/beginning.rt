@@ -32,7 +32,10 @@ const FAULT_NOTE: &str =
 
 /// Returns the command that is called before all others, and its reply: the first of the prefix, or of the only branch
 /// that has commands.
-fn first_of<'a>(case: &'a Case, history: &'a History) -> Option<(&'a Command, &'a Reply)> {
+fn first_command_and_reply<'a>(
+    case: &'a Case,
+    history: &'a History,
+) -> Option<(&'a Command, &'a Reply)> {
     if let Some(command) = case.prefix.get(0) {
         return Some((command, history.prefix.get(0)?));
     }
@@ -77,7 +80,7 @@ fn run_of(alloc: Global, command: &Command, reply: &Reply) -> Result<(Case, Hist
 }
 
 /// Returns the note on an explanation of a run of one command, in the initial state of the model.
-fn note_on(text: &str) -> &'static str {
+fn note_for_explanation(text: &str) -> &'static str {
     if text.starts_with(POST_FAULT) {
         FAULT_NOTE
     } else if text.contains(ONE_WRONG) && !text.starts_with(FAULT) {
@@ -95,13 +98,13 @@ fn beginning_note(
     case: &Case,
     history: &History,
 ) -> Result<&'static str, AllocError> {
-    let Some((command, reply)) = first_of(case, history) else {
+    let Some((command, reply)) = first_command_and_reply(case, history) else {
         return Ok("");
     };
     let (case, history) = run_of(alloc, command, reply)?;
     match explain_run(alloc, input, case, history, WIDTH)? {
         Some(text) => match std::str::from_utf8(text.as_slice()) {
-            Ok(text) => Ok(note_on(text)),
+            Ok(text) => Ok(note_for_explanation(text)),
             Err(_) => Ok(""),
         },
         None => Ok(""),

@@ -137,7 +137,7 @@ fn is_dot(words: &ArgMatches<'_>) -> bool {
 }
 
 /// The form of text: with colors, or without.
-fn text_form<R: Env + AllocGlobal>(
+fn text_form_by_color_option<R: Env + AllocGlobal>(
     rt: &R,
     words: &ArgMatches<'_>,
     is_terminal: bool,
@@ -164,7 +164,7 @@ fn explanation_form<R: Env + AllocGlobal>(
     match words.get_str("format") {
         Some("json") => ExplanationForm::Json,
         Some("html") => ExplanationForm::Html,
-        _ => text_form(rt, words, is_terminal),
+        _ => text_form_by_color_option(rt, words, is_terminal),
     }
 }
 

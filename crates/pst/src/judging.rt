@@ -180,7 +180,7 @@ fn write_lines<W: Sink>(
 }
 
 /// Begins to tell how many items of the input are judged.
-fn begin<R: Threads + Wait + Eprint + Copy + Drop + Send + 'static>(
+fn begin_judging_display<R: Threads + Wait + Eprint + Copy + Drop + Send + 'static>(
     rt: &R,
     alloc: Global,
     is_told: bool,
@@ -212,7 +212,7 @@ pub fn judge<W: Sink, R: Threads + Wait + Sync + Eprint + Copy + Drop + Send + '
         return judge_quietly(rt, alloc, words, bytes, out);
     }
     let mut lines = Out::new(Vec::new(alloc));
-    let Ok(telling) = begin(rt, alloc, is_told, bytes) else {
+    let Ok(telling) = begin_judging_display(rt, alloc, is_told, bytes) else {
         return write_lines(words, lines, Status::Lost, out);
     };
     if is_json(words) || words.get_flag("keep-going") {

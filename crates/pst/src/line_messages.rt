@@ -103,7 +103,7 @@ fn tree_fault(alloc: Global, line: &[u8]) -> Result<Option<LineFault>, AllocErro
 }
 
 /// Returns a note on a file of one line as a note on line `number`.
-fn note_on(alloc: Global, number: usize, note: &str) -> Result<String, AllocError> {
+fn renumber_note_line(alloc: Global, number: usize, note: &str) -> Result<String, AllocError> {
     let line = format!(in alloc; "line {number}")?;
     let place = format!(in alloc; " at {number}:")?;
     let note = note.replace(alloc, "line 1", line.as_str())?;
@@ -178,7 +178,7 @@ impl<'a, R: Eprint + AllocGlobal> LineMessages<'a, R> {
             message.push_str(format!(in alloc; "    {text}\n    {marks}\n")?.as_str())?;
         }
         for note in &notes {
-            let note = note_on(alloc, number, note.as_str())?;
+            let note = renumber_note_line(alloc, number, note.as_str())?;
             message.push_str(format!(in alloc; "  {note}\n")?.as_str())?;
         }
         Ok(message)

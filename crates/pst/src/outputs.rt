@@ -125,7 +125,7 @@ fn overwritten_input<'a, R: Files + AllocGlobal>(
 
 /// Refuses to write to a file that is one of the inputs, with a message unless `is_quiet`. `option` is the option that names
 /// the file.
-pub fn refuse_input<R: Runtime + AllocGlobal>(
+pub fn refuse_to_overwrite_input<R: Runtime + AllocGlobal>(
     rt: &R,
     inputs: &[&str],
     option: &str,

@@ -18,7 +18,7 @@ pub fn html_option<'a>(alloc: Global) -> Arg<'a> {
 }
 
 /// Returns the name of the file of the page, if the arguments give one.
-pub fn file_name<'a>(matches: &ArgMatches<'a>) -> Option<&'a str> {
+pub fn read_html_option<'a>(matches: &ArgMatches<'a>) -> Option<&'a str> {
     let (_, words) = matches.subcommand()?;
     words.get_str("html")
 }
@@ -34,7 +34,7 @@ pub struct CampaignPage<'a> {
 
 /// Opens the file `name` to write it and leaves it as it is, or makes it and removes it if it is not there.
 /// Pipes and devices are not opened.
-fn try_to_write<R: Files>(rt: &R, name: &str) -> io::Result<()> {
+fn check_file_can_be_written<R: Files>(rt: &R, name: &str) -> io::Result<()> {
     match metadata(rt, name) {
         Ok(found) if found.is_file() || found.is_dir() => {
             OpenOptions::new().write(true).open(rt, name)?;
@@ -54,7 +54,7 @@ pub fn refuse_page<R: Files + Eprint + AllocGlobal>(
     rt: &R,
     matches: &ArgMatches<'_>,
 ) -> Result<(), Status> {
-    let Some(name) = file_name(matches) else {
+    let Some(name) = read_html_option(matches) else {
         return Ok(());
     };
     if name == STANDARD_INPUT {
@@ -63,7 +63,7 @@ pub fn refuse_page<R: Files + Eprint + AllocGlobal>(
         );
         return Err(Status::Refused);
     }
-    match try_to_write(rt, name) {
+    match check_file_can_be_written(rt, name) {
         Ok(()) => Ok(()),
         Err(error) => {
             report_unwritten(rt, rt.alloc(), name, &error);

@@ -53,9 +53,15 @@ fn refuse_arguments<R: Runtime + AllocGlobal>(
     if streaming::is_stream(matches) && !streaming::leaves_input(inputs) {
         return Err(streaming::refuse_stream(rt, inputs, is_quiet, &mut out));
     }
-    outputs::refuse_input(rt, inputs, "-o", output_name(matches), is_quiet)?;
-    outputs::refuse_input(rt, inputs, "--html", page::file_name(matches), is_quiet)?;
-    saving::refuse_file(rt, matches)?;
+    outputs::refuse_to_overwrite_input(rt, inputs, "-o", output_name(matches), is_quiet)?;
+    outputs::refuse_to_overwrite_input(
+        rt,
+        inputs,
+        "--html",
+        page::read_html_option(matches),
+        is_quiet,
+    )?;
+    saving::refuse_file_as_save_folder(rt, matches)?;
     generating::refuse_trials(rt, matches)?;
     page::refuse_page(rt, matches)
 }

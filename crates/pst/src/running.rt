@@ -45,7 +45,7 @@ pub struct Work<'a, 'm> {
 pub type Systems = Result<Vec<BoxedSystem>, Unmade>;
 
 /// Runs cases or trials on the systems, or refuses if they were not made.
-fn with_systems<
+fn run_on_systems<
     W: Sink,
     R: Threads + Wait + Sync + Eprint + Files + Clock + AllocGlobal + Copy + Drop + Send + 'static,
 >(
@@ -120,7 +120,7 @@ fn run_subcommand<
         }
         "judge" => judge(rt, alloc, words, terminals.errors, input, counts, out),
         "explain" => explaining::explain(rt, words, terminals, input, out),
-        _ => with_systems(rt, work, word, words, input, systems, counts, out),
+        _ => run_on_systems(rt, work, word, words, input, systems, counts, out),
     }
 }
 

@@ -87,7 +87,10 @@ fn failure_file(
 
 /// Refuses a folder for failures that is a file, or `-`. The error is the status that the program ends with, and
 /// standard error says why.
-pub fn refuse_file<R: Files + Eprint>(rt: &R, matches: &ArgMatches<'_>) -> Result<(), Status> {
+pub fn refuse_file_as_save_folder<R: Files + Eprint>(
+    rt: &R,
+    matches: &ArgMatches<'_>,
+) -> Result<(), Status> {
     let Some(("campaign", words)) = matches.subcommand() else {
         return Ok(());
     };

@@ -24,7 +24,7 @@ pub enum ItemForm {
 }
 
 /// An item on a line.
-pub(crate) fn line_in(
+pub(crate) fn item_line_in_form(
     alloc: Global,
     form: ItemForm,
     typed: &Typed,
@@ -52,7 +52,7 @@ fn lines_in(
     let mut text = Vec::new(alloc);
     let mut rest = runs;
     while let Some((run, others)) = rest.split_first() {
-        text.extend_from_slice(line_in(alloc, form, typed, run)?.as_slice())?;
+        text.extend_from_slice(item_line_in_form(alloc, form, typed, run)?.as_slice())?;
         rest = others;
     }
     Ok(text)

@@ -14,7 +14,7 @@ ghost use Rattle.pst_cli.specs.Sending.{PrintsElse, Sends};
 ghost use Rattle.pst_cli.specs.declared.status.Status.TheVariants.{Lost, Refused};
 ghost use Rattle.pst_trial.specs.Settings.{AreInRange};
 
-use crate::convert::{ItemForm, line_in};
+use crate::convert::{ItemForm, item_line_in_form};
 use crate::objects::{MEMORY_OBJECT, refusal_object};
 use crate::output::{Output, joined, send};
 use crate::refusal::refusal_output;
@@ -92,7 +92,7 @@ fn case_output(
                 shaped: valid.into_shaped(),
                 history: None,
             };
-            let text = line_in(alloc, form, plan.typed(), &run)?;
+            let text = item_line_in_form(alloc, form, plan.typed(), &run)?;
             Ok(Output {
                 text,
                 status: Status::Accepted,

@@ -74,7 +74,7 @@ pub fn status_of(all: &[Judged]) -> Status
 }
 
 /// `refused run R command C KIND`.
-pub fn run_line(alloc: Global, fault: &RunFault) -> Result<String, AllocError>
+pub fn refused_run_line(alloc: Global, fault: &RunFault) -> Result<String, AllocError>
     ensures { IfOk result (λ line. string_bytes line ≡ run_line fault.now) }
 {
     format!(in alloc; "refused run {fault}\n")
@@ -85,7 +85,7 @@ pub fn refused_run(alloc: Global, fault: &RunFault) -> Result<Output, AllocError
     ensures text { IfOk result (λ output. output.text.items ≡ run_line fault.now) }
     ensures status { IfOk result (λ output. output.status ≡ Refused) }
 {
-    Ok(Output::new(run_line(alloc, fault)?, Status::Refused))
+    Ok(Output::new(refused_run_line(alloc, fault)?, Status::Refused))
 }
 
 /// The lines of the items after the model, and the items as far as `keep` says; or the first refusal.

@@ -17,7 +17,7 @@ ghost use Rattle.pst_cli.specs.Sending.{Prints};
 ghost use Rattle.pst_cli.specs.declared.status.Status.TheVariants.{Accepted};
 
 use crate::compiled::{CompiledFile, load_compiled};
-use crate::judge::{is_good, run_line};
+use crate::judge::{is_good, refused_run_line};
 use crate::lines::add_item_line;
 use crate::output::{Output, send};
 use crate::refusal::refusal_output;
@@ -49,7 +49,7 @@ pub(crate) fn add_answer_line(
                 command: *command,
                 kind: *kind,
             };
-            let line = run_line(alloc, &fault)?;
+            let line = refused_run_line(alloc, &fault)?;
             text.push_str(line.as_str())
         }
     }

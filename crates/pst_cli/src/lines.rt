@@ -31,7 +31,7 @@ pub fn item_line(alloc: Global, number: usize, judged: &Judged) -> Result<String
 }
 
 /// How many of `count` items come before `row`, counted from 0.
-fn first_of(row: usize, count: usize) -> usize
+fn items_before_row(row: usize, count: usize) -> usize
     ensures { result ≡ first_of row count }
 {
     row.saturating_mul(ROW).min(count)
@@ -43,7 +43,7 @@ fn row_lines(alloc: Global, all: &[Judged], row: usize) -> Result<String, AllocE
 {
     let mut text = String::new(alloc);
     let count = all.len();
-    for index in first_of(row, count)..first_of(row.saturating_add(1), count) {
+    for index in items_before_row(row, count)..items_before_row(row.saturating_add(1), count) {
         add_item_line(&mut text, index + 1, &all[index])?;
     }
     Ok(text)

@@ -163,7 +163,7 @@ fn add_run(fields: &mut Vec<Field>, line: Vec<u8>) -> Result<(), AllocError> {
 }
 
 /// The members of the object of an item.
-fn report_fields(
+fn item_report_fields(
     alloc: Global,
     number: usize,
     report: ItemReport,
@@ -186,9 +186,13 @@ fn report_fields(
 }
 
 /// The object of an item, on its line.
-fn report_object(alloc: Global, number: usize, reported: Reported) -> Result<Vec<u8>, AllocError> {
+fn item_report_object(
+    alloc: Global,
+    number: usize,
+    reported: Reported,
+) -> Result<Vec<u8>, AllocError> {
     let Reported { report, drives } = reported;
-    let mut fields = report_fields(alloc, number, report)?;
+    let mut fields = item_report_fields(alloc, number, report)?;
     if let Some(drives) = drives {
         add_number(&mut fields, Name::Drives, drives.all as u64)?;
         add_number(&mut fields, Name::Failed, drives.failed as u64)?;
@@ -225,7 +229,7 @@ fn item_objects<R: Threads + Wait>(
             counts,
         )?;
         status = status.or_worse(report_status(&reported.report));
-        let object = report_object(alloc, number, reported)?;
+        let object = item_report_object(alloc, number, reported)?;
         text.extend_from_slice(object.as_slice())?;
         steps.add(1);
     }

@@ -96,7 +96,7 @@ fn wrong_by<'a>(
 
 /// Returns why the postcondition of a command is not true in the lexicographically first interleaving in which the rest
 /// of the core is right and it is not, if there is one. `AllocError` too if `callbacks` have no steps left.
-pub fn wrong_without<'a, C: Callbacks>(
+pub fn wrong_answer_if_rest_is_right<'a, C: Callbacks>(
     callbacks: &Bounded<'_, C>,
     alloc: Global,
     scene: &Scene<'a>,

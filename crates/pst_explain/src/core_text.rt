@@ -2,7 +2,7 @@
 
 use crate::allowing::WrongAnswer;
 use crate::cores::{Core, CoreAnswer};
-use crate::parts::add_parts;
+use crate::parts::add_marked_run_text;
 use pst_model::Source;
 use pst_reasons::AllowedValues;
 use pst_scene::{
@@ -171,7 +171,7 @@ fn add_found_core(
         page.add_sentence(alloc, 2, b"The run, with * before what is reported above:")?;
     }
     let numbers = core.numbers(alloc)?;
-    add_parts(page, alloc, scene, numbers.as_slice())
+    add_marked_run_text(page, alloc, scene, numbers.as_slice())
 }
 
 /// Adds a core, and the run with the commands of the core marked. `None` if the search of the core takes too many steps.
@@ -186,7 +186,7 @@ pub fn add_core(
         None => {
             page.add_sentence(alloc, 2, NO_CORE.as_bytes())?;
             page.add_sentence(alloc, 2, b"The run:")?;
-            add_parts(page, alloc, scene, &[])
+            add_marked_run_text(page, alloc, scene, &[])
         }
     }
 }

@@ -5,7 +5,7 @@ ghost use Rattle.pst_case.specs.Recorded.{recorded};
 ghost use Rattle.pst_judge.specs.Verdict.{first_broken};
 ghost use Rattle.pst_reasons.specs.Reasons.{IsUnexplained};
 
-use crate::allowing::{WrongAnswer, allowed_answers, wrong_without};
+use crate::allowing::{WrongAnswer, allowed_answers, wrong_answer_if_rest_is_right};
 use crate::bounded::Bounded;
 use pst_case::History;
 use pst_eval::Callbacks;
@@ -99,7 +99,7 @@ fn search_answer<'a, C: Callbacks>(
     let allowed = allowed_answers(callbacks, alloc, scene, history, core, &call)?;
     answer.allowed = allowed;
     if answer.asks_why() {
-        let wrong = wrong_without(callbacks, alloc, scene, history, core, &call)?;
+        let wrong = wrong_answer_if_rest_is_right(callbacks, alloc, scene, history, core, &call)?;
         answer.wrong = wrong;
     }
     Ok(())

@@ -51,7 +51,7 @@ fn add_title(
 }
 
 /// Adds a position with its state.
-fn add_position(
+fn add_position_node(
     out: &mut Vec<u8>,
     alloc: Global,
     scene: &Scene<'_>,
@@ -147,7 +147,7 @@ fn style_of(search: &Search<'_>, number: usize) -> &'static str {
 }
 
 /// Adds a move, and the dead end that it leads to.
-fn add_move(
+fn add_move_edge(
     out: &mut Vec<u8>,
     alloc: Global,
     scene: &Scene<'_>,
@@ -175,7 +175,7 @@ fn add_positions(
     search: &Search<'_>,
 ) -> Result<(), AllocError> {
     for (number, position) in search.positions.iter().enumerate() {
-        add_position(out, alloc, scene, search, number, position)?;
+        add_position_node(out, alloc, scene, search, number, position)?;
     }
     for level in 0..levels(search) {
         add_level(out, alloc, search, level)?;
@@ -198,7 +198,7 @@ pub fn graph_text(
     }
     add_positions(&mut out, alloc, scene, search)?;
     for (number, step) in search.moves.iter().enumerate() {
-        add_move(&mut out, alloc, scene, search, number, step)?;
+        add_move_edge(&mut out, alloc, scene, search, number, step)?;
     }
     add_str(&mut out, "}\n")?;
     Ok(out)

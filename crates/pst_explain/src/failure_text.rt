@@ -32,7 +32,7 @@ fn add_evaluated(
 }
 
 /// Adds the part of an expression that faults.
-fn add_part(
+fn add_failing_part_text(
     page: &mut Page,
     alloc: Global,
     model: &Source,
@@ -62,7 +62,7 @@ fn add_expression(
 ) -> Result<(), AllocError> {
     add_evaluated(page, alloc, model, &expression.whole)?;
     match &expression.part {
-        Some(part) => add_part(page, alloc, model, part),
+        Some(part) => add_failing_part_text(page, alloc, model, part),
         None => Ok(()),
     }
 }
@@ -91,7 +91,7 @@ fn is_whole(scene: &Scene<'_>, word: &[usize]) -> bool {
 }
 
 /// Adds the interleaving in which a callback of a command of a branch faults.
-fn add_where(
+fn add_fault_interleaving_text(
     text: &mut Vec<u8>,
     scene: &Scene<'_>,
     failure: &Failure<'_>,
@@ -126,7 +126,7 @@ fn call_sentence(
     add_str(&mut text, " faults with ")?;
     add_str(&mut text, fault.name())?;
     if call.part != CasePart::Prefix {
-        add_where(&mut text, scene, failure)?;
+        add_fault_interleaving_text(&mut text, scene, failure)?;
     }
     add_str(&mut text, ":")?;
     Ok(text)

@@ -23,7 +23,7 @@ const NO_PATH: &str =
 
 /// The addition to the title. `is_path`: the graph shows only the interleaving of the verdict. `is_shown`: this
 /// interleaving is known.
-fn addition(is_path: bool, is_shown: bool) -> &'static str {
+fn graph_title_addition(is_path: bool, is_shown: bool) -> &'static str {
     if is_path {
         return PATH_ALONE;
     }
@@ -69,7 +69,7 @@ pub fn graph_item<C: Callbacks>(
     };
     let verdict = judged.text(alloc)?;
     let verdict = verdict.as_str();
-    let rest = addition(is_path, is_shown);
+    let rest = graph_title_addition(is_path, is_shown);
     let title = format!(in alloc; "{number} {verdict}{rest}")?;
     graph_text(alloc, &scene, &search, title.as_str())
 }

@@ -33,7 +33,7 @@ fn mode_after(mode: Mode, byte: u8) -> Mode {
 }
 
 /// Returns the line, from 1, on which each top-level node begins. The file must have no fault.
-pub fn node_lines(alloc: Global, bytes: &[u8]) -> Result<Vec<usize>, AllocError> {
+pub fn tree_start_lines(alloc: Global, bytes: &[u8]) -> Result<Vec<usize>, AllocError> {
     let mut lines = Vec::new(alloc);
     let mut mode = Mode::Plain;
     let mut line = 1usize;

@@ -36,7 +36,7 @@ fn command_cell(
 }
 
 /// Adds a part as lines.
-fn add_part(
+fn add_case_part_text(
     page: &mut Page,
     alloc: Global,
     scene: &Scene<'_>,
@@ -91,19 +91,19 @@ fn add_branches(
         return table.write(page, alloc, 3);
     }
     for branch in &scene.calls.branches {
-        add_part(page, alloc, scene, marked, branch.as_slice())?;
+        add_case_part_text(page, alloc, scene, marked, branch.as_slice())?;
     }
     Ok(())
 }
 
 /// Adds the run: the prefix, the branches side by side, and the suffix, with `*` before each marked command.
-pub fn add_parts(
+pub fn add_marked_run_text(
     page: &mut Page,
     alloc: Global,
     scene: &Scene<'_>,
     marked: &[u32],
 ) -> Result<(), AllocError> {
-    add_part(page, alloc, scene, marked, scene.calls.prefix.as_slice())?;
+    add_case_part_text(page, alloc, scene, marked, scene.calls.prefix.as_slice())?;
     add_branches(page, alloc, scene, marked)?;
-    add_part(page, alloc, scene, marked, scene.calls.suffix.as_slice())
+    add_case_part_text(page, alloc, scene, marked, scene.calls.suffix.as_slice())
 }

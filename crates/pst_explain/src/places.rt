@@ -1,6 +1,6 @@
 //! The places at which the trees of an input begin.
 
-use crate::lines::node_lines;
+use crate::lines::tree_start_lines;
 use pst_sources::SourceFile;
 use std::alloc::{AllocError, Global};
 
@@ -87,7 +87,7 @@ pub fn first_places<'a>(
     text: &[u8],
 ) -> Result<Vec<TreePlace<'a>>, AllocError> {
     let counts = line_counts(alloc, files)?;
-    let lines = node_lines(alloc, text)?;
+    let lines = tree_start_lines(alloc, text)?;
     let mut places = Vec::new(alloc);
     for line in &lines {
         places.push(place_of(files, counts.as_slice(), *line))?;

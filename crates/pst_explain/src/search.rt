@@ -64,7 +64,7 @@ fn step_of(moves: &[Move<'_>], from: usize, command: u32) -> Option<(usize, usiz
 
 impl<'a> Search<'a> {
     /// The number of the position. Adds the position if it is new.
-    fn place(&mut self, position: Position) -> Result<usize, AllocError> {
+    fn find_or_add_position(&mut self, position: Position) -> Result<usize, AllocError> {
         if let Some(number) = number_of(self.positions.as_slice(), &position) {
             return Ok(number);
         }
@@ -85,7 +85,7 @@ impl<'a> Search<'a> {
         let target = match outcome_of(alloc, scene, &position.state, &call)? {
             Outcome::Leads(state) => {
                 let next = position.after_call(alloc, scene, call.part, state)?;
-                Target::Position(self.place(next)?)
+                Target::Position(self.find_or_add_position(next)?)
             }
             Outcome::Refused(why) => Target::DeadEnd(why),
         };

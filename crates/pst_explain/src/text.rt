@@ -4,7 +4,7 @@ use crate::breaking::{BrokenReply, broken_sentence};
 use crate::core_text::add_core;
 use crate::explanation::{Explanation, Reason};
 use crate::failure_text::add_failure;
-use crate::parts::add_parts;
+use crate::parts::add_marked_run_text;
 use crate::walk_text::{add_blocked, add_explained, add_states};
 use crate::walks::Walk;
 use pst_judge::{Judged, Verdict};
@@ -37,7 +37,7 @@ fn add_heading(
 }
 
 /// Adds that `far` events hold.
-fn add_events(text: &mut Vec<u8>, far: usize) -> Result<(), AllocError> {
+fn add_event_count_text(text: &mut Vec<u8>, far: usize) -> Result<(), AllocError> {
     if far == 1 {
         return add_str(text, "1 event holds");
     }
@@ -56,14 +56,14 @@ fn far_sentence(alloc: Global, far: usize, word: &[usize]) -> Result<Vec<u8>, Al
     }
     if word.is_empty() {
         let mut text = text_of(alloc, "In every interleaving ")?;
-        add_events(&mut text, far)?;
+        add_event_count_text(&mut text, far)?;
         add_str(&mut text, " before one does not:")?;
         return Ok(text);
     }
     let mut text = text_of(alloc, "No interleaving gets further than ")?;
     add_word(&mut text, word)?;
     add_str(&mut text, ", where ")?;
-    add_events(&mut text, far)?;
+    add_event_count_text(&mut text, far)?;
     add_str(&mut text, ":")?;
     Ok(text)
 }
@@ -101,7 +101,7 @@ fn add_broken(
         page.add_sentence(alloc, 2, sentence.as_slice())?;
     }
     page.add_sentence(alloc, 2, b"The run, with * before this command:")?;
-    add_parts(page, alloc, scene, &[broken.number])
+    add_marked_run_text(page, alloc, scene, &[broken.number])
 }
 
 /// Adds the reason of the judgement.

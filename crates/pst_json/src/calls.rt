@@ -1,7 +1,7 @@
 //! Calls.
 
-use crate::values::{put_value, put_word};
-use crate::writing::{put_bytes, put_number_member};
+use crate::values::{write_json_reply_word, write_json_value_and_text};
+use crate::writing::{write_json_byte_string, write_json_number_member};
 use json::Writer;
 use pst_case::Reply;
 use pst_model::Source;
@@ -9,43 +9,43 @@ use pst_scene::{Call, Scene, operation_of_call};
 use std::alloc::{AllocError, Global};
 
 /// Writes the place of a call, as `L2`.
-pub fn put_call_id(
+pub fn write_json_call_id(
     writer: &mut Writer<Global>,
     alloc: Global,
     call: &Call<'_>,
 ) -> Result<(), AllocError> {
     let mut id = Vec::new(alloc);
     call.add_place(&mut id)?;
-    put_bytes(writer, alloc, id.as_slice())
+    write_json_byte_string(writer, alloc, id.as_slice())
 }
 
 /// Writes the member `call` with the place of a call.
-pub fn put_call_member(
+pub fn write_json_call_member(
     writer: &mut Writer<Global>,
     alloc: Global,
     call: &Call<'_>,
 ) -> Result<(), AllocError> {
     writer.key("call")?;
-    put_call_id(writer, alloc, call)
+    write_json_call_id(writer, alloc, call)
 }
 
 /// Writes a reply.
-fn put_reply(
+fn write_json_reply(
     writer: &mut Writer<Global>,
     alloc: Global,
     model: &Source,
     reply: &Reply,
 ) -> Result<(), AllocError> {
     match reply {
-        Reply::Value(value) => put_value(writer, alloc, model, value),
-        Reply::Misfit => put_word(writer, "misfit"),
-        Reply::Failed => put_word(writer, "failed"),
-        Reply::NotRun => put_word(writer, "not-run"),
+        Reply::Value(value) => write_json_value_and_text(writer, alloc, model, value),
+        Reply::Misfit => write_json_reply_word(writer, "misfit"),
+        Reply::Failed => write_json_reply_word(writer, "failed"),
+        Reply::NotRun => write_json_reply_word(writer, "not-run"),
     }
 }
 
 /// Writes the member `op` with the name of the operation of a call.
-fn put_operation(
+fn write_json_operation_member(
     writer: &mut Writer<Global>,
     scene: &Scene<'_>,
     call: &Call<'_>,
@@ -58,7 +58,7 @@ fn put_operation(
 }
 
 /// Writes a call.
-fn put_call(
+fn write_json_call(
     writer: &mut Writer<Global>,
     alloc: Global,
     scene: &Scene<'_>,
@@ -66,27 +66,27 @@ fn put_call(
 ) -> Result<(), AllocError> {
     writer.begin_object()?;
     writer.key("id")?;
-    put_call_id(writer, alloc, call)?;
-    put_number_member(writer, "number", call.number as usize)?;
+    write_json_call_id(writer, alloc, call)?;
+    write_json_number_member(writer, "number", call.number as usize)?;
     writer.key("part")?;
-    put_bytes(writer, alloc, &[call.part.letter()])?;
-    put_number_member(writer, "index", call.place)?;
-    put_operation(writer, scene, call)?;
+    write_json_byte_string(writer, alloc, &[call.part.letter()])?;
+    write_json_number_member(writer, "index", call.place)?;
+    write_json_operation_member(writer, scene, call)?;
     writer.key("args")?;
     writer.begin_array()?;
     for arg in call.command.args.as_slice() {
-        put_value(writer, alloc, scene.model, arg)?;
+        write_json_value_and_text(writer, alloc, scene.model, arg)?;
     }
     writer.end_array()?;
     if let Some(reply) = call.reply {
         writer.key("reply")?;
-        put_reply(writer, alloc, scene.model, reply)?;
+        write_json_reply(writer, alloc, scene.model, reply)?;
     }
     writer.end_object()
 }
 
 /// Writes the member `calls`: all calls of an item, in the order of their numbers.
-pub fn put_calls(
+pub fn write_json_calls(
     writer: &mut Writer<Global>,
     alloc: Global,
     scene: &Scene<'_>,
@@ -94,7 +94,7 @@ pub fn put_calls(
     writer.key("calls")?;
     writer.begin_array()?;
     for call in &scene.all {
-        put_call(writer, alloc, scene, call)?;
+        write_json_call(writer, alloc, scene, call)?;
     }
     writer.end_array()
 }

@@ -1,17 +1,17 @@
 //! Cores.
 
-use crate::calls::put_call_member;
-use crate::reasons::put_falsity;
-use crate::values::{put_state_member, put_value};
-use crate::walks::put_word_member;
-use crate::writing::put_bool_member;
+use crate::calls::write_json_call_member;
+use crate::reasons::write_json_false_postcondition;
+use crate::values::{write_json_state_member, write_json_value_and_text};
+use crate::walks::write_json_interleaving_member;
+use crate::writing::write_json_bool_member;
 use json::Writer;
 use pst_explain::{Core, CoreAnswer, WrongAnswer};
 use pst_model::Source;
 use std::alloc::{AllocError, Global};
 
 /// Writes the member `why`: why an answer is wrong in an interleaving, and this interleaving.
-fn put_wrong(
+fn write_json_wrong_answer(
     writer: &mut Writer<Global>,
     alloc: Global,
     model: &Source,
@@ -19,16 +19,16 @@ fn put_wrong(
 ) -> Result<(), AllocError> {
     writer.key("why")?;
     writer.begin_object()?;
-    put_falsity(writer, alloc, model, &wrong.falsity)?;
+    write_json_false_postcondition(writer, alloc, model, &wrong.falsity)?;
     if !wrong.word.is_empty() {
-        put_word_member(writer, alloc, "by", wrong.word.as_slice())?;
+        write_json_interleaving_member(writer, alloc, "by", wrong.word.as_slice())?;
     }
-    put_state_member(writer, alloc, "state", model, &wrong.state)?;
+    write_json_state_member(writer, alloc, "state", model, &wrong.state)?;
     writer.end_object()
 }
 
 /// Writes the member `allowed`: what the model allows in place of an answer.
-fn put_allowed(
+fn write_json_allowed_answers(
     writer: &mut Writer<Global>,
     alloc: Global,
     model: &Source,
@@ -39,34 +39,34 @@ fn put_allowed(
     writer.key("values")?;
     writer.begin_array()?;
     for value in answer.allowed.values.as_slice() {
-        put_value(writer, alloc, model, value)?;
+        write_json_value_and_text(writer, alloc, model, value)?;
     }
     writer.end_array()?;
-    put_bool_member(writer, "all", answer.allowed.all)?;
-    put_bool_member(writer, "only", answer.has_all())?;
+    write_json_bool_member(writer, "all", answer.allowed.all)?;
+    write_json_bool_member(writer, "only", answer.has_all())?;
     writer.end_object()
 }
 
 /// Writes an answer of a core.
-fn put_answer(
+fn write_json_core_answer(
     writer: &mut Writer<Global>,
     alloc: Global,
     model: &Source,
     answer: &CoreAnswer<'_>,
 ) -> Result<(), AllocError> {
     writer.begin_object()?;
-    put_call_member(writer, alloc, &answer.call)?;
+    write_json_call_member(writer, alloc, &answer.call)?;
     if let Some(wrong) = &answer.wrong {
-        put_wrong(writer, alloc, model, wrong)?;
+        write_json_wrong_answer(writer, alloc, model, wrong)?;
     }
     if !answer.allowed.values.is_empty() {
-        put_allowed(writer, alloc, model, answer)?;
+        write_json_allowed_answers(writer, alloc, model, answer)?;
     }
     writer.end_object()
 }
 
 /// Writes the member `core`, and `prefix` if all of its calls are in the prefix.
-pub fn put_core(
+pub fn write_json_core(
     writer: &mut Writer<Global>,
     alloc: Global,
     model: &Source,
@@ -75,11 +75,11 @@ pub fn put_core(
     writer.key("core")?;
     writer.begin_array()?;
     for answer in &core.answers {
-        put_answer(writer, alloc, model, answer)?;
+        write_json_core_answer(writer, alloc, model, answer)?;
     }
     writer.end_array()?;
     if core.is_in_prefix() {
-        put_bool_member(writer, "prefix", true)?;
+        write_json_bool_member(writer, "prefix", true)?;
     }
     Ok(())
 }

@@ -3,7 +3,7 @@ ghost use Rattle.std.specs.Prelude.{IfOk};
 ghost use Rattle.pst_json.specs.Page.{IsPageText};
 
 use crate::ascii::add_byte;
-use crate::models::put_model;
+use crate::models::write_json_model;
 use crate::writing::into_ascii;
 use json::Writer;
 use pst_model::Source;
@@ -34,7 +34,10 @@ pub struct CampaignFacts {
 }
 
 /// Writes the version and the names of the files, the first members of a document.
-fn put_files(writer: &mut Writer<Global>, files: &[SourceFile<'_>]) -> Result<(), AllocError> {
+fn write_json_version_and_files(
+    writer: &mut Writer<Global>,
+    files: &[SourceFile<'_>],
+) -> Result<(), AllocError> {
     writer.key("pst")?;
     writer.u64(VERSION)?;
     writer.key("files")?;
@@ -46,7 +49,10 @@ fn put_files(writer: &mut Writer<Global>, files: &[SourceFile<'_>]) -> Result<()
 }
 
 /// Writes the member `campaign`.
-fn put_campaign(writer: &mut Writer<Global>, facts: CampaignFacts) -> Result<(), AllocError> {
+fn write_json_campaign(
+    writer: &mut Writer<Global>,
+    facts: CampaignFacts,
+) -> Result<(), AllocError> {
     writer.key("campaign")?;
     writer.begin_object()?;
     writer.key("seed")?;
@@ -69,11 +75,11 @@ fn first_line(
 {
     let mut writer = Writer::new(Vec::new(alloc));
     writer.begin_object()?;
-    put_files(&mut writer, files)?;
+    write_json_version_and_files(&mut writer, files)?;
     if let Some(facts) = campaign {
-        put_campaign(&mut writer, facts)?;
+        write_json_campaign(&mut writer, facts)?;
     }
-    put_model(&mut writer, alloc, model)?;
+    write_json_model(&mut writer, alloc, model)?;
     writer.key("items")?;
     writer.begin_array()?;
     let mut start = into_ascii(alloc, writer)?;

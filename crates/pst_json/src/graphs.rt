@@ -1,9 +1,9 @@
 //! Searches of items.
 
-use crate::calls::put_call_member;
-use crate::reasons::put_dead_end;
-use crate::values::put_state_member;
-use crate::writing::{put_bool_member, put_number_member};
+use crate::calls::write_json_call_member;
+use crate::reasons::write_json_dead_end;
+use crate::values::write_json_state_member;
+use crate::writing::{write_json_bool_member, write_json_number_member};
 use json::Writer;
 use pst_explain::{Explanation, Move, Position, Reason, Search, Target, whole_search};
 use pst_model::Source;
@@ -74,7 +74,7 @@ fn search_of<'a>(
 }
 
 /// Writes a position: how many calls of each part are before it, and its state.
-fn put_position(
+fn write_json_position(
     writer: &mut Writer<Global>,
     alloc: Global,
     model: &Source,
@@ -87,12 +87,12 @@ fn put_position(
         writer.u64(*count as u64)?;
     }
     writer.end_array()?;
-    put_state_member(writer, alloc, "state", model, &position.state)?;
+    write_json_state_member(writer, alloc, "state", model, &position.state)?;
     writer.end_object()
 }
 
 /// Writes a move: the position it is from, its call, and where it leads or why it does not.
-fn put_move(
+fn write_json_move(
     writer: &mut Writer<Global>,
     alloc: Global,
     model: &Source,
@@ -100,22 +100,22 @@ fn put_move(
     is_shown: bool,
 ) -> Result<(), AllocError> {
     writer.begin_object()?;
-    put_number_member(writer, "from", step.from)?;
-    put_call_member(writer, alloc, &step.call)?;
+    write_json_number_member(writer, "from", step.from)?;
+    write_json_call_member(writer, alloc, &step.call)?;
     match &step.target {
         Target::Position(to) => {
-            put_number_member(writer, "to", *to)?;
+            write_json_number_member(writer, "to", *to)?;
             if is_shown {
-                put_bool_member(writer, "on", true)?;
+                write_json_bool_member(writer, "on", true)?;
             }
         }
-        Target::DeadEnd(why) => put_dead_end(writer, alloc, model, why)?,
+        Target::DeadEnd(why) => write_json_dead_end(writer, alloc, model, why)?,
     }
     writer.end_object()
 }
 
 /// Writes the member `graph`.
-fn put_graph(
+fn write_json_graph(
     writer: &mut Writer<Global>,
     alloc: Global,
     model: &Source,
@@ -126,21 +126,21 @@ fn put_graph(
     writer.key("nodes")?;
     writer.begin_array()?;
     for position in &search.positions {
-        put_position(writer, alloc, model, position)?;
+        write_json_position(writer, alloc, model, position)?;
     }
     writer.end_array()?;
     writer.key("edges")?;
     writer.begin_array()?;
     for (number, step) in search.moves.iter().enumerate() {
         let is_shown = search.shown.iter().any(|shown| *shown == number);
-        put_move(writer, alloc, model, step, is_shown)?;
+        write_json_move(writer, alloc, model, step, is_shown)?;
     }
     writer.end_array()?;
     writer.end_object()
 }
 
 /// Writes the member `search`, and `graph` if the search of the item is small and the item fails.
-pub fn put_search(
+pub fn write_json_search(
     writer: &mut Writer<Global>,
     alloc: Global,
     explanation: &Explanation<'_>,
@@ -151,12 +151,12 @@ pub fn put_search(
     writer.key("orders")?;
     writer.u64(count_interleavings(&explanation.scene))?;
     if let Some(search) = &search {
-        put_number_member(writer, "positions", search.positions.len())?;
-        put_number_member(writer, "moves", search.moves.len())?;
+        write_json_number_member(writer, "positions", search.positions.len())?;
+        write_json_number_member(writer, "moves", search.moves.len())?;
     }
     writer.end_object()?;
     match &search {
-        Some(search) => put_graph(writer, alloc, explanation.scene.model, search),
+        Some(search) => write_json_graph(writer, alloc, explanation.scene.model, search),
         None => Ok(()),
     }
 }

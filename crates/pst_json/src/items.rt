@@ -2,12 +2,12 @@
 ghost use Rattle.std.specs.Prelude.{IfOk};
 ghost use Rattle.pst_json.specs.Page.{IsPageText};
 
-use crate::calls::put_calls;
-use crate::cores::put_core;
-use crate::failures::{put_broken, put_failure};
-use crate::graphs::put_search;
-use crate::walks::put_walk;
-use crate::writing::{into_ascii, put_number_member, put_text_member};
+use crate::calls::write_json_calls;
+use crate::cores::write_json_core;
+use crate::failures::{write_json_broken_reply, write_json_failure};
+use crate::graphs::write_json_search;
+use crate::walks::write_json_walk;
+use crate::writing::{into_ascii, write_json_number_member, write_json_text_member};
 use json::Writer;
 use pst_explain::{Explanation, Reason, TreePlace};
 use pst_judge::{Judged, Verdict, Why};
@@ -28,36 +28,42 @@ fn verdict_word(judged: &Judged) -> &'static str {
 }
 
 /// Writes the member `at`: the file and the line on which an item begins.
-fn put_place(writer: &mut Writer<Global>, place: &TreePlace<'_>) -> Result<(), AllocError> {
+fn write_json_item_place(
+    writer: &mut Writer<Global>,
+    place: &TreePlace<'_>,
+) -> Result<(), AllocError> {
     writer.key("at")?;
     writer.begin_object()?;
     if let Some(name) = place.file {
-        put_text_member(writer, "file", name)?;
+        write_json_text_member(writer, "file", name)?;
     }
-    put_number_member(writer, "line", place.line)?;
+    write_json_number_member(writer, "line", place.line)?;
     writer.end_object()
 }
 
 /// Writes the members of an item except its reason and its search.
-fn put_head(
+fn write_json_item_head(
     writer: &mut Writer<Global>,
     alloc: Global,
     explanation: &Explanation<'_>,
 ) -> Result<(), AllocError> {
     let is_run = explanation.scene.run.history.is_some();
     let line = explanation.judged.text(alloc)?;
-    put_number_member(writer, "item", explanation.number)?;
-    put_text_member(writer, "kind", if is_run { "run" } else { "case" })?;
-    put_text_member(writer, "verdict", verdict_word(explanation.judged))?;
-    put_text_member(writer, "line", line.as_str())?;
+    write_json_number_member(writer, "item", explanation.number)?;
+    write_json_text_member(writer, "kind", if is_run { "run" } else { "case" })?;
+    write_json_text_member(writer, "verdict", verdict_word(explanation.judged))?;
+    write_json_text_member(writer, "line", line.as_str())?;
     if let Some(place) = &explanation.place {
-        put_place(writer, place)?;
+        write_json_item_place(writer, place)?;
     }
-    put_calls(writer, alloc, &explanation.scene)
+    write_json_calls(writer, alloc, &explanation.scene)
 }
 
 /// Writes the member `left_out`: the members that are not whole, because their search takes too many steps.
-fn put_left_out(writer: &mut Writer<Global>, reason: &Reason<'_>) -> Result<(), AllocError> {
+fn write_json_left_out_members(
+    writer: &mut Writer<Global>,
+    reason: &Reason<'_>,
+) -> Result<(), AllocError> {
     if !reason.is_cut() {
         return Ok(());
     }
@@ -78,7 +84,7 @@ fn put_left_out(writer: &mut Writer<Global>, reason: &Reason<'_>) -> Result<(), 
 }
 
 /// Writes the reason of the judgement.
-fn put_reason(
+fn write_json_verdict_reason(
     writer: &mut Writer<Global>,
     alloc: Global,
     explanation: &Explanation<'_>,
@@ -86,18 +92,18 @@ fn put_reason(
     let model = explanation.scene.model;
     let reason = &explanation.reason;
     if let Some(core) = reason.core() {
-        put_core(writer, alloc, model, core)?;
+        write_json_core(writer, alloc, model, core)?;
     }
     if let Some(walk) = reason.walk() {
-        put_walk(writer, alloc, explanation, walk)?;
+        write_json_walk(writer, alloc, explanation, walk)?;
     }
     if let Some(failure) = reason.failure() {
-        put_failure(writer, alloc, model, failure)?;
+        write_json_failure(writer, alloc, model, failure)?;
     }
     if let Reason::Broken(broken) = reason {
-        put_broken(writer, alloc, broken)?;
+        write_json_broken_reply(writer, alloc, broken)?;
     }
-    put_left_out(writer, reason)
+    write_json_left_out_members(writer, reason)
 }
 
 /// Returns the explanation of an item as a JSON object, without a line end. `trial` is the number of its trial, if it is a
@@ -111,12 +117,12 @@ fn item_object(
 {
     let mut writer = Writer::new(Vec::new(alloc));
     writer.begin_object()?;
-    put_head(&mut writer, alloc, explanation)?;
+    write_json_item_head(&mut writer, alloc, explanation)?;
     if let Some(trial) = trial {
-        put_number_member(&mut writer, "trial", trial)?;
+        write_json_number_member(&mut writer, "trial", trial)?;
     }
-    put_reason(&mut writer, alloc, explanation)?;
-    put_search(&mut writer, alloc, explanation)?;
+    write_json_verdict_reason(&mut writer, alloc, explanation)?;
+    write_json_search(&mut writer, alloc, explanation)?;
     writer.end_object()?;
     into_ascii(alloc, writer)
 }

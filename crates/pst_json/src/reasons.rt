@@ -1,7 +1,9 @@
 //! Why a call cannot come next.
 
-use crate::values::put_value_member;
-use crate::writing::{put_expression_member, put_spelling, put_spelling_member};
+use crate::values::write_json_value_member;
+use crate::writing::{
+    write_json_expression_member, write_json_spelling, write_json_spelling_member,
+};
 use json::Writer;
 use pst_model::Source;
 use pst_scene::{DeadEnd, Evidence, FalsePart, Falsity, dead_end_text, falsity_text, value_text};
@@ -9,7 +11,7 @@ use pst_value::Value;
 use std::alloc::{AllocError, Global};
 
 /// Writes the two values that a comparison compares.
-fn put_compared(
+fn write_json_compared_values(
     writer: &mut Writer<Global>,
     alloc: Global,
     model: &Source,
@@ -18,43 +20,45 @@ fn put_compared(
 ) -> Result<(), AllocError> {
     writer.key("compares")?;
     writer.begin_array()?;
-    put_spelling(writer, alloc, value_text(alloc, model, first)?.as_slice())?;
-    put_spelling(writer, alloc, value_text(alloc, model, second)?.as_slice())?;
+    write_json_spelling(writer, alloc, value_text(alloc, model, first)?.as_slice())?;
+    write_json_spelling(writer, alloc, value_text(alloc, model, second)?.as_slice())?;
     writer.end_array()
 }
 
 /// Writes the members on a part that is false: the part, and what is known of it.
-fn put_false_part(
+fn write_json_false_part(
     writer: &mut Writer<Global>,
     alloc: Global,
     model: &Source,
     found: &FalsePart<'_>,
 ) -> Result<(), AllocError> {
-    put_expression_member(writer, alloc, "part", found.part)?;
+    write_json_expression_member(writer, alloc, "part", found.part)?;
     match &found.evidence {
-        Evidence::Wants(value) => put_value_member(writer, alloc, "wants", model, value),
-        Evidence::Compares(first, second) => put_compared(writer, alloc, model, first, second),
+        Evidence::Wants(value) => write_json_value_member(writer, alloc, "wants", model, value),
+        Evidence::Compares(first, second) => write_json_compared_values(
+            writer, alloc, model, first, second,
+        ),
         Evidence::Nothing => Ok(()),
     }
 }
 
 /// Writes the members on a postcondition that is not true.
-pub fn put_falsity(
+pub fn write_json_false_postcondition(
     writer: &mut Writer<Global>,
     alloc: Global,
     model: &Source,
     falsity: &Falsity<'_>,
 ) -> Result<(), AllocError> {
     let text = falsity_text(alloc, model, falsity)?;
-    put_spelling_member(writer, alloc, "text", text.as_slice())?;
+    write_json_spelling_member(writer, alloc, "text", text.as_slice())?;
     match falsity {
-        Falsity::Part { found, .. } => put_false_part(writer, alloc, model, found),
+        Falsity::Part { found, .. } => write_json_false_part(writer, alloc, model, found),
         _ => Ok(()),
     }
 }
 
 /// Writes the member `why`: why a call cannot come next.
-pub fn put_dead_end(
+pub fn write_json_dead_end(
     writer: &mut Writer<Global>,
     alloc: Global,
     model: &Source,
@@ -63,10 +67,12 @@ pub fn put_dead_end(
     writer.key("why")?;
     writer.begin_object()?;
     match why {
-        DeadEnd::PostFails(falsity) => put_falsity(writer, alloc, model, falsity)?,
+        DeadEnd::PostFails(falsity) => write_json_false_postcondition(
+            writer, alloc, model, falsity,
+        )?,
         _ => {
             let text = dead_end_text(alloc, model, why)?;
-            put_spelling_member(writer, alloc, "text", text.as_slice())?;
+            write_json_spelling_member(writer, alloc, "text", text.as_slice())?;
         }
     }
     writer.end_object()

@@ -1,6 +1,8 @@
 //! Values of models.
 
-use crate::writing::{MOST_BYTES, put_number_member, put_spelling_member, put_text_member};
+use crate::writing::{
+    MOST_BYTES, write_json_number_member, write_json_spelling_member, write_json_text_member,
+};
 use json::Writer;
 use pst_model::{Source, operation_of};
 use pst_scene::value_text;
@@ -11,7 +13,7 @@ use std::alloc::{AllocError, Global};
 const MOST_EXACT: i64 = 9_007_199_254_740_991;
 
 /// Writes an integer: a number, or an object with its digits if it is too large to be read exactly.
-fn put_integer(writer: &mut Writer<Global>, number: i64) -> Result<(), AllocError> {
+fn write_json_integer(writer: &mut Writer<Global>, number: i64) -> Result<(), AllocError> {
     if -MOST_EXACT <= number && number <= MOST_EXACT {
         return writer.i64(number);
     }
@@ -22,23 +24,23 @@ fn put_integer(writer: &mut Writer<Global>, number: i64) -> Result<(), AllocErro
 }
 
 /// Writes a key of a map.
-fn put_key(writer: &mut Writer<Global>, key: &Key) -> Result<(), AllocError> {
+fn write_json_map_key(writer: &mut Writer<Global>, key: &Key) -> Result<(), AllocError> {
     match key {
-        Key::Int(number) => put_integer(writer, *number),
+        Key::Int(number) => write_json_integer(writer, *number),
         Key::Bool(holds) => writer.boolean(*holds),
         Key::Text(text) => writer.string(text.as_str()),
     }
 }
 
 /// Writes an object with the number of a variable.
-fn put_variable(writer: &mut Writer<Global>, number: u32) -> Result<(), AllocError> {
+fn write_json_variable(writer: &mut Writer<Global>, number: u32) -> Result<(), AllocError> {
     writer.begin_object()?;
-    put_number_member(writer, "var", number as usize)?;
+    write_json_number_member(writer, "var", number as usize)?;
     writer.end_object()
 }
 
 /// Writes the name of an operation.
-fn put_operation(
+fn write_json_operation_name(
     writer: &mut Writer<Global>,
     model: &Source,
     number: u32,
@@ -62,38 +64,42 @@ fn begin_listed(writer: &mut Writer<Global>, key: &str) -> Result<(), AllocError
 
 /// Writes a value as JSON.
 #[cycle(value)]
-fn put_json(writer: &mut Writer<Global>, model: &Source, value: &Value) -> Result<(), AllocError> {
+fn write_json_plain_value(
+    writer: &mut Writer<Global>,
+    model: &Source,
+    value: &Value,
+) -> Result<(), AllocError> {
     match value {
-        Value::Int(number) => put_integer(writer, *number),
+        Value::Int(number) => write_json_integer(writer, *number),
         Value::Bool(holds) => writer.boolean(*holds),
         Value::Text(text) => writer.string(text.as_str()),
         Value::List(items) => {
             writer.begin_array()?;
-            put_items(writer, model, items.as_slice())
+            write_json_array_items(writer, model, items.as_slice())
         }
         Value::Tuple(parts) => {
             begin_listed(writer, "tuple")?;
-            put_items(writer, model, parts.as_slice())?;
+            write_json_array_items(writer, model, parts.as_slice())?;
             writer.end_object()
         }
         Value::Map(keys, values) => {
             begin_listed(writer, "map")?;
             let (keys, values) = (keys.get().as_slice(), values.get().as_slice());
-            put_entries(writer, model, keys, values)?;
+            write_json_map_entries(writer, model, keys, values)?;
             writer.end_object()
         }
-        Value::Var(number) => put_variable(writer, *number),
+        Value::Var(number) => write_json_variable(writer, *number),
         Value::Ref(number, value) => {
             writer.begin_object()?;
-            put_number_member(writer, "ref", *number as usize)?;
+            write_json_number_member(writer, "ref", *number as usize)?;
             writer.key("value")?;
-            put_json(writer, model, value.get())?;
+            write_json_plain_value(writer, model, value.get())?;
             writer.end_object()
         }
         Value::Call(operation, args) => {
             begin_listed(writer, "call")?;
-            put_operation(writer, model, *operation)?;
-            put_items(writer, model, args.as_slice())?;
+            write_json_operation_name(writer, model, *operation)?;
+            write_json_array_items(writer, model, args.as_slice())?;
             writer.end_object()
         }
     }
@@ -101,20 +107,20 @@ fn put_json(writer: &mut Writer<Global>, model: &Source, value: &Value) -> Resul
 
 /// Writes the items of an array, and its end.
 #[cycle(value)]
-fn put_items(
+fn write_json_array_items(
     writer: &mut Writer<Global>,
     model: &Source,
     items: &[Value],
 ) -> Result<(), AllocError> {
     for item in items {
-        put_json(writer, model, item)?;
+        write_json_plain_value(writer, model, item)?;
     }
     writer.end_array()
 }
 
 /// Writes the entries of a map, up to the end of the shorter of `keys` and `values`, and the end of their array.
 #[cycle(value)]
-fn put_entries(
+fn write_json_map_entries(
     writer: &mut Writer<Global>,
     model: &Source,
     keys: &[Key],
@@ -126,8 +132,8 @@ fn put_entries(
             return writer.end_array();
         };
         writer.begin_array()?;
-        put_key(writer, key)?;
-        put_json(writer, model, value)?;
+        write_json_map_key(writer, key)?;
+        write_json_plain_value(writer, model, value)?;
         writer.end_array()?;
         rest = others;
     }
@@ -136,7 +142,7 @@ fn put_entries(
 
 /// Writes an object with the spelling of a value and the value as JSON. If the spelling is long, the object has its
 /// length in place of the value.
-pub fn put_value(
+pub fn write_json_value_and_text(
     writer: &mut Writer<Global>,
     alloc: Global,
     model: &Source,
@@ -144,18 +150,18 @@ pub fn put_value(
 ) -> Result<(), AllocError> {
     let text = value_text(alloc, model, value)?;
     writer.begin_object()?;
-    put_spelling_member(writer, alloc, "text", text.as_slice())?;
+    write_json_spelling_member(writer, alloc, "text", text.as_slice())?;
     if text.len() > MOST_BYTES {
-        put_number_member(writer, "bytes", text.len())?;
+        write_json_number_member(writer, "bytes", text.len())?;
     } else {
         writer.key("value")?;
-        put_json(writer, model, value)?;
+        write_json_plain_value(writer, model, value)?;
     }
     writer.end_object()
 }
 
 /// Writes a member whose value is a value.
-pub fn put_value_member(
+pub fn write_json_value_member(
     writer: &mut Writer<Global>,
     alloc: Global,
     key: &str,
@@ -163,11 +169,11 @@ pub fn put_value_member(
     value: &Value,
 ) -> Result<(), AllocError> {
     writer.key(key)?;
-    put_value(writer, alloc, model, value)
+    write_json_value_and_text(writer, alloc, model, value)
 }
 
 /// Writes a member whose value is the spelling of a value, as states are written.
-pub fn put_state_member(
+pub fn write_json_state_member(
     writer: &mut Writer<Global>,
     alloc: Global,
     key: &str,
@@ -175,12 +181,12 @@ pub fn put_state_member(
     state: &Value,
 ) -> Result<(), AllocError> {
     let text = value_text(alloc, model, state)?;
-    put_spelling_member(writer, alloc, key, text.as_slice())
+    write_json_spelling_member(writer, alloc, key, text.as_slice())
 }
 
 /// Writes an object with a word in place of a value.
-pub fn put_word(writer: &mut Writer<Global>, word: &str) -> Result<(), AllocError> {
+pub fn write_json_reply_word(writer: &mut Writer<Global>, word: &str) -> Result<(), AllocError> {
     writer.begin_object()?;
-    put_text_member(writer, "text", word)?;
+    write_json_text_member(writer, "text", word)?;
     writer.end_object()
 }

@@ -1,9 +1,9 @@
 //! Interleavings.
 
-use crate::calls::put_call_member;
-use crate::reasons::put_dead_end;
-use crate::values::put_state_member;
-use crate::writing::{put_bytes, put_text_member};
+use crate::calls::write_json_call_member;
+use crate::reasons::write_json_dead_end;
+use crate::values::write_json_state_member;
+use crate::writing::{write_json_byte_string, write_json_text_member};
 use json::Writer;
 use pst_explain::{BlockedCall, Explanation, Reason, Step, Walk};
 use pst_model::Source;
@@ -11,7 +11,7 @@ use pst_scene::{PreAnswer, add_word};
 use std::alloc::{AllocError, Global};
 
 /// Writes a member whose value is an interleaving of branches.
-pub fn put_word_member(
+pub fn write_json_interleaving_member(
     writer: &mut Writer<Global>,
     alloc: Global,
     key: &str,
@@ -20,37 +20,37 @@ pub fn put_word_member(
     let mut text = Vec::new(alloc);
     add_word(&mut text, word)?;
     writer.key(key)?;
-    put_bytes(writer, alloc, text.as_slice())
+    write_json_byte_string(writer, alloc, text.as_slice())
 }
 
 /// Writes the call of a step, the state after it, and its precondition if that is not true.
-fn put_step(
+fn write_json_walk_step(
     writer: &mut Writer<Global>,
     alloc: Global,
     model: &Source,
     step: &Step<'_>,
 ) -> Result<(), AllocError> {
     writer.begin_object()?;
-    put_call_member(writer, alloc, &step.call)?;
-    put_state_member(writer, alloc, "state", model, &step.state)?;
+    write_json_call_member(writer, alloc, &step.call)?;
+    write_json_state_member(writer, alloc, "state", model, &step.state)?;
     match step.precondition {
         PreAnswer::Holds => {}
-        PreAnswer::Fails => put_text_member(writer, "pre", "false")?,
-        PreAnswer::Faults(fault) => put_text_member(writer, "pre", fault.name())?,
+        PreAnswer::Fails => write_json_text_member(writer, "pre", "false")?,
+        PreAnswer::Faults(fault) => write_json_text_member(writer, "pre", fault.name())?,
     }
     writer.end_object()
 }
 
 /// Writes a call that cannot come next, and why.
-fn put_blocked(
+fn write_json_blocked_call(
     writer: &mut Writer<Global>,
     alloc: Global,
     model: &Source,
     stopped: &BlockedCall<'_>,
 ) -> Result<(), AllocError> {
     writer.begin_object()?;
-    put_call_member(writer, alloc, &stopped.call)?;
-    put_dead_end(writer, alloc, model, &stopped.why)?;
+    write_json_call_member(writer, alloc, &stopped.call)?;
+    write_json_dead_end(writer, alloc, model, &stopped.why)?;
     writer.end_object()
 }
 
@@ -65,7 +65,7 @@ fn kind_of(reason: &Reason<'_>) -> &'static str {
 }
 
 /// Writes the member `next`: the calls that cannot come next.
-fn put_blocked_calls(
+fn write_json_blocked_calls(
     writer: &mut Writer<Global>,
     alloc: Global,
     model: &Source,
@@ -74,13 +74,13 @@ fn put_blocked_calls(
     writer.key("next")?;
     writer.begin_array()?;
     for stopped in all {
-        put_blocked(writer, alloc, model, stopped)?;
+        write_json_blocked_call(writer, alloc, model, stopped)?;
     }
     writer.end_array()
 }
 
 /// Writes the member `walk` of an explanation.
-pub fn put_walk(
+pub fn write_json_walk(
     writer: &mut Writer<Global>,
     alloc: Global,
     explanation: &Explanation<'_>,
@@ -89,17 +89,17 @@ pub fn put_walk(
     let model = explanation.scene.model;
     writer.key("walk")?;
     writer.begin_object()?;
-    put_text_member(writer, "kind", kind_of(&explanation.reason))?;
-    put_word_member(writer, alloc, "word", walk.word.as_slice())?;
+    write_json_text_member(writer, "kind", kind_of(&explanation.reason))?;
+    write_json_interleaving_member(writer, alloc, "word", walk.word.as_slice())?;
     if let Some(start) = &walk.start {
-        put_state_member(writer, alloc, "start", model, start)?;
+        write_json_state_member(writer, alloc, "start", model, start)?;
     }
     writer.key("steps")?;
     writer.begin_array()?;
     for step in &walk.steps {
-        put_step(writer, alloc, model, step)?;
+        write_json_walk_step(writer, alloc, model, step)?;
     }
     writer.end_array()?;
-    put_blocked_calls(writer, alloc, model, walk.stopped.as_slice())?;
+    write_json_blocked_calls(writer, alloc, model, walk.stopped.as_slice())?;
     writer.end_object()
 }

@@ -35,7 +35,7 @@ pub fn into_ascii(alloc: Global, writer: Writer<Global>) -> Result<Vec<u8>, Allo
 }
 
 /// Writes a text that is spelled in bytes.
-pub fn put_bytes(
+pub fn write_json_byte_string(
     writer: &mut Writer<Global>,
     alloc: Global,
     bytes: &[u8],
@@ -45,34 +45,38 @@ pub fn put_bytes(
 }
 
 /// Writes a spelling, which is cut in the middle if it is long.
-pub fn put_spelling(
+pub fn write_json_spelling(
     writer: &mut Writer<Global>,
     alloc: Global,
     spelling: &[u8],
 ) -> Result<(), AllocError> {
     let text = cut_in_middle(alloc, spelling, MOST_BYTES)?;
-    put_bytes(writer, alloc, text.as_slice())
+    write_json_byte_string(writer, alloc, text.as_slice())
 }
 
 /// Writes an expression as a text.
-pub fn put_expression(
+pub fn write_json_expression(
     writer: &mut Writer<Global>,
     alloc: Global,
     expr: &Expr,
 ) -> Result<(), AllocError> {
     let text = expression_text(alloc, expr)?;
-    put_spelling(writer, alloc, text.as_slice())
+    write_json_spelling(writer, alloc, text.as_slice())
 }
 
 /// Writes a type as a text.
-pub fn put_type(writer: &mut Writer<Global>, alloc: Global, ty: &Ty) -> Result<(), AllocError> {
+pub fn write_json_type(
+    writer: &mut Writer<Global>,
+    alloc: Global,
+    ty: &Ty,
+) -> Result<(), AllocError> {
     let mut text = Vec::new(alloc);
     add_form(&mut text, &ty_form(alloc, ty)?)?;
-    put_spelling(writer, alloc, text.as_slice())
+    write_json_spelling(writer, alloc, text.as_slice())
 }
 
 /// Writes a member whose value is a text.
-pub fn put_text_member(
+pub fn write_json_text_member(
     writer: &mut Writer<Global>,
     key: &str,
     text: &str,
@@ -82,29 +86,29 @@ pub fn put_text_member(
 }
 
 /// Writes a member whose value is a spelling.
-pub fn put_spelling_member(
+pub fn write_json_spelling_member(
     writer: &mut Writer<Global>,
     alloc: Global,
     key: &str,
     spelling: &[u8],
 ) -> Result<(), AllocError> {
     writer.key(key)?;
-    put_spelling(writer, alloc, spelling)
+    write_json_spelling(writer, alloc, spelling)
 }
 
 /// Writes a member whose value is an expression as a text.
-pub fn put_expression_member(
+pub fn write_json_expression_member(
     writer: &mut Writer<Global>,
     alloc: Global,
     key: &str,
     expr: &Expr,
 ) -> Result<(), AllocError> {
     writer.key(key)?;
-    put_expression(writer, alloc, expr)
+    write_json_expression(writer, alloc, expr)
 }
 
 /// Writes a member whose value is a number.
-pub fn put_number_member(
+pub fn write_json_number_member(
     writer: &mut Writer<Global>,
     key: &str,
     number: usize,
@@ -114,7 +118,7 @@ pub fn put_number_member(
 }
 
 /// Writes a member whose value is `true` or `false`.
-pub fn put_bool_member(
+pub fn write_json_bool_member(
     writer: &mut Writer<Global>,
     key: &str,
     holds: bool,

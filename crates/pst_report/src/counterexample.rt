@@ -32,7 +32,7 @@ pub(crate) fn run_of(
 }
 
 /// The case and its history as a tree, and a line end.
-pub(crate) fn run_line(
+pub(crate) fn report_run_line(
     alloc: Global,
     typed: &Typed,
     taken: &FailingCase<JudgedRun>,
@@ -80,7 +80,10 @@ fn steps_line(alloc: Global, shrunk: &Shrunk<JudgedRun>) -> Result<String, Alloc
 }
 
 /// The verdict on the last run.
-fn last_line(alloc: Global, taken: &FailingCase<JudgedRun>) -> Result<String, AllocError>
+fn report_shrunk_verdict_line(
+    alloc: Global,
+    taken: &FailingCase<JudgedRun>,
+) -> Result<String, AllocError>
     ensures { IfOk result (λ line. string_bytes line ≡ spec.last_line taken.now) }
 {
     let verdict = &taken.history.verdict;
@@ -88,7 +91,7 @@ fn last_line(alloc: Global, taken: &FailingCase<JudgedRun>) -> Result<String, Al
 }
 
 /// The number, the verdict and the run of the trial itself.
-fn own_lines(
+fn report_unshrunk_run_lines(
     alloc: Global,
     typed: &Typed,
     number: usize,
@@ -99,12 +102,12 @@ fn own_lines(
 {
     let mut lines = least_line(alloc, number, taken)?.into_bytes();
     lines.extend_from_slice(b"from ")?;
-    lines.extend_from_slice(run_line(alloc, typed, taken)?.as_slice())?;
+    lines.extend_from_slice(report_run_line(alloc, typed, taken)?.as_slice())?;
     Ok(lines)
 }
 
 /// The last run, and its verdict.
-fn last_lines(
+fn report_shrunk_run_lines(
     alloc: Global,
     typed: &Typed,
     taken: &FailingCase<JudgedRun>,
@@ -113,8 +116,8 @@ fn last_lines(
     ensures { IfOk result (λ lines. lines.items ≡ spec.last_lines typed.now taken.now) }
 {
     let mut lines = Vec::from_slice(alloc, b"to ")?;
-    lines.extend_from_slice(run_line(alloc, typed, taken)?.as_slice())?;
-    lines.extend_from_slice(last_line(alloc, taken)?.as_bytes())?;
+    lines.extend_from_slice(report_run_line(alloc, typed, taken)?.as_slice())?;
+    lines.extend_from_slice(report_shrunk_verdict_line(alloc, taken)?.as_bytes())?;
     Ok(lines)
 }
 
@@ -128,8 +131,8 @@ pub fn failure_lines(
     requires { AreMatching typed.now shrunk.now }
     ensures { IfOk result (λ lines. lines.items ≡ spec.failure_lines typed.now number shrunk.now) }
 {
-    let mut lines = own_lines(alloc, typed, number, own_failure(shrunk))?;
+    let mut lines = report_unshrunk_run_lines(alloc, typed, number, own_failure(shrunk))?;
     lines.extend_from_slice(steps_line(alloc, shrunk)?.as_bytes())?;
-    lines.extend_from_slice(last_lines(alloc, typed, &shrunk.last)?.as_slice())?;
+    lines.extend_from_slice(report_shrunk_run_lines(alloc, typed, &shrunk.last)?.as_slice())?;
     Ok(lines)
 }

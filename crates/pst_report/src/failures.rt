@@ -3,7 +3,7 @@ ghost use Rattle.std.specs.Prelude.{◌≡◌, IfOk};
 ghost use Rattle.pst_report.specs.Failures.{IsFailureOf, IsLastFailure, case_line};
 ghost use Rattle.pst_report.specs.Matching.{IsMatching};
 
-use crate::counterexample::{run_line, run_of};
+use crate::counterexample::{report_run_line, run_of};
 use crate::least::failure_of;
 use pst_case::Run;
 use pst_model::Typed;
@@ -56,7 +56,7 @@ fn failure_text(
     let verdict = &taken.history.verdict;
     Ok(ShrunkFailure {
         case: case_line(alloc, typed, taken)?,
-        run: run_line(alloc, typed, taken)?,
+        run: report_run_line(alloc, typed, taken)?,
         verdict: format!(in alloc; "{verdict}")?,
     })
 }

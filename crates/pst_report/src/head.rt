@@ -15,7 +15,7 @@ fn name_line(alloc: Global, typed: &Typed) -> Result<String, AllocError>
 }
 
 /// The number of branches, if it is not 2.
-fn branches_part(alloc: Global, branches: u32) -> Result<String, AllocError>
+fn report_branches_setting(alloc: Global, branches: u32) -> Result<String, AllocError>
     ensures { IfOk result (λ part. string_bytes part ≡ spec.branches_part branches) }
 {
     if branches == 2 {
@@ -26,7 +26,7 @@ fn branches_part(alloc: Global, branches: u32) -> Result<String, AllocError>
 }
 
 /// How many commands the suffix has at most, if it may have any.
-fn suffix_part(alloc: Global, suffix: u32) -> Result<String, AllocError>
+fn report_suffix_setting(alloc: Global, suffix: u32) -> Result<String, AllocError>
     ensures { IfOk result (λ part. string_bytes part ≡ spec.suffix_part suffix) }
 {
     if suffix == 0 {
@@ -37,7 +37,7 @@ fn suffix_part(alloc: Global, suffix: u32) -> Result<String, AllocError>
 }
 
 /// `seed S trials N commands C repeats R limit X`.
-fn numbers_part(alloc: Global, settings: &Settings) -> Result<String, AllocError>
+fn report_number_settings(alloc: Global, settings: &Settings) -> Result<String, AllocError>
     ensures { IfOk result (λ part. string_bytes part ≡ spec.numbers_part settings.now) }
 {
     let seed = settings.seed;
@@ -54,9 +54,9 @@ fn numbers_part(alloc: Global, settings: &Settings) -> Result<String, AllocError
 fn settings_line(alloc: Global, settings: &Settings) -> Result<String, AllocError>
     ensures { IfOk result (λ line. string_bytes line ≡ spec.settings_line settings.now) }
 {
-    let mut line = numbers_part(alloc, settings)?;
-    line.push_str(branches_part(alloc, settings.branches)?.as_str())?;
-    line.push_str(suffix_part(alloc, settings.suffix)?.as_str())?;
+    let mut line = report_number_settings(alloc, settings)?;
+    line.push_str(report_branches_setting(alloc, settings.branches)?.as_str())?;
+    line.push_str(report_suffix_setting(alloc, settings.suffix)?.as_str())?;
     line.push_str("\n")?;
     Ok(line)
 }

@@ -4,7 +4,7 @@ ghost use Rattle.pst_report.specs.InOrder.{AreOf};
 ghost use Rattle.pst_report.specs.Matching.{AreMatching, IsMatching};
 ghost use Rattle.pst_report.specs.Object as spec;
 
-use crate::counterexample::{ending_name, run_line};
+use crate::counterexample::{ending_name, report_run_line};
 use crate::kind::{EntryKind, count_of, own_failure};
 use crate::least::least_failure;
 use crate::status::CampaignStatus;
@@ -28,7 +28,10 @@ fn status_word(status: CampaignStatus) -> &'static str
 }
 
 /// Adds how many trials there are, and the kinds of their cases.
-fn add_cases(fields: &mut Vec<Field>, settings: &Settings) -> Result<(), AllocError>
+fn report_case_settings_fields(
+    fields: &mut Vec<Field>,
+    settings: &Settings,
+) -> Result<(), AllocError>
     ensures { OnOk result (fields.new.items ≡ fields.old.items ++ spec.case_fields settings.now) }
 {
     add_number(fields, Name::Seed, settings.seed)?;
@@ -38,7 +41,10 @@ fn add_cases(fields: &mut Vec<Field>, settings: &Settings) -> Result<(), AllocEr
 }
 
 /// Adds how cases are driven.
-fn add_drives(fields: &mut Vec<Field>, settings: &Settings) -> Result<(), AllocError>
+fn report_drive_settings_fields(
+    fields: &mut Vec<Field>,
+    settings: &Settings,
+) -> Result<(), AllocError>
     ensures { OnOk result (fields.new.items ≡ fields.old.items ++ spec.drive_fields settings.now) }
 {
     add_number(fields, Name::Suffix, settings.suffix as u64)?;
@@ -99,8 +105,8 @@ pub fn report_fields(
         Name::Model,
         plan.typed().source().name.as_str(),
     )?;
-    add_cases(&mut fields, plan.settings())?;
-    add_drives(&mut fields, plan.settings())?;
+    report_case_settings_fields(&mut fields, plan.settings())?;
+    report_drive_settings_fields(&mut fields, plan.settings())?;
     add_judged(&mut fields, entries)?;
     add_missing(&mut fields, entries)?;
     Ok(fields)
@@ -114,7 +120,7 @@ fn tree_text(
 ) -> Result<Text, AllocError>
     requires { IsMatching typed.now taken.now }
 {
-    let mut line = run_line(alloc, typed, taken)?;
+    let mut line = report_run_line(alloc, typed, taken)?;
     let _ = line.pop();
     match String::from_utf8(line) {
         Ok(text) => Ok(Text::from_string(text)),

@@ -1,7 +1,7 @@
 //! Applications of functions and calls of operations.
 
 use crate::diagnose::BlamedPart;
-use crate::operands::wanted_type_of_operand;
+use crate::operands::operand_type_problem;
 use crate::trees::tree_in;
 use pst_model::{Fun, Item, Param};
 use pst_problems::{
@@ -14,7 +14,7 @@ use std::alloc::AllocError;
 use std::fmt::Display;
 
 /// The function `name`.
-fn function<'a>(items: &'a [Item], name: &str) -> Option<&'a Fun> {
+fn find_declared_function<'a>(items: &'a [Item], name: &str) -> Option<&'a Fun> {
     for item in items {
         if let Item::Fun(fun) = item {
             if fun.name.as_str() == name {
@@ -26,7 +26,7 @@ fn function<'a>(items: &'a [Item], name: &str) -> Option<&'a Fun> {
 }
 
 /// Whether argument `argument` has the type of parameter `parameter`, both counted from 0.
-fn fits(
+fn argument_fits_parameter(
     leaf: &BlamedPart<'_>,
     params: &[Param],
     argument: usize,
@@ -39,13 +39,13 @@ fn fits(
 }
 
 /// The number of the first argument, from `from` on, that has another type than its parameter.
-fn first_ill(
+fn first_ill_typed_argument(
     leaf: &BlamedPart<'_>,
     params: &[Param],
     from: usize,
 ) -> Result<Option<usize>, AllocError> {
     for place in from..params.len() {
-        if !fits(leaf, params, place, place)? {
+        if !argument_fits_parameter(leaf, params, place, place)? {
             return Ok(Some(place));
         }
     }
@@ -55,16 +55,16 @@ fn first_ill(
 /// Whether exactly two arguments do not fit, and both would fit if they were swapped. `first` is the number of the
 /// first of them.
 fn are_swapped(leaf: &BlamedPart<'_>, params: &[Param], first: usize) -> Result<bool, AllocError> {
-    let Some(second) = first_ill(leaf, params, first.saturating_add(1))? else {
+    let Some(second) = first_ill_typed_argument(leaf, params, first.saturating_add(1))? else {
         return Ok(false);
     };
-    if !fits(leaf, params, first, second)? {
+    if !argument_fits_parameter(leaf, params, first, second)? {
         return Ok(false);
     }
-    if !fits(leaf, params, second, first)? {
+    if !argument_fits_parameter(leaf, params, second, first)? {
         return Ok(false);
     }
-    Ok(first_ill(leaf, params, second.saturating_add(1))?.is_none())
+    Ok(first_ill_typed_argument(leaf, params, second.saturating_add(1))?.is_none())
 }
 
 /// The problem `refused`, with the declaration.
@@ -94,7 +94,7 @@ fn ill_argument(
     let called = param.name.as_str();
     let name = declared.name;
     let what = format_args!("the parameter {called} of `{name}`");
-    let refused = wanted_type_of_operand(leaf, what, part, &wanted, found)?;
+    let refused = operand_type_problem(leaf, what, part, &wanted, found)?;
     with_signature(leaf, refused, declared)
 }
 
@@ -137,7 +137,7 @@ fn arguments_problem(
     if leaf.kinds.len() != declared.params.len() {
         return wrong_argument_count(leaf, declared);
     }
-    match first_ill(leaf, declared.params, 0)? {
+    match first_ill_typed_argument(leaf, declared.params, 0)? {
         Some(place) => ill_order(leaf, declared, place, first.saturating_add(place)),
         None => Ok(None),
     }
@@ -225,7 +225,7 @@ fn unknown_function_problem(leaf: &BlamedPart<'_>, name: &str) -> FoundProblem {
 /// The problem of a declared function that may not be applied here, if it may not.
 fn later_function_problem(leaf: &BlamedPart<'_>, fun: &Fun) -> FoundProblem {
     let name = fun.name.as_str();
-    if function(leaf.context.earlier, name).is_none() {
+    if find_declared_function(leaf.context.earlier, name).is_none() {
         return problem_with_note_at_part(
             leaf.alloc,
             leaf.path,
@@ -248,7 +248,7 @@ fn later_function_problem(leaf: &BlamedPart<'_>, fun: &Fun) -> FoundProblem {
 
 /// The problem of an application of a function, if it has one.
 pub fn application_problem(leaf: &BlamedPart<'_>, name: &str) -> FoundProblem {
-    let Some(fun) = function(leaf.context.items, name) else {
+    let Some(fun) = find_declared_function(leaf.context.items, name) else {
         return unknown_function_problem(leaf, name);
     };
     let declared = Signature {

@@ -3,8 +3,8 @@
 use crate::applied::{application_problem, call_problem};
 use crate::lists::{fold_problem, for_problem, list_problem, nth_problem};
 use crate::operands::{
-    first_operand_problem, map_wanted_problem, sequence_wanted_problem, tuple_wanted_problem,
-    wanted_type_of_operand,
+    first_operand_problem, map_wanted_problem, operand_type_problem, sequence_wanted_problem,
+    tuple_wanted_problem,
 };
 use crate::spelling::spelled;
 use crate::trees::head_word;
@@ -71,7 +71,7 @@ fn unknown_noted<N: Display + Drop>(leaf: &BlamedPart<'_>, name: &str, hint: N) 
 }
 
 /// The problem of the name of the operation `op` in the place of a call of it.
-fn named_operation(leaf: &BlamedPart<'_>, op: &Op) -> FoundProblem {
+fn uncalled_operation_problem(leaf: &BlamedPart<'_>, op: &Op) -> FoundProblem {
     let name = op.name.as_str();
     let arguments = if op.params.is_empty() { "" } else { " .." };
     unknown_noted(
@@ -87,7 +87,7 @@ fn unknown_name_problem(leaf: &BlamedPart<'_>, name: &str) -> FoundProblem {
         return unknown_noted(leaf, name, hint);
     }
     if let Some(op) = operation_named(leaf.context.items, name) {
-        return named_operation(leaf, op);
+        return uncalled_operation_problem(leaf, op);
     }
     match nearest(leaf.alloc, leaf.names, name)? {
         Some(hint) => unknown_noted(leaf, name, hint),
@@ -106,18 +106,12 @@ fn with_join_hint(alloc: Global, found: Option<Problem>, head: &str, kind: &Kind
 }
 
 /// The problem of the first part that has another type than `wanted`.
-fn each_of(leaf: &BlamedPart<'_>, head: &str, wanted: &Ty) -> FoundProblem {
+fn first_ill_typed_part_problem(leaf: &BlamedPart<'_>, head: &str, wanted: &Ty) -> FoundProblem {
     let wanted = Kind::of(leaf.alloc, wanted)?;
     for (place, kind) in leaf.kinds.iter().enumerate() {
         if !kind.same(leaf.alloc, &wanted)? {
             let part = place.saturating_add(1);
-            let found = wanted_type_of_operand(
-                leaf,
-                format_args!("`{head}`"),
-                part,
-                &wanted,
-                kind,
-            )?;
+            let found = operand_type_problem(leaf, format_args!("`{head}`"), part, &wanted, kind)?;
             return with_join_hint(leaf.alloc, found, head, kind);
         }
     }
@@ -130,9 +124,9 @@ fn if_problem(leaf: &BlamedPart<'_>) -> FoundProblem {
         return Ok(None);
     };
     let truth = Kind::of(leaf.alloc, &Ty::Bool)?;
-    match wanted_type_of_operand(leaf, "the test of `if`", 1, &truth, test)? {
+    match operand_type_problem(leaf, "the test of `if`", 1, &truth, test)? {
         Some(found) => Ok(Some(found)),
-        None => wanted_type_of_operand(leaf, "the branches of `if` differ", 3, yes, no),
+        None => operand_type_problem(leaf, "the branches of `if` differ", 3, yes, no),
     }
 }
 
@@ -140,7 +134,7 @@ fn if_problem(leaf: &BlamedPart<'_>) -> FoundProblem {
 fn order_problem(leaf: &BlamedPart<'_>, head: &str, first: &Kind, second: &Kind) -> FoundProblem {
     match first.form(leaf.alloc)? {
         KindForm::Int | KindForm::Text => {
-            wanted_type_of_operand(leaf, format_args!("`{head}`"), 2, first, second)
+            operand_type_problem(leaf, format_args!("`{head}`"), 2, first, second)
         }
         _ => first_operand_problem(leaf, format_args!("`{head}` compares int or text"), first),
     }
@@ -148,7 +142,7 @@ fn order_problem(leaf: &BlamedPart<'_>, head: &str, first: &Kind, second: &Kind)
 
 /// The problem of a comparison by `=`, if it has one.
 fn equality_problem(leaf: &BlamedPart<'_>, first: &Kind, second: &Kind) -> FoundProblem {
-    if let Some(found) = wanted_type_of_operand(
+    if let Some(found) = operand_type_problem(
         leaf,
         "`=` compares values of one type",
         2,
@@ -172,7 +166,7 @@ fn equality_problem(leaf: &BlamedPart<'_>, first: &Kind, second: &Kind) -> Found
 /// The problem of a `same`, if it has one.
 fn same_problem(leaf: &BlamedPart<'_>, first: &Kind, second: &Kind) -> FoundProblem {
     match first.form(leaf.alloc)? {
-        KindForm::Ref(_) => wanted_type_of_operand(
+        KindForm::Ref(_) => operand_type_problem(
             leaf,
             "`same` compares references of one type",
             2,
@@ -207,7 +201,7 @@ fn list_join_problem(
     item: &Kind,
     other: &Kind,
 ) -> FoundProblem {
-    let refused = wanted_type_of_operand(leaf, "`++` joins values of one type", 2, list, other)?;
+    let refused = operand_type_problem(leaf, "`++` joins values of one type", 2, list, other)?;
     if !item.same(leaf.alloc, other)? {
         return Ok(refused);
     }
@@ -223,7 +217,7 @@ fn sequence_problem(leaf: &BlamedPart<'_>, head: &str) -> FoundProblem {
     };
     match (first.form(leaf.alloc)?, leaf.kinds.get(1)) {
         (KindForm::Text, Some(second)) => {
-            wanted_type_of_operand(leaf, "`++` joins values of one type", 2, first, second)
+            operand_type_problem(leaf, "`++` joins values of one type", 2, first, second)
         }
         (KindForm::List(item), Some(second)) => list_join_problem(leaf, first, &item, second),
         _ => sequence_wanted_problem(leaf, head, first),
@@ -261,7 +255,7 @@ fn ill_key(leaf: &BlamedPart<'_>, keys: KeyTy) -> FoundProblem {
     let wanted = Kind::of(leaf.alloc, &key_type(keys))?;
     let word = key_word(keys);
     let what = format_args!("the keys of the map are {word}");
-    wanted_type_of_operand(leaf, what, 2, &wanted, found)
+    operand_type_problem(leaf, what, 2, &wanted, found)
 }
 
 /// The problem of a key or a value of another type than those of the map, if there is one.
@@ -270,7 +264,7 @@ fn ill_entry(leaf: &BlamedPart<'_>, keys: KeyTy, value: &Kind) -> FoundProblem {
         return Ok(Some(found));
     }
     match leaf.kinds.get(2) {
-        Some(found) => wanted_type_of_operand(leaf, "the values of the map", 3, value, found),
+        Some(found) => operand_type_problem(leaf, "the values of the map", 3, value, found),
         None => Ok(None),
     }
 }
@@ -303,8 +297,12 @@ fn binary_problem(leaf: &BlamedPart<'_>, head: &str) -> FoundProblem {
 /// What is wrong with an operator, by its head.
 fn operator_problem(leaf: &BlamedPart<'_>, head: &str) -> FoundProblem {
     match head {
-        "and" | "or" | "not" => each_of(leaf, head, &Ty::Bool),
-        "+" | "-" | "*" | "div" | "rem" | "range" => each_of(leaf, head, &Ty::Int),
+        "and" | "or" | "not" => first_ill_typed_part_problem(leaf, head, &Ty::Bool),
+        "+" | "-" | "*" | "div" | "rem" | "range" => first_ill_typed_part_problem(
+            leaf,
+            head,
+            &Ty::Int,
+        ),
         "len" | "++" => sequence_problem(leaf, head),
         _ => binary_problem(leaf, head),
     }

@@ -2,10 +2,10 @@
 
 use crate::diagnose::BlamedPart;
 use crate::operands::{
-    list_wanted_problem, wanted_type_of_operand, with_reference_hint, with_references_hint,
+    list_wanted_problem, operand_type_problem, with_reference_hint, with_references_hint,
 };
 use crate::spelling::spelled;
-use crate::trees::{clauses_of, goes_over_list};
+use crate::trees::{clause_iterates_over_list, clauses_of};
 use pst_model::Expr;
 use pst_problems::{FoundProblem, TypeText, problem_at_part, problem_with_note};
 use pst_sexpr::Form;
@@ -18,7 +18,7 @@ pub fn nth_problem(leaf: &BlamedPart<'_>, list: &Kind, place: &Kind) -> FoundPro
     match (list.form(leaf.alloc)?, place.form(leaf.alloc)?) {
         (KindForm::List(_), _) => {
             let int = Kind::of(leaf.alloc, &Ty::Int)?;
-            wanted_type_of_operand(leaf, "`nth`", 2, &int, place)
+            operand_type_problem(leaf, "`nth`", 2, &int, place)
         }
         (KindForm::Int, KindForm::List(_)) => problem_with_note(
             leaf.alloc,
@@ -55,8 +55,8 @@ pub fn list_problem(leaf: &BlamedPart<'_>) -> FoundProblem {
 /// Whether a type is the one that the expression of a clause has to have.
 fn fits_clause(leaf: &BlamedPart<'_>, clause: &Form, found: &Kind) -> Result<bool, AllocError> {
     match found.form(leaf.alloc)? {
-        KindForm::List(_) => Ok(goes_over_list(clause)),
-        KindForm::Bool => Ok(!goes_over_list(clause)),
+        KindForm::List(_) => Ok(clause_iterates_over_list(clause)),
+        KindForm::Bool => Ok(!clause_iterates_over_list(clause)),
         _ => Ok(false),
     }
 }
@@ -65,7 +65,7 @@ fn fits_clause(leaf: &BlamedPart<'_>, clause: &Form, found: &Kind) -> Result<boo
 fn ill_clause(leaf: &BlamedPart<'_>, clause: &Form, place: usize, found: &Kind) -> FoundProblem {
     let mut path = Vec::from_slice(leaf.alloc, leaf.path)?;
     path.extend_from_slice(&[1, place])?;
-    if goes_over_list(clause) {
+    if clause_iterates_over_list(clause) {
         return list_wanted_problem(leaf.alloc, path.as_slice(), "`in`", 2, found);
     }
     let has = spelled(leaf.alloc, found)?;
@@ -90,7 +90,7 @@ pub fn for_problem(leaf: &BlamedPart<'_>) -> FoundProblem {
 /// The problem of a fold over no list, or with a body of another type than its first value.
 pub fn fold_problem(leaf: &BlamedPart<'_>) -> FoundProblem {
     match leaf.kinds {
-        [_, first, body] => wanted_type_of_operand(
+        [_, first, body] => operand_type_problem(
             leaf,
             "the body of the fold has the type of its first value",
             5,

@@ -77,7 +77,7 @@ pub fn other_type_problem<D: Display + Drop>(
 }
 
 /// The problem of part `part` of a tree, if its type `found` is another than `wanted`.
-pub fn wanted_type_of_operand<D: Display + Drop>(
+pub fn operand_type_problem<D: Display + Drop>(
     leaf: &BlamedPart<'_>,
     what: D,
     part: usize,

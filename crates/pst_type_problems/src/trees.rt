@@ -29,7 +29,7 @@ pub fn clauses_of(form: &Form) -> &[Form] {
 }
 
 /// Whether a clause goes over a list. Any other one is a test.
-pub fn goes_over_list(clause: &Form) -> bool {
+pub fn clause_iterates_over_list(clause: &Form) -> bool {
     head_word(clause) == "in"
 }
 
@@ -40,7 +40,7 @@ fn enter<'a>(path: &mut Vec<usize>, form: &'a Form, number: usize) -> Result<&'a
 }
 
 /// Goes from the tree of a comprehension to the expression of clause `part`, or to the body if it has no such clause.
-fn enter_for<'a>(
+fn enter_comprehension_part<'a>(
     path: &mut Vec<usize>,
     form: &'a Form,
     part: usize,
@@ -50,7 +50,15 @@ fn enter_for<'a>(
     };
     path.push(1)?;
     path.push(part)?;
-    enter(path, clause, if goes_over_list(clause) { 2 } else { 1 })
+    enter(
+        path,
+        clause,
+        if clause_iterates_over_list(clause) {
+            2
+        } else {
+            1
+        },
+    )
 }
 
 /// Goes from the tree of an expression to its part `part`: extends `path`, and returns the tree of the part.
@@ -63,7 +71,7 @@ pub fn enter_part<'a>(
         "let" | "list" | "call" => enter(path, form, part.saturating_add(2)),
         "fold" if part > 0 => enter(path, form, part.saturating_add(3)),
         "fold" => enter(path, form, 2),
-        "for" => enter_for(path, form, part),
+        "for" => enter_comprehension_part(path, form, part),
         _ => enter(path, form, part.saturating_add(1)),
     }
 }

@@ -135,7 +135,7 @@ fn body_of<'a>(form: &'a Form, word: &str) -> Option<&'a Form> {
 }
 
 /// The number and the body of the callback `word` among the parts of an operation.
-fn callback<'a>(form: &'a Form, word: &str) -> Option<(usize, &'a Form)> {
+fn find_callback_body<'a>(form: &'a Form, word: &str) -> Option<(usize, &'a Form)> {
     for (number, part) in node_of(form)?.iter().enumerate() {
         if number >= 4 {
             if let Some(body) = body_of(part, word) {
@@ -156,7 +156,7 @@ fn tell_callback(
     wanted: &Kind,
     here: ItemSite<'_>,
 ) -> Result<(), AllocError> {
-    let Some((place, body)) = callback(here.form, word) else {
+    let Some((place, body)) = find_callback_body(here.form, word) else {
         return Ok(());
     };
     let site = Site {

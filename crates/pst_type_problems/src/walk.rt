@@ -26,7 +26,7 @@ pub fn names_in(alloc: Global, scope: &Scope<'_>) -> Result<Items<Text>, AllocEr
 }
 
 /// Expression `part` of `exprs`, or `whole` if it has no such expression.
-fn one_of<'a>(whole: &'a Expr, exprs: &'a Items<Expr>, part: usize) -> &'a Expr {
+fn part_or_whole<'a>(whole: &'a Expr, exprs: &'a Items<Expr>, part: usize) -> &'a Expr {
     match exprs.get(part) {
         Some(expr) => expr,
         None => whole,
@@ -75,7 +75,7 @@ fn plain_part(expr: &Expr, part: usize) -> &Expr {
             | Expr::Call(_, exprs)
             | Expr::Apply(_, exprs),
             _,
-        ) => one_of(expr, exprs, part),
+        ) => part_or_whole(expr, exprs, part),
         _ => expr,
     }
 }

@@ -51,14 +51,19 @@ impl<'a> Bounded<'a> {
     }
 
     /// Forgets the commands of the last script.
-    fn forget(&self, alloc: Global) {
+    fn clear_commands(&self, alloc: Global) {
         if let Ok(mut commands) = self.commands.try_borrow_mut() {
             *commands = Items::new(alloc);
         }
     }
 
     /// Records a command of the script.
-    fn keep(&self, alloc: Global, op: u32, arguments: &[Value]) -> Result<(), AllocError> {
+    fn record_command(
+        &self,
+        alloc: Global,
+        op: u32,
+        arguments: &[Value],
+    ) -> Result<(), AllocError> {
         let command = command_of(alloc, op, arguments)?;
         match self.commands.try_borrow_mut() {
             Ok(mut commands) => commands.push(command),
@@ -72,7 +77,7 @@ impl<'a> Callbacks for Bounded<'a> {
 
     fn init(&self, alloc: Global) -> Answer {
         self.limited.begin()?;
-        self.forget(alloc);
+        self.clear_commands(alloc);
         self.limited.init(alloc)
     }
 
@@ -83,7 +88,7 @@ impl<'a> Callbacks for Bounded<'a> {
     fn pre(&self, alloc: Global, op: u32, state: &Value, arguments: &[Value]) -> Answer {
         let answer = self.limited.pre(alloc, op, state, arguments)?;
         if answer.is_err() {
-            self.keep(alloc, op, arguments)?;
+            self.record_command(alloc, op, arguments)?;
         }
         Ok(answer)
     }
@@ -97,7 +102,7 @@ impl<'a> Callbacks for Bounded<'a> {
         r: &Value,
     ) -> Answer {
         self.limited.begin()?;
-        self.keep(alloc, op, arguments)?;
+        self.record_command(alloc, op, arguments)?;
         self.limited.next(alloc, op, state, arguments, r)
     }
 

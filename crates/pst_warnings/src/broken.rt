@@ -22,7 +22,7 @@ struct Broken {
 }
 
 /// Adds item `item` if it is broken.
-fn with_item(broken: Option<Broken>, item: usize, judged: &Judged) -> Option<Broken> {
+fn count_if_broken(broken: Option<Broken>, item: usize, judged: &Judged) -> Option<Broken> {
     let Judged::Verdict(Verdict::Broken(command)) = judged else {
         return broken;
     };
@@ -59,7 +59,7 @@ fn is_replies(form: &Form) -> bool {
 
 /// The path to the reply to command `command` of item `item`, or to the item if it has no such reply. Each part has a
 /// tree of its replies after the head `replies`.
-fn path_of(
+fn path_to_reply(
     alloc: Global,
     form: &Form,
     item: usize,
@@ -110,7 +110,7 @@ fn text_of(
     let Ok(sentence) = std::str::from_utf8(sentence.as_slice()) else {
         return Ok(None);
     };
-    let path = path_of(alloc, tree.form(), item, broken.command as usize)?;
+    let path = path_to_reply(alloc, tree.form(), item, broken.command as usize)?;
     let span = span_of(input.bytes, path.as_slice());
     let what = format!(in alloc; "item {item} is broken: {sentence}")?;
     let mut text = input.message(alloc, span, what.as_str(), &[])?;
@@ -135,7 +135,7 @@ pub fn broken_run(
 ) -> Result<Option<String>, AllocError> {
     let mut broken = None;
     for (index, judged) in judged.iter().enumerate() {
-        broken = with_item(broken, index.saturating_add(1), judged);
+        broken = count_if_broken(broken, index.saturating_add(1), judged);
     }
     let Some(broken) = broken else {
         return Ok(None);
@@ -158,7 +158,7 @@ pub fn broken_answer(
     let mut broken = None;
     for (index, answer) in answers.iter().enumerate() {
         if let ItemResult::Judged(judged) = answer {
-            broken = with_item(broken, index.saturating_add(1), judged);
+            broken = count_if_broken(broken, index.saturating_add(1), judged);
         }
     }
     match broken {

@@ -61,7 +61,7 @@ fn are_known(results: &[Option<Value>]) -> bool
 }
 
 /// How many commands are in the branches before branch `branch`.
-fn in_branches_before(case: &Case, branch: usize) -> usize {
+fn count_commands_before_branch(case: &Case, branch: usize) -> usize {
     let mut count: usize = 0;
     for commands in case.branches.as_slice().iter().take(branch) {
         count = count.saturating_add(commands.len());
@@ -85,7 +85,7 @@ fn number_at(case: &Case, word: &[usize], place: usize) -> usize {
         .filter(|other| **other == *branch)
         .count();
     behind
-        .saturating_add(in_branches_before(case, *branch))
+        .saturating_add(count_commands_before_branch(case, *branch))
         .saturating_add(earlier)
         .saturating_add(1)
 }
@@ -127,6 +127,6 @@ fn count_commands(case: &Case) -> usize {
     let branches = case.branches.as_slice();
     case.prefix
         .len()
-        .saturating_add(in_branches_before(case, branches.len()))
+        .saturating_add(count_commands_before_branch(case, branches.len()))
         .saturating_add(case.suffix.len())
 }

@@ -16,7 +16,7 @@ use std::alloc::{AllocError, Global};
 const WIDTH: usize = 80;
 
 /// The number, from 0, of the item of `callback`: `init`, `command`, or the operation with the number `operation`.
-fn item_of(items: &[Item], callback: Callback, operation: u32) -> usize {
+fn item_number_of_callback(items: &[Item], callback: Callback, operation: u32) -> usize {
     let mut operations: u32 = 0;
     for (number, item) in items.iter().enumerate() {
         match item {
@@ -47,7 +47,7 @@ fn path_of(
         Some(command) => command.op,
         None => 0,
     };
-    let tree = tree_number_of_item(item_of(items, place.callback, operation));
+    let tree = tree_number_of_item(item_number_of_callback(items, place.callback, operation));
     match place.callback {
         Callback::Init | Callback::Command => Vec::from_slice(alloc, &[0, tree, 1]),
         Callback::Pre => Vec::from_slice(alloc, &[0, tree, 4, 1]),

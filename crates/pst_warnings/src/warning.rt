@@ -35,7 +35,11 @@ pub fn tree_number_of_item(item: usize) -> usize {
 }
 
 /// The warning that no call may be made at first, at the item `command`.
-fn none_offered(alloc: Global, input: &Input<'_>, items: &[Item]) -> Result<Notice, AllocError> {
+fn no_initial_call_warning(
+    alloc: Global,
+    input: &Input<'_>,
+    items: &[Item],
+) -> Result<Notice, AllocError> {
     let mut place = 0;
     for (number, item) in items.iter().enumerate() {
         if let Item::Command(_) = item {
@@ -108,7 +112,7 @@ fn script_warnings(
     if called.iter().any(|is_called| *is_called) {
         return uncalled_warnings(alloc, input, items, called);
     }
-    warnings.push(none_offered(alloc, input, items)?)?;
+    warnings.push(no_initial_call_warning(alloc, input, items)?)?;
     Ok(warnings)
 }
 
@@ -124,7 +128,7 @@ fn is_model(form: &Form) -> bool {
 }
 
 /// Adds the warnings on further models after the first.
-fn add_on_trees(
+fn add_further_model_warnings(
     alloc: Global,
     input: &Input<'_>,
     trees: &[Tree],
@@ -161,7 +165,7 @@ pub fn warnings_in(alloc: Global, input: &Input<'_>) -> Result<Notices, AllocErr
         return Err(AllocError);
     };
     let mut all = script_warnings(alloc, input, &compiled)?;
-    add_on_trees(alloc, input, trees.as_slice(), &mut all)?;
+    add_further_model_warnings(alloc, input, trees.as_slice(), &mut all)?;
     Ok(Notices {
         all,
         more: String::new(alloc),
