@@ -97,6 +97,10 @@ macro_rules! known_system {
 /// 64 functions, each applied at the bottom of 62 nested expressions.
 const STACK_BYTES: usize = 256 << 20;
 
+/// Runs the subcommand on a thread of its own.
+///
+/// The function is long because only `main` may name the type of `rt`, which the boxed systems and the threads take
+/// along.
 fn main(rt: HostRuntime) -> ExitCode {
     // All work is done on a thread with a known stack size: the system's limit for the first thread may be too low.
     let worker = Builder::new()
