@@ -1,5 +1,5 @@
-//! The explanation of the least failure of a campaign, with a note if its first call is wrong or faults in
-//! the initial state.
+//! The explanation of the least failure of a campaign, with a note if its first call is wrong or faults in the initial
+//! state, or if no two of its calls were made at the same time.
 
 use crate::explained;
 use pst_case::{Case, Command, History, Reply};
@@ -14,8 +14,16 @@ const WIDTH: usize = 80;
 const ONE_WRONG: &str = "This answer cannot be right";
 
 /// The note on a wrong answer.
-const NOTE: &str = "  The first call is already wrong in the initial state of the model: does reset
-  restore that state, and has each worker (PST_WORKER) a system of its own?
+const NOTE: &str = "  The first call is already wrong in the initial state of the model. Are `init`
+  and the postcondition right? Does reset restore that state? Has each worker
+  (PST_WORKER) a system of its own?
+";
+
+/// The note on a run in which no two calls were made at the same time.
+const IN_TURN_NOTE: &str =
+    "  No two calls of this run were made at the same time, so it shows no race. Is
+  the model right? If each branch has a client of its own: do all clients use the
+  same system, or does each keep a state for itself?
 ";
 
 /// The first words of an explanation of a fault.
@@ -50,6 +58,25 @@ fn first_command_and_reply<'a>(
         }
     }
     first
+}
+
+/// Returns whether at most one branch of a case has commands.
+fn runs_in_turn(case: &Case) -> bool {
+    let branches = case.branches.as_slice().iter();
+    branches.filter(|branch| !branch.is_empty()).count() <= 1
+}
+
+/// Returns whether all replies are values.
+fn are_values(replies: &[Reply]) -> bool {
+    replies.iter().all(|reply| matches!(reply, Reply::Value(_)))
+}
+
+/// Returns whether all replies of a run are values.
+fn has_only_values(history: &History) -> bool {
+    let mut branches = history.branches.as_slice().iter();
+    are_values(history.prefix.as_slice())
+        && branches.all(|replies| are_values(replies.as_slice()))
+        && are_values(history.suffix.as_slice())
 }
 
 /// Returns two empty branches.
@@ -111,7 +138,7 @@ fn beginning_note(
     }
 }
 
-/// Writes why no interleaving explains the least failure of a campaign, to standard error, and the note if it applies.
+/// Writes why no interleaving explains the least failure of a campaign, to standard error, and a note if one applies.
 /// The model is at the beginning of `input`. If an allocation fails or a text cannot be written, nothing else is said.
 pub fn explain_failure<R: Eprint>(
     rt: &R,
@@ -120,9 +147,15 @@ pub fn explain_failure<R: Eprint>(
     case: Case,
     history: History,
 ) {
+    let in_turn = if runs_in_turn(&case) && has_only_values(&history) {
+        IN_TURN_NOTE
+    } else {
+        ""
+    };
     let note = beginning_note(alloc, input, &case, &history);
     explained::report_unexplained(rt, alloc, "the least failure:", input, case, history);
     if let Ok(note) = note {
+        let note = if note.is_empty() { in_turn } else { note };
         let _ = eprint!(rt; "{note}");
     }
 }

@@ -7,7 +7,7 @@ use crate::page::CampaignPage;
 use crate::progress::ProgressDisplay;
 use crate::saving::Saving;
 use crate::watching::BothWatchers;
-use crate::{least, words};
+use crate::{least, warned, words};
 use clap::ArgMatches;
 use pst_campaign::{EarlyStop, StopCondition};
 use pst_cli::{
@@ -32,7 +32,7 @@ struct How<'a> {
     is_json: bool,
     is_quiet: bool,
     page: CampaignPage<'a>,
-    input: &'a [u8],
+    input: Input<'a>,
 }
 
 /// Runs a campaign. If standard error is a terminal, a line on it displays the progress, unless the arguments forbid it.
@@ -48,7 +48,7 @@ fn run_with_progress<W: Sink, R: Threads + Wait + Sync + Eprint + Copy + Drop + 
     requires ranges { AreInRange settings }
     requires stands { W.broken out.old ≡ false }
 {
-    let (ending, input) = (how.ending, how.input);
+    let (ending, input) = (how.ending, how.input.bytes);
     if how.is_terminal && !how.is_quiet {
         if let Ok(display) = ProgressDisplay::begin(rt, alloc, settings.trials as u64) {
             let both = BothWatchers {
@@ -109,7 +109,8 @@ fn write_object<W: Sink>(
 }
 
 /// Runs a campaign and writes its report once it is complete. Unless the arguments forbid it, explanations of the least
-/// failure and of the first trial without a case follow on standard error.
+/// failure and of the first trial without a case follow on standard error; without such a trial also the warnings on the
+/// model.
 fn run_with_messages<
     W: Sink,
     R: Threads + Wait + Sync + Eprint + Files + Copy + Drop + Send + 'static,
@@ -125,7 +126,7 @@ fn run_with_messages<
     requires ranges { AreInRange settings }
     requires stands { W.broken out.old ≡ false }
 {
-    let (page, input) = (how.page, how.input);
+    let (page, input) = (how.page, how.input.bytes);
     if how.is_quiet && !how.is_json {
         let status = run_with_progress(rt, alloc, settings, systems, how, notes, out);
         return status.or_worse(page.write(rt, alloc, input, notes));
@@ -143,6 +144,9 @@ fn run_with_messages<
     let status = status.or_worse(page.write(rt, alloc, input, notes));
     if !how.is_quiet {
         least::explain_least_failure(rt, alloc, settings, input, notes);
+        if notes.first_genfault.is_none() {
+            warned::report_warnings(rt, alloc, how.input.files, input);
+        }
     }
     status
 }
@@ -191,7 +195,7 @@ fn report_early_end<R: Eprint>(rt: &R, words: &ArgMatches<'_>, ending: &EarlySto
 
 /// Runs a campaign with a worker for each of the systems, if there are some, and saves its failures if the arguments say
 /// so. Unless the arguments forbid it, a line on standard error displays the progress, if that is a terminal, and
-/// explanations of the least failure and of the first trial without a case follow after the report.
+/// explanations and warnings follow after the report.
 pub fn campaign<
     W: Sink,
     R: Threads + Wait + Sync + Eprint + Files + AllocGlobal + Copy + Drop + Send + 'static,
@@ -213,14 +217,13 @@ pub fn campaign<
     let Some(settings) = words::settings(words) else {
         return Status::Refused;
     };
-    let Input { files: _, bytes } = input;
     let how = How {
         ending,
         is_terminal,
         is_json: words::is_json(words),
         is_quiet: words.get_flag("quiet"),
         page: CampaignPage::from_arguments(words, input),
-        input: bytes,
+        input,
     };
     if !how.is_quiet {
         report_early_end(rt, words, ending);

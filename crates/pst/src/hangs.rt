@@ -77,8 +77,13 @@ fn report_silent_client<R: Eprint>(
         );
         return;
     };
+    let advice = if seconds <= FIRST {
+        ": does it print a line for each line, and flush it?"
+    } else {
+        ""
+    };
     let _ = eprintln!(rt;
-        "pst: client {worker}-{branch} has not answered {line} for {seconds} seconds"
+        "pst: client {worker}-{branch} has not answered {line} for {seconds} seconds{advice}"
     );
 }
 

@@ -140,8 +140,8 @@ The verdict on a case:
                         In the interleaving W a callback of the model faults at command C.
 
 The other lines of `run` and `generate`:
-  K lost CAUSE          Item K could not be driven: ResetFailed (the system did not reset), NoThread (a thread did not
-                        start) or NoMemory (an allocation failed).
+  K lost CAUSE          Item K could not be driven: ResetFailed (the system did not reset, or a client printed a line too
+                        many), NoThread (a thread did not start) or NoMemory (an allocation failed).
   K drives N failed M   With --repeats: M of N drives of item K are not explained.
   genfault K C CALLBACK FAULT
                         Trial K has no case: a callback of the model faulted while its command C was generated.

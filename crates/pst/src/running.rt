@@ -142,7 +142,12 @@ fn report_outcome<R: Eprint + AllocGlobal>(
     let Input { files, bytes } = input;
     match status {
         Status::Refused => refused::report_refusals(rt, word, words, work.files),
-        Status::Accepted if word == "check" => warned::report_warnings(rt, files, bytes),
+        Status::Accepted if word == "check" => warned::report_warnings(
+            rt,
+            rt.alloc(),
+            files,
+            bytes,
+        ),
         _ => summary::report_no_items(rt, word, words, bytes, status, counts),
     }
     summary::report_counts(rt, counts);

@@ -61,7 +61,13 @@ pub fn unknown_system<'a>(matches: &ArgMatches<'a>) -> Option<&'a str> {
     }
 }
 
-/// Returns a hint on a name that no system has: what a file of that name needs, or the nearest name.
+/// Returns whether a name that no system has looks like a command.
+fn looks_like_command(name: &str) -> bool {
+    name.contains(' ') || name.contains('/') || name.contains('.')
+}
+
+/// Returns a hint on a name that no system has: what a file of that name needs, how a command is given, or the nearest
+/// name.
 fn unknown_system_hint<R: Files + AllocGlobal>(
     rt: &R,
     name: &str,
@@ -70,6 +76,12 @@ fn unknown_system_hint<R: Files + AllocGlobal>(
     if input::can_be_opened(rt, name) {
         let hint = format!(in alloc;
             "hint: `{name}` is a file: write a client or a system before it, as in `--client ./client.py {name}` or `counter {name}`"
+        )?;
+        return Ok(Some(hint));
+    }
+    if looks_like_command(name) {
+        let hint = format!(in alloc;
+            "hint: a command that runs a client follows `--client`: `--client '{name}'`"
         )?;
         return Ok(Some(hint));
     }

@@ -2,11 +2,12 @@
 
 use pst_sources::SourceFile;
 use pst_warnings::warnings_of;
+use std::alloc::Global;
 
 /// Writes the warnings on an input to standard error. If an allocation fails or they cannot be written, the line and
 /// the status remain without them.
-pub fn report_warnings<R: Eprint + AllocGlobal>(rt: &R, files: &[SourceFile<'_>], input: &[u8]) {
-    if let Ok(Some(warnings)) = warnings_of(rt.alloc(), files, input) {
+pub fn report_warnings<R: Eprint>(rt: &R, alloc: Global, files: &[SourceFile<'_>], input: &[u8]) {
+    if let Ok(Some(warnings)) = warnings_of(alloc, files, input) {
         let _ = eprint!(rt; "{warnings}");
     }
 }
