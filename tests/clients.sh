@@ -37,11 +37,11 @@ right() {
   check "$command passes" passes "$trials"
 }
 
-# Tests a client that has a race: its model, its command, and further options. One of eight campaigns has to find and shrink it, since a race is a matter of time.
+# Tests a client that has a race: its model, its command, and further options. One of sixteen campaigns has to find and shrink it, since a race is a matter of time.
 racy() {
   local model="$top/examples/$1" command="$2" seed
   shift 2
-  for seed in {1..8}; do
+  for seed in {1..16}; do
     pst campaign --client "$command" "$model" --seed "$seed" --trials 20 --limit 200 "$@"
     ! is_found || break
   done

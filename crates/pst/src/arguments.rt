@@ -21,7 +21,7 @@ fn number_range(
     subcommand: &str,
     name: &str,
 ) -> Result<Option<(u64, u64)>, AllocError> {
-    let command = words::command(alloc)?;
+    let command = words::clap_command_for_program(alloc)?;
     let Some(subcommand) = command.find_subcommand(subcommand) else {
         return Ok(None);
     };
@@ -47,7 +47,7 @@ fn invalid_value(text: &str) -> Option<(&str, &str)> {
 
 /// Returns what is wrong with the arguments if a number is out of the range of its option, or none. `started`
 /// are the words of the program.
-fn number_text(
+fn number_out_of_range_message(
     alloc: Global,
     started: &[String],
     text: &str,
@@ -68,7 +68,7 @@ fn number_text(
 fn error_text(alloc: Global, started: &[String], error: &Error) -> Result<String, AllocError> {
     let whole = format!(in alloc; "{error}")?;
     if error.kind() == ErrorKind::ValueValidation {
-        if let Some(text) = number_text(alloc, started, whole.as_str())? {
+        if let Some(text) = number_out_of_range_message(alloc, started, whole.as_str())? {
             return Ok(text);
         }
     }
@@ -134,7 +134,7 @@ pub fn parse_arguments<'a, R: Runtime + AllocGlobal>(
     rt: &R,
     started: &'a [String],
 ) -> Result<ArgMatches<'a>, Status> {
-    let Ok(command) = words::command(rt.alloc()) else {
+    let Ok(command) = words::clap_command_for_program(rt.alloc()) else {
         return Err(refused::report_out_of_memory(rt));
     };
     match command.try_get_matches_from(started) {

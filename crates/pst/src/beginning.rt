@@ -80,7 +80,7 @@ fn has_only_values(history: &History) -> bool {
 }
 
 /// Returns two empty branches.
-fn no_branches<T: Drop>(alloc: Global) -> Result<Items<Items<T>>, AllocError> {
+fn two_empty_branches<T: Drop>(alloc: Global) -> Result<Items<Items<T>>, AllocError> {
     let mut branches = Items::new(alloc);
     branches.push(Items::new(alloc))?;
     branches.push(Items::new(alloc))?;
@@ -95,12 +95,12 @@ fn run_of(alloc: Global, command: &Command, reply: &Reply) -> Result<(Case, Hist
     replies.push(reply.copy(alloc)?)?;
     let case = Case {
         prefix: commands,
-        branches: no_branches(alloc)?,
+        branches: two_empty_branches(alloc)?,
         suffix: Items::new(alloc),
     };
     let history = History {
         prefix: replies,
-        branches: no_branches(alloc)?,
+        branches: two_empty_branches(alloc)?,
         suffix: Items::new(alloc),
     };
     Ok((case, history))

@@ -214,7 +214,7 @@ pub fn campaign<
     if systems.is_empty() {
         return refuse_text(Absence::NoSystem(name), out);
     }
-    let Some(settings) = words::settings(words) else {
+    let Some(settings) = words::campaign_settings_from_arguments(words) else {
         return Status::Refused;
     };
     let how = How {

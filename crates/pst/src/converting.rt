@@ -12,7 +12,7 @@ use std::alloc::{AllocError, Global};
 const FORMS: [&str; 2] = ["json", "trees"];
 
 /// `convert`, with the files of a model and its items.
-pub fn command<'a>(alloc: Global) -> Result<Command<'a>, AllocError> {
+pub fn clap_command_for_convert<'a>(alloc: Global) -> Result<Command<'a>, AllocError> {
     Command::new(alloc, "convert")
         .about("Writes cases and recorded runs as JSON, or as trees: one on each line")
         .after_help(help::CONVERT)

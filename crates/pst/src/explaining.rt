@@ -82,7 +82,7 @@ fn item_option<'a>(alloc: Global) -> Result<Arg<'a>, AllocError> {
 }
 
 /// `explain`, with files, the form of explanations and the width of lines.
-fn with_files<'a>(alloc: Global) -> Result<Command<'a>, AllocError> {
+fn clap_command_for_explain_base<'a>(alloc: Global) -> Result<Command<'a>, AllocError> {
     Command::new(alloc, "explain")
         .about("Explains the verdicts on cases and recorded runs")
         .after_help(help::EXPLAIN)
@@ -95,8 +95,8 @@ fn with_files<'a>(alloc: Global) -> Result<Command<'a>, AllocError> {
 }
 
 /// `explain`, with files, the form of explanations, and the items that are explained.
-pub fn command<'a>(alloc: Global) -> Result<Command<'a>, AllocError> {
-    with_files(alloc)?
+pub fn clap_command_for_explain<'a>(alloc: Global) -> Result<Command<'a>, AllocError> {
+    clap_command_for_explain_base(alloc)?
         .arg(words::failures_option(alloc))?
         .arg(item_option(alloc)?)?
         .arg(max_option(alloc))?
@@ -169,7 +169,7 @@ fn explanation_form<R: Env + AllocGlobal>(
 }
 
 /// Explains the chosen items, with a line on standard error that says how far it is if that is a terminal.
-fn explain_telling<
+fn explain_with_progress_line<
     W: Sink,
     R: Threads + Wait + Sync + Eprint + AllocGlobal + Copy + Drop + Send + 'static,
 >(rt: &R, input: &[u8], asked: ExplainOptions<'_>, is_told: bool, out: &mut W) -> Status
@@ -220,5 +220,5 @@ pub fn explain<
         form: explanation_form(rt, words, terminals.output),
     };
     let is_told = terminals.errors && !words.get_flag("quiet");
-    explain_telling(rt, bytes, asked, is_told, out)
+    explain_with_progress_line(rt, bytes, asked, is_told, out)
 }

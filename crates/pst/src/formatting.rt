@@ -4,9 +4,9 @@ use crate::input::{self, Reading, STANDARD_INPUT};
 use crate::{help, json_items, outputs, refused, words};
 use clap::{Arg, ArgAction, ArgMatches, Command};
 use pst_cli::{Status, refuse_text};
-use pst_messages::{Asked, message_of};
+use pst_messages::{Asked, input_error_messages_text};
 use pst_print::format_file;
-use pst_sexpr::{FaultKind, Out, SexprFault};
+use pst_sexpr::{FaultKind, Out, SexprFault, read};
 use pst_sources::SourceFile;
 use pst_typing::Refusal;
 use std::alloc::{AllocError, Global};
@@ -15,7 +15,7 @@ use std::io::{self, ErrorKind, Write};
 use std::rt::{Files, Runtime};
 
 /// `fmt`, with its files.
-pub fn command<'a>(alloc: Global) -> Result<Command<'a>, AllocError> {
+pub fn clap_command_for_fmt<'a>(alloc: Global) -> Result<Command<'a>, AllocError> {
     let files = Arg::new(alloc, "FILE").num_args(0..).help(
         "The files to rewrite; if there is none or `-`, standard input is laid out on standard output",
     );
@@ -75,7 +75,12 @@ fn write_copy<R: Files>(rt: &R, copy: &str, text: &[u8]) -> Result<(), Unwritten
 }
 
 /// Writes the bytes of a file, first to a copy, which is removed in the end.
-fn write_both<R: Files>(rt: &R, name: &str, copy: &str, text: &[u8]) -> Result<(), Unwritten> {
+fn write_copy_then_file<R: Files>(
+    rt: &R,
+    name: &str,
+    copy: &str,
+    text: &[u8],
+) -> Result<(), Unwritten> {
     write_copy(rt, copy, text)?;
     match write(rt, name, text) {
         Ok(()) => {}
@@ -114,7 +119,7 @@ fn rewrite_file<R: Runtime + AllocGlobal>(rt: &R, name: &str, text: &[u8]) -> St
     let Ok(copy) = format!(in rt.alloc(); "{name}.pst-fmt") else {
         return refused::report_out_of_memory(rt);
     };
-    match write_both(rt, name, copy.as_str(), text) {
+    match write_copy_then_file(rt, name, copy.as_str(), text) {
         Ok(()) => Status::Accepted,
         Err(why) => {
             report_unwritten_file(rt, rt.alloc(), name, copy.as_str(), &why);
@@ -125,7 +130,7 @@ fn rewrite_file<R: Runtime + AllocGlobal>(rt: &R, name: &str, text: &[u8]) -> St
 
 /// Handles the new text of a file. If `how` only checks, it prints the file's name if the text differs. Otherwise it
 /// prints the text, for standard input, or rewrites the file if the text differs.
-fn finish_file<R: Runtime + AllocGlobal>(
+fn output_formatted_file<R: Runtime + AllocGlobal>(
     rt: &R,
     file: &SourceFile<'_>,
     text: &[u8],
@@ -167,11 +172,53 @@ fn refuse_unread<R: Runtime + AllocGlobal>(
         return outputs::report_lost_output(rt, rt.alloc(), None, &error);
     }
     if !how.reading.is_quiet {
-        if let Ok(Some(message)) = message_of(rt.alloc(), files, bytes, Asked::Model) {
+        if let Ok(Some(message)) = input_error_messages_text(
+            rt.alloc(),
+            files,
+            bytes,
+            Asked::Model,
+        ) {
             let _ = eprint!(rt; "{message}");
         }
     }
     Status::Refused
+}
+
+/// The text of a file with items as JSON that has to be trees: up to the first of these items if that is refused, or
+/// else all of it with blanks in place of them.
+fn text_of_trees(alloc: Global, bytes: &[u8]) -> Result<Vec<u8>, AllocError> {
+    let head = json_items::text_before_json_items(bytes);
+    match read(alloc, head) {
+        Ok(_) => json_items::blank_json_items(alloc, bytes),
+        Err(_) => Vec::from_slice(alloc, head),
+    }
+}
+
+/// Leaves a file with items as JSON as it is, if the rest of it can be read.
+fn keep_file_with_json_items<R: Runtime + AllocGlobal>(
+    rt: &R,
+    file: &SourceFile<'_>,
+    how: FormatOptions,
+) -> Status {
+    let alloc = rt.alloc();
+    let name = file.name;
+    let Ok(text) = text_of_trees(alloc, file.bytes.as_slice()) else {
+        return refused::report_out_of_memory(rt);
+    };
+    if let Err(fault) = read(alloc, text.as_slice()) {
+        let mut files = Vec::new(alloc);
+        let Ok(bytes) = Vec::from_slice(alloc, text.as_slice()) else {
+            return refused::report_out_of_memory(rt);
+        };
+        if files.push(SourceFile { name, bytes }).is_err() {
+            return refused::report_out_of_memory(rt);
+        }
+        return refuse_unread(rt, files.as_slice(), text.as_slice(), fault, how);
+    }
+    if !how.reading.is_quiet {
+        let _ = eprintln!(rt; "pst: there are items as JSON in {name}, so it stays as it is");
+    }
+    output_formatted_file(rt, file, file.bytes.as_slice(), how)
 }
 
 /// Lays out the file `name`.
@@ -184,14 +231,11 @@ fn lay_out_file<R: Runtime + AllocGlobal>(rt: &R, name: &str, how: FormatOptions
         return Status::Accepted;
     };
     let bytes = file.bytes.as_slice();
-    if json_items::has_items(bytes) {
-        if !how.reading.is_quiet {
-            let _ = eprintln!(rt; "pst: there are items as JSON in {name}, so it stays as it is");
-        }
-        return finish_file(rt, file, bytes, how);
+    if json_items::has_json_items(bytes) {
+        return keep_file_with_json_items(rt, file, how);
     }
     match format_file(rt.alloc(), bytes) {
-        Ok(text) => finish_file(rt, file, text.as_slice(), how),
+        Ok(text) => output_formatted_file(rt, file, text.as_slice(), how),
         Err(fault) => refuse_unread(rt, files.as_slice(), bytes, fault, how),
     }
 }

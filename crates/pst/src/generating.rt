@@ -46,7 +46,7 @@ pub fn generate<W: Sink, R: Threads + Sync + AllocGlobal>(
     requires { W.broken out.old ≡ false }
 {
     let (Some(settings), Some(first), Some(trials)) = (
-        words::case_settings(words),
+        words::generate_settings_from_arguments(words),
         words.get_one::<u64>("first"),
         words.get_one::<u64>("trials"),
     ) else {

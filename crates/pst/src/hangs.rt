@@ -98,7 +98,7 @@ fn say_resets_fail<R: Eprint>(rt: &R, has_stop_file: bool) {
 }
 
 /// Looks each second which clients have not answered, until it is over.
-fn look_each_second<R: Wait + Eprint>(
+fn report_silent_clients_each_second<R: Wait + Eprint>(
     rt: &R,
     alloc: Global,
     watched: &WatchedClients,
@@ -153,7 +153,7 @@ impl ClientWatch {
         let own = Arc::try_clone(&watched).ok()?;
         let thread = Builder::new()
             .spawn(&rt, move || {
-                let _ = look_each_second(&rt, alloc, &own);
+                let _ = report_silent_clients_each_second(&rt, alloc, &own);
             })
             .ok()?;
         Some(ClientWatch { watched, thread })

@@ -8,7 +8,7 @@ use pst_typing::{ModelFile, load};
 use std::alloc::{AllocError, Global};
 
 /// Returns the place of the first line with a JSON item.
-fn first_item(text: &[u8]) -> Option<usize> {
+fn find_first_json_item_line(text: &[u8]) -> Option<usize> {
     let mut place: usize = 0;
     for line in text.split(|byte: &u8| -> bool { *byte == b'\n' }) {
         if has_json(line) {
@@ -20,12 +20,35 @@ fn first_item(text: &[u8]) -> Option<usize> {
 }
 
 /// Returns whether a text has an item as JSON.
-pub fn has_items(text: &[u8]) -> bool {
-    first_item(text).is_some()
+pub fn has_json_items(text: &[u8]) -> bool {
+    find_first_json_item_line(text).is_some()
+}
+
+/// Returns what is before the first JSON item of a text.
+pub fn text_before_json_items(text: &[u8]) -> &[u8] {
+    match find_first_json_item_line(text) {
+        Some(place) => text.get(..place).unwrap_or(text),
+        None => text,
+    }
+}
+
+/// Returns a text with blanks in place of the bytes of its JSON items. All other bytes are where they were.
+pub fn blank_json_items(alloc: Global, text: &[u8]) -> Result<Vec<u8>, AllocError> {
+    let mut blanked = Vec::new(alloc);
+    let mut is_item = false;
+    let mut is_begin = true;
+    for byte in text {
+        if is_begin {
+            is_item = *byte == b'{';
+        }
+        is_begin = *byte == b'\n';
+        blanked.push(if is_item && !is_begin { b' ' } else { *byte })?;
+    }
+    Ok(blanked)
 }
 
 /// Returns the files with each JSON item as its tree.
-fn with_trees<'a>(
+fn replace_json_items_with_trees<'a>(
     alloc: Global,
     model: &Source,
     files: &[SourceFile<'a>],
@@ -40,7 +63,7 @@ fn with_trees<'a>(
 }
 
 /// Returns the files with the first `count` bytes of their text.
-fn up_to<'a>(
+fn truncate_source_files<'a>(
     alloc: Global,
     count: usize,
     files: &[SourceFile<'a>],
@@ -60,12 +83,12 @@ fn up_to<'a>(
 /// Returns the files with each JSON item as its tree, or `None` if they have none. The model is a tree, before the first
 /// JSON item; if it is refused, no more than what is before this item is left. Files of more than `MAX_BYTES` stay as they
 /// are, and are refused.
-pub fn as_trees<'a>(
+pub fn convert_json_items_to_trees<'a>(
     alloc: Global,
     files: &[SourceFile<'a>],
 ) -> Result<Option<Vec<SourceFile<'a>>>, AllocError> {
     let text = joined(alloc, files)?;
-    let Some(place) = first_item(text.as_slice()) else {
+    let Some(place) = find_first_json_item_line(text.as_slice()) else {
         return Ok(None);
     };
     if text.len() > MAX_BYTES {
@@ -73,7 +96,11 @@ pub fn as_trees<'a>(
     }
     let head = text.as_slice().get(..place).unwrap_or(&[]);
     match load(alloc, head)? {
-        Ok(ModelFile { typed, trees: _ }) => Ok(Some(with_trees(alloc, typed.source(), files)?)),
-        Err(_) => Ok(Some(up_to(alloc, place, files)?)),
+        Ok(ModelFile { typed, trees: _ }) => Ok(Some(replace_json_items_with_trees(
+            alloc,
+            typed.source(),
+            files,
+        )?)),
+        Err(_) => Ok(Some(truncate_source_files(alloc, place, files)?)),
     }
 }

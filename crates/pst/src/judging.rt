@@ -12,8 +12,10 @@ use pst_cli::{
     judge_text_keep_going,
 };
 use pst_sexpr::{Out, Sink, put_all};
-use pst_sources::{Input, SourceFile};
-use pst_warnings::{broken_answer, broken_run, warnings_on_answers, warnings_on_runs};
+use pst_warnings::{
+    ItemInput, explain_first_broken_result, explain_first_broken_run, warnings_on_answers,
+    warnings_on_runs,
+};
 use std::alloc::{AllocError, Global};
 use std::mem::forget;
 use std::sync::Wait;
@@ -31,13 +33,7 @@ fn write_messages<R: Eprint>(rt: &R, messages: Result<Option<String>, AllocError
 ///
 /// The program ends after this, and the system frees its memory at once. So the items are not dropped one by one: with
 /// many small items that would take an eighth of the instructions of the whole run.
-fn warn_on_runs<R: Eprint>(
-    rt: &R,
-    alloc: Global,
-    files: &[SourceFile<'_>],
-    bytes: &[u8],
-    judged: Option<JudgedFile>,
-)
+fn warn_on_runs<R: Eprint>(rt: &R, alloc: Global, input: ItemInput<'_>, judged: Option<JudgedFile>)
     requires { IfSome judged (λ judged. All (λ runs. AreLawful judged.compiled runs.items) judged.runs.items) }
 {
     if let Some(
@@ -48,9 +44,11 @@ fn warn_on_runs<R: Eprint>(
         },
     ) = judged
     {
-        let input = Input { files, bytes };
         let typed = compiled.typed();
-        write_messages(rt, broken_run(alloc, typed, input, judged.as_slice()));
+        write_messages(
+            rt,
+            explain_first_broken_run(alloc, typed, input, judged.as_slice()),
+        );
         let warnings = warnings_on_runs(
             &compiled,
             alloc,
@@ -68,17 +66,15 @@ fn warn_on_runs<R: Eprint>(
 fn warn_on_answers<R: Eprint>(
     rt: &R,
     alloc: Global,
-    files: &[SourceFile<'_>],
-    bytes: &[u8],
+    input: ItemInput<'_>,
     answered: Option<AnsweredFile>,
 ) {
     if let Some(AnsweredFile { file, answers }) = answered {
-        let input = Input { files, bytes };
         let typed = file.compiled.typed();
         let trees = file.trees.as_slice();
         write_messages(
             rt,
-            broken_answer(alloc, typed, input, trees, answers.as_slice()),
+            explain_first_broken_result(alloc, typed, input, trees, answers.as_slice()),
         );
         let warnings = warnings_on_answers(
             &file.compiled,
@@ -105,15 +101,14 @@ fn shown_items(words: &ArgMatches<'_>) -> Shown {
 fn count_and_warn<R: Eprint>(
     rt: &R,
     alloc: Global,
-    files: &[SourceFile<'_>],
-    input: &[u8],
+    input: ItemInput<'_>,
     counts: &mut Counts,
     answered: Option<AnsweredFile>,
 ) {
     if let Some(answered) = &answered {
         counts.add_answers(answered.answers.as_slice());
     }
-    warn_on_answers(rt, alloc, files, input, answered);
+    warn_on_answers(rt, alloc, input, answered);
 }
 
 /// Judges the items of the input without messages.
@@ -201,13 +196,13 @@ pub fn judge<W: Sink, R: Threads + Wait + Sync + Eprint + Copy + Drop + Send + '
     alloc: Global,
     words: &ArgMatches<'_>,
     is_told: bool,
-    input: Input<'_>,
+    input: ItemInput<'_>,
     counts: &mut Counts,
     out: &mut W,
 ) -> Status
     requires { W.broken out.old ≡ false }
 {
-    let Input { files, bytes } = input;
+    let bytes = input.trees.bytes;
     if words.get_flag("quiet") {
         return judge_quietly(rt, alloc, words, bytes, out);
     }
@@ -219,7 +214,7 @@ pub fn judge<W: Sink, R: Threads + Wait + Sync + Eprint + Copy + Drop + Send + '
         let (status, answered) = judge_all(rt, alloc, words, bytes, telling.steps(), &mut lines);
         telling.end(rt);
         let status = write_lines(words, lines, status, out);
-        count_and_warn(rt, alloc, files, bytes, counts, answered);
+        count_and_warn(rt, alloc, input, counts, answered);
         return status;
     }
     let (shown, steps) = (shown_items(words), telling.steps());
@@ -229,6 +224,6 @@ pub fn judge<W: Sink, R: Threads + Wait + Sync + Eprint + Copy + Drop + Send + '
     if let Some(judged) = &judged {
         counts.add_all(judged.judged.as_slice());
     }
-    warn_on_runs(rt, alloc, files, bytes, judged);
+    warn_on_runs(rt, alloc, input, judged);
     status
 }

@@ -5,7 +5,7 @@ ghost use Rattle.pst_trial.specs.Settings.{AreInRange};
 use crate::beginning;
 use pst_cli::CampaignNotes;
 use pst_trial::Settings;
-use pst_warnings::genfault_text;
+use pst_warnings::explain_generation_fault;
 use std::alloc::Global;
 
 /// Writes why trial `number` has no case.
@@ -18,7 +18,7 @@ fn explain_genfault<R: Eprint>(
 )
     requires { AreInRange settings }
 {
-    let text = genfault_text(
+    let text = explain_generation_fault(
         alloc,
         input,
         settings.seed,

@@ -43,7 +43,11 @@ fn copied(alloc: Global, bytes: &[u8]) -> Result<Vec<u8>, AllocError> {
 }
 
 /// The fault of `span` without notes.
-fn fault(alloc: Global, span: Span, what: &str) -> Result<LineFault, AllocError> {
+fn line_fault_without_notes(
+    alloc: Global,
+    span: Span,
+    what: &str,
+) -> Result<LineFault, AllocError> {
     Ok(LineFault {
         span,
         what: String::from_str(alloc, what)?,
@@ -52,7 +56,10 @@ fn fault(alloc: Global, span: Span, what: &str) -> Result<LineFault, AllocError>
 }
 
 /// Returns the first error on the last of the files, or none.
-fn last_fault(alloc: Global, files: &[SourceFile<'_>]) -> Result<Option<LineFault>, AllocError> {
+fn first_error_in_last_file(
+    alloc: Global,
+    files: &[SourceFile<'_>],
+) -> Result<Option<LineFault>, AllocError> {
     let text = joined(alloc, files)?;
     let input = Input {
         files,
@@ -82,22 +89,22 @@ fn line_file(alloc: Global, line: &[u8]) -> Result<SourceFile<'static>, AllocErr
 }
 
 /// Returns the fault of a line that is not one tree, or that is a model.
-fn tree_fault(alloc: Global, line: &[u8]) -> Result<Option<LineFault>, AllocError> {
+fn fault_unless_one_item(alloc: Global, line: &[u8]) -> Result<Option<LineFault>, AllocError> {
     let Ok(trees) = read(alloc, line) else {
-        return last_fault(alloc, &[line_file(alloc, line)?]);
+        return first_error_in_last_file(alloc, &[line_file(alloc, line)?]);
     };
     let first = tree_at(line, 0);
     if trees.is_empty() {
-        return Ok(Some(fault(alloc, first, "there is no item on this line")?));
+        return Ok(Some(line_fault_without_notes(alloc, first, "there is no item on this line")?));
     }
     if trees.len() > 1 {
         let second = tree_at(line, first.end);
         let what = "a second item begins here: a line of a stream has one";
-        return Ok(Some(fault(alloc, second, what)?));
+        return Ok(Some(line_fault_without_notes(alloc, second, what)?));
     }
     if matches!(first_item(line), Some("model" | "model2")) {
         let what = "this is a model: a line of a stream is a case or a run";
-        return Ok(Some(fault(alloc, first, what)?));
+        return Ok(Some(line_fault_without_notes(alloc, first, what)?));
     }
     Ok(None)
 }
@@ -136,17 +143,17 @@ impl<'a, R: Eprint + AllocGlobal> LineMessages<'a, R> {
             name: self.name,
             bytes: copied(alloc, self.model)?,
         };
-        last_fault(alloc, &[model, line_file(alloc, line)?])
+        first_error_in_last_file(alloc, &[model, line_file(alloc, line)?])
     }
 
     /// Returns what is wrong with a refused line.
     fn fault_of(&self, alloc: Global, line: &[u8]) -> Result<LineFault, AllocError> {
         let start = Span { start: 0, end: 1 };
         if line.len() > MAX_BYTES {
-            return fault(alloc, start, "the line is longer than 1 MiB");
+            return line_fault_without_notes(alloc, start, "the line is longer than 1 MiB");
         }
         if !has_json(line) {
-            if let Some(found) = tree_fault(alloc, line)? {
+            if let Some(found) = fault_unless_one_item(alloc, line)? {
                 return Ok(found);
             }
         }
@@ -156,7 +163,7 @@ impl<'a, R: Eprint + AllocGlobal> LineMessages<'a, R> {
                 return Ok(found);
             }
         }
-        fault(
+        line_fault_without_notes(
             alloc,
             start,
             "the item is refused; it is too long for a message that says why",

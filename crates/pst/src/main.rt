@@ -135,7 +135,7 @@ fn main(rt: HostRuntime) -> ExitCode {
                 bytes: text.as_slice(),
             };
             // Boxed systems are made here, since a function cannot return one.
-            let misfits = overheard::misfits_of(alloc, &matches);
+            let misfits = overheard::new_misfits_for_run(alloc, &matches);
             let mut systems: Systems = Ok(Vec::new(alloc));
             if let Some((wanted, count)) = systems::chosen_systems(&matches) {
                 for worker in 0..count {

@@ -3,7 +3,7 @@
 use crate::words::is_json;
 use clap::ArgMatches;
 use pst_messages::{Asked, errors_of};
-use pst_rejudge::{Field, Name, add_number, add_words, object_line};
+use pst_rejudge::{Field, Name, add_number_field, add_text_field, object_line};
 use pst_sources::{Input, Notice, Notices, place_in};
 use pst_value::Text;
 use pst_warnings::warnings_in;
@@ -27,12 +27,12 @@ fn notice_object(alloc: Global, input: &Input<'_>, notice: Notice) -> Result<Vec
         "error"
     };
     let mut fields = Vec::new(alloc);
-    add_words(alloc, &mut fields, Name::Severity, severity)?;
-    add_words(alloc, &mut fields, Name::File, place.file)?;
-    add_number(&mut fields, Name::Line, place.line as u64)?;
-    add_number(&mut fields, Name::Column, place.column as u64)?;
-    add_number(&mut fields, Name::Start, place.start as u64)?;
-    add_number(&mut fields, Name::End, place.end as u64)?;
+    add_text_field(alloc, &mut fields, Name::Severity, severity)?;
+    add_text_field(alloc, &mut fields, Name::File, place.file)?;
+    add_number_field(&mut fields, Name::Line, place.line as u64)?;
+    add_number_field(&mut fields, Name::Column, place.column as u64)?;
+    add_number_field(&mut fields, Name::Start, place.start as u64)?;
+    add_number_field(&mut fields, Name::End, place.end as u64)?;
     let Notice {
         span: _,
         is_warning: _,
@@ -61,8 +61,8 @@ fn notice_objects(
     }
     if !more.is_empty() {
         let mut fields = Vec::new(alloc);
-        add_words(alloc, &mut fields, Name::Severity, "error")?;
-        add_words(alloc, &mut fields, Name::Message, more.as_str().trim())?;
+        add_text_field(alloc, &mut fields, Name::Severity, "error")?;
+        add_text_field(alloc, &mut fields, Name::Message, more.as_str().trim())?;
         text.extend_from_slice(object_line(alloc, fields.as_slice())?.as_slice())?;
     }
     Ok(text)

@@ -11,7 +11,7 @@ pub type SharedMisfits = Arc<Misfits, Global>;
 
 /// Returns an empty list for the misfits of `run`. `None` for other commands, if the arguments forbid messages, and if
 /// an allocation fails.
-pub fn misfits_of(alloc: Global, matches: &ArgMatches<'_>) -> Option<SharedMisfits> {
+pub fn new_misfits_for_run(alloc: Global, matches: &ArgMatches<'_>) -> Option<SharedMisfits> {
     let (word, words) = matches.subcommand()?;
     if word != "run" || words.get_flag("quiet") {
         return None;

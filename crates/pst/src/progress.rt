@@ -1,9 +1,9 @@
 //! A line that displays the progress of a campaign, on a terminal.
 
 use crate::telling::Rate;
-use pst_campaign::Watch;
+use pst_campaign::{Watch, did_not_pass};
 use pst_ledger::Cause;
-use pst_trial::{Record, ShrinkProgress, TrialOutcome};
+use pst_trial::{Record, ShrinkProgress};
 use std::alloc::{AllocError, Global};
 use std::fmt;
 use std::sync::atomic::{AtomicBool, AtomicU64, Ordering};
@@ -23,14 +23,6 @@ pub struct Progress {
     failed: AtomicU64,
     lost: AtomicU64,
     shrinking: ShrinkProgress,
-}
-
-/// Returns whether the trial did not pass.
-fn has_failed(record: &Record) -> bool {
-    match record.outcome() {
-        TrialOutcome::Passed { .. } => false,
-        TrialOutcome::Failed { .. } | TrialOutcome::GenFaulted(_) => true,
-    }
 }
 
 /// The trials that have ended at a time, in milliseconds after the beginning.
@@ -140,7 +132,7 @@ impl Watch for Progress {
         match ended {
             Ok(record) => {
                 self.done.fetch_add(1, Ordering::SeqCst);
-                if has_failed(record) {
+                if did_not_pass(record) {
                     self.failed.fetch_add(1, Ordering::SeqCst);
                 }
             }

@@ -3,13 +3,17 @@
 use std::alloc::AllocError;
 
 /// Whether a shell takes the character for itself wherever it is.
-fn is_plain(character: char) -> bool {
+fn needs_no_shell_quotes(character: char) -> bool {
     matches!(character, 'a'..='z' | 'A'..='Z' | '0'..='9' | '/' | '.' | '_' | '-' | ':' | ',' | '=' | '+' | '@' | '%')
 }
 
 /// Adds an argument to the text of a command, between quotes if a shell would not read it as one word.
 pub fn push_shell_word(command: &mut String, argument: &str) -> Result<(), AllocError> {
-    if !argument.is_empty() && argument.chars().all(|character| is_plain(character)) {
+    if !argument.is_empty()
+        && argument
+            .chars()
+            .all(|character| needs_no_shell_quotes(character))
+    {
         return command.push_str(argument);
     }
     command.push('\'')?;

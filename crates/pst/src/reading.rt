@@ -50,7 +50,7 @@ fn refuse_arguments<R: Runtime + AllocGlobal>(
     if let Some(name) = systems::unknown_system(matches) {
         return Err(systems::refuse_system(rt, name, inputs, is_quiet, &mut out));
     }
-    if streaming::is_stream(matches) && !streaming::leaves_input(inputs) {
+    if streaming::is_stream(matches) && !streaming::leaves_standard_input_for_items(inputs) {
         return Err(streaming::refuse_stream(rt, inputs, is_quiet, &mut out));
     }
     outputs::refuse_to_overwrite_input(rt, inputs, "-o", output_name(matches), is_quiet)?;
@@ -109,7 +109,7 @@ pub fn prepare_input<'a, R: Runtime + AllocGlobal>(
         Ok(read) => read,
         Err(why) => return Err(refuse_text(why, &mut Out::new(io::writer(rt)))),
     };
-    match json_items::as_trees(rt.alloc(), read.as_slice()) {
+    match json_items::convert_json_items_to_trees(rt.alloc(), read.as_slice()) {
         Ok(trees) => Ok(InputFiles { read, trees }),
         Err(_) => Err(refused::report_out_of_memory(rt)),
     }

@@ -3,7 +3,7 @@
 use crate::words::is_json;
 use clap::ArgMatches;
 use pst_cli::{Absence, Status, refuse_text};
-use pst_messages::{Asked, message_of};
+use pst_messages::{Asked, input_error_messages_text};
 use pst_sexpr::Out;
 use pst_sources::{SourceFile, joined};
 use std::io;
@@ -50,7 +50,7 @@ pub fn report_refusals<R: Eprint + AllocGlobal>(
     let Ok(text) = joined(rt.alloc(), files) else {
         return;
     };
-    match message_of(rt.alloc(), files, text.as_slice(), asked) {
+    match input_error_messages_text(rt.alloc(), files, text.as_slice(), asked) {
         Ok(Some(message)) => {
             let _ = eprint!(rt; "{message}");
         }

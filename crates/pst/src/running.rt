@@ -19,6 +19,7 @@ use pst_driver::Misfits;
 use pst_sexpr::{Out, Sink};
 use pst_sources::{Input, SourceFile};
 use pst_system::BoxedSystem;
+use pst_warnings::ItemInput;
 use std::io;
 use std::io::Write;
 use std::rt::{Files, Runtime};
@@ -118,7 +119,11 @@ fn run_subcommand<
         "judge" if words.get_flag("stream") => {
             streaming::judge_standard_input(rt, words, terminals, bytes, counts, out)
         }
-        "judge" => judge(rt, alloc, words, terminals.errors, input, counts, out),
+        "judge" => {
+            let read = work.files;
+            let input = ItemInput { trees: input, read };
+            judge(rt, alloc, words, terminals.errors, input, counts, out)
+        }
         "explain" => explaining::explain(rt, words, terminals, input, out),
         _ => run_on_systems(rt, work, word, words, input, systems, counts, out),
     }

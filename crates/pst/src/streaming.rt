@@ -23,7 +23,7 @@ pub fn is_stream(matches: &ArgMatches<'_>) -> bool {
 
 /// Returns whether the file names are that of the model alone, which leaves standard input to the items of a
 /// stream.
-pub fn leaves_input(names: &[&str]) -> bool {
+pub fn leaves_standard_input_for_items(names: &[&str]) -> bool {
     match names {
         [model] => *model != STANDARD_INPUT,
         _ => false,
@@ -74,7 +74,7 @@ fn most_messages(words: &ArgMatches<'_>) -> usize {
 }
 
 /// Writes to standard error how many of the refused lines have no message, if there are some and others have one.
-fn report_more<R: Eprint>(rt: &R, refused: usize, most: usize) {
+fn report_refusals_without_messages<R: Eprint>(rt: &R, refused: usize, most: usize) {
     let more = refused.saturating_sub(most);
     if most > 0 && more > 0 {
         let items = if more == 1 { "item is" } else { "items are" };
@@ -124,6 +124,6 @@ pub fn judge_standard_input<
         out,
     );
     telling.end(rt);
-    report_more(rt, counts.refused, most);
+    report_refusals_without_messages(rt, counts.refused, most);
     status
 }

@@ -50,7 +50,7 @@ impl Rate {
 }
 
 /// Adds how many seconds `left` items take, if that is known: `thousands` thousandths of an item took `milliseconds`.
-fn add_rest(
+fn add_time_left(
     line: &mut String,
     alloc: Global,
     left: u64,
@@ -88,7 +88,7 @@ fn progress_line(
     line.push_str(" ")?;
     line.push_str(unit)?;
     if let Some(all) = steps.all() {
-        add_rest(
+        add_time_left(
             &mut line,
             alloc,
             all.saturating_sub(done),

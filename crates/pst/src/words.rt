@@ -8,11 +8,15 @@ use clap::Command;
 pub use options::{
     failures_option, files_argument, is_json, names_client, output_option, quiet_option,
 };
-pub use plan::{case_settings, settings};
+pub use plan::{campaign_settings_from_arguments, generate_settings_from_arguments};
 use std::alloc::{AllocError, Global};
 
 /// A command whose input is the file of a model.
-fn with_file<'a>(alloc: Global, name: &'a str, about: &'a str) -> Result<Command<'a>, AllocError> {
+fn clap_command_with_model_file<'a>(
+    alloc: Global,
+    name: &'a str,
+    about: &'a str,
+) -> Result<Command<'a>, AllocError> {
     Command::new(alloc, name)
         .about(about)
         .arg(options::file_argument(alloc))?
@@ -21,8 +25,8 @@ fn with_file<'a>(alloc: Global, name: &'a str, about: &'a str) -> Result<Command
 }
 
 /// `check`, with the file of a model.
-fn check_command<'a>(alloc: Global) -> Result<Command<'a>, AllocError> {
-    with_file(
+fn clap_command_for_check<'a>(alloc: Global) -> Result<Command<'a>, AllocError> {
+    clap_command_with_model_file(
         alloc,
         "check",
         "Checks a model: prints `ok NAME`, or the refusal",
@@ -32,8 +36,8 @@ fn check_command<'a>(alloc: Global) -> Result<Command<'a>, AllocError> {
 }
 
 /// `list`, with the file of a model.
-fn list_command<'a>(alloc: Global) -> Result<Command<'a>, AllocError> {
-    with_file(
+fn clap_command_for_list<'a>(alloc: Global) -> Result<Command<'a>, AllocError> {
+    clap_command_with_model_file(
         alloc,
         "list",
         "Lists the code of a model: a line for each instruction, or the refusal",
@@ -44,7 +48,7 @@ fn list_command<'a>(alloc: Global) -> Result<Command<'a>, AllocError> {
 }
 
 /// `judge`, with the files of a model and its items.
-fn judge_command<'a>(alloc: Global) -> Result<Command<'a>, AllocError> {
+fn clap_command_for_judge<'a>(alloc: Global) -> Result<Command<'a>, AllocError> {
     Command::new(alloc, "judge")
         .about("Judges cases and recorded runs: prints a verdict for each")
         .after_help(help::JUDGE)
@@ -59,12 +63,12 @@ fn judge_command<'a>(alloc: Global) -> Result<Command<'a>, AllocError> {
 }
 
 /// `run`, with a system or a client.
-fn run_command<'a>(alloc: Global) -> Result<Command<'a>, AllocError> {
+fn clap_command_for_run<'a>(alloc: Global) -> Result<Command<'a>, AllocError> {
     let command = Command::new(alloc, "run")
         .about("Drives cases on a system, once each: prints the runs and their verdicts")
         .override_usage(help::RUN_USAGE)
         .after_help(help::RUN);
-    options::with_client(alloc, command)?
+    options::add_system_or_client_arguments(alloc, command)?
         .arg(options::branches_option(alloc)?)?
         .arg(files_argument(alloc))?
         .arg(options::repeats_option(alloc))?
@@ -74,15 +78,17 @@ fn run_command<'a>(alloc: Global) -> Result<Command<'a>, AllocError> {
 }
 
 /// `campaign`, with a system or a client, and the numbers of its plan.
-fn campaign_command<'a>(alloc: Global) -> Result<Command<'a>, AllocError> {
+fn clap_command_for_campaign<'a>(alloc: Global) -> Result<Command<'a>, AllocError> {
     let command = Command::new(alloc, "campaign")
         .about(
             "Generates cases, drives them on a system and shrinks those that fail: prints a report",
         )
         .override_usage(help::CAMPAIGN_USAGE)
         .after_help(help::CAMPAIGN);
-    let command = options::with_client(alloc, command)?.arg(options::file_argument(alloc))?;
-    plan::with_numbers(alloc, command)?
+    let command = options::add_system_or_client_arguments(alloc, command)?.arg(
+        options::file_argument(alloc),
+    )?;
+    plan::add_campaign_number_options(alloc, command)?
         .arg(options::max_failures_option(alloc))?
         .arg(options::stop_file_option(alloc))?
         .arg(options::save_option(alloc))?
@@ -93,58 +99,67 @@ fn campaign_command<'a>(alloc: Global) -> Result<Command<'a>, AllocError> {
 }
 
 /// `generate`, with the numbers that choose cases.
-fn generate_command<'a>(alloc: Global) -> Result<Command<'a>, AllocError> {
+fn clap_command_for_generate<'a>(alloc: Global) -> Result<Command<'a>, AllocError> {
     let command = Command::new(alloc, "generate")
         .about("Generates the cases of a campaign: prints one on each line")
         .after_help(help::GENERATE)
         .arg(options::file_argument(alloc))?;
-    plan::with_case_numbers(alloc, command)?
+    plan::add_generate_number_options(alloc, command)?
         .arg(options::format_option(alloc))?
         .arg(output_option(alloc))?
         .arg(quiet_option(alloc))
 }
 
 /// Adds the commands whose input is a model.
-fn with_models<'a>(alloc: Global, command: Command<'a>) -> Result<Command<'a>, AllocError> {
+fn add_model_subcommands<'a>(
+    alloc: Global,
+    command: Command<'a>,
+) -> Result<Command<'a>, AllocError> {
     command
-        .subcommand(check_command(alloc)?)?
-        .subcommand(list_command(alloc)?)?
-        .subcommand(generate_command(alloc)?)
+        .subcommand(clap_command_for_check(alloc)?)?
+        .subcommand(clap_command_for_list(alloc)?)?
+        .subcommand(clap_command_for_generate(alloc)?)
 }
 
 /// Adds the commands whose input is a model and items.
-fn with_items<'a>(alloc: Global, command: Command<'a>) -> Result<Command<'a>, AllocError> {
+fn add_item_subcommands<'a>(
+    alloc: Global,
+    command: Command<'a>,
+) -> Result<Command<'a>, AllocError> {
     command
-        .subcommand(judge_command(alloc)?)?
-        .subcommand(explaining::command(alloc)?)?
-        .subcommand(converting::command(alloc)?)
+        .subcommand(clap_command_for_judge(alloc)?)?
+        .subcommand(explaining::clap_command_for_explain(alloc)?)?
+        .subcommand(converting::clap_command_for_convert(alloc)?)
 }
 
 /// `verdicts`, which prints what verdicts, reports, refusals and exit statuses mean.
-fn verdicts_command<'a>(alloc: Global) -> Command<'a> {
+fn clap_command_for_verdicts<'a>(alloc: Global) -> Command<'a> {
     Command::new(alloc, "verdicts")
         .about("Explains verdicts, reports, refusals and exit statuses")
         .override_help(help::VERDICTS)
 }
 
 /// Adds the commands that take a system.
-fn with_systems<'a>(alloc: Global, command: Command<'a>) -> Result<Command<'a>, AllocError> {
+fn add_system_subcommands<'a>(
+    alloc: Global,
+    command: Command<'a>,
+) -> Result<Command<'a>, AllocError> {
     command
-        .subcommand(run_command(alloc)?)?
-        .subcommand(campaign_command(alloc)?)
+        .subcommand(clap_command_for_run(alloc)?)?
+        .subcommand(clap_command_for_campaign(alloc)?)
 }
 
 /// The commands of the program.
-pub fn command<'a>(alloc: Global) -> Result<Command<'a>, AllocError> {
+pub fn clap_command_for_program<'a>(alloc: Global) -> Result<Command<'a>, AllocError> {
     let command = Command::new(alloc, "pst")
         .version("0.1.0")
         .about("Finds races in servers: tests concurrent systems against a sequential model")
         .after_help(help::PROGRAM)
         .subcommand_required(true)
         .arg_required_else_help(true);
-    let command = with_models(alloc, command)?;
-    let command = with_items(alloc, command)?;
-    with_systems(alloc, command)?
-        .subcommand(formatting::command(alloc)?)?
-        .subcommand(verdicts_command(alloc))
+    let command = add_model_subcommands(alloc, command)?;
+    let command = add_item_subcommands(alloc, command)?;
+    add_system_subcommands(alloc, command)?
+        .subcommand(formatting::clap_command_for_fmt(alloc)?)?
+        .subcommand(clap_command_for_verdicts(alloc))
 }

@@ -8,7 +8,7 @@ use crate::ending::{NeverStops, StopCondition};
 use crate::fault::CampaignFault;
 use crate::plans::Watched;
 use crate::runner::Worker;
-use crate::threads::work_at_once;
+use crate::threads::run_workers_on_threads;
 use crate::watch::Watch;
 use pst_ledger::{Closed, Ledger};
 use pst_system::{BoxedSystem, System};
@@ -21,7 +21,11 @@ use std::thread::Threads;
 const MAX_SYSTEMS: usize = 16;
 
 /// Runs all trials, with one worker for each system, unless they are over before.
-pub(crate) fn campaign_with<S: Drop + Send, P: Worker<S> + Sync, H: Threads + Wait + Sync>(
+pub(crate) fn run_campaign_with_workers<
+    S: Drop + Send,
+    P: Worker<S> + Sync,
+    H: Threads + Wait + Sync,
+>(
     rt: &H,
     alloc: Global,
     plan: &P,
@@ -44,7 +48,7 @@ pub(crate) fn campaign_with<S: Drop + Send, P: Worker<S> + Sync, H: Threads + Wa
     }
     may_share_records();
     let (ledger, seats) = Ledger::open(alloc, trials, workers as u64)?;
-    let worked = work_at_once(rt, alloc, plan, &ledger, seats, systems);
+    let worked = run_workers_on_threads(rt, alloc, plan, &ledger, seats, systems);
     match ledger.close(worked) {
         Ok(closed) => Ok(closed),
         Err(_) => unreachable!(),
@@ -99,7 +103,7 @@ pub fn campaign_until<K: StopCondition + Sync, H: Threads + Wait + Sync>(
         plan: &plan,
         watch: ending,
     };
-    let ended = campaign_with(rt, alloc, &watched, trials, systems);
+    let ended = run_campaign_with_workers(rt, alloc, &watched, trials, systems);
     ending.campaign_ended();
     ended
 }

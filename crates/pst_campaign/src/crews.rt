@@ -15,7 +15,7 @@ use crate::working::work_alone;
 use pst_driver::{Crew, KeptSystem, Relations, Subject, start_crew};
 use pst_ledger::{Cause, Ledger, Seat};
 use pst_system::{BoxedSystem, System};
-use pst_trial::{Plan, Record, ShrinkProgress, may_share_records, trial_with};
+use pst_trial::{Plan, Record, ShrinkProgress, may_share_records, run_trial_with_crew};
 use std::alloc::Global;
 use std::marker::Brand;
 use std::sync::{Arc, Wait};
@@ -40,7 +40,7 @@ fn run_trial<J: Relations, S: Subject, H: Wait>(
     ensures loss_given { IfErr result (λ c. MayGive J.answering J.failing J.resetting
         (arc_value plan.now) number (Lost c)) }
 {
-    match trial_with(rt, alloc, plan, number, crew, shrinking) {
+    match run_trial_with_crew(rt, alloc, plan, number, crew, shrinking) {
         Ok(record) => Ok(record),
         Err(fault) => Err(cause_of(fault)),
     }
@@ -200,7 +200,7 @@ fn work_with_crew<
 
 /// Works at a fresh seat with a crew on the system, whose relations are those that `J` names. If the threads of
 /// the crew do not all start, it does no work and returns the seat and the system, as an `Err`.
-fn work_named<
+fn work_with_named_relations<
     K: StopCondition,
     J: Relations + Send + Sync,
     S: Subject + Send + Sync + Drop,
@@ -234,7 +234,7 @@ fn work_named<
 
 /// Works at a fresh seat with a crew on the system, whose relations get names for this call. If the threads of
 /// the crew do not all start, it does no work and returns the seat and the system, as an `Err`.
-fn work_on<K: StopCondition, S: Subject + Send + Sync + Drop, H: Threads + Wait>(
+fn work_on_system_with_crew<K: StopCondition, S: Subject + Send + Sync + Drop, H: Threads + Wait>(
     rt: &H,
     alloc: Global,
     plan: &Arc<Plan>,
@@ -253,7 +253,7 @@ fn work_on<K: StopCondition, S: Subject + Send + Sync + Drop, H: Threads + Wait>
         (S.may_fail back.1) (S.may_fail system)
         (S.may_refuse_reset back.1) (S.may_refuse_reset system)) }
 {
-    work_named::<K, Brand, S, H>(rt, alloc, plan, watch, ledger, seat, system)
+    work_with_named_relations::<K, Brand, S, H>(rt, alloc, plan, watch, ledger, seat, system)
 }
 
 /// Works at a fresh seat on the system in a box until no number is left or the plan is over, and returns the
@@ -274,7 +274,7 @@ pub(crate) fn work_on_boxed_system<K: StopCondition, H: Threads + Wait>(
         (MayGive (answers system) (fails system) (reset_fails system) (arc_value plan.now))
         ledger.now.table result }
 {
-    match work_on(rt, alloc, plan, watch, ledger, seat, system) {
+    match work_on_system_with_crew(rt, alloc, plan, watch, ledger, seat, system) {
         Ok(seat) => seat,
         Err((seat, system)) => {
             may_share_records();

@@ -95,7 +95,7 @@ impl EarlyStop {
 }
 
 /// Whether the record is one of a trial that did not pass.
-fn did_not_pass(record: &Record) -> bool {
+pub fn did_not_pass(record: &Record) -> bool {
     match record.outcome() {
         TrialOutcome::Passed { .. } => false,
         TrialOutcome::Failed { .. } | TrialOutcome::GenFaulted(_) => true,

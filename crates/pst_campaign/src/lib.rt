@@ -12,7 +12,7 @@ mod watch;
 mod working;
 
 pub use campaigns::{campaign, campaign_until};
-pub use ending::{EarlyStop, NeverStops, StopCondition};
+pub use ending::{EarlyStop, NeverStops, StopCondition, did_not_pass};
 pub use fault::CampaignFault;
 pub use watch::{Unwatched, Watch};
 pub use working::work;

@@ -84,7 +84,7 @@ fn work_in_threads<'s, E, S: Drop + Send + 's, P: Worker<S> + Sync + 's, H: Thre
 
 /// Runs all workers at once, each in a thread of its own if one can be started. The seats come back in the
 /// order of the systems.
-pub(crate) fn work_at_once<S: Drop + Send, P: Worker<S> + Sync, H: Threads + Wait + Sync>(
+pub(crate) fn run_workers_on_threads<S: Drop + Send, P: Worker<S> + Sync, H: Threads + Wait + Sync>(
     rt: &H,
     alloc: Global,
     plan: &P,

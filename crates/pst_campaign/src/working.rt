@@ -19,7 +19,7 @@ use std::thread::Threads;
 
 /// Claims numbers until none is left or the plan is over, runs the trial of each, and deposits its record or gives the
 /// number up.
-pub(crate) fn work_with<R: Numbered, S: Drop, P: TrialRunner<R, S>, H: Threads + Wait>(
+pub(crate) fn run_trials_until_over<R: Numbered, S: Drop, P: TrialRunner<R, S>, H: Threads + Wait>(
     rt: &H,
     alloc: Global,
     plan: &P,
@@ -55,7 +55,7 @@ pub(crate) fn work_with<R: Numbered, S: Drop, P: TrialRunner<R, S>, H: Threads +
     unreachable!()
 }
 
-/// Does what `work_with` does, with a fresh seat and a system of its own for a thread, and returns the seat.
+/// Does what `run_trials_until_over` does, with a fresh seat and a system of its own for a thread, and returns the seat.
 pub(crate) fn work_alone<R: Numbered, S: Drop, P: TrialRunner<R, S>, H: Threads + Wait>(
     rt: &H,
     alloc: Global,
@@ -68,7 +68,7 @@ pub(crate) fn work_alone<R: Numbered, S: Drop, P: TrialRunner<R, S>, H: Threads 
     requires trials { ledger.now.table.slots ≡ P.trials plan.now }
     ensures { IsWorked (P.may_end plan.now) (P.may_give plan.now system) ledger.now.table result }
 {
-    work_with(rt, alloc, plan, ledger, &mut seat, &mut system);
+    run_trials_until_over(rt, alloc, plan, ledger, &mut seat, &mut system);
     seat
 }
 
@@ -100,5 +100,5 @@ pub fn work<H: Threads + Wait + Sync>(
         plan,
         watch: &NeverStops { watch: &Unwatched },
     };
-    work_with(rt, alloc, &watched, ledger, seat, system)
+    run_trials_until_over(rt, alloc, &watched, ledger, seat, system)
 }

@@ -2,7 +2,7 @@
 ghost use Rattle.std.specs.Prelude.{◌≡◌, IfOk, None};
 
 use pst_model::Source;
-use pst_value::{Items, Value};
+use pst_value::{Items, Value, copy_values};
 use std::alloc::{AllocError, Global};
 use std::fmt::{Debug, Error, Formatter, Write};
 use std::marker::Model;
@@ -33,16 +33,6 @@ pub struct Shaped {
     model: Snapshot<Source>,
 }
 
-fn copy_values(alloc: Global, values: &[Value]) -> Result<Items<Value>, AllocError>
-    ensures { IfOk result (λ copies. copies ≡ values.now) }
-{
-    let mut copies = Items::new(alloc);
-    for value in values {
-        copies.push(value.copy(alloc)?)?;
-    }
-    Ok(copies)
-}
-
 impl Command {
     /// An equal command.
     pub fn copy(&self, alloc: Global) -> Result<Command, AllocError>
@@ -50,12 +40,13 @@ impl Command {
     {
         Ok(Command {
             op: self.op,
-            args: copy_values(alloc, self.args.as_slice())?,
+            args: copy_values(self.args.as_slice(), alloc)?,
         })
     }
 }
 
-fn copy_commands(alloc: Global, commands: &[Command]) -> Result<Items<Command>, AllocError>
+/// Returns a list of equal commands.
+pub fn copy_commands(alloc: Global, commands: &[Command]) -> Result<Items<Command>, AllocError>
     ensures { IfOk result (λ copies. copies ≡ commands.now) }
 {
     let mut copies = Items::new(alloc);

@@ -2,6 +2,6 @@
 ghost use Rattle.pst_case.specs.Laws.{NumbersThatStay};
 
 /// If renumbering changes no number, it changes no value and no command.
-pub fn numbers_that_stay()
+pub fn unchanged_numbers_change_nothing()
     ensures { NumbersThatStay }
 {}

@@ -8,7 +8,7 @@ use pst_value::{Items, Value};
 use std::alloc::{AllocError, Global};
 
 /// Appends the results that `replies` record to `results`.
-fn with_part(
+fn append_results(
     alloc: Global,
     mut results: Vec<Option<Value>>,
     replies: &[Reply],
@@ -28,7 +28,7 @@ fn with_part(
 pub fn results_of(alloc: Global, replies: &[Reply]) -> Result<Vec<Option<Value>>, AllocError>
     ensures { IfOk result (λ results. results.items ≡ map result_of replies.now) }
 {
-    with_part(alloc, Vec::new(alloc), replies)
+    append_results(alloc, Vec::new(alloc), replies)
 }
 
 fn split_first(branches: &[Items<Reply>]) -> Option<(&Items<Reply>, &[Items<Reply>])>
@@ -38,7 +38,7 @@ fn split_first(branches: &[Items<Reply>]) -> Option<(&Items<Reply>, &[Items<Repl
 }
 
 /// Appends the results that the replies of the branches record to `results`.
-fn append_branches(
+fn append_results_of_branches(
     alloc: Global,
     results: Vec<Option<Value>>,
     branches: &[Items<Reply>],
@@ -48,8 +48,8 @@ fn append_branches(
     let Some((branch, branches)) = split_first(branches) else {
         return Ok(results);
     };
-    let results = with_part(alloc, results, branch.as_slice())?;
-    append_branches(alloc, results, branches)
+    let results = append_results(alloc, results, branch.as_slice())?;
+    append_results_of_branches(alloc, results, branches)
 }
 
 impl History {
@@ -57,8 +57,8 @@ impl History {
     pub fn recorded(&self, alloc: Global) -> Result<Vec<Option<Value>>, AllocError>
         ensures { IfOk result (λ results. results.items ≡ recorded self.now) }
     {
-        let results = with_part(alloc, Vec::new(alloc), self.prefix.as_slice())?;
-        let results = append_branches(alloc, results, self.branches.as_slice())?;
-        with_part(alloc, results, self.suffix.as_slice())
+        let results = append_results(alloc, Vec::new(alloc), self.prefix.as_slice())?;
+        let results = append_results_of_branches(alloc, results, self.branches.as_slice())?;
+        append_results(alloc, results, self.suffix.as_slice())
     }
 }

@@ -20,7 +20,7 @@ use crate::status::Status;
 use pst_campaign::{CampaignFault, NeverStops, StopCondition, Watch, campaign_until};
 use pst_ledger::Closed;
 use pst_model::Typed;
-use pst_report::{CampaignStatus, ended_status, report};
+use pst_report::{CampaignStatus, report, status_of_early_ended_campaign};
 use pst_sexpr::{Out, Sink};
 use pst_system::{BoxedSystem, System};
 use pst_trial::{Plan, Record, Settings};
@@ -38,7 +38,7 @@ fn campaign_line(alloc: Global, fault: CampaignFault) -> Result<String, AllocErr
 }
 
 /// The line of a campaign that did not start, and the status.
-fn not_started(alloc: Global, fault: CampaignFault) -> Result<Output, AllocError>
+fn output_of_refused_campaign(alloc: Global, fault: CampaignFault) -> Result<Output, AllocError>
     ensures reason { OnOk result (fault ≡ kind.NoMemory → ⊥) }
     ensures text { IfOk result (λ output. output.text.items ≡ spec.campaign_line fault) }
     ensures status { IfOk result (λ output. output.status ≡ status.Lost) }
@@ -74,12 +74,12 @@ fn report_output(
     ensures text { IfOk result (λ output. output.text.items ≡ report_text plan.now closed.now) }
     ensures status { IfOk result (λ output. output.status ≡ spec.status_after (ended_status closed.now)) }
 {
-    notes.add(alloc, plan, closed)?;
+    notes.add_trial_results(alloc, plan, closed)?;
     let mut out = Out::new(Vec::new(alloc));
     match report(alloc, plan, closed, &mut out) {
         Ok(()) => Ok(Output {
             text: out.into_inner(),
-            status: status_after(ended_status(closed)),
+            status: status_after(status_of_early_ended_campaign(closed)),
         }),
         Err(_) => Err(AllocError),
     }
@@ -97,7 +97,7 @@ fn plan_of(alloc: Global, typed: Typed, settings: Settings) -> Result<Arc<Plan>,
 }
 
 /// Runs the trials of a model, and returns the report, or the line that says why the campaign did not start.
-fn output_for<K: StopCondition + Sync, R: Threads + Wait + Sync>(
+fn run_campaign_on_model<K: StopCondition + Sync, R: Threads + Wait + Sync>(
     rt: &R,
     alloc: Global,
     typed: Typed,
@@ -115,7 +115,7 @@ fn output_for<K: StopCondition + Sync, R: Threads + Wait + Sync>(
     let plan = plan_of(alloc, typed, settings)?;
     match campaign_until(rt, alloc, plan.clone()?, systems, watch) {
         Ok(closed) => report_output(alloc, &plan, &closed, notes),
-        Err(fault) => not_started(alloc, fault),
+        Err(fault) => output_of_refused_campaign(alloc, fault),
     }
 }
 
@@ -138,7 +138,7 @@ fn campaign_output<K: StopCondition + Sync, R: Threads + Wait + Sync>(
     match load(alloc, input)? {
         Ok(file) => {
             let ModelFile { typed, trees: _ } = file;
-            output_for(rt, alloc, typed, settings, systems, watch, notes)
+            run_campaign_on_model(rt, alloc, typed, settings, systems, watch, notes)
         }
         Err(refusal) => refusal_output(alloc, &refusal),
     }

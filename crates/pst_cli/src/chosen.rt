@@ -3,7 +3,7 @@ ghost use Rattle.std.specs.Prelude.{◌≡◌, IfOk, IsTrue, ◌↔◌, string_b
 ghost use Rattle.pst_cli.specs.ChosenItem.{IsItem, no_item_line};
 ghost use Rattle.pst_cli.specs.declared.status.Status.TheVariants.{Refused};
 
-use crate::judge::is_good;
+use crate::judge::is_explained_or_valid;
 use crate::output::Output;
 use crate::status::Status;
 use pst_judge::Judged;
@@ -25,7 +25,7 @@ impl Chosen {
     pub(crate) fn includes(self, number: usize, judged: &Judged) -> bool {
         match self {
             Chosen::All => true,
-            Chosen::Failures => !is_good(judged),
+            Chosen::Failures => !is_explained_or_valid(judged),
             Chosen::Item(chosen) => chosen == number,
         }
     }

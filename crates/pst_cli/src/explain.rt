@@ -9,13 +9,13 @@ ghost use Rattle.pst_runs.specs.Lawful.{AreLawful, IsLawful};
 use crate::chosen::{Chosen, has_item, refused_item};
 use crate::form::ExplanationForm;
 use crate::judge::status_of;
-use crate::judged::{JudgedFile, join_parts, judged_file};
+use crate::judged::{JudgedFile, concatenate_run_lists, judged_file};
 use crate::kept::Keep;
 use crate::output::{Output, send};
 use crate::status::Status;
 use pst_case::Run;
 use pst_compile::Compiled;
-use pst_explain::{TreePlace, explain_item, first_places, graph_item};
+use pst_explain::{TreePlace, draw_search_as_graphviz, explain_item, tree_places_in_input};
 use pst_judge::Judged;
 use pst_rejudge::ProgressCounter;
 use pst_sexpr::Sink;
@@ -37,7 +37,7 @@ pub struct ExplainOptions<'a> {
 }
 
 /// `text` and after it the explanation of an item in a form. `number` is its number, and `place` where it begins.
-fn with_item(
+fn append_explained_item(
     mut text: Vec<u8>,
     alloc: Global,
     compiled: &Compiled,
@@ -52,12 +52,12 @@ fn with_item(
 {
     let typed = compiled.typed();
     if let ExplanationForm::Dot { is_whole } = form {
-        let graph = graph_item(compiled, alloc, typed, run, judged, number, is_whole)?;
+        let graph = draw_search_as_graphviz(compiled, alloc, typed, run, judged, number, is_whole)?;
         text.extend_from_slice(graph.as_slice())?;
         return Ok(text);
     }
     let explanation = explain_item(compiled, alloc, typed, run, judged, number, place)?;
-    form.with_item(text, alloc, &explanation)
+    form.append_explanation_in_form(text, alloc, &explanation)
 }
 
 /// How many of the judged items are explained.
@@ -100,9 +100,9 @@ fn explanations(
         number = number.saturating_add(1);
         if count < asked.most && asked.chosen.includes(number, judged) {
             if count > 0 {
-                text.extend_from_slice(form.between().as_bytes())?;
+                text.extend_from_slice(form.separator_of_explanations().as_bytes())?;
             }
-            text = with_item(text, alloc, compiled, form, run, judged, number, place)?;
+            text = append_explained_item(text, alloc, compiled, form, run, judged, number, place)?;
             count = count.saturating_add(1);
             steps.add(1);
         }
@@ -156,8 +156,8 @@ fn explain_output<R: Threads + Sync>(
         Ok(file) => file,
         Err(output) => return Ok(output),
     };
-    let runs = join_parts(alloc, runs)?;
-    let places = first_places(alloc, asked.files, input)?;
+    let runs = concatenate_run_lists(alloc, runs)?;
+    let places = tree_places_in_input(alloc, asked.files, input)?;
     chosen_output(
         alloc,
         &compiled,

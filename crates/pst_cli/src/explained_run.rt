@@ -3,7 +3,7 @@ ghost use Rattle.std.specs.Prelude.{◌≡◌, IfOk, IfSome};
 ghost use Rattle.pst_runs.specs.Lawful.{IsLawful};
 
 use crate::compiled::load_compiled;
-use crate::judge::is_good;
+use crate::judge::is_explained_or_valid;
 use pst_case::{Case, CaseFaultKind, History, Run, Shaped, shape};
 use pst_explain::{explain_item, reason_text};
 use pst_judge::judge_one;
@@ -60,7 +60,7 @@ pub fn explain_run(
         return Ok(None);
     };
     let judged = judge_one(compiled, alloc, &run)?;
-    if is_good(&judged) {
+    if is_explained_or_valid(&judged) {
         return Ok(None);
     }
     let explanation = explain_item(compiled, alloc, typed, &run, &judged, 1, None)?;

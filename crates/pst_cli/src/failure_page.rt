@@ -9,7 +9,7 @@ use pst_compile::Compiled;
 use pst_explain::explain_item;
 use pst_json::{
     AFTER_DATA, AFTER_ITEMS, AFTER_NO_ITEM, BEFORE_DATA, BETWEEN_ITEMS, CampaignFacts,
-    campaign_start, trial_json,
+    json_campaign_document_start, trial_json,
 };
 use pst_judge::{Judged, judge_one};
 use pst_ledger::Entry;
@@ -167,7 +167,7 @@ pub fn campaign_page(
     };
     let CampaignFailures { facts, each } = failures;
     let compiled = &file.compiled;
-    let start = campaign_start(alloc, files, facts, compiled.typed().source())?;
+    let start = json_campaign_document_start(alloc, files, facts, compiled.typed().source())?;
     let mut text = Vec::from_slice(alloc, BEFORE_DATA.as_bytes())?;
     text.extend_from_slice(start.as_slice())?;
     add_failures(&mut text, alloc, compiled, each)?;

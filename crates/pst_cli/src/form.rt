@@ -1,8 +1,9 @@
 //! The forms of explanations.
 
-use pst_explain::{Explanation, colored_text, explanation_text};
+use pst_explain::{Explanation, append_colored_explanation_text, explanation_text};
 use pst_json::{
-    AFTER_DATA, AFTER_ITEMS, AFTER_NO_ITEM, BEFORE_DATA, BETWEEN_ITEMS, document_start, item_json,
+    AFTER_DATA, AFTER_ITEMS, AFTER_NO_ITEM, BEFORE_DATA, BETWEEN_ITEMS, item_json,
+    json_document_start,
 };
 use pst_model::Source;
 use pst_sources::SourceFile;
@@ -34,17 +35,17 @@ impl ExplanationForm {
         match self {
             ExplanationForm::Text(_) | ExplanationForm::Colored(_) | ExplanationForm::Dot { .. } =>
                 Ok(Vec::new(alloc)),
-            ExplanationForm::Json => document_start(alloc, files, model),
+            ExplanationForm::Json => json_document_start(alloc, files, model),
             ExplanationForm::Html => {
                 let mut text = Vec::from_slice(alloc, BEFORE_DATA.as_bytes())?;
-                text.extend_from_slice(document_start(alloc, files, model)?.as_slice())?;
+                text.extend_from_slice(json_document_start(alloc, files, model)?.as_slice())?;
                 Ok(text)
             }
         }
     }
 
     /// What comes between two items.
-    pub(crate) fn between(self) -> &'static str {
+    pub(crate) fn separator_of_explanations(self) -> &'static str {
         match self {
             ExplanationForm::Text(_) | ExplanationForm::Colored(_) => "\n",
             ExplanationForm::Json | ExplanationForm::Html => BETWEEN_ITEMS,
@@ -53,7 +54,7 @@ impl ExplanationForm {
     }
 
     /// `text` and after it an item, but for a graph.
-    pub(crate) fn with_item(
+    pub(crate) fn append_explanation_in_form(
         self,
         mut text: Vec<u8>,
         alloc: Global,
@@ -61,7 +62,12 @@ impl ExplanationForm {
     ) -> Result<Vec<u8>, AllocError> {
         match self {
             ExplanationForm::Text(width) => explanation_text(text, alloc, explanation, width),
-            ExplanationForm::Colored(width) => colored_text(text, alloc, explanation, width),
+            ExplanationForm::Colored(width) => append_colored_explanation_text(
+                text,
+                alloc,
+                explanation,
+                width,
+            ),
             ExplanationForm::Json | ExplanationForm::Html => {
                 text.extend_from_slice(item_json(alloc, explanation)?.as_slice())?;
                 Ok(text)

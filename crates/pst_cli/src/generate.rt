@@ -22,7 +22,7 @@ use crate::status::Status;
 use crate::stream::Cut;
 use pst_case::Run;
 use pst_eval::FaultPlace;
-use pst_rejudge::{Field, Name, add_number, add_words, object_line};
+use pst_rejudge::{Field, Name, add_number_field, add_text_field, object_line};
 use pst_sexpr::{Sink, WriteFailed, put_all};
 use pst_trial::{Plan, Settings, may_share_records, trial_case};
 use pst_typing::{ModelFile, Refusal, load};
@@ -51,10 +51,10 @@ fn genfault_fields(alloc: Global, number: u64, place: &FaultPlace) -> Result<Vec
     ensures { IfOk result (λ fields. fields.items ≡ genfault_fields number place.now) }
 {
     let mut fields = Vec::new(alloc);
-    add_number(&mut fields, Name::GenFault, number)?;
-    add_number(&mut fields, Name::Command, place.command as u64)?;
-    add_words(alloc, &mut fields, Name::Callback, place.callback.name())?;
-    add_words(alloc, &mut fields, Name::Fault, place.fault.name())?;
+    add_number_field(&mut fields, Name::GenFault, number)?;
+    add_number_field(&mut fields, Name::Command, place.command as u64)?;
+    add_text_field(alloc, &mut fields, Name::Callback, place.callback.name())?;
+    add_text_field(alloc, &mut fields, Name::Fault, place.fault.name())?;
     Ok(fields)
 }
 

@@ -7,14 +7,14 @@ ghost use Rattle.pst_cli.specs.Sending.{Prints};
 ghost use Rattle.pst_runs.specs.Lawful.{AreLawful};
 
 use crate::chosen::refused_item;
-use crate::judge::{is_good, status_of};
-use crate::judged::{JudgedFile, join_parts, judged_file};
+use crate::judge::{is_explained_or_valid, status_of};
+use crate::judged::{JudgedFile, concatenate_run_lists, judged_file};
 use crate::kept::Keep;
 use crate::output::{Output, send};
 use crate::status::Status;
 use pst_case::Run;
 use pst_compile::Compiled;
-use pst_explain::graph_item;
+use pst_explain::draw_search_as_graphviz;
 use pst_judge::Judged;
 use pst_rejudge::ProgressCounter;
 use pst_sexpr::Sink;
@@ -26,7 +26,7 @@ fn first_failed(all: &[Judged]) -> usize
     ensures { result ≡ first_failed 1 all.now }
 {
     for (index, judged) in all.iter().enumerate() {
-        if !is_good(judged) {
+        if !is_explained_or_valid(judged) {
             return index + 1;
         }
     }
@@ -66,7 +66,7 @@ fn item_graph(
     let Some(judged) = all.get(index) else {
         return Ok(None);
     };
-    let graph = graph_item(
+    let graph = draw_search_as_graphviz(
         compiled,
         alloc,
         compiled.typed(),
@@ -119,7 +119,7 @@ fn graph_output<R: Threads + Sync>(
         Ok(file) => file,
         Err(output) => return Ok(output),
     };
-    let runs = join_parts(alloc, runs)?;
+    let runs = concatenate_run_lists(alloc, runs)?;
     chosen_graph(
         alloc,
         &compiled,

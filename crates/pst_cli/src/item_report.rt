@@ -32,7 +32,7 @@ pub(crate) enum ItemReport {
 }
 
 /// The report of a driven case.
-fn run_report(
+fn judge_driven_run(
     alloc: Global,
     compiled: &Compiled,
     number: usize,
@@ -75,7 +75,7 @@ pub(crate) fn drive_item<R: Threads + Wait>(
     match pst_driver::run(rt, alloc, compiled.typed(), system, &valid) {
         Ok(history) => {
             let shaped = valid.into_shaped();
-            run_report(alloc, compiled, number, shaped, history, counts)
+            judge_driven_run(alloc, compiled, number, shaped, history, counts)
         }
         Err(fault) => {
             counts.add_lost();

@@ -3,13 +3,13 @@ ghost use Rattle.std.specs.Prelude.{◌≡◌, IfOk, MatchResult};
 ghost use Rattle.pst_cli.specs.Output.{HoldsRuns, IsFirstRefusal};
 
 use crate::compiled::{CompiledFile, load_compiled};
-use crate::judge::{refused_run, runs_in};
+use crate::judge::{read_runs_of_trees, refused_run};
 use crate::output::Output;
 use crate::refusal::refusal_output;
 use pst_case::Run;
 use pst_compile::Compiled;
-use pst_explain::first_places;
-use pst_typing::items_of;
+use pst_explain::tree_places_in_input;
+use pst_typing::trees_after_model;
 use std::alloc::{AllocError, Global};
 
 /// A model, and the runs after it.
@@ -23,7 +23,7 @@ pub struct ModelAndRuns {
 
 /// Returns how many items an input has after its model. The input must be read without a fault.
 pub fn item_count(alloc: Global, input: &[u8]) -> Result<usize, AllocError> {
-    let trees = first_places(alloc, &[], input)?;
+    let trees = tree_places_in_input(alloc, &[], input)?;
     Ok(trees.len().saturating_sub(1))
 }
 
@@ -41,7 +41,7 @@ pub fn read_in_order(
         Ok(file) => file,
         Err(refusal) => return Ok(Err(refusal_output(alloc, &refusal)?)),
     };
-    match runs_in(alloc, compiled.typed(), items_of(trees.as_slice()))? {
+    match read_runs_of_trees(alloc, compiled.typed(), trees_after_model(trees.as_slice()))? {
         Ok(runs) => Ok(Ok(ModelAndRuns { compiled, runs })),
         Err(fault) => Ok(Err(refused_run(alloc, &fault)?)),
     }

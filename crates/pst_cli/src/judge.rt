@@ -25,7 +25,7 @@ use std::alloc::{AllocError, Global};
 use std::thread::Threads;
 
 /// The runs that the trees spell, or the fault of the first refused one.
-pub fn runs_in(
+pub fn read_runs_of_trees(
     alloc: Global,
     typed: &Typed,
     trees: &[Tree],
@@ -47,7 +47,7 @@ pub fn runs_in(
 }
 
 /// Whether the item is explained or valid.
-pub fn is_good(judged: &Judged) -> bool
+pub fn is_explained_or_valid(judged: &Judged) -> bool
     ensures { result ≡ is_good judged.now }
 {
     match judged {
@@ -59,7 +59,7 @@ pub fn is_good(judged: &Judged) -> bool
 fn are_good(all: &[Judged]) -> bool
     ensures { result ≡ list_all is_good all.now }
 {
-    all.iter().all(|judged| is_good(judged))
+    all.iter().all(|judged| is_explained_or_valid(judged))
 }
 
 /// `Accepted` if all items are explained or valid, else `Failed`.
@@ -89,7 +89,7 @@ pub fn refused_run(alloc: Global, fault: &RunFault) -> Result<Output, AllocError
 }
 
 /// The lines of the items after the model, and the items as far as `keep` says; or the first refusal.
-fn judge_output<R: Threads + Sync>(
+fn output_of_judge_command<R: Threads + Sync>(
     rt: &R,
     alloc: Global,
     input: &[u8],
@@ -130,7 +130,7 @@ fn judge_keeping<W: Sink, R: Threads + Sync>(
     ensures lawful { IfSome result.1
         (λ judged. All (λ runs. AreLawful judged.compiled runs.items) judged.runs.items) }
 {
-    match judge_output(rt, alloc, input, shown, keep, steps) {
+    match output_of_judge_command(rt, alloc, input, shown, keep, steps) {
         Ok((output, judged)) => (send(output.text.as_slice(), output.status, sink), judged),
         Err(AllocError) => (send(b"refused memory\n", Status::Lost, sink), None),
     }

@@ -13,7 +13,8 @@ use pst_case::Run;
 use pst_compile::Compiled;
 use pst_judge::Judged;
 use pst_rejudge::{
-    JudgedParts, ProgressCounter, head_and_rest, judge_in_parts, rejudge_with_progress,
+    JudgedParts, ProgressCounter, judge_in_parts, rejudge_with_progress,
+    split_before_second_bracket_line,
 };
 use pst_sexpr::MAX_BYTES;
 use std::alloc::{AllocError, Global};
@@ -34,7 +35,7 @@ pub struct JudgedFile {
 /// `keep` says. Returns `None`, which says nothing about the input, if the input is over `MAX_BYTES`, if it does not
 /// begin with a well-typed model alone before the next line that begins with a bracket, or if some part of the rest
 /// cannot be read by itself.
-fn judged_at_once<R: Threads + Sync>(
+fn read_and_judge_in_parallel<R: Threads + Sync>(
     rt: &R,
     alloc: Global,
     input: &[u8],
@@ -47,7 +48,7 @@ fn judged_at_once<R: Threads + Sync>(
     if input.len() > MAX_BYTES {
         return Ok(None);
     }
-    let Some((head, rest)) = head_and_rest(input) else {
+    let Some((head, rest)) = split_before_second_bracket_line(input) else {
         return Ok(None);
     };
     let Ok(CompiledFile { compiled, trees }) = load_compiled(alloc, head)? else {
@@ -69,7 +70,7 @@ fn judged_at_once<R: Threads + Sync>(
 }
 
 /// Runs as one part.
-fn in_one_part(alloc: Global, runs: Vec<Run>) -> Result<Vec<Vec<Run>>, AllocError>
+fn wrap_runs_in_one_list(alloc: Global, runs: Vec<Run>) -> Result<Vec<Vec<Run>>, AllocError>
     ensures { IfOk result (λ parts. joined parts.items ≡ runs.items) }
 {
     let mut parts = Vec::new(alloc);
@@ -78,7 +79,7 @@ fn in_one_part(alloc: Global, runs: Vec<Run>) -> Result<Vec<Vec<Run>>, AllocErro
 }
 
 /// The runs of all parts, in order.
-pub fn join_parts(alloc: Global, parts: Vec<Vec<Run>>) -> Result<Vec<Run>, AllocError>
+pub fn concatenate_run_lists(alloc: Global, parts: Vec<Vec<Run>>) -> Result<Vec<Run>, AllocError>
     ensures { IfOk result (λ runs. runs.items ≡ joined parts.items) }
 {
     let mut runs = Vec::new(alloc);
@@ -90,7 +91,7 @@ pub fn join_parts(alloc: Global, parts: Vec<Vec<Run>>) -> Result<Vec<Run>, Alloc
 
 /// Reads the input from its first byte to its last and then judges its items, several at once. Returns the items and
 /// judgements, or the output for the first refusal.
-fn judged_in_order<R: Threads + Sync>(
+fn read_in_order_then_judge<R: Threads + Sync>(
     rt: &R,
     alloc: Global,
     input: &[u8],
@@ -107,7 +108,7 @@ fn judged_in_order<R: Threads + Sync>(
     may_share_compiled();
     steps.set_total(runs.len());
     let judged = rejudge_with_progress(rt, &compiled, alloc, runs.as_slice(), steps)?;
-    let runs = in_one_part(alloc, runs)?;
+    let runs = wrap_runs_in_one_list(alloc, runs)?;
     Ok(Ok(JudgedFile {
         compiled,
         runs,
@@ -128,8 +129,8 @@ pub fn judged_file<R: Threads + Sync>(
         (λ file. HoldsJudged (keeps_all keep) input.now file.compiled (joined file.runs.items) file.judged.items)
         (λ output. IsFirstRefusal input.now output.text.items output.status)) }
 {
-    match judged_at_once(rt, alloc, input, keep, steps)? {
+    match read_and_judge_in_parallel(rt, alloc, input, keep, steps)? {
         Some(file) => Ok(Ok(file)),
-        None => judged_in_order(rt, alloc, input, steps),
+        None => read_in_order_then_judge(rt, alloc, input, steps),
     }
 }

@@ -17,7 +17,7 @@ ghost use Rattle.pst_cli.specs.Sending.{Prints};
 ghost use Rattle.pst_cli.specs.declared.status.Status.TheVariants.{Accepted};
 
 use crate::compiled::{CompiledFile, load_compiled};
-use crate::judge::{is_good, refused_run_line};
+use crate::judge::{is_explained_or_valid, refused_run_line};
 use crate::lines::add_item_line;
 use crate::output::{Output, send};
 use crate::refusal::refusal_output;
@@ -28,7 +28,7 @@ use crate::status::Status;
 use pst_rejudge::{ItemResult, ProgressCounter, judge_each};
 use pst_runs::RunFault;
 use pst_sexpr::Sink;
-use pst_typing::items_of;
+use pst_typing::trees_after_model;
 use std::alloc::{AllocError, Global};
 use std::thread::Threads;
 
@@ -67,11 +67,11 @@ fn answer_lines(alloc: Global, answers: &[ItemResult]) -> Result<String, AllocEr
 }
 
 /// Whether the item is explained or valid.
-pub fn is_good_answer(answer: &ItemResult) -> bool
+pub fn is_result_explained_or_valid(answer: &ItemResult) -> bool
     ensures { result ≡ is_good_answer answer.now }
 {
     match answer {
-        ItemResult::Judged(judged) => is_good(judged),
+        ItemResult::Judged(judged) => is_explained_or_valid(judged),
         ItemResult::Refused { .. } => false,
     }
 }
@@ -86,7 +86,7 @@ fn add_failed_line(
     ensures { OnOk result
         (string_bytes text.new ≡ string_bytes text.old ++ failed_answer_line number answer.now) }
 {
-    if is_good_answer(answer) {
+    if is_result_explained_or_valid(answer) {
         return Ok(());
     }
     add_answer_line(alloc, text, number, answer)
@@ -159,7 +159,7 @@ fn keep_going_output<R: Threads + Sync>(
         Ok(file) => file,
         Err(refusal) => return Ok((refusal_output(alloc, &refusal)?, None)),
     };
-    let items = items_of(file.trees.as_slice());
+    let items = trees_after_model(file.trees.as_slice());
     may_share_compiled();
     steps.set_total(items.len());
     let answers = judge_each(

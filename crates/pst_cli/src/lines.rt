@@ -3,7 +3,7 @@ ghost use Rattle.std.specs.Prelude.{◌≡◌, ◌++◌, IfOk, OnOk, string_byte
 ghost use Rattle.pst_cli.specs.Output.{failure_line, failure_lines, item_line, item_lines, shown_lines};
 ghost use Rattle.pst_cli.specs.Rows.{IsRow, first_of};
 
-use crate::judge::is_good;
+use crate::judge::is_explained_or_valid;
 use crate::sharing::may_share_judged;
 use crate::shown::Shown;
 use pst_judge::Judged;
@@ -75,7 +75,7 @@ fn item_lines<R: Threads + Sync>(
 fn add_failure_line(text: &mut String, number: usize, judged: &Judged) -> Result<(), AllocError>
     ensures { OnOk result (string_bytes text.new ≡ string_bytes text.old ++ failure_line number judged.now) }
 {
-    if is_good(judged) {
+    if is_explained_or_valid(judged) {
         return Ok(());
     }
     add_item_line(text, number, judged)

@@ -7,8 +7,8 @@ use pst_case::{Case, History};
 use pst_ledger::Closed;
 use pst_rejudge::Field;
 use pst_report::{
-    NumberedFailure, add_failure, distinct_failures, ended_status, least_failure, least_fault,
-    report_fields,
+    NumberedFailure, add_losses_and_least_failure, distinct_failures, least_failure, least_fault,
+    report_fields, status_of_early_ended_campaign,
 };
 use pst_trial::{Plan, Record};
 use std::alloc::{AllocError, Global};
@@ -52,7 +52,7 @@ impl CampaignNotes {
     }
 
     /// Notes the results of the trials of a plan.
-    pub(crate) fn add(
+    pub(crate) fn add_trial_results(
         &mut self,
         alloc: Global,
         plan: &Plan,
@@ -61,8 +61,13 @@ impl CampaignNotes {
         requires { AreOf plan.now 0 closed.now }
     {
         let entries = closed.entries();
-        let mut fields = report_fields(alloc, plan, closed, ended_status(closed))?;
-        add_failure(alloc, &mut fields, plan, entries)?;
+        let mut fields = report_fields(
+            alloc,
+            plan,
+            closed,
+            status_of_early_ended_campaign(closed),
+        )?;
+        add_losses_and_least_failure(alloc, &mut fields, plan, entries)?;
         self.report = Some(fields);
         if self.for_page {
             self.explained = Some(CampaignFailures::from_entries(alloc, plan, entries)?);

@@ -17,7 +17,7 @@ ghost use Rattle.pst_rejudge.specs.Objects.{object_line};
 ghost use Rattle.pst_rejudge.specs.Verdicts.{accepted_fields};
 
 use crate::compiled::load_compiled;
-use crate::keep::{AnsweredFile, is_good_answer, worst_status};
+use crate::keep::{AnsweredFile, is_result_explained_or_valid, worst_status};
 use crate::output::{Output, send};
 use crate::sharing::may_share_compiled;
 use crate::shown::Shown;
@@ -28,7 +28,7 @@ use pst_rejudge::{
     refusal_fields, refused_fields,
 };
 use pst_sexpr::Sink;
-use pst_typing::{Refusal, items_of, load, model_name};
+use pst_typing::{Refusal, load, model_name, trees_after_model};
 use std::alloc::{AllocError, Global};
 use std::thread::Threads;
 
@@ -53,7 +53,7 @@ fn add_shown(
 ) -> Result<(), AllocError>
     ensures { OnOk result (text.new.items ≡ text.old.items ++ shown_object shown number answer.now) }
 {
-    if shown == Shown::Failures && is_good_answer(answer) {
+    if shown == Shown::Failures && is_result_explained_or_valid(answer) {
         return Ok(());
     }
     let line = answer_object(alloc, number, answer)?;
@@ -84,7 +84,7 @@ pub(crate) fn refusal_object(alloc: Global, refusal: &Refusal) -> Result<Output,
 }
 
 /// The objects of the displayed items after the model, and all answers; or the object of the model's refusal.
-fn judge_output<R: Threads + Sync>(
+fn json_output_of_judge_command<R: Threads + Sync>(
     rt: &R,
     alloc: Global,
     input: &[u8],
@@ -99,7 +99,7 @@ fn judge_output<R: Threads + Sync>(
         Ok(file) => file,
         Err(refusal) => return Ok((refusal_object(alloc, &refusal)?, None)),
     };
-    let items = items_of(file.trees.as_slice());
+    let items = trees_after_model(file.trees.as_slice());
     may_share_compiled();
     steps.set_total(items.len());
     let answers = judge_each(
@@ -155,7 +155,7 @@ pub fn judge_json_with_progress<W: Sink, R: Threads + Sync>(
     ensures held { IfSome result.1 (λ answered. HoldsAnswers input.now answered.file.compiled
         answered.file.trees.items answered.answers.items) }
 {
-    match judge_output(rt, alloc, input, shown, steps) {
+    match json_output_of_judge_command(rt, alloc, input, shown, steps) {
         Ok((output, answered)) => (send(output.text.as_slice(), output.status, sink), answered),
         Err(AllocError) => (send(MEMORY_OBJECT, Status::Lost, sink), None),
     }
@@ -186,7 +186,11 @@ fn model_object(alloc: Global, input: &[u8]) -> Result<Output, AllocError>
 }
 
 /// The object of a well-typed model, or of its first refusal, followed by the notices.
-fn check_output(alloc: Global, input: &[u8], notices: &[u8]) -> Result<Output, AllocError>
+fn json_output_of_check_command(
+    alloc: Global,
+    input: &[u8],
+    notices: &[u8],
+) -> Result<Output, AllocError>
     ensures { IfOk result (λ output. IsCheckJson input.now notices.now output.text.items output.status) }
 {
     let Output { mut text, status } = model_object(alloc, input)?;
@@ -202,7 +206,7 @@ pub fn check_json<W: Sink>(alloc: Global, input: &[u8], notices: &[u8], sink: &m
     ensures { PrintsElse memory_object (IsCheckJson input.now notices.now)
         (W.taken sink.old) (W.taken sink.new) (W.broken sink.new) result }
 {
-    match check_output(alloc, input, notices) {
+    match json_output_of_check_command(alloc, input, notices) {
         Ok(output) => send(output.text.as_slice(), output.status, sink),
         Err(AllocError) => send(MEMORY_OBJECT, Status::Lost, sink),
     }

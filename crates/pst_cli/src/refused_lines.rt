@@ -49,7 +49,7 @@ fn line_end(bytes: &[u8], from: usize) -> usize {
 }
 
 /// Hands over the refused lines among `ended`. `begun` is the beginning of the first line.
-fn hand_over<L: RefusedLines>(
+fn hand_over_refused_lines<L: RefusedLines>(
     lines: &mut L,
     begun: Vec<u8>,
     ended: EndedLines<'_>,
@@ -82,6 +82,6 @@ pub(crate) fn pass_refused<L: RefusedLines>(
     };
     let is_refused = |answer: &ItemResult| matches!(answer, ItemResult::Refused { .. });
     if ended.answers.iter().any(is_refused) {
-        let _ = hand_over(lines, begun, ended);
+        let _ = hand_over_refused_lines(lines, begun, ended);
     }
 }

@@ -7,10 +7,10 @@ ghost use Rattle.pst_system.specs.Kept.{AreKept};
 
 use crate::compiled::load_compiled;
 use crate::counts::Counts;
-use crate::judge::{refused_run, runs_in};
+use crate::judge::{read_runs_of_trees, refused_run};
 use crate::output::{Output, joined, send};
 use crate::refusal::refusal_output;
-use crate::run::{valid_report, why_line};
+use crate::run::{drive_and_report_valid_case, invalid_case_line};
 use crate::status::Status;
 use pst_case::{Run, Shaped};
 use pst_compile::Compiled;
@@ -18,7 +18,7 @@ use pst_judge::{Valid, valid};
 use pst_rejudge::ProgressCounter;
 use pst_sexpr::Sink;
 use pst_system::{BoxedSystem, System};
-use pst_typing::items_of;
+use pst_typing::trees_after_model;
 use std::alloc::{AllocError, Global};
 use std::sync::Wait;
 use std::thread::Threads;
@@ -34,7 +34,7 @@ fn is_accepted(status: Status) -> bool
 }
 
 /// The report to display for a case after one more drive: the first that is not accepted, or else the last.
-fn shown_after(shown: Option<Output>, output: Output) -> Option<Output>
+fn report_to_show_after_drive(shown: Option<Output>, output: Output) -> Option<Output>
     ensures { result ≡ shown_after shown output }
 {
     match shown {
@@ -50,7 +50,7 @@ fn shown_after(shown: Option<Output>, output: Output) -> Option<Output>
 }
 
 /// How many drives failed after one more with `status`.
-fn failed_after(failed: u32, status: Status) -> u32
+fn failed_drives_after_drive(failed: u32, status: Status) -> u32
     requires { failed + 1 < 2 ^ 32 }
     ensures { result ≡ (if is_accepted status then failed else failed + 1) }
 {
@@ -62,12 +62,12 @@ fn failed_after(failed: u32, status: Status) -> u32
 }
 
 /// The counts of the displayed report after one more drive: `drive` if no earlier drive failed, else `own`.
-pub(crate) fn counts_after(failed: u32, own: Counts, drive: Counts) -> Counts {
+pub(crate) fn counts_to_show_after_drive(failed: u32, own: Counts, drive: Counts) -> Counts {
     if failed == 0 { drive } else { own }
 }
 
 /// The displayed report of a case, followed by the line `NUMBER drives N failed K`.
-fn with_drives(
+fn append_line_of_drive_counts(
     alloc: Global,
     number: usize,
     shown: Output,
@@ -85,7 +85,7 @@ fn with_drives(
 }
 
 /// Drives a valid case `repeats` times, or until a drive is lost, and returns the report of its item.
-fn repeated_report<R: Threads + Wait>(
+fn drive_and_report_case_repeatedly<R: Threads + Wait>(
     rt: &R,
     alloc: Global,
     compiled: &Compiled,
@@ -110,18 +110,20 @@ fn repeated_report<R: Threads + Wait>(
     for _drive in 0..repeats {
         let copy = valid.copy(alloc, compiled.typed().source())?;
         let mut drive = Counts::new();
-        let output = valid_report(rt, alloc, compiled, system, number, copy, &mut drive)?;
+        let output = drive_and_report_valid_case(
+            rt, alloc, compiled, system, number, copy, &mut drive,
+        )?;
         if output.status == Status::Lost {
             counts.add_counts(drive);
             return Ok(output);
         }
-        own = counts_after(failed, own, drive);
-        failed = failed_after(failed, output.status);
-        shown = shown_after(shown, output);
+        own = counts_to_show_after_drive(failed, own, drive);
+        failed = failed_drives_after_drive(failed, output.status);
+        shown = report_to_show_after_drive(shown, output);
     }
     counts.add_counts(own);
     match shown {
-        Some(shown) => with_drives(alloc, number, shown, repeats, failed),
+        Some(shown) => append_line_of_drive_counts(alloc, number, shown, repeats, failed),
         None => unreachable!(),
     }
 }
@@ -148,11 +150,13 @@ fn item_report<R: Threads + Wait>(
     let copy = shaped.copy(alloc, compiled.typed().source())?;
     match valid(compiled, alloc, copy) {
         Ok(valid) => {
-            repeated_report(rt, alloc, compiled, system, number, &valid, repeats, counts)
+            drive_and_report_case_repeatedly(
+                rt, alloc, compiled, system, number, &valid, repeats, counts,
+            )
         }
         Err(refused) => {
             counts.add_invalid(&refused.1);
-            let line = why_line(alloc, number, refused.1)?;
+            let line = invalid_case_line(alloc, number, refused.1)?;
             Ok(Output::new(line, Status::Failed))
         }
     }
@@ -197,7 +201,7 @@ fn item_reports<R: Threads + Wait>(
 }
 
 /// The reports of all items, one after another, and the worst of their statuses.
-fn all_reports<R: Threads + Wait>(
+fn drive_and_join_all_reports<R: Threads + Wait>(
     rt: &R,
     alloc: Global,
     compiled: &Compiled,
@@ -240,10 +244,10 @@ fn repeat_output<R: Threads + Wait>(
         Ok(file) => file,
         Err(refusal) => return refusal_output(alloc, &refusal),
     };
-    let items = items_of(file.trees.as_slice());
-    match runs_in(alloc, file.compiled.typed(), items)? {
+    let items = trees_after_model(file.trees.as_slice());
+    match read_runs_of_trees(alloc, file.compiled.typed(), items)? {
         Ok(runs) => {
-            all_reports(
+            drive_and_join_all_reports(
                 rt,
                 alloc,
                 &file.compiled,

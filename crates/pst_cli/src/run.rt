@@ -15,7 +15,7 @@ ghost use Rattle.pst_system.specs.Kept.{AreKept};
 use crate::compiled::load_compiled;
 use crate::counts::Counts;
 use crate::item_report::{drive_item, report_output};
-use crate::judge::{is_good, refused_run, runs_in};
+use crate::judge::{is_explained_or_valid, read_runs_of_trees, refused_run};
 use crate::lines::item_line;
 use crate::output::{Output, send};
 use crate::refusal::refusal_output;
@@ -28,7 +28,7 @@ use pst_rejudge::ProgressCounter;
 use pst_runs::run_tree;
 use pst_sexpr::{Out, Sink, Tree, WriteFailed, put_all, write};
 use pst_system::{BoxedSystem, System};
-use pst_typing::items_of;
+use pst_typing::trees_after_model;
 use std::alloc::{AllocError, Global};
 use std::sync::Wait;
 use std::thread::Threads;
@@ -59,7 +59,7 @@ pub(crate) fn tree_line(alloc: Global, typed: &Typed, run: &Run) -> Result<Vec<u
 pub fn status_of_one(judged: &Judged) -> Status
     ensures { result ≡ status_of_one judged.now }
 {
-    if is_good(judged) {
+    if is_explained_or_valid(judged) {
         Status::Accepted
     } else {
         Status::Failed
@@ -67,7 +67,11 @@ pub fn status_of_one(judged: &Judged) -> Status
 }
 
 /// `NUMBER` and the reason why the case is not valid.
-pub(crate) fn why_line(alloc: Global, number: usize, why: Why) -> Result<String, AllocError>
+pub(crate) fn invalid_case_line(
+    alloc: Global,
+    number: usize,
+    why: Why,
+) -> Result<String, AllocError>
     ensures reason { OnOk result (why ≡ reasons.NoMemory → ⊥) }
     ensures line { IfOk result (λ line. string_bytes line ≡ item_line number (kind.Invalid why)) }
 {
@@ -78,7 +82,7 @@ pub(crate) fn why_line(alloc: Global, number: usize, why: Why) -> Result<String,
 }
 
 /// Drives a valid case once, and returns the report of its item.
-pub(crate) fn valid_report<R: Threads + Wait>(
+pub(crate) fn drive_and_report_valid_case<R: Threads + Wait>(
     rt: &R,
     alloc: Global,
     compiled: &Compiled,
@@ -117,10 +121,12 @@ fn item_report<R: Threads + Wait>(
 {
     let copy = shaped.copy(alloc, compiled.typed().source())?;
     match valid(compiled, alloc, copy) {
-        Ok(valid) => valid_report(rt, alloc, compiled, system, number, valid, counts),
+        Ok(valid) => drive_and_report_valid_case(
+            rt, alloc, compiled, system, number, valid, counts,
+        ),
         Err(refused) => {
             counts.add_invalid(&refused.1);
-            let line = why_line(alloc, number, refused.1)?;
+            let line = invalid_case_line(alloc, number, refused.1)?;
             Ok(Output::new(line, Status::Failed))
         }
     }
@@ -174,8 +180,8 @@ fn run_output<R: Threads + Wait>(
         Ok(file) => file,
         Err(refusal) => return refusal_output(alloc, &refusal),
     };
-    let items = items_of(file.trees.as_slice());
-    match runs_in(alloc, file.compiled.typed(), items)? {
+    let items = trees_after_model(file.trees.as_slice());
+    match read_runs_of_trees(alloc, file.compiled.typed(), items)? {
         Ok(runs) => item_reports(
             rt,
             alloc,

@@ -5,21 +5,22 @@ ghost use Rattle.pst_runs.specs.Lawful.{AreLawful};
 use crate::compiled::load_compiled;
 use crate::counts::Counts;
 use crate::item_report::{ItemReport, drive_item, report_status};
-use crate::judge::runs_in;
+use crate::judge::read_runs_of_trees;
 use crate::objects::{MEMORY_OBJECT, refusal_object};
 use crate::output::{Output, send};
-use crate::repeat::counts_after;
+use crate::repeat::counts_to_show_after_drive;
 use crate::status::Status;
 use pst_case::{Run, Shaped};
 use pst_compile::Compiled;
 use pst_judge::{Judged, Valid, Why, valid};
 use pst_rejudge::{
-    Field, Name, ProgressCounter, add_number, add_words, judged_fields, object_line, refused_fields,
+    Field, Name, ProgressCounter, add_number_field, add_text_field, judged_fields, object_line,
+    refused_fields,
 };
 use pst_runs::RunFault;
 use pst_sexpr::Sink;
 use pst_system::BoxedSystem;
-use pst_typing::items_of;
+use pst_typing::trees_after_model;
 use pst_value::Text;
 use std::alloc::{AllocError, Global};
 use std::sync::Wait;
@@ -41,7 +42,11 @@ struct Reported {
 
 /// The displayed report of a case after one more drive: the first that failed, or else the last. `failed` drives failed
 /// before.
-fn shown_after(shown: Option<ItemReport>, failed: u32, report: ItemReport) -> ItemReport {
+fn item_report_after_drive(
+    shown: Option<ItemReport>,
+    failed: u32,
+    report: ItemReport,
+) -> ItemReport {
     match shown {
         Some(shown) if failed > 0 => shown,
         _ => report,
@@ -76,8 +81,8 @@ fn drive_repeatedly<R: Threads + Wait>(
             });
         }
         let has_failed = report_status(&report) != Status::Accepted;
-        own = counts_after(failed, own, drive);
-        shown = Some(shown_after(shown, failed, report));
+        own = counts_to_show_after_drive(failed, own, drive);
+        shown = Some(item_report_after_drive(shown, failed, report));
         failed = failed.saturating_add(u32::from(has_failed));
     }
     counts.add_counts(own);
@@ -130,7 +135,7 @@ fn report_invalid(why: Why, counts: &mut Counts) -> Result<Reported, AllocError>
 }
 
 /// The report of an item.
-fn report_of<R: Threads + Wait>(
+fn drive_and_report_any_case<R: Threads + Wait>(
     rt: &R,
     alloc: Global,
     compiled: &Compiled,
@@ -150,7 +155,7 @@ fn report_of<R: Threads + Wait>(
 }
 
 /// Adds a run, which is on a line as a tree.
-fn add_run(fields: &mut Vec<Field>, line: Vec<u8>) -> Result<(), AllocError> {
+fn add_run_tree_field(fields: &mut Vec<Field>, line: Vec<u8>) -> Result<(), AllocError> {
     let mut line = line;
     let _line_end = line.pop();
     match String::from_utf8(line) {
@@ -171,15 +176,15 @@ fn item_report_fields(
     match report {
         ItemReport::Driven { line, judged } => {
             let mut fields = judged_fields(alloc, number, &judged)?;
-            add_run(&mut fields, line)?;
+            add_run_tree_field(&mut fields, line)?;
             Ok(fields)
         }
         ItemReport::Invalid(why) => judged_fields(alloc, number, &Judged::Invalid(why)),
         ItemReport::Lost(fault) => {
             let mut fields = Vec::new(alloc);
-            add_number(&mut fields, Name::Item, number as u64)?;
-            add_words(alloc, &mut fields, Name::Verdict, "lost")?;
-            add_words(alloc, &mut fields, Name::Fault, fault.name())?;
+            add_number_field(&mut fields, Name::Item, number as u64)?;
+            add_text_field(alloc, &mut fields, Name::Verdict, "lost")?;
+            add_text_field(alloc, &mut fields, Name::Fault, fault.name())?;
             Ok(fields)
         }
     }
@@ -194,8 +199,8 @@ fn item_report_object(
     let Reported { report, drives } = reported;
     let mut fields = item_report_fields(alloc, number, report)?;
     if let Some(drives) = drives {
-        add_number(&mut fields, Name::Drives, drives.all as u64)?;
-        add_number(&mut fields, Name::Failed, drives.failed as u64)?;
+        add_number_field(&mut fields, Name::Drives, drives.all as u64)?;
+        add_number_field(&mut fields, Name::Failed, drives.failed as u64)?;
     }
     object_line(alloc, fields.as_slice())
 }
@@ -218,7 +223,7 @@ fn item_objects<R: Threads + Wait>(
     steps.set_total(runs.len());
     for (index, run) in runs.iter().enumerate() {
         let number = index + 1;
-        let reported = report_of(
+        let reported = drive_and_report_any_case(
             rt,
             alloc,
             compiled,
@@ -259,8 +264,8 @@ fn json_output<R: Threads + Wait>(
         Ok(file) => file,
         Err(refusal) => return refusal_object(alloc, &refusal),
     };
-    let items = items_of(file.trees.as_slice());
-    match runs_in(alloc, file.compiled.typed(), items)? {
+    let items = trees_after_model(file.trees.as_slice());
+    match read_runs_of_trees(alloc, file.compiled.typed(), items)? {
         Ok(runs) => item_objects(
             rt,
             alloc,

@@ -14,7 +14,7 @@ use crate::refused_lines::{EndedLines, RefusedLines, begun_line, pass_refused};
 use crate::sharing::may_share_compiled;
 use crate::status::Status;
 use pst_compile::Compiled;
-use pst_rejudge::{ItemResult, ProgressCounter, StreamFault, next_block};
+use pst_rejudge::{ItemResult, ProgressCounter, StreamFault, read_and_judge_block};
 use pst_sexpr::{Sink, WriteFailed, put_all};
 use std::alloc::{AllocError, Global};
 use std::io::Read;
@@ -42,7 +42,11 @@ pub(crate) struct Written {
 }
 
 /// The lines of the answers, numbered from `count + 1` on.
-fn lines_after(alloc: Global, count: usize, answers: &[ItemResult]) -> Result<String, AllocError>
+fn numbered_item_result_lines(
+    alloc: Global,
+    count: usize,
+    answers: &[ItemResult],
+) -> Result<String, AllocError>
     ensures { IfOk result (λ text. string_bytes text ≡ answer_lines (count + 1) answers.now) }
 {
     let mut text = String::new(alloc);
@@ -78,7 +82,7 @@ fn write_block<W: Sink>(
     requires { W.broken sink.old ≡ false }
     ensures { EndsBlock written answers.now (W.taken sink.old) (W.taken sink.new) (W.broken sink.new) result }
 {
-    let text = match lines_after(alloc, written.count, answers) {
+    let text = match numbered_item_result_lines(alloc, written.count, answers) {
         Ok(text) => text,
         Err(AllocError) => return Err(Cut::NoMemory),
     };
@@ -136,7 +140,7 @@ fn write_stream<I: Read, W: Sink, R: Threads + Sync, L: RefusedLines>(
     };
     for _turn in 0..u64::MAX {
         let begun = begun_line(alloc, refused, kept.as_slice());
-        let block = match next_block(
+        let block = match read_and_judge_block(
             rt,
             compiled,
             alloc,

@@ -25,10 +25,23 @@ const STRAY_HINT: &str = "; print one line for each line, and log lines to stand
 /// How long a client that answers a reset as it did not before may take to print another line, in milliseconds.
 const LATE: u64 = 100;
 
+/// Whether a line begins as a JSON number does.
+fn begins_number(answer: &str) -> bool {
+    match answer.as_bytes().first() {
+        Some(byte) => byte.is_ascii_digit() || *byte == b'-',
+        None => false,
+    }
+}
+
 /// What to answer in place of a line that is no value.
 fn value_hint(answer: &str) -> &'static str {
     match answer.trim() {
         "null" => "; for an option answer [] or [x] (docs/language.md, Patterns)",
+        "" => "(an empty line)",
+        "True" | "False" | "None" => "; print JSON, as json.dumps does: true, false",
+        number if begins_number(number) => {
+            "; a number is an integer from -9223372036854775808 to 9223372036854775807"
+        }
         _ => "",
     }
 }
@@ -38,10 +51,10 @@ fn type_hint(ty: &Ty) -> &'static str {
     match ty {
         Ty::Int => "; type int is a number such as 7",
         Ty::Bool => "; type bool is true or false",
-        Ty::Text => "; type text is a string such as \"a\"",
-        Ty::Tuple(_) => "; a tuple is an array of its parts",
-        Ty::List(_) => "; a list is an array of its items",
-        Ty::Map(..) => "; a map is an object such as {\"a\":1}",
+        Ty::Text => "; type text is a string of printable ASCII such as \"a\"",
+        Ty::Tuple(_) => "; a tuple is an array with a part of each of its types",
+        Ty::List(_) => "; a list is an array, each item of its item type",
+        Ty::Map(..) => "; a map is an object such as {\"a\":1}, with keys and values of its types",
         _ => "",
     }
 }
@@ -218,7 +231,7 @@ impl<R: Wait + Files, I: Read + Ahead + Drop, O: Write + Drop> Clients<R, I, O> 
         self.notes.waits().begin_again(client);
         let mut connection = connection.lock(&self.rt);
         let stray = connection.drop_printed(&self.rt);
-        let is_astray = connection.take_astray();
+        let is_astray = connection.take_extra_line_flag();
         self.notes.waits().end(client);
         if let Some(text) = stray {
             self.note_stray(branch, text.as_str());

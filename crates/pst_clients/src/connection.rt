@@ -252,7 +252,7 @@ impl<I: Read + Ahead, O: Write> Connection<I, O> {
 
     /// Whether the client printed a line too many since it was reset, as far as is known. Then each of its
     /// answers may be that of another line. It is forgotten.
-    pub fn take_astray(&mut self) -> bool {
+    pub fn take_extra_line_flag(&mut self) -> bool {
         let is_astray = self.is_astray;
         self.is_astray = false;
         self.is_asked = false;

@@ -36,7 +36,7 @@ const KINDS: [NoteKind; 7] = [
 
 impl NoteKind {
     /// What the note says about the line.
-    fn what(self) -> &'static str {
+    fn phrase_about_line(self) -> &'static str {
         match self {
             NoteKind::NotAsked => "was not asked:",
             NoteKind::NotAnswered => "was not answered:",
@@ -235,7 +235,7 @@ impl Notes {
         let (operation, _) = line.as_str().split_once(',').unwrap_or((line.as_str(), ""));
         let worker = client.worker.saturating_add(1);
         let branch = client.branch.saturating_add(1);
-        let (what, hint) = (wrong.kind.what(), wrong.hint);
+        let (what, hint) = (wrong.kind.phrase_about_line(), wrong.hint);
         Ok(Note {
             topic: format!(in self.alloc; "{operation} {answer}")?,
             text: format!(in self.alloc;

@@ -61,7 +61,9 @@ pub fn expression_code(
             append_instruction(operands.code, Instr::List(register, operands.registers))
         }
         Expr::Map(_, _) => single_instruction(alloc, Instr::Const(register, empty_map(alloc)?)),
-        Expr::Put(map, key, value) => put_code(map, key, value, context, names, register, target),
+        Expr::Put(map, key, value) => map_put_code(
+            map, key, value, context, names, register, target,
+        ),
         Expr::Call(name, exprs) => call_code(name, exprs, context, names, target),
         Expr::Apply(name, exprs) => apply_code(name, exprs, context, names, target),
         Expr::For(clauses, body) => for_code(clauses, body, context, names, target),
@@ -163,7 +165,7 @@ pub fn binary_code(
 
 /// The code of a map with a key and its value, which goes to the register `dest`.
 #[cycle(expression_code)]
-pub fn put_code(
+pub fn map_put_code(
     map: &Boxed<Expr>,
     key: &Boxed<Expr>,
     value: &Boxed<Expr>,

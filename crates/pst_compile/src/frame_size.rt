@@ -22,14 +22,14 @@ fn next_register(register: u32) -> Result<u32, AllocError>
 }
 
 /// One past the greater of two registers.
-fn registers_of_two(a: u32, b: u32) -> Result<u32, AllocError>
+fn frame_size_for_two_registers(a: u32, b: u32) -> Result<u32, AllocError>
     ensures { IfOk result (λ count. count ≡ max (spec.past a) (spec.past b)) }
 {
     Ok(larger(next_register(a)?, next_register(b)?))
 }
 
 /// One past the greatest of some registers.
-fn registers_of_all(registers: &[u32]) -> Result<u32, AllocError>
+fn frame_size_for_registers(registers: &[u32]) -> Result<u32, AllocError>
     ensures { IfOk result (λ count. count ≡ spec.past_all registers.now) }
 {
     let mut count = 0;
@@ -40,7 +40,7 @@ fn registers_of_all(registers: &[u32]) -> Result<u32, AllocError>
 }
 
 /// One past the greatest register of an instruction.
-fn registers_of_instruction(instr: &Instr) -> Result<u32, AllocError>
+fn frame_size_for_instruction(instr: &Instr) -> Result<u32, AllocError>
     ensures { IfOk result (λ count. count ≡ spec.past_instr instr.now) }
 {
     match instr {
@@ -49,19 +49,28 @@ fn registers_of_instruction(instr: &Instr) -> Result<u32, AllocError>
         | Instr::Take(d, a)
         | Instr::Unary(_, d, a)
         | Instr::At(d, a, _)
-        | Instr::Append(d, a) => registers_of_two(*d, *a),
-        Instr::Binary(_, d, a, b) => Ok(larger(next_register(*d)?, registers_of_two(*a, *b)?)),
-        Instr::Put(d, a, b, c) => Ok(larger(registers_of_two(*d, *a)?, registers_of_two(*b, *c)?)),
+        | Instr::Append(d, a) => frame_size_for_two_registers(*d, *a),
+        Instr::Binary(_, d, a, b) => Ok(larger(
+            next_register(*d)?,
+            frame_size_for_two_registers(*a, *b)?,
+        )),
+        Instr::Put(d, a, b, c) => Ok(larger(
+            frame_size_for_two_registers(*d, *a)?,
+            frame_size_for_two_registers(*b, *c)?,
+        )),
         Instr::Tuple(d, from)
         | Instr::List(d, from)
         | Instr::Call(d, _, from)
         | Instr::Apply(d, _, from) => Ok(larger(
             next_register(*d)?,
-            registers_of_all(from.as_slice())?,
+            frame_size_for_registers(from.as_slice())?,
         )),
         Instr::Jump(_) => Ok(0),
         Instr::Unless(a, _) => next_register(*a),
-        Instr::Loop(d, a, i, _) => Ok(larger(next_register(*d)?, registers_of_two(*a, *i)?)),
+        Instr::Loop(d, a, i, _) => Ok(larger(
+            next_register(*d)?,
+            frame_size_for_two_registers(*a, *i)?,
+        )),
         Instr::Return(a) => next_register(*a),
     }
 }
@@ -72,7 +81,7 @@ pub fn frame_size(body: &[Instr]) -> Result<u32, AllocError>
 {
     let mut count = 0;
     for instr in body {
-        count = larger(count, registers_of_instruction(instr)?);
+        count = larger(count, frame_size_for_instruction(instr)?);
     }
     Ok(count)
 }

@@ -10,7 +10,7 @@ use crate::blocks::{
 use crate::expressions::{expression_code, operand_code};
 use crate::names::Names;
 use crate::operands::split_first;
-use crate::overwriting::overwrite;
+use crate::overwriting::overwriting_code;
 use crate::target::Target;
 use pst_eval::Context;
 use pst_machine::Instr;
@@ -31,7 +31,7 @@ pub fn for_code(
 {
     let built = target.register;
     let next = target.after(1)?.above(1)?;
-    let code = visit_code(clauses.as_slice(), body.get(), context, names, built, next)?;
+    let code = clauses_code(clauses.as_slice(), body.get(), context, names, built, next)?;
     let empty = Value::List(Items::new(context.alloc));
     prepend_instruction(context.alloc, Instr::Const(built, empty), code)
 }
@@ -60,7 +60,7 @@ pub fn fold_code(
     let inside = item.after(1)?.above(1)?;
     let outer = Names::With(name.as_bytes(), item.register, &*names);
     let inner = Names::With(acc.as_bytes(), built.register, &outer);
-    let turn = overwrite(body.get(), context, &inner, built.register, inside)?;
+    let turn = overwriting_code(body.get(), context, &inner, built.register, inside)?;
     let each = loop_code(context.alloc, list.register, index, turn)?;
     let rest = append_instruction(each, Instr::Take(target.register, built.register))?;
     concat_code(list.code, concat_code(opening, rest)?)
@@ -68,7 +68,7 @@ pub fn fold_code(
 
 /// The code of the clauses and the body, which appends to the list in the register `built`.
 #[cycle(expression_code)]
-fn visit_code(
+fn clauses_code(
     clauses: &[Clause],
     body: &Expr,
     context: &Context<'_>,
@@ -86,16 +86,16 @@ fn visit_code(
         }
         Some((first, rest)) => match first {
             Clause::In(name, list) => {
-                in_code(name, list, rest, body, context, names, built, target)
+                in_clause_code(name, list, rest, body, context, names, built, target)
             }
-            Clause::When(test) => when_code(test, rest, body, context, names, built, target),
+            Clause::When(test) => when_clause_code(test, rest, body, context, names, built, target),
         },
     }
 }
 
 /// The code of the other clauses and the body for each item of a list.
 #[cycle(expression_code)]
-fn in_code(
+fn in_clause_code(
     name: &Text,
     list: &Expr,
     rest: &[Clause],
@@ -114,7 +114,7 @@ fn in_code(
     let item = index.after(1)?.above(1)?;
     let inside = item.after(1)?.above(1)?;
     let inner = Names::With(name.as_bytes(), item.register, &*names);
-    let turn = visit_code(rest, body, context, &inner, built, inside)?;
+    let turn = clauses_code(rest, body, context, &inner, built, inside)?;
     concat_code(
         list.code,
         loop_code(context.alloc, list.register, index, turn)?,
@@ -123,7 +123,7 @@ fn in_code(
 
 /// The code that runs the other clauses and the body if a test is true.
 #[cycle(expression_code)]
-fn when_code(
+fn when_clause_code(
     test: &Expr,
     rest: &[Clause],
     body: &Expr,
@@ -138,7 +138,7 @@ fn when_code(
 {
     let operand = operand_code(test, context, names, target)?;
     let jump = target.after(operand.code.len())?;
-    let inner = visit_code(rest, body, context, names, built, jump.after(1)?)?;
+    let inner = clauses_code(rest, body, context, names, built, jump.after(1)?)?;
     let code = skipped_unless(context.alloc, operand.register, inner, jump.place)?;
     concat_code(operand.code, code)
 }

@@ -8,7 +8,7 @@ ghost use Rattle.pst_compile.specs.Code as spec;
 ghost use Rattle.pst_compile.specs.Scopes.{scope_of, code_in};
 
 use crate::blocks::{Block, append_instruction, concat_code, if_else_code};
-use crate::expressions::{binary_code, expression_code, operand_code, put_code};
+use crate::expressions::{binary_code, expression_code, map_put_code, operand_code};
 use crate::names::Names;
 use crate::operands::name_code;
 use crate::target::Target;
@@ -20,7 +20,7 @@ use pst_value::{Boxed, Text};
 /// The code of an expression, which leaves its value in the register `dest` in place of what that held. It
 /// changes no other register below the target's.
 #[cycle(expression_code)]
-pub fn overwrite(
+pub fn overwriting_code(
     expr: &Expr,
     context: &Context<'_>,
     names: &Names<'_>,
@@ -33,7 +33,7 @@ pub fn overwrite(
     match expr {
         Expr::Name(name) => name_code(name, context.alloc, names, target.to(dest)),
         Expr::Binary(operator, a, b) => binary_code(*operator, a, b, context, names, dest, target),
-        Expr::Put(map, key, value) => put_code(map, key, value, context, names, dest, target),
+        Expr::Put(map, key, value) => map_put_code(map, key, value, context, names, dest, target),
         Expr::Let(name, bound, body) => {
             overwrite_by_let(name, bound, body, context, names, dest, target)
         }
@@ -76,7 +76,7 @@ fn overwrite_by_let(
     let first = operand_code(bound.get(), context, names, target)?;
     let next = target.after(first.code.len())?.above(1)?;
     let inner = Names::With(name.as_bytes(), first.register, &*names);
-    let second = overwrite(body.get(), context, &inner, dest, next)?;
+    let second = overwriting_code(body.get(), context, &inner, dest, next)?;
     concat_code(first.code, second)
 }
 
@@ -97,9 +97,9 @@ fn overwrite_by_if(
     let operand = operand_code(test.get(), context, names, target)?;
     let jump = target.after(operand.code.len())?;
     let start = jump.after(1)?;
-    let first = overwrite(then.get(), context, names, dest, start)?;
+    let first = overwriting_code(then.get(), context, names, dest, start)?;
     let middle = start.after(first.len())?.after(1)?;
-    let second = overwrite(other.get(), context, names, dest, middle)?;
+    let second = overwriting_code(other.get(), context, names, dest, middle)?;
     let both = if_else_code(context.alloc, operand.register, first, second, jump.place)?;
     concat_code(operand.code, both)
 }

@@ -8,7 +8,7 @@ use crate::arrivals::StartBarrier;
 use crate::branches::{STACK_BYTES, copy_known, may_share_model};
 use crate::desk::{Delivery, Desk, Order};
 use crate::fault::DriveFault;
-use crate::part::run_part;
+use crate::part::call_commands_in_order;
 use crate::relations::{KeptSystem, Relations};
 use crate::subject::Subject;
 use crate::waiter::Waiter;
@@ -98,20 +98,20 @@ impl<J: Relations, S: Subject> Crew<J, S> {
 }
 
 /// Whether each command calls an operation of the model.
-fn are_known(typed: &Typed, commands: &[Command]) -> bool
+fn are_known_operations(typed: &Typed, commands: &[Command]) -> bool
     ensures { result ≡ all_known typed.now commands.now }
 {
     let Some((command, commands)) = commands.split_first() else {
         return true;
     };
     match operation_of(typed.source().items.as_slice(), command.op as usize) {
-        Some(_) => are_known(typed, commands),
+        Some(_) => are_known_operations(typed, commands),
         None => false,
     }
 }
 
 /// Copies the results that are known before an order, with room for those of its commands.
-fn known_before(alloc: Global, order: &Order) -> Result<Vec<Option<Value>>, AllocError>
+fn copy_results_before_order(alloc: Global, order: &Order) -> Result<Vec<Option<Value>>, AllocError>
     ensures { IfOk result (λ known. known.items ≡ order.now.known) }
 {
     let mut known = copy_known(alloc, order.known.as_slice())?;
@@ -132,11 +132,11 @@ fn run_order<J: Relations, S: Subject>(
     requires model { typed.now ≡ J.model }
     requires known { IfOk known (λ copies. copies.items ≡ order.known) }
 {
-    if !are_known(typed, order.commands.as_slice()) {
+    if !are_known_operations(typed, order.commands.as_slice()) {
         return Err(DriveFault::NoThread);
     }
     let commands = order.commands.as_slice();
-    let replies = run_part(alloc, typed, system.system(), branch, commands, known?)?;
+    let replies = call_commands_in_order(alloc, typed, system.system(), branch, commands, known?)?;
     Ok(Delivery::new(order, replies))
 }
 
@@ -159,7 +159,7 @@ fn run_orders<J: Relations, S: Subject, R: Wait>(
         let Some(order) = order else {
             return;
         };
-        let known = known_before(alloc, &order);
+        let known = copy_results_before_order(alloc, &order);
         let held = system.read(&waiter);
         arrivals.arrive::<R>();
         let done = run_order(alloc, typed, &*held, branch, order, known);

@@ -8,9 +8,9 @@ ghost use Rattle.pst_driver.specs.Progress.{PartRuns, BranchesRun, IsBranchFault
 ghost use Rattle.std.specs.List.{list_all};
 ghost use Rattle.pst_system.specs.Kept.{AreKept};
 
-use crate::branches::run_at_once;
+use crate::branches::run_branches_on_threads;
 use crate::fault::DriveFault;
-use crate::part::{run_part, skip_commands};
+use crate::part::{add_not_run_replies, call_commands_in_order};
 use crate::subject::Subject;
 use pst_case::{Case, Command, History, Reply, results_of};
 use pst_judge::Valid;
@@ -61,7 +61,7 @@ fn is_answered(history: &History) -> bool
 }
 
 /// The replies of branches that are not run.
-pub(crate) fn skip_all(
+pub(crate) fn not_run_replies_of_branches(
     alloc: Global,
     branches: &[Items<Command>],
 ) -> Result<Items<Items<Reply>>, AllocError>
@@ -70,7 +70,7 @@ pub(crate) fn skip_all(
     let mut all = Items::new(alloc);
     for branch in branches {
         let mut replies = Items::new(alloc);
-        skip_commands(&mut replies, branch.as_slice())?;
+        add_not_run_replies(&mut replies, branch.as_slice())?;
         all.push(replies)?;
     }
     Ok(all)
@@ -93,10 +93,10 @@ fn run_branches<S: Subject + Sync, R: Threads + Wait>(
     ensures fault { IfErr result (λ e. IsBranchFault branches.now e) }
 {
     if !all_answers(prefix) {
-        return Ok(skip_all(alloc, branches)?);
+        return Ok(not_run_replies_of_branches(alloc, branches)?);
     }
     let known = results_of(alloc, prefix)?;
-    run_at_once(rt, alloc, typed, system, branches, known)
+    run_branches_on_threads(rt, alloc, typed, system, branches, known)
 }
 
 /// The replies of the suffix, which runs if each reply before it is a value, and else not at all.
@@ -115,11 +115,11 @@ pub(crate) fn run_suffix<S: Subject>(
 {
     if !is_answered(so_far) {
         let mut replies = Items::new(alloc);
-        skip_commands(&mut replies, suffix)?;
+        add_not_run_replies(&mut replies, suffix)?;
         return Ok(replies);
     }
     let known = so_far.recorded(alloc)?;
-    run_part(alloc, typed, system, 0, suffix, known)
+    call_commands_in_order(alloc, typed, system, 0, suffix, known)
 }
 
 /// Drives a case that has the shape of the model.
@@ -142,7 +142,7 @@ fn drive_shaped<S: Subject + Sync, R: Threads + Wait>(
         return Err(DriveFault::ResetFailed);
     }
     let system = &*system;
-    let prefix = run_part(
+    let prefix = call_commands_in_order(
         alloc,
         typed,
         system,

@@ -1,4 +1,4 @@
-//! Driving a whole case with threads that are kept.
+//! Driving a whole case with the threads of a crew.
 ghost use Rattle.std.specs.Prelude.{◌≡◌, true, IfOk, IfErr, MatchBool, MatchResult, map};
 ghost use Rattle.std.specs.List.{list_all};
 ghost use Rattle.pst_case.specs.Matches.{matches};
@@ -7,30 +7,20 @@ ghost use Rattle.pst_case.specs.Shape.{IsShaped};
 ghost use Rattle.pst_driver.specs.Driven.{IsDriven, IsDriveFault, all_answers, none_run};
 ghost use Rattle.pst_driver.specs.Progress.{BranchesRun, IsBranchFault};
 
-use crate::branches::{add_none_known, copy_known, count_threads};
+use crate::branches::{add_unknown_results, copy_known, count_threads};
 use crate::crew::Crew;
 use crate::desk::Order;
-use crate::driving::{all_answers, run_suffix, skip_all};
+use crate::driving::{all_answers, not_run_replies_of_branches, run_suffix};
 use crate::fault::DriveFault;
-use crate::part::run_part;
+use crate::part::call_commands_in_order;
 use crate::relations::Relations;
 use crate::subject::Subject;
-use pst_case::{Case, Command, History, Reply, results_of};
+use pst_case::{Case, Command, History, Reply, copy_commands, results_of};
 use pst_judge::Valid;
 use pst_model::Typed;
 use pst_value::{Items, Value};
 use std::alloc::{AllocError, Global};
 use std::sync::Wait;
-
-fn copy_commands(alloc: Global, commands: &[Command]) -> Result<Items<Command>, AllocError>
-    ensures { IfOk result (λ copies. copies ≡ commands.now) }
-{
-    let mut copies = Items::new(alloc);
-    for command in commands {
-        copies.push(command.copy(alloc)?)?;
-    }
-    Ok(copies)
-}
 
 /// An order to run the commands with these known results.
 fn order_of(
@@ -46,10 +36,10 @@ fn order_of(
     })
 }
 
-/// The replies of the branches, each that is not empty by the thread that is kept for it. The first of them is
-/// branch `number`. Its order is given before those of the others, and its replies are taken after theirs, also
-/// if theirs are not to be had: so no thread is left with an order, and none waits for one that has none.
-fn order_branches<J: Relations, S: Subject, R: Wait>(
+/// Returns the replies of the branches. Its own thread runs each branch that is not empty. The first of them is branch
+/// `number`. It gives the order of this branch before those of the others, and takes its replies after theirs, also if
+/// theirs are a fault: so no thread keeps an order, and none waits for a thread without one.
+fn run_branches_with_crew<J: Relations, S: Subject, R: Wait>(
     rt: &R,
     alloc: Global,
     crew: &Crew<J, S>,
@@ -66,10 +56,10 @@ fn order_branches<J: Relations, S: Subject, R: Wait>(
         return Ok(replies);
     };
     let before = Items::from_vec(copy_known(alloc, known.as_slice())?);
-    add_none_known(&mut known, first.as_slice())?;
+    add_unknown_results(&mut known, first.as_slice())?;
     let next = number.saturating_add(1);
     if first.is_empty() {
-        let more = order_branches(rt, alloc, crew, next, others, known)?;
+        let more = run_branches_with_crew(rt, alloc, crew, next, others, known)?;
         replies.push(Items::new(alloc))?;
         replies.append(more)?;
         return Ok(replies);
@@ -79,7 +69,7 @@ fn order_branches<J: Relations, S: Subject, R: Wait>(
     };
     let order = order_of(alloc, first.as_slice(), before.as_slice())?;
     let seen = desk.give(rt, order);
-    let more = order_branches(rt, alloc, crew, next, others, known);
+    let more = run_branches_with_crew(rt, alloc, crew, next, others, known);
     if more.is_err() {
         crew.arrivals.release();
     }
@@ -111,11 +101,11 @@ fn run_branches<J: Relations, S: Subject, R: Wait>(
     ensures fault { IfErr result (λ e. IsBranchFault branches.now e) }
 {
     if !all_answers(prefix) {
-        return Ok(skip_all(alloc, branches)?);
+        return Ok(not_run_replies_of_branches(alloc, branches)?);
     }
     let known = results_of(alloc, prefix)?;
     crew.arrivals.set_expected(count_threads(branches));
-    order_branches(rt, alloc, crew, 0, branches, known)
+    run_branches_with_crew(rt, alloc, crew, 0, branches, known)
 }
 
 /// Drives a case that has the shape of the model.
@@ -136,7 +126,7 @@ fn drive_with_crew<J: Relations, S: Subject, R: Wait>(
     }
     let held = crew.system.read(rt);
     let system = held.system();
-    let prefix = run_part(
+    let prefix = call_commands_in_order(
         alloc,
         typed,
         system,
@@ -164,22 +154,21 @@ fn drive_with_crew<J: Relations, S: Subject, R: Wait>(
 }
 
 /// The fault where the threads did not run the branches: `NoThread` if one of these is not empty.
-fn not_run(branches: &[Items<Command>]) -> DriveFault
+fn fault_of_unrun_branches(branches: &[Items<Command>]) -> DriveFault
     ensures { IsBranchFault branches.now result }
 {
     let Some((first, others)) = branches.split_first() else {
         return DriveFault::NoMemory;
     };
     if first.is_empty() {
-        not_run(others)
+        fault_of_unrun_branches(others)
     } else {
         DriveFault::NoThread
     }
 }
 
-/// Does what `run` does, on the system of a crew and with its threads, which are to run by the same model. Each
-/// branch that is not empty is run by the thread that is kept for it. No other call may drive the crew
-/// meanwhile.
+/// Does what `run` does, on the system of a crew and with its threads, which are to run by the same model. Its
+/// own thread runs each branch that is not empty. No other call may drive the crew meanwhile.
 ///
 /// The faults are those of `run`. `NoThread`: the thread of a branch has not started. The history is compared
 /// with the model once more at the end, since no contract here says that the threads run by the same one.
@@ -205,6 +194,6 @@ pub fn run_with<J: Relations, S: Subject, R: Wait>(
     if history.matches(typed, shaped) {
         Ok(history)
     } else {
-        Err(not_run(case.branches.as_slice()))
+        Err(fault_of_unrun_branches(case.branches.as_slice()))
     }
 }

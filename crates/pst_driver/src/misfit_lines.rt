@@ -3,7 +3,7 @@
 use crate::misfits::{MOST_KEPT, Misfit, Misfits};
 use pst_model::{Source, operation_of};
 use pst_print::ty_form;
-use pst_scene::{add_form, add_str, add_value, text_of, value_text};
+use pst_scene::{add_form, add_str, add_value, copy_explanation_text, value_text};
 use pst_system::RealCall;
 use pst_value::Ty;
 use std::alloc::{AllocError, Global};
@@ -34,7 +34,7 @@ fn shorten_spelling(alloc: Global, spelling: &[u8]) -> Result<String, AllocError
 
 /// The call as items spell it.
 fn call_text(alloc: Global, model: &Source, call: &RealCall) -> Result<Vec<u8>, AllocError> {
-    let mut text = text_of(alloc, "(")?;
+    let mut text = copy_explanation_text(alloc, "(")?;
     add_str(&mut text, call.name.as_str())?;
     for arg in call.args.as_slice() {
         add_str(&mut text, " ")?;

@@ -9,7 +9,7 @@ ghost use Rattle.pst_model.specs.Fitting.{fits_in};
 use pst_case::Command;
 use pst_model::{Source, Typed};
 use pst_system::RealCall;
-use pst_value::{Items, Value};
+use pst_value::{Items, Value, copy_values};
 use std::alloc::{AllocError, Global};
 use std::sync::OnceLock;
 use std::sync::atomic::{AtomicU64, Ordering};
@@ -37,23 +37,13 @@ pub struct Misfits {
     kept: Vec<OnceLock<Misfit>>,
 }
 
-fn copy_values(alloc: Global, values: &[Value]) -> Result<Items<Value>, AllocError>
-    ensures { IfOk result (λ copies. copies ≡ values.now) }
-{
-    let mut copies = Items::new(alloc);
-    for value in values {
-        copies.push(value.copy(alloc)?)?;
-    }
-    Ok(copies)
-}
-
 fn copy_call(alloc: Global, call: &RealCall) -> Result<RealCall, AllocError>
     ensures { IfOk result (λ copy. copy ≡ call.now) }
 {
     Ok(RealCall {
         op: call.op,
         name: call.name.copy(alloc)?,
-        args: copy_values(alloc, call.args.as_slice())?,
+        args: copy_values(call.args.as_slice(), alloc)?,
     })
 }
 
@@ -126,7 +116,7 @@ impl Misfits {
     }
 
     /// Notes the answer to a call, if it is not of the operation's result type.
-    pub fn note(&self, call: &RealCall, answer: &Value) {
+    pub fn record_answer_if_misfit(&self, call: &RealCall, answer: &Value) {
         if let Some(typed) = self.typed.get() {
             if !is_of_result_type(self.alloc, typed, call, answer) {
                 self.copy_if_room(call, answer);

@@ -41,7 +41,7 @@ impl<S: System> System for MisfitRecorder<S> {
     fn call(&self, call: &RealCall) -> Result<Value, CallFault> {
         let answer = self.system.call(call)?;
         if let Some(misfits) = &self.misfits {
-            misfits.note(call, &answer);
+            misfits.record_answer_if_misfit(call, &answer);
         }
         Ok(answer)
     }
@@ -49,7 +49,7 @@ impl<S: System> System for MisfitRecorder<S> {
     fn call_from(&self, branch: u32, call: &RealCall) -> Result<Value, CallFault> {
         let answer = self.system.call_from(branch, call)?;
         if let Some(misfits) = &self.misfits {
-            misfits.note(call, &answer);
+            misfits.record_answer_if_misfit(call, &answer);
         }
         Ok(answer)
     }

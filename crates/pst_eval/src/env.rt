@@ -18,7 +18,12 @@ pub enum Env<'a> {
     With(&'a [u8], &'a Value, &'a Env<'a>),
 }
 
-fn in_frame(params: &[Param], values: &[Value], alloc: Global, name: &[u8]) -> Result<Value, Stop>
+fn look_up_in_frame(
+    params: &[Param],
+    values: &[Value],
+    alloc: Global,
+    name: &[u8],
+) -> Result<Value, Stop>
     ensures { Answers (spec.looked_up (spec.frame params.now values.now) name.now) result }
 {
     let Some((param, params)) = params.split_first() else {
@@ -30,7 +35,7 @@ fn in_frame(params: &[Param], values: &[Value], alloc: Global, name: &[u8]) -> R
     if param.name.as_bytes() == name {
         return Ok(value.copy(alloc)?);
     }
-    in_frame(params, values, alloc, name)
+    look_up_in_frame(params, values, alloc, name)
 }
 
 /// A copy of the value of `name`.
@@ -38,7 +43,7 @@ pub fn look_up(env: &Env<'_>, alloc: Global, name: &[u8]) -> Result<Value, Stop>
     ensures { Answers (spec.looked_up (env_of env.now) name.now) result }
 {
     match env {
-        Env::Frame(params, values) => in_frame(params, values, alloc, name),
+        Env::Frame(params, values) => look_up_in_frame(params, values, alloc, name),
         Env::With(bound, value, outer) => {
             if *bound == name {
                 return Ok(value.copy(alloc)?);

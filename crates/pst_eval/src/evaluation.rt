@@ -224,7 +224,7 @@ fn comprehension(
         (spec.comprehension (parts_in context.now clauses.now) (mean_in context.now body.now) (env_of env.now)
         turns.old) result turns.new }
 {
-    let built = visit(
+    let built = eval_clauses(
         clauses,
         body,
         context,
@@ -237,7 +237,7 @@ fn comprehension(
 
 /// What the clauses append to the list built so far.
 #[cycle(eval)]
-fn visit(
+fn eval_clauses(
     clauses: &[Clause],
     body: &Expr,
     context: &Context<'_>,
@@ -258,7 +258,7 @@ fn visit(
             Clause::In(name, list) => {
                 let value = eval(list, context, env, turns)?;
                 let items = items_of(value)?;
-                visit_each(
+                eval_clauses_for_each(
                     rest,
                     body,
                     context,
@@ -272,7 +272,7 @@ fn visit(
             Clause::When(test) => {
                 let value = eval(test, context, env, turns)?;
                 if truth_of(&value)? {
-                    visit(rest, body, context, env, turns, built)
+                    eval_clauses(rest, body, context, env, turns, built)
                 } else {
                     Ok(built)
                 }
@@ -283,7 +283,7 @@ fn visit(
 
 /// What the other clauses append for each item.
 #[cycle(eval)]
-fn visit_each(
+fn eval_clauses_for_each(
     rest: &[Clause],
     body: &Expr,
     context: &Context<'_>,
@@ -300,7 +300,7 @@ fn visit_each(
     for item in items {
         take_turn(turns)?;
         let inner = Env::With(&*name, item, &*env);
-        let more = visit(rest, body, context, &inner, turns, built)?;
+        let more = eval_clauses(rest, body, context, &inner, turns, built)?;
         built = more;
     }
     Ok(built)

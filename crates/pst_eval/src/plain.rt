@@ -24,7 +24,7 @@ pub struct Plain<'a> {
 
 /// Evaluates an expression of the model.
 #[tactic(auto, unfolding(crate::specs::Callbacks::at_names))]
-fn start(model: &Source, expr: &Expr, alloc: Global, env: &Env<'_>) -> Answer
+fn eval_with_max_turns(model: &Source, expr: &Expr, alloc: Global, env: &Env<'_>) -> Answer
     requires { at_names model.now expr.now (env_of env.now) ≢ Stuck }
     ensures { IfOk result (λ a. Says (at_names model.now expr.now (env_of env.now)) a) }
 {
@@ -63,7 +63,7 @@ impl<'a> Callbacks for Plain<'a> {
         let Some(opening) = initial_state_of(model.items.as_slice()) else {
             unreachable!()
         };
-        start(model, opening, alloc, &Env::Frame(&[], &[]))
+        eval_with_max_turns(model, opening, alloc, &Env::Frame(&[], &[]))
     }
 
     fn command(&self, alloc: Global, state: &Value) -> Answer {
@@ -73,7 +73,7 @@ impl<'a> Callbacks for Plain<'a> {
         };
         let frame = Env::Frame(&[], &[]);
         let env = Env::With(b"s", &*state, &frame);
-        start(model, calls, alloc, &env)
+        eval_with_max_turns(model, calls, alloc, &env)
     }
 
     fn pre(&self, alloc: Global, op: u32, state: &Value, arguments: &[Value]) -> Answer {
@@ -83,7 +83,7 @@ impl<'a> Callbacks for Plain<'a> {
         };
         let frame = Env::Frame(operation.params.as_slice(), arguments);
         let env = Env::With(b"s", &*state, &frame);
-        start(model, &operation.pre, alloc, &env)
+        eval_with_max_turns(model, &operation.pre, alloc, &env)
     }
 
     fn next(
@@ -101,7 +101,7 @@ impl<'a> Callbacks for Plain<'a> {
         let frame = Env::Frame(operation.params.as_slice(), arguments);
         let outer = Env::With(b"s", &*state, &frame);
         let inner = Env::With(b"r", &*r, &outer);
-        start(model, &operation.next, alloc, &inner)
+        eval_with_max_turns(model, &operation.next, alloc, &inner)
     }
 
     fn post(
@@ -119,6 +119,6 @@ impl<'a> Callbacks for Plain<'a> {
         let frame = Env::Frame(operation.params.as_slice(), arguments);
         let outer = Env::With(b"s", &*state, &frame);
         let inner = Env::With(b"r", &*r, &outer);
-        start(model, &operation.post, alloc, &inner)
+        eval_with_max_turns(model, &operation.post, alloc, &inner)
     }
 }

@@ -39,7 +39,7 @@ struct RequiredReply<'s, 'a, C> {
 }
 
 /// Returns the opposite bool, if the command answered a bool.
-fn opposite(call: &Call<'_>) -> Option<Value> {
+fn opposite_bool_reply(call: &Call<'_>) -> Option<Value> {
     match call.reply {
         Some(Reply::Value(Value::Bool(truth))) => Some(Value::Bool(!*truth)),
         _ => None,
@@ -47,7 +47,7 @@ fn opposite(call: &Call<'_>) -> Option<Value> {
 }
 
 /// Returns a reply that may be right on `state`, the state before the command.
-fn reply_on(
+fn candidate_reply_on_state(
     alloc: Global,
     scene: &Scene<'_>,
     call: &Call<'_>,
@@ -61,7 +61,7 @@ fn reply_on(
     let env = Env::With(b"s", &*state, &frame);
     match wanted_reply(alloc, scene.model, &operation.post, &env)? {
         Some(value) => Ok(Some(value)),
-        None => Ok(opposite(call)),
+        None => Ok(opposite_bool_reply(call)),
     }
 }
 
@@ -69,7 +69,7 @@ impl<'s, 'a, C: Callbacks> Candidates for RequiredReply<'s, 'a, C> {
     fn candidate(&self, alloc: Global, word: &[usize]) -> Result<Option<Value>, AllocError> {
         self.callbacks.take_calls(self.scene.all.len())?;
         match state_before(alloc, self.scene, word, self.call)? {
-            Some(state) => reply_on(alloc, self.scene, self.call, &state),
+            Some(state) => candidate_reply_on_state(alloc, self.scene, self.call, &state),
             None => Ok(None),
         }
     }
@@ -77,7 +77,7 @@ impl<'s, 'a, C: Callbacks> Candidates for RequiredReply<'s, 'a, C> {
 
 /// Returns why the postcondition of a command is not true in the interleaving `word`. `None` if a callback faults
 /// before the command.
-fn wrong_by<'a>(
+fn wrong_answer_in_interleaving<'a>(
     alloc: Global,
     scene: &Scene<'a>,
     call: &Call<'_>,
@@ -126,7 +126,7 @@ pub fn wrong_answer_if_rest_is_right<'a, C: Callbacks>(
     )?;
     callbacks.take_calls(scene.all.len())?;
     match merge {
-        Some(word) => wrong_by(alloc, scene, call, word),
+        Some(word) => wrong_answer_in_interleaving(alloc, scene, call, word),
         None => Ok(None),
     }
 }

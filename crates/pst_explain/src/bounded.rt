@@ -43,12 +43,12 @@ fn steps_of(ended: &Result<(Value, u32), Fault>) -> u64 {
 
 /// How many values are in a value, itself among them. Eight bytes of a text count as one, and keys do not count.
 #[cycle(size)]
-fn size_of(value: &Value) -> u64 {
+fn count_nested_values(value: &Value) -> u64 {
     let inner = match value {
         Value::Tuple(parts) => sum_of_sizes(parts.as_slice()),
         Value::List(parts) => sum_of_sizes(parts.as_slice()),
         Value::Map(_, values) => sum_of_sizes(values.get().as_slice()),
-        Value::Ref(_, value) => size_of(value.get()),
+        Value::Ref(_, value) => count_nested_values(value.get()),
         Value::Text(text) => (text.as_bytes().len() / 8) as u64,
         _ => 0,
     };
@@ -60,7 +60,7 @@ fn size_of(value: &Value) -> u64 {
 fn sum_of_sizes(values: &[Value]) -> u64 {
     let mut sum: u64 = 0;
     for value in values {
-        sum = sum.saturating_add(size_of(value));
+        sum = sum.saturating_add(count_nested_values(value));
     }
     sum
 }
@@ -91,7 +91,7 @@ impl<'a, C: Callbacks> Bounded<'a, C> {
     }
 
     /// Begins a call. Returns `AllocError` if no steps are left.
-    pub fn begin(&self) -> Result<(), AllocError> {
+    pub fn fail_if_out_of_steps(&self) -> Result<(), AllocError> {
         if self.steps_left.get() == 0 {
             self.has_run_out.set(true);
             return Err(AllocError);
@@ -100,7 +100,7 @@ impl<'a, C: Callbacks> Bounded<'a, C> {
     }
 
     /// Takes `steps` steps, or those that are left.
-    fn take(&self, steps: u64) {
+    fn take_steps(&self, steps: u64) {
         let left = self.steps_left.get();
         self.steps_left.set(left.saturating_sub(steps));
     }
@@ -108,9 +108,9 @@ impl<'a, C: Callbacks> Bounded<'a, C> {
     /// Takes the steps of `calls` callbacks that something else evaluates. Each counts as the longest call so far.
     /// Returns `AllocError` if no steps are left.
     pub fn take_calls(&self, calls: usize) -> Result<(), AllocError> {
-        self.begin()?;
+        self.fail_if_out_of_steps()?;
         let steps = self.most_of_a_call.get().saturating_mul(calls as u64);
-        self.take(steps);
+        self.take_steps(steps);
         Ok(())
     }
 
@@ -120,26 +120,30 @@ impl<'a, C: Callbacks> Bounded<'a, C> {
     }
 
     /// Takes the steps of a call that ended.
-    fn end(&self, ended: &Result<(Value, u32), Fault>) {
+    fn take_steps_of_ended_call(&self, ended: &Result<(Value, u32), Fault>) {
         let steps = steps_of(ended).saturating_add(self.steps_of_state.get());
         if steps > self.most_of_a_call.get() {
             self.most_of_a_call.set(steps);
         }
-        self.take(steps);
+        self.take_steps(steps);
     }
 
     /// Takes the steps of a call that ended, and whose value, if it does not fault, is a state.
-    fn end_with_state(&self, ended: &Result<(Value, u32), Fault>) {
+    fn take_steps_and_measure_state(&self, ended: &Result<(Value, u32), Fault>) {
         if let Ok((state, _)) = ended {
-            self.steps_of_state.set(size_of(state) / VALUES_IN_A_STEP);
+            self.steps_of_state
+                .set(count_nested_values(state) / VALUES_IN_A_STEP);
         }
-        self.end(ended);
+        self.take_steps_of_ended_call(ended);
         let further = self.further_calls.get();
-        self.take(further.saturating_mul(self.most_of_a_call.get()));
+        self.take_steps(further.saturating_mul(self.most_of_a_call.get()));
     }
 
     /// The result of a search on these callbacks, or `None` if the search ended because no steps were left.
-    pub fn if_within<T>(&self, found: Result<T, AllocError>) -> Result<Option<T>, AllocError> {
+    pub fn none_if_out_of_steps<T>(
+        &self,
+        found: Result<T, AllocError>,
+    ) -> Result<Option<T>, AllocError> {
         match found {
             Ok(found) => Ok(Some(found)),
             Err(AllocError) => {
@@ -157,23 +161,23 @@ impl<'a, C: Callbacks> Callbacks for Bounded<'a, C> {
     ghost model = { λ b. C.model b.callbacks.now };
 
     fn init(&self, alloc: Global) -> Answer {
-        self.begin()?;
+        self.fail_if_out_of_steps()?;
         let answer = self.callbacks.init(alloc)?;
-        self.end_with_state(&answer);
+        self.take_steps_and_measure_state(&answer);
         Ok(answer)
     }
 
     fn command(&self, alloc: Global, state: &Value) -> Answer {
-        self.begin()?;
+        self.fail_if_out_of_steps()?;
         let answer = self.callbacks.command(alloc, state)?;
-        self.end(&answer);
+        self.take_steps_of_ended_call(&answer);
         Ok(answer)
     }
 
     fn pre(&self, alloc: Global, op: u32, state: &Value, arguments: &[Value]) -> Answer {
-        self.begin()?;
+        self.fail_if_out_of_steps()?;
         let answer = self.callbacks.pre(alloc, op, state, arguments)?;
-        self.end(&answer);
+        self.take_steps_of_ended_call(&answer);
         Ok(answer)
     }
 
@@ -185,9 +189,9 @@ impl<'a, C: Callbacks> Callbacks for Bounded<'a, C> {
         arguments: &[Value],
         r: &Value,
     ) -> Answer {
-        self.begin()?;
+        self.fail_if_out_of_steps()?;
         let answer = self.callbacks.next(alloc, op, state, arguments, r)?;
-        self.end_with_state(&answer);
+        self.take_steps_and_measure_state(&answer);
         Ok(answer)
     }
 
@@ -199,9 +203,9 @@ impl<'a, C: Callbacks> Callbacks for Bounded<'a, C> {
         arguments: &[Value],
         r: &Value,
     ) -> Answer {
-        self.begin()?;
+        self.fail_if_out_of_steps()?;
         let answer = self.callbacks.post(alloc, op, state, arguments, r)?;
-        self.end(&answer);
+        self.take_steps_of_ended_call(&answer);
         Ok(answer)
     }
 }

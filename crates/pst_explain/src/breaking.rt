@@ -73,7 +73,7 @@ pub fn broken_sentence(
 ///
 /// `P1 (inc) has the reply failed: it failed, or its answer is not a value, instead of a value of type int` is an
 /// example.
-pub fn broken_text(
+pub fn explain_broken_run(
     alloc: Global,
     typed: &Typed,
     run: &Run,

@@ -6,8 +6,9 @@ use crate::parts::add_marked_run_text;
 use pst_model::Source;
 use pst_reasons::AllowedValues;
 use pst_scene::{
-    Call, Cell, Page, Scene, Style, Table, add_reply, add_str, add_value, add_word,
-    expression_text, falsity_text, join_texts, operation_of_call, text_of, value_text,
+    Call, Cell, Page, Scene, Style, Table, add_interleaving_letters, add_reply, add_str, add_value,
+    copy_explanation_text, expression_text, falsity_text, join_explanation_parts,
+    operation_of_call, value_text,
 };
 use std::alloc::{AllocError, Global};
 
@@ -27,7 +28,7 @@ fn postcondition_text(
     scene: &Scene<'_>,
     call: &Call<'_>,
 ) -> Result<Vec<u8>, AllocError> {
-    let mut text = text_of(alloc, "postcondition ")?;
+    let mut text = copy_explanation_text(alloc, "postcondition ")?;
     if let Some(operation) = operation_of_call(scene, call) {
         let expression = expression_text(alloc, &operation.post)?;
         text.extend_from_slice(expression.as_slice())?;
@@ -41,7 +42,7 @@ fn values_text(
     model: &Source,
     found: &AllowedValues,
 ) -> Result<Vec<u8>, AllocError> {
-    let mut text = text_of(alloc, "allowed: ")?;
+    let mut text = copy_explanation_text(alloc, "allowed: ")?;
     for (index, value) in found.values.as_slice().iter().enumerate() {
         if index > 0 {
             add_str(&mut text, ", ")?;
@@ -63,11 +64,11 @@ fn add_each_value(
 ) -> Result<(), AllocError> {
     for value in found.values.as_slice() {
         let value = value_text(alloc, model, value)?;
-        let text = join_texts(alloc, &[b"allowed: ", value.as_slice()])?;
+        let text = join_explanation_parts(alloc, &[b"allowed: ", value.as_slice()])?;
         row.push(Cell::styled(Style::Right, text))?;
     }
     if !found.all {
-        row.push(Cell::styled(Style::Right, text_of(alloc, "..")?))?;
+        row.push(Cell::styled(Style::Right, copy_explanation_text(alloc, "..")?))?;
     }
     Ok(())
 }
@@ -100,7 +101,7 @@ fn wrong_text(
     let mut text = falsity_text(alloc, model, &wrong.falsity)?;
     if !wrong.word.is_empty() {
         add_str(&mut text, ", as by ")?;
-        add_word(&mut text, wrong.word.as_slice())?;
+        add_interleaving_letters(&mut text, wrong.word.as_slice())?;
     }
     Ok(text)
 }

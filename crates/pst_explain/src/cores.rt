@@ -45,7 +45,7 @@ impl<'a> CoreAnswer<'a> {
     }
 
     /// Whether each answer that the model allows is known.
-    pub fn has_all(&self) -> bool {
+    pub fn has_all_allowed_answers(&self) -> bool {
         self.allowed.all && self.has_one_reply
     }
 }
@@ -123,7 +123,7 @@ fn unknown_answer<'a>(
 }
 
 /// Returns the answer of a command of a core. If `callbacks` have no steps left, what the model allows is unknown.
-fn answer_of<'a, C: Callbacks>(
+fn core_answer_of_call<'a, C: Callbacks>(
     callbacks: &Bounded<'_, C>,
     alloc: Global,
     scene: &Scene<'a>,
@@ -140,7 +140,7 @@ fn answer_of<'a, C: Callbacks>(
     let mut answer = unknown_answer(alloc, scene, call)?;
     if !callbacks.has_run_out() {
         let searched = search_answer(callbacks, alloc, scene, history, core, &mut answer);
-        let _found = callbacks.if_within(searched)?;
+        let _found = callbacks.none_if_out_of_steps(searched)?;
     }
     Ok(answer)
 }
@@ -166,7 +166,7 @@ pub fn find_core<'a, C: Callbacks>(
     let mut answers = Vec::new(alloc);
     for number in numbers {
         if let Some(call) = call_numbered(scene.all.as_slice(), *number) {
-            answers.push(answer_of(callbacks, alloc, scene, history, numbers, call)?)?;
+            answers.push(core_answer_of_call(callbacks, alloc, scene, history, numbers, call)?)?;
         }
     }
     Ok(Core {

@@ -1,9 +1,9 @@
 //! Writes a search in the language of Graphviz.
 
-use crate::labels::{add_label, add_name, add_quoted};
+use crate::labels::{add_graphviz_label, add_graphviz_node_name, add_quoted};
 use crate::position::Position;
 use crate::search::{Move, Search, Target};
-use pst_scene::{Scene, add_str, dead_end_text, text_of, value_text};
+use pst_scene::{Scene, add_str, copy_explanation_text, dead_end_text, value_text};
 use std::alloc::{AllocError, Global};
 
 /// The style of all nodes and edges.
@@ -17,7 +17,7 @@ fn is_unexpanded(
     number: usize,
     position: &Position,
 ) -> bool {
-    position.level() < scene.all.len() && !search.is_tried(number)
+    position.number_of_calls_before() < scene.all.len() && !search.has_moves_from_position(number)
 }
 
 /// Whether the search stopped before its end.
@@ -31,14 +31,14 @@ fn is_cut_short(scene: &Scene<'_>, search: &Search<'_>) -> bool {
 }
 
 /// Adds the title, and a note if the search stopped before its end.
-fn add_title(
+fn add_graph_title(
     out: &mut Vec<u8>,
     alloc: Global,
     scene: &Scene<'_>,
     search: &Search<'_>,
     title: &str,
 ) -> Result<(), AllocError> {
-    let mut text = text_of(alloc, title)?;
+    let mut text = copy_explanation_text(alloc, title)?;
     if is_cut_short(scene, search) {
         add_str(
             &mut text,
@@ -61,9 +61,9 @@ fn add_position_node(
 ) -> Result<(), AllocError> {
     let state = value_text(alloc, scene.model, &position.state)?;
     add_str(out, "  ")?;
-    add_name(out, "p", number)?;
+    add_graphviz_node_name(out, "p", number)?;
     add_str(out, " [")?;
-    add_label(out, alloc, state.as_slice())?;
+    add_graphviz_label(out, alloc, state.as_slice())?;
     if is_unexpanded(scene, search, number, position) {
         add_str(out, ", style=dashed")?;
     }
@@ -71,7 +71,7 @@ fn add_position_node(
 }
 
 /// Puts the positions after `level` commands side by side.
-fn add_level(
+fn align_positions_of_level(
     out: &mut Vec<u8>,
     alloc: Global,
     search: &Search<'_>,
@@ -79,9 +79,9 @@ fn add_level(
 ) -> Result<(), AllocError> {
     add_str(out, "  { rank=same;")?;
     for (number, position) in search.positions.iter().enumerate() {
-        if position.level() == level {
+        if position.number_of_calls_before() == level {
             add_str(out, " ")?;
-            add_name(out, "p", number)?;
+            add_graphviz_node_name(out, "p", number)?;
             add_str(out, ";")?;
         }
     }
@@ -89,10 +89,10 @@ fn add_level(
 }
 
 /// How many levels have positions.
-fn levels(search: &Search<'_>) -> usize {
+fn count_search_levels(search: &Search<'_>) -> usize {
     let mut levels = 0usize;
     for position in &search.positions {
-        levels = levels.max(position.level().saturating_add(1));
+        levels = levels.max(position.number_of_calls_before().saturating_add(1));
     }
     levels
 }
@@ -109,11 +109,11 @@ fn add_edge(
 ) -> Result<(), AllocError> {
     let text = step.call.with_reply(alloc, scene.model)?;
     add_str(out, "  ")?;
-    add_name(out, "p", step.from)?;
+    add_graphviz_node_name(out, "p", step.from)?;
     add_str(out, " -> ")?;
-    add_name(out, letter, to)?;
+    add_graphviz_node_name(out, letter, to)?;
     add_str(out, " [")?;
-    add_label(out, alloc, text.as_slice())?;
+    add_graphviz_label(out, alloc, text.as_slice())?;
     add_str(out, style)?;
     add_str(out, "];\n")
 }
@@ -127,9 +127,9 @@ fn add_dead_end(
     style: &str,
 ) -> Result<(), AllocError> {
     add_str(out, "  ")?;
-    add_name(out, "d", number)?;
+    add_graphviz_node_name(out, "d", number)?;
     add_str(out, " [")?;
-    add_label(out, alloc, why)?;
+    add_graphviz_label(out, alloc, why)?;
     add_str(out, style)?;
     add_str(out, "];\n")
 }
@@ -138,7 +138,7 @@ fn add_dead_end(
 const RED: &str = ", color=red, fontcolor=red";
 
 /// The style of the edge for move `number`, which leads to a position.
-fn style_of(search: &Search<'_>, number: usize) -> &'static str {
+fn edge_style_of_move(search: &Search<'_>, number: usize) -> &'static str {
     if search.shown.iter().any(|shown| *shown == number) {
         ", style=bold"
     } else {
@@ -157,7 +157,15 @@ fn add_move_edge(
 ) -> Result<(), AllocError> {
     match &step.target {
         Target::Position(to) => {
-            add_edge(out, alloc, scene, step, "p", *to, style_of(search, number))
+            add_edge(
+                out,
+                alloc,
+                scene,
+                step,
+                "p",
+                *to,
+                edge_style_of_move(search, number),
+            )
         }
         Target::DeadEnd(dead_end) => {
             let why = dead_end_text(alloc, scene.model, dead_end)?;
@@ -177,8 +185,8 @@ fn add_positions(
     for (number, position) in search.positions.iter().enumerate() {
         add_position_node(out, alloc, scene, search, number, position)?;
     }
-    for level in 0..levels(search) {
-        add_level(out, alloc, search, level)?;
+    for level in 0..count_search_levels(search) {
+        align_positions_of_level(out, alloc, search, level)?;
     }
     Ok(())
 }
@@ -190,9 +198,9 @@ pub fn graph_text(
     search: &Search<'_>,
     title: &str,
 ) -> Result<Vec<u8>, AllocError> {
-    let mut out = text_of(alloc, "digraph search {\n")?;
+    let mut out = copy_explanation_text(alloc, "digraph search {\n")?;
     add_str(&mut out, STYLE)?;
-    add_title(&mut out, alloc, scene, search, title)?;
+    add_graph_title(&mut out, alloc, scene, search, title)?;
     if search.positions.is_empty() {
         add_dead_end(&mut out, alloc, 0, b"the initial state faults", RED)?;
     }

@@ -10,7 +10,10 @@ ghost use Rattle.pst_reasons.specs.Reasons.{IsUnexplained};
 use crate::bounded::Bounded;
 use crate::breaking::{BrokenReply, broken_reply};
 use crate::cores::{Core, find_core};
-use crate::failures::{Failure, failure_anywhere, failure_at, failure_in};
+use crate::failures::{
+    Failure, failure_at_fault_place, failure_in_unknown_interleaving,
+    failure_of_call_in_interleaving,
+};
 use crate::places::TreePlace;
 use crate::walks::{Walk, explaining_walk, furthest_walk};
 use pst_case::{History, Run};
@@ -121,7 +124,7 @@ fn core_within<'a, C: Callbacks>(
     if callbacks.has_run_out() {
         return Ok(None);
     }
-    callbacks.if_within(find_core(callbacks, alloc, scene, history))
+    callbacks.none_if_out_of_steps(find_core(callbacks, alloc, scene, history))
 }
 
 /// Returns the fault at `place` in the lexicographically first interleaving that has it. `AllocError` too if
@@ -146,7 +149,7 @@ fn first_fault<'a, C: Callbacks>(
             word.push(branch)?;
         }
     }
-    failure_in(alloc, scene, word.as_slice(), place)
+    failure_at_fault_place(alloc, scene, word.as_slice(), place)
 }
 
 /// Returns the first fault of an item that no interleaving explains, and a core.
@@ -165,9 +168,9 @@ fn fault_reason<'a, C: Callbacks>(
         (verdict.Faulted place) }
 {
     let found = first_fault(callbacks, alloc, scene, history, place);
-    let failure = match callbacks.if_within(found)? {
+    let failure = match callbacks.none_if_out_of_steps(found)? {
         Some(failure) => failure,
-        None => failure_anywhere(alloc, scene, place)?,
+        None => failure_in_unknown_interleaving(alloc, scene, place)?,
     };
     let core = core_within(callbacks, alloc, scene, history)?;
     Ok(Reason::Faulted { failure, core })
@@ -188,7 +191,9 @@ fn unexplained_reason<'a, C: Callbacks>(
     requires verdict { IsVerdict (C.model callbacks.now.callbacks.now) scene.now.run.now.shaped.case history.now
         (verdict.Unexplained far) }
 {
-    let furthest = callbacks.if_within(furthest_walk(callbacks, alloc, scene, history, far))?;
+    let furthest = callbacks.none_if_out_of_steps(furthest_walk(
+        callbacks, alloc, scene, history, far,
+    ))?;
     let core = core_within(callbacks, alloc, scene, history)?;
     Ok(Reason::Unexplained {
         far,
@@ -235,11 +240,18 @@ fn invalid_reason<'a>(
                 return Ok(Reason::Nothing);
             };
             let word = merge.as_slice();
-            let failure = failure_at(alloc, scene, word, Callback::Pre, call, None)?;
+            let failure = failure_of_call_in_interleaving(
+                alloc,
+                scene,
+                word,
+                Callback::Pre,
+                call,
+                None,
+            )?;
             Ok(Reason::Invalid(failure))
         }
         Why::CallbackFault { place, merge } => {
-            let failure = failure_in(alloc, scene, merge.as_slice(), *place)?;
+            let failure = failure_at_fault_place(alloc, scene, merge.as_slice(), *place)?;
             Ok(Reason::Invalid(failure))
         }
         Why::NoMemory => Ok(Reason::Nothing),

@@ -5,8 +5,8 @@ use crate::walk_text::add_states;
 use pst_eval::Callback;
 use pst_model::Source;
 use pst_scene::{
-    Call, CasePart, Page, Scene, Table, add_str, add_word, expression_text, join_texts, text_of,
-    two_cells, value_text,
+    Call, CasePart, Page, Scene, Table, add_interleaving_letters, add_str, copy_explanation_text,
+    expression_text, join_explanation_parts, two_cells, value_text,
 };
 use pst_value::Fault;
 use std::alloc::{AllocError, Global};
@@ -46,7 +46,7 @@ fn add_failing_part_text(
                 name.as_bytes(),
                 b":",
             ];
-            let sentence = join_texts(alloc, &parts)?;
+            let sentence = join_explanation_parts(alloc, &parts)?;
             page.add_sentence(alloc, 2, sentence.as_slice())?;
         }
     }
@@ -82,7 +82,7 @@ fn add_call(
 }
 
 /// Returns whether `word` has a letter for each command of the branches.
-fn is_whole(scene: &Scene<'_>, word: &[usize]) -> bool {
+fn is_complete_interleaving(scene: &Scene<'_>, word: &[usize]) -> bool {
     let mut count = 0usize;
     for branch in &scene.calls.branches {
         count = count.saturating_add(branch.len());
@@ -102,24 +102,24 @@ fn add_fault_interleaving_text(
     let word = walk.word.as_slice();
     add_str(
         text,
-        if is_whole(scene, word) {
+        if is_complete_interleaving(scene, word) {
             " in the interleaving "
         } else {
             " in an interleaving that begins with "
         },
     )?;
-    add_word(text, word)
+    add_interleaving_letters(text, word)
 }
 
 /// Returns a sentence that says which callback of a command faults, and in which interleaving.
-fn call_sentence(
+fn fault_sentence_of_call(
     alloc: Global,
     scene: &Scene<'_>,
     failure: &Failure<'_>,
     call: &Call<'_>,
     fault: Fault,
 ) -> Result<Vec<u8>, AllocError> {
-    let mut text = text_of(alloc, "The callback ")?;
+    let mut text = copy_explanation_text(alloc, "The callback ")?;
     add_str(&mut text, failure.callback.name())?;
     add_str(&mut text, " of ")?;
     add_call(&mut text, alloc, scene.model, call)?;
@@ -133,8 +133,12 @@ fn call_sentence(
 }
 
 /// Returns a sentence that says which callback faults, if it belongs to no command.
-fn model_sentence(alloc: Global, callback: Callback, fault: Fault) -> Result<Vec<u8>, AllocError> {
-    let mut text = text_of(
+fn fault_sentence_without_call(
+    alloc: Global,
+    callback: Callback,
+    fault: Fault,
+) -> Result<Vec<u8>, AllocError> {
+    let mut text = copy_explanation_text(
         alloc,
         match callback {
             Callback::Command => "The callback command faults with ",
@@ -147,14 +151,14 @@ fn model_sentence(alloc: Global, callback: Callback, fault: Fault) -> Result<Vec
 }
 
 /// Returns a sentence that says that the precondition of a command is false in an interleaving.
-fn false_sentence(
+fn false_precondition_sentence(
     alloc: Global,
     model: &Source,
     failure: &Failure<'_>,
 ) -> Result<Vec<u8>, AllocError> {
-    let mut text = text_of(alloc, "In the interleaving ")?;
+    let mut text = copy_explanation_text(alloc, "In the interleaving ")?;
     if let Some(walk) = &failure.walk {
-        add_word(&mut text, walk.word.as_slice())?;
+        add_interleaving_letters(&mut text, walk.word.as_slice())?;
     }
     add_str(&mut text, " the precondition of ")?;
     if let Some(call) = &failure.call {
@@ -172,9 +176,9 @@ fn failure_sentence(
     failure: &Failure<'_>,
 ) -> Result<Vec<u8>, AllocError> {
     match (failure.fault, &failure.call) {
-        (Some(fault), Some(call)) => call_sentence(alloc, scene, failure, call, fault),
-        (Some(fault), None) => model_sentence(alloc, failure.callback, fault),
-        (None, _) => false_sentence(alloc, scene.model, failure),
+        (Some(fault), Some(call)) => fault_sentence_of_call(alloc, scene, failure, call, fault),
+        (Some(fault), None) => fault_sentence_without_call(alloc, failure.callback, fault),
+        (None, _) => false_precondition_sentence(alloc, scene.model, failure),
     }
 }
 

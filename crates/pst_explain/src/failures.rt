@@ -59,7 +59,7 @@ fn bound_value<'a>(bindings: &'a [Binding], name: &[u8]) -> Option<&'a Value> {
 }
 
 /// Returns an expression, and the names in it with their values.
-fn with_values<'a>(
+fn expression_with_bound_values<'a>(
     alloc: Global,
     expr: &'a Expr,
     bindings: &[Binding],
@@ -88,19 +88,19 @@ fn failing_part<'a>(
     }
     Ok(Some(FailingPart {
         function: found.function,
-        evaluated: with_values(alloc, found.part, found.names.as_slice())?,
+        evaluated: expression_with_bound_values(alloc, found.part, found.names.as_slice())?,
     }))
 }
 
 /// Returns an expression of the model with its values in `env`, and the part of it that faults.
-fn expression_in<'a>(
+fn expression_with_failing_part<'a>(
     alloc: Global,
     scene: &Scene<'a>,
     expr: &'a Expr,
     env: &Env<'_>,
 ) -> Result<Option<Expression<'a>>, AllocError> {
     let names = bindings_of(alloc, env)?;
-    let whole = with_values(alloc, expr, names.as_slice())?;
+    let whole = expression_with_bound_values(alloc, expr, names.as_slice())?;
     let part = match faulty_part(alloc, scene.model, expr, env)? {
         Some(found) => failing_part(alloc, expr, &found)?,
         None => None,
@@ -114,7 +114,7 @@ fn init_expression<'a>(
     scene: &Scene<'a>,
 ) -> Result<Option<Expression<'a>>, AllocError> {
     match initial_state_of(scene.model.items.as_slice()) {
-        Some(expr) => expression_in(alloc, scene, expr, &Env::Frame(&[], &[])),
+        Some(expr) => expression_with_failing_part(alloc, scene, expr, &Env::Frame(&[], &[])),
         None => Ok(None),
     }
 }
@@ -128,7 +128,7 @@ fn command_expression<'a>(
     match calls_of(scene.model.items.as_slice()) {
         Some(expr) => {
             let frame = Env::Frame(&[], &[]);
-            expression_in(alloc, scene, expr, &Env::With(b"s", &*state, &frame))
+            expression_with_failing_part(alloc, scene, expr, &Env::With(b"s", &*state, &frame))
         }
         None => Ok(None),
     }
@@ -150,16 +150,16 @@ fn callback_expression<'a>(
     let env = Env::With(b"s", &*state, &frame);
     match callback {
         Callback::Init | Callback::Command => Ok(None),
-        Callback::Pre => expression_in(alloc, scene, &operation.pre, &env),
+        Callback::Pre => expression_with_failing_part(alloc, scene, &operation.pre, &env),
         Callback::Next => {
             let result = reference_to_result(alloc, call)?;
             let inner = Env::With(b"r", &result, &env);
-            expression_in(alloc, scene, &operation.next, &inner)
+            expression_with_failing_part(alloc, scene, &operation.next, &inner)
         }
         Callback::Post => match call.reply {
             Some(Reply::Value(value)) => {
                 let inner = Env::With(b"r", value, &env);
-                expression_in(alloc, scene, &operation.post, &inner)
+                expression_with_failing_part(alloc, scene, &operation.post, &inner)
             }
             _ => Ok(None),
         },
@@ -168,7 +168,7 @@ fn callback_expression<'a>(
 
 /// Returns the failure of a callback of a command in the interleaving `word`. `fault` is its fault, or `None` if it is
 /// a precondition that is false.
-pub fn failure_at<'a>(
+pub fn failure_of_call_in_interleaving<'a>(
     alloc: Global,
     scene: &Scene<'a>,
     word: &[usize],
@@ -196,7 +196,7 @@ pub fn failure_at<'a>(
 }
 
 /// Returns the failure at `place` in the interleaving `word`.
-pub fn failure_in<'a>(
+pub fn failure_at_fault_place<'a>(
     alloc: Global,
     scene: &Scene<'a>,
     word: &[usize],
@@ -204,7 +204,7 @@ pub fn failure_in<'a>(
 ) -> Result<Failure<'a>, AllocError> {
     let fault = Some(place.fault);
     if let Some(call) = call_numbered(scene.all.as_slice(), place.command) {
-        return failure_at(alloc, scene, word, place.callback, call, fault);
+        return failure_of_call_in_interleaving(alloc, scene, word, place.callback, call, fault);
     }
     Ok(Failure {
         callback: Callback::Init,
@@ -216,7 +216,7 @@ pub fn failure_in<'a>(
 }
 
 /// Returns the expression of a callback of a command, without any value.
-fn bare_expression<'a>(
+fn callback_expression_without_values<'a>(
     alloc: Global,
     scene: &Scene<'a>,
     callback: Callback,
@@ -235,19 +235,19 @@ fn bare_expression<'a>(
 }
 
 /// Returns the failure at `place` in an interleaving that is not known.
-pub fn failure_anywhere<'a>(
+pub fn failure_in_unknown_interleaving<'a>(
     alloc: Global,
     scene: &Scene<'a>,
     place: FaultPlace,
 ) -> Result<Failure<'a>, AllocError> {
     let Some(call) = call_numbered(scene.all.as_slice(), place.command) else {
-        return failure_in(alloc, scene, &[], place);
+        return failure_at_fault_place(alloc, scene, &[], place);
     };
     Ok(Failure {
         callback: place.callback,
         call: Some(call),
         fault: Some(place.fault),
-        expression: bare_expression(alloc, scene, place.callback, &call),
+        expression: callback_expression_without_values(alloc, scene, place.callback, &call),
         walk: None,
     })
 }

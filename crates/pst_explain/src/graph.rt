@@ -5,8 +5,8 @@ ghost use Rattle.pst_judge.specs.Judgement.{HistoryMatches, IsJudgement};
 use crate::bounded::Bounded;
 use crate::drawing::graph_text;
 use crate::explanation::MOST_STEPS;
-use crate::path::shown_calls;
-use crate::search::{search_of, shown_path};
+use crate::path::calls_of_highlighted_interleaving;
+use crate::search::{build_search_of_interleaving, build_truncated_search};
 use pst_case::Run;
 use pst_eval::Callbacks;
 use pst_judge::{Judged, Verdict};
@@ -43,7 +43,7 @@ fn is_explained(judged: &Judged) -> bool {
 /// draws only these and the dead ends beside them, unless `all` is true. The search expands the first 300 positions,
 /// and all along the bold edges; positions that it leaves are dashed, and the title says so. If the search for the
 /// interleaving takes more than 2,000,000 steps of callbacks, no edge is bold, and the title says so.
-pub fn graph_item<C: Callbacks>(
+pub fn draw_search_as_graphviz<C: Callbacks>(
     callbacks: &C,
     alloc: Global,
     typed: &Typed,
@@ -58,14 +58,16 @@ pub fn graph_item<C: Callbacks>(
 {
     let scene = scene_of(alloc, typed, run)?;
     let bounded = Bounded::new(callbacks, MOST_STEPS);
-    let shown = bounded.if_within(shown_calls(&bounded, alloc, &scene, judged))?;
+    let shown = bounded.none_if_out_of_steps(calls_of_highlighted_interleaving(
+        &bounded, alloc, &scene, judged,
+    ))?;
     let is_shown = shown.is_some();
     let shown = shown.unwrap_or(Vec::new(alloc));
     let is_path = is_explained(judged) && !all;
     let search = if is_path {
-        shown_path(alloc, &scene, shown.as_slice())?
+        build_search_of_interleaving(alloc, &scene, shown.as_slice())?
     } else {
-        search_of(alloc, &scene, shown.as_slice())?
+        build_truncated_search(alloc, &scene, shown.as_slice())?
     };
     let verdict = judged.text(alloc)?;
     let verdict = verdict.as_str();

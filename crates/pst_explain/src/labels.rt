@@ -7,7 +7,11 @@ use std::alloc::{AllocError, Global};
 const MOST_BYTES: usize = 60;
 
 /// Adds a name of a letter and a number.
-pub fn add_name(out: &mut Vec<u8>, letter: &str, number: usize) -> Result<(), AllocError> {
+pub fn add_graphviz_node_name(
+    out: &mut Vec<u8>,
+    letter: &str,
+    number: usize,
+) -> Result<(), AllocError> {
     add_str(out, letter)?;
     add_number(out, number)
 }
@@ -27,7 +31,7 @@ pub fn add_quoted(out: &mut Vec<u8>, text: &[u8]) -> Result<(), AllocError> {
 }
 
 /// Adds a label, cut in the middle if it is long.
-pub fn add_label(out: &mut Vec<u8>, alloc: Global, text: &[u8]) -> Result<(), AllocError> {
+pub fn add_graphviz_label(out: &mut Vec<u8>, alloc: Global, text: &[u8]) -> Result<(), AllocError> {
     let text = cut_in_middle(alloc, text, MOST_BYTES)?;
     add_str(out, "label=")?;
     add_quoted(out, text.as_slice())

@@ -10,7 +10,7 @@ use pst_scene::{Call, CasePart, Scene, call_numbered, calls_before, calls_in_ord
 use std::alloc::{AllocError, Global};
 
 /// The commands before command `number` in an interleaving that begins with `word`.
-fn before_command<'a>(
+fn calls_before_numbered_call<'a>(
     alloc: Global,
     scene: &Scene<'a>,
     word: &[usize],
@@ -23,7 +23,7 @@ fn before_command<'a>(
 }
 
 /// The commands before command `number`, which faults after `word`.
-fn before_fault<'a>(
+fn calls_before_fault<'a>(
     alloc: Global,
     scene: &Scene<'a>,
     word: &[usize],
@@ -35,7 +35,7 @@ fn before_fault<'a>(
             whole.push(branch)?;
         }
     }
-    before_command(alloc, scene, whole.as_slice(), number)
+    calls_before_numbered_call(alloc, scene, whole.as_slice(), number)
 }
 
 /// The commands of a verdict's interleaving: of the one that explains or, as far as their postconditions are true, of
@@ -55,7 +55,7 @@ fn verdict_calls<'a, C: Callbacks>(
         Verdict::Explained(word) => calls_in_order(alloc, &scene.calls, word.as_slice()),
         Verdict::Faulted(place) => {
             let (_, word) = verdict_with_interleaving(callbacks, alloc, shaped, history)?;
-            before_fault(alloc, scene, word.as_slice(), place.command)
+            calls_before_fault(alloc, scene, word.as_slice(), place.command)
         }
         Verdict::Unexplained(far) => {
             let (_, word) = verdict_with_interleaving(callbacks, alloc, shaped, history)?;
@@ -67,24 +67,24 @@ fn verdict_calls<'a, C: Callbacks>(
 }
 
 /// The commands of the interleaving in which a case is not valid, up to the failure.
-fn invalid_calls<'a>(
+fn calls_before_case_failure<'a>(
     alloc: Global,
     scene: &Scene<'a>,
     why: &Why,
 ) -> Result<Vec<Call<'a>>, AllocError> {
     match why {
         Why::PreFalse { command, merge } => {
-            before_command(alloc, scene, merge.as_slice(), *command)
+            calls_before_numbered_call(alloc, scene, merge.as_slice(), *command)
         }
         Why::CallbackFault { place, merge } => {
-            before_command(alloc, scene, merge.as_slice(), place.command)
+            calls_before_numbered_call(alloc, scene, merge.as_slice(), place.command)
         }
         Why::NoMemory => Ok(Vec::new(alloc)),
     }
 }
 
 /// The commands of the interleaving that a graph shows; none if the item is valid or has a reply that is no value.
-pub fn shown_calls<'a, C: Callbacks>(
+pub fn calls_of_highlighted_interleaving<'a, C: Callbacks>(
     callbacks: &C,
     alloc: Global,
     scene: &Scene<'a>,
@@ -99,6 +99,6 @@ pub fn shown_calls<'a, C: Callbacks>(
             None => Ok(Vec::new(alloc)),
         },
         Judged::Valid => Ok(Vec::new(alloc)),
-        Judged::Invalid(why) => invalid_calls(alloc, scene, why),
+        Judged::Invalid(why) => calls_before_case_failure(alloc, scene, why),
     }
 }

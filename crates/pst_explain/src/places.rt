@@ -81,7 +81,7 @@ fn place_of<'a>(files: &[SourceFile<'a>], counts: &[usize], line: usize) -> Tree
 
 /// Returns the place at which each tree of an input begins. The input must be read without a fault. `text` is the text
 /// of `files`, which may be empty if the input is not from files.
-pub fn first_places<'a>(
+pub fn tree_places_in_input<'a>(
     alloc: Global,
     files: &[SourceFile<'a>],
     text: &[u8],

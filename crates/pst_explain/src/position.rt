@@ -48,12 +48,12 @@ impl Position {
     }
 
     /// How many commands of the prefix, of each branch and of the suffix are before the position.
-    pub fn counts(&self) -> &[usize] {
+    pub fn call_counts_by_part(&self) -> &[usize] {
         self.counts.as_slice()
     }
 
     /// How many commands come before the position.
-    pub fn level(&self) -> usize {
+    pub fn number_of_calls_before(&self) -> usize {
         let mut level = 0usize;
         for count in &self.counts {
             level = level.saturating_add(*count);
@@ -79,7 +79,7 @@ impl Position {
     }
 
     /// The next command of a part.
-    fn next_of<'a>(
+    fn next_call_of_part<'a>(
         &self,
         scene: &Scene<'_>,
         part: CasePart,
@@ -97,7 +97,11 @@ impl Position {
     ) -> Result<Vec<Call<'a>>, AllocError> {
         let mut next = Vec::new(alloc);
         for (number, branch) in scene.calls.branches.iter().enumerate() {
-            if let Some(call) = self.next_of(scene, CasePart::Branch(number), branch.as_slice()) {
+            if let Some(call) = self.next_call_of_part(
+                scene,
+                CasePart::Branch(number),
+                branch.as_slice(),
+            ) {
                 next.push(call)?;
             }
         }
@@ -111,7 +115,11 @@ impl Position {
         scene: &Scene<'a>,
     ) -> Result<Vec<Call<'a>>, AllocError> {
         let mut one = Vec::new(alloc);
-        if let Some(call) = self.next_of(scene, CasePart::Prefix, scene.calls.prefix.as_slice()) {
+        if let Some(call) = self.next_call_of_part(
+            scene,
+            CasePart::Prefix,
+            scene.calls.prefix.as_slice(),
+        ) {
             one.push(call)?;
             return Ok(one);
         }
@@ -119,7 +127,11 @@ impl Position {
         if !next.is_empty() {
             return Ok(next);
         }
-        if let Some(call) = self.next_of(scene, CasePart::Suffix, scene.calls.suffix.as_slice()) {
+        if let Some(call) = self.next_call_of_part(
+            scene,
+            CasePart::Suffix,
+            scene.calls.suffix.as_slice(),
+        ) {
             one.push(call)?;
         }
         Ok(one)

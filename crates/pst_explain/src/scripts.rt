@@ -1,7 +1,7 @@
 //! Scripts in which a callback faults.
 
 use crate::failure_text::add_failure;
-use crate::failures::{failure_in, script_failure};
+use crate::failures::{failure_at_fault_place, script_failure};
 use pst_case::{Case, CaseFaultKind, Command, Run, shape};
 use pst_eval::{Callback, FaultPlace};
 use pst_model::Typed;
@@ -52,7 +52,7 @@ pub fn explain_script(
     let scene = scene_of(alloc, typed, &run)?;
     let failure = match place.callback {
         Callback::Command => script_failure(alloc, &scene, place.fault)?,
-        _ => failure_in(alloc, &scene, &[], place)?,
+        _ => failure_at_fault_place(alloc, &scene, &[], place)?,
     };
     let mut page = Page::new(alloc, width);
     add_failure(&mut page, alloc, &scene, &failure)?;

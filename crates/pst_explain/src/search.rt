@@ -40,7 +40,7 @@ pub struct Search<'a> {
 }
 
 /// The index of the position in `positions`.
-fn number_of(positions: &[Position], wanted: &Position) -> Option<usize> {
+fn index_of_position(positions: &[Position], wanted: &Position) -> Option<usize> {
     for (number, position) in positions.iter().enumerate() {
         if position.equals(wanted) {
             return Some(number);
@@ -50,7 +50,7 @@ fn number_of(positions: &[Position], wanted: &Position) -> Option<usize> {
 }
 
 /// The number of the move that a command makes at a position, and the position that it leads to.
-fn step_of(moves: &[Move<'_>], from: usize, command: u32) -> Option<(usize, usize)> {
+fn find_move_of_call(moves: &[Move<'_>], from: usize, command: u32) -> Option<(usize, usize)> {
     for (number, step) in moves.iter().enumerate() {
         if step.from == from && step.call.number == command {
             return match step.target {
@@ -65,7 +65,7 @@ fn step_of(moves: &[Move<'_>], from: usize, command: u32) -> Option<(usize, usiz
 impl<'a> Search<'a> {
     /// The number of the position. Adds the position if it is new.
     fn find_or_add_position(&mut self, position: Position) -> Result<usize, AllocError> {
-        if let Some(number) = number_of(self.positions.as_slice(), &position) {
+        if let Some(number) = index_of_position(self.positions.as_slice(), &position) {
             return Ok(number);
         }
         let number = self.positions.len();
@@ -116,7 +116,8 @@ impl<'a> Search<'a> {
         let mut at = 0usize;
         self.expand(alloc, scene, at)?;
         for call in calls {
-            let Some((number, next)) = step_of(self.moves.as_slice(), at, call.number) else {
+            let Some((number, next)) = find_move_of_call(self.moves.as_slice(), at, call.number)
+            else {
                 return Ok(());
             };
             self.shown.push(number)?;
@@ -127,12 +128,12 @@ impl<'a> Search<'a> {
     }
 
     /// Whether the search has tried a command at position `number`.
-    pub fn is_tried(&self, number: usize) -> bool {
+    pub fn has_moves_from_position(&self, number: usize) -> bool {
         self.moves.iter().any(|step| step.from == number)
     }
 
     /// Expands each position until there are more than `most`, and returns whether there are at most `most`.
-    fn expand_within(
+    fn expand_all_within_limit(
         &mut self,
         alloc: Global,
         scene: &Scene<'a>,
@@ -142,7 +143,7 @@ impl<'a> Search<'a> {
             if self.positions.len() > most {
                 return Ok(false);
             }
-            if !self.is_tried(number) {
+            if !self.has_moves_from_position(number) {
                 self.expand(alloc, scene, number)?;
             }
         }
@@ -152,7 +153,7 @@ impl<'a> Search<'a> {
     /// Expands those of the first `MOST_POSITIONS` positions that have no moves yet.
     fn expand_rest(&mut self, alloc: Global, scene: &Scene<'a>) -> Result<(), AllocError> {
         for number in 0..MOST_POSITIONS {
-            if !self.is_tried(number) {
+            if !self.has_moves_from_position(number) {
                 self.expand(alloc, scene, number)?;
             }
         }
@@ -161,7 +162,7 @@ impl<'a> Search<'a> {
 }
 
 /// The search of an item along the commands of the displayed interleaving.
-fn search_along<'a>(
+fn build_search_along_calls<'a>(
     alloc: Global,
     scene: &Scene<'a>,
     shown: &[Call<'_>],
@@ -181,7 +182,7 @@ fn search_along<'a>(
 }
 
 /// The new number of position `number`, if only the positions `kept` stay.
-fn kept_number(kept: &[usize], number: usize) -> usize {
+fn number_among_kept_positions(kept: &[usize], number: usize) -> usize {
     kept.iter().filter(|other| **other < number).count()
 }
 
@@ -214,9 +215,11 @@ impl<'a> Search<'a> {
         if !kept.contains(&from) {
             return Ok(());
         }
-        let from = kept_number(kept, from);
+        let from = number_among_kept_positions(kept, from);
         let target = match target {
-            Target::Position(to) if is_shown => Target::Position(kept_number(kept, to)),
+            Target::Position(to) if is_shown => Target::Position(number_among_kept_positions(
+                kept, to,
+            )),
             Target::Position(_) => return Ok(()),
             Target::DeadEnd(why) => Target::DeadEnd(why),
         };
@@ -229,12 +232,12 @@ impl<'a> Search<'a> {
 }
 
 /// The displayed interleaving, with the dead ends beside it, and nothing else of its search.
-pub fn shown_path<'a>(
+pub fn build_search_of_interleaving<'a>(
     alloc: Global,
     scene: &Scene<'a>,
     shown: &[Call<'_>],
 ) -> Result<Search<'a>, AllocError> {
-    let search = search_along(alloc, scene, shown)?;
+    let search = build_search_along_calls(alloc, scene, shown)?;
     let kept = shown_positions(alloc, &search)?;
     let mut path = Search {
         positions: Vec::new(alloc),
@@ -259,26 +262,26 @@ pub fn shown_path<'a>(
 
 /// The search of an item from its initial state on. It first expands the positions along the displayed interleaving,
 /// and then the others in the order in which it met them, up to the limit.
-pub fn search_of<'a>(
+pub fn build_truncated_search<'a>(
     alloc: Global,
     scene: &Scene<'a>,
     shown: &[Call<'_>],
 ) -> Result<Search<'a>, AllocError> {
-    let mut search = search_along(alloc, scene, shown)?;
+    let mut search = build_search_along_calls(alloc, scene, shown)?;
     search.expand_rest(alloc, scene)?;
     Ok(search)
 }
 
 /// The whole search of an item, if it has at most `most` positions. It first expands the positions along the displayed
 /// interleaving. It has no positions if the initial state faults.
-pub fn whole_search<'a>(
+pub fn build_search_if_small<'a>(
     alloc: Global,
     scene: &Scene<'a>,
     shown: &[Call<'_>],
     most: usize,
 ) -> Result<Option<Search<'a>>, AllocError> {
-    let mut search = search_along(alloc, scene, shown)?;
-    if search.expand_within(alloc, scene, most)? {
+    let mut search = build_search_along_calls(alloc, scene, shown)?;
+    if search.expand_all_within_limit(alloc, scene, most)? {
         Ok(Some(search))
     } else {
         Ok(None)

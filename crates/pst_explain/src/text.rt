@@ -9,7 +9,9 @@ use crate::walk_text::{add_blocked, add_explained, add_states};
 use crate::walks::Walk;
 use pst_judge::{Judged, Verdict};
 use pst_model::Source;
-use pst_scene::{Page, Scene, Style, add_number, add_str, add_word, text_of};
+use pst_scene::{
+    Page, Scene, Style, add_interleaving_letters, add_number, add_str, copy_explanation_text,
+};
 use std::alloc::{AllocError, Global};
 
 /// The style of a judgement: that of something wrong, unless the item is explained or valid.
@@ -37,7 +39,7 @@ fn add_heading(
 }
 
 /// Adds that `far` events hold.
-fn add_event_count_text(text: &mut Vec<u8>, far: usize) -> Result<(), AllocError> {
+fn add_count_of_holding_events(text: &mut Vec<u8>, far: usize) -> Result<(), AllocError> {
     if far == 1 {
         return add_str(text, "1 event holds");
     }
@@ -47,23 +49,27 @@ fn add_event_count_text(text: &mut Vec<u8>, far: usize) -> Result<(), AllocError
 
 /// Returns a sentence on the interleaving that gets furthest: `far` events hold in it before one does not, and it begins
 /// with `word`. If `word` is empty, every interleaving gets as far.
-fn far_sentence(alloc: Global, far: usize, word: &[usize]) -> Result<Vec<u8>, AllocError> {
+fn furthest_interleaving_sentence(
+    alloc: Global,
+    far: usize,
+    word: &[usize],
+) -> Result<Vec<u8>, AllocError> {
     if far == 0 {
-        return text_of(
+        return copy_explanation_text(
             alloc,
             "In every interleaving the first event does not hold:",
         );
     }
     if word.is_empty() {
-        let mut text = text_of(alloc, "In every interleaving ")?;
-        add_event_count_text(&mut text, far)?;
+        let mut text = copy_explanation_text(alloc, "In every interleaving ")?;
+        add_count_of_holding_events(&mut text, far)?;
         add_str(&mut text, " before one does not:")?;
         return Ok(text);
     }
-    let mut text = text_of(alloc, "No interleaving gets further than ")?;
-    add_word(&mut text, word)?;
+    let mut text = copy_explanation_text(alloc, "No interleaving gets further than ")?;
+    add_interleaving_letters(&mut text, word)?;
     add_str(&mut text, ", where ")?;
-    add_event_count_text(&mut text, far)?;
+    add_count_of_holding_events(&mut text, far)?;
     add_str(&mut text, ":")?;
     Ok(text)
 }
@@ -83,7 +89,7 @@ fn add_furthest(
     let Some(walk) = walk else {
         return page.add_sentence(alloc, 2, NO_FURTHEST.as_bytes());
     };
-    let sentence = far_sentence(alloc, far, walk.word.as_slice())?;
+    let sentence = furthest_interleaving_sentence(alloc, far, walk.word.as_slice())?;
     page.add_sentence(alloc, 2, sentence.as_slice())?;
     add_states(page, alloc, model, walk)?;
     add_blocked(page, alloc, model, walk.stopped.as_slice())
@@ -167,7 +173,7 @@ pub fn explanation_text(
 
 /// An explanation after `text` as `explanation_text` gives it, in the colors of a terminal: the core is red, and the answers
 /// that the model allows are green.
-pub fn colored_text(
+pub fn append_colored_explanation_text(
     text: Vec<u8>,
     alloc: Global,
     explanation: &Explanation<'_>,

@@ -3,7 +3,8 @@
 use crate::walks::{BlockedCall, Walk};
 use pst_model::Source;
 use pst_scene::{
-    Call, Page, PreAnswer, Style, Table, add_str, add_value, dead_end_text, join_texts, two_cells,
+    Call, Page, PreAnswer, Style, Table, add_str, add_value, dead_end_text, join_explanation_parts,
+    two_cells,
 };
 use pst_value::Value;
 use std::alloc::{AllocError, Global};
@@ -63,7 +64,7 @@ fn precondition_sentence(
                 text,
                 b" is false there; the verdict on a recorded run does not depend on it.",
             ];
-            Ok(Some(join_texts(alloc, &parts)?))
+            Ok(Some(join_explanation_parts(alloc, &parts)?))
         }
         PreAnswer::Faults(fault) => {
             let parts: [&[u8]; 5] = [
@@ -73,7 +74,7 @@ fn precondition_sentence(
                 fault.name().as_bytes(),
                 b" there; the verdict on a recorded run does not depend on it.",
             ];
-            Ok(Some(join_texts(alloc, &parts)?))
+            Ok(Some(join_explanation_parts(alloc, &parts)?))
         }
     }
 }

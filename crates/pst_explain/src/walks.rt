@@ -94,7 +94,7 @@ pub fn walk_along<'a>(
 }
 
 /// Returns the branch of each command that is in a branch.
-fn word_of(alloc: Global, calls: &[Call<'_>]) -> Result<Vec<usize>, AllocError> {
+fn interleaving_of_calls(alloc: Global, calls: &[Call<'_>]) -> Result<Vec<usize>, AllocError> {
     let mut word = Vec::new(alloc);
     for call in calls {
         if let CasePart::Branch(branch) = call.part {
@@ -111,7 +111,7 @@ pub fn blocked_after<'a>(
     calls: &[Call<'_>],
     state: &Value,
 ) -> Result<Vec<BlockedCall<'a>>, AllocError> {
-    let word = word_of(alloc, calls)?;
+    let word = interleaving_of_calls(alloc, calls)?;
     let next = next_calls(alloc, &scene.calls, word.as_slice(), calls.len())?;
     let mut stopped = Vec::new(alloc);
     for call in &next {
@@ -123,7 +123,7 @@ pub fn blocked_after<'a>(
 }
 
 /// Returns the walk of the interleaving `word`, up to the first command of which `condition` is not true.
-fn walk_checking<'a, C: Callbacks, A: Condition>(
+fn walk_until_condition_fails<'a, C: Callbacks, A: Condition>(
     callbacks: &C,
     condition: &A,
     alloc: Global,
@@ -158,7 +158,7 @@ pub fn explaining_walk<'a, C: Callbacks>(
         first: &[],
         rest: &[],
     };
-    walk_checking(callbacks, &none, alloc, scene, history, word)
+    walk_until_condition_fails(callbacks, &none, alloc, scene, history, word)
 }
 
 /// Returns each of the commands `next`, with the reason why its postcondition is not true on `state`.
@@ -190,7 +190,7 @@ pub fn furthest_walk<'a, C: Callbacks>(
 {
     let shaped = &scene.run.shaped;
     let (_, word) = verdict_with_interleaving(callbacks, alloc, shaped, history)?;
-    let mut walk = walk_checking(
+    let mut walk = walk_until_condition_fails(
         callbacks,
         &Postconditions,
         alloc,

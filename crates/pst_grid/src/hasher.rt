@@ -49,7 +49,7 @@ fn mixed(state: u64, number: u64) -> u64
 
 /// The number that eight bytes are, the lowest first.
 #[inline(always)]
-fn word_of(bytes: &[u8]) -> Option<u64>
+fn number_of_eight_bytes(bytes: &[u8]) -> Option<u64>
     ensures { result ≡ spec.word_of bytes.now }
 {
     if bytes.len() != 8 {
@@ -83,7 +83,7 @@ impl Hasher for WordHasher {
 
     #[inline(always)]
     fn write(&mut self, bytes: &[u8]) {
-        self.state = match word_of(bytes) {
+        self.state = match number_of_eight_bytes(bytes) {
             Some(word) => mixed(self.state, word),
             None => all_mixed(self.state, bytes),
         };

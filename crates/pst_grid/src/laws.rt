@@ -5,12 +5,12 @@ ghost use Rattle.pst_grid.specs.declared.answer.Ending.{Ending};
 ghost use Rattle.pst_grid.specs.declared.answer.StepOutcome.{StepOutcome};
 
 /// If nothing follows the branches, the run of a word is its run alone.
-pub fn run_is_alone<S, F>()
+pub fn run_without_rest_is_run_of_word<S, F>()
     ensures { (turn : S → ℕ → ℕ → StepOutcome S F) (rest : S → Ending F) → RunsAlone turn rest }
 {}
 
 /// If nothing follows the branches, the run of a word is all true exactly if the event of each letter is.
-pub fn true_by_events<S, F>()
+pub fn run_is_true_if_all_events_are<S, F>()
     ensures { (turn : S → ℕ → ℕ → StepOutcome S F) (rest : S → Ending F) → IsTrueByEvents turn rest }
 {}
 

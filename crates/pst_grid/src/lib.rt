@@ -12,7 +12,7 @@
 //! interleavings, and they run the rest once for each state in which all branches end. [`some_plainly`] returns the
 //! same answer as [`some`] and remembers nothing: it is the slow program for tests to compare with.
 //!
-//! [`run_is_alone`], [`true_by_events`] and [`few_steps_in_one_state`] are laws: they do nothing, and their contracts
+//! [`run_without_rest_is_run_of_word`], [`run_is_true_if_all_events_are`] and [`few_steps_in_one_state`] are laws: they do nothing, and their contracts
 //! are theorems about runs and the number of steps.
 //!
 //! A caller defines the steps and the rest by an `impl` of [`Steps`]. `AllocError` means that an allocation failed.
@@ -30,7 +30,9 @@ mod search;
 mod steps;
 
 pub use answer::{Ending, EveryAnswer, SomeAnswer, StepOutcome, StopReason};
-pub use laws::{few_steps_in_one_state, run_is_alone, true_by_events};
+pub use laws::{
+    few_steps_in_one_state, run_is_true_if_all_events_are, run_without_rest_is_run_of_word,
+};
 pub use plain_search::some_plainly;
 pub use remembering_search::{every, some};
 pub use steps::Steps;

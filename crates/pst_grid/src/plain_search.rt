@@ -31,7 +31,7 @@ fn explore<S: Steps>(
         return run_to_end(alloc, steps, lengths, Goal::ToEnd, search, state);
     }
     for branch in 0..lengths.len() {
-        if visit(alloc, steps, lengths, search, state, branch)? {
+        if explore_branch_plainly(alloc, steps, lengths, search, state, branch)? {
             return Ok(true);
         }
     }
@@ -40,7 +40,7 @@ fn explore<S: Steps>(
 
 /// Searches the completions of the word that begin with `branch`.
 #[cycle(search)]
-fn visit<S: Steps>(
+fn explore_branch_plainly<S: Steps>(
     alloc: Global,
     steps: &S,
     lengths: &[usize],

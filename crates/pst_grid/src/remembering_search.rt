@@ -51,7 +51,7 @@ fn explore<S: Steps>(
         return run_to_end(alloc, steps, lengths, goal, search, state);
     }
     for branch in 0..lengths.len() {
-        if visit(alloc, steps, lengths, goal, search, seen, state, branch)? {
+        if explore_branch(alloc, steps, lengths, goal, search, seen, state, branch)? {
             return Ok(true);
         }
     }
@@ -60,7 +60,7 @@ fn explore<S: Steps>(
 
 /// Searches the completions of the word that begin with `branch`.
 #[cycle(search)]
-fn visit<S: Steps>(
+fn explore_branch<S: Steps>(
     alloc: Global,
     steps: &S,
     lengths: &[usize],

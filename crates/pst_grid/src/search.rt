@@ -201,7 +201,7 @@ impl<F: Drop> SearchProgress<F> {
         ensures { IfOk result
             (λ v. v.items ≡ self.now.word.items ++ fill_from 0 lengths.now self.now.done.items) }
     {
-        complete(lengths, &self.done, self.word.to_vec(alloc)?)
+        append_remaining_letters(lengths, &self.done, self.word.to_vec(alloc)?)
     }
 
     /// The answer of the finished search. If `found`, the word is an interleaving that is true to its end.
@@ -287,7 +287,11 @@ pub(crate) fn is_done(lengths: &[usize], done: &[usize]) -> bool
 }
 
 /// The word, followed by the commands that are left, branch by branch.
-fn complete(lengths: &[usize], done: &[usize], word: Vec<usize>) -> Result<Vec<usize>, AllocError>
+fn append_remaining_letters(
+    lengths: &[usize],
+    done: &[usize],
+    word: Vec<usize>,
+) -> Result<Vec<usize>, AllocError>
     requires { length done.now ≡ length lengths.now }
     ensures { IfOk result (λ v. v.items ≡ word.items ++ fill_from 0 lengths.now done.now) }
 {

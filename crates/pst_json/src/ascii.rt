@@ -5,7 +5,7 @@ ghost use Rattle.pst_json.specs.Page.{IsPageByte, IsPageText};
 use std::alloc::{AllocError, Global};
 
 /// Returns the hexadecimal digit of `number`, which is below 16.
-fn digit(number: u32) -> u8
+fn hex_digit(number: u32) -> u8
     ensures { IsPageByte result }
 {
     match number {
@@ -30,7 +30,7 @@ fn digit(number: u32) -> u8
 
 /// Adds a byte.
 #[tactic(auto, using(crate::proofs::PageTexts::page_push))]
-pub fn add_byte(out: &mut Vec<u8>, byte: u8) -> Result<(), AllocError>
+pub fn add_json_byte(out: &mut Vec<u8>, byte: u8) -> Result<(), AllocError>
     requires { IsPageByte byte }
     ensures { IsPageText out.old.items → OnOk result (IsPageText out.new.items) }
 {
@@ -39,33 +39,33 @@ pub fn add_byte(out: &mut Vec<u8>, byte: u8) -> Result<(), AllocError>
 }
 
 /// Adds the escape of `number`, which has 16 bits, as `\u003c`.
-fn add_escape(out: &mut Vec<u8>, number: u32) -> Result<(), AllocError>
+fn add_json_unicode_escape(out: &mut Vec<u8>, number: u32) -> Result<(), AllocError>
     ensures { IsPageText out.old.items → OnOk result (IsPageText out.new.items) }
 {
-    add_byte(out, b'\\')?;
-    add_byte(out, b'u')?;
-    add_byte(out, digit(number / 4096 % 16))?;
-    add_byte(out, digit(number / 256 % 16))?;
-    add_byte(out, digit(number / 16 % 16))?;
-    add_byte(out, digit(number % 16))
+    add_json_byte(out, b'\\')?;
+    add_json_byte(out, b'u')?;
+    add_json_byte(out, hex_digit(number / 4096 % 16))?;
+    add_json_byte(out, hex_digit(number / 256 % 16))?;
+    add_json_byte(out, hex_digit(number / 16 % 16))?;
+    add_json_byte(out, hex_digit(number % 16))
 }
 
 /// Adds the escape of a character, or the escapes of its two surrogates if its number has more than 16 bits.
-fn add_escaped(out: &mut Vec<u8>, character: char) -> Result<(), AllocError>
+fn add_json_escaped_character(out: &mut Vec<u8>, character: char) -> Result<(), AllocError>
     ensures { IsPageText out.old.items → OnOk result (IsPageText out.new.items) }
 {
     let number = u32::from(character);
     match number.checked_sub(0x10000) {
-        None => add_escape(out, number),
+        None => add_json_unicode_escape(out, number),
         Some(beyond) => {
-            add_escape(out, 0xd800 + beyond / 1024 % 1024)?;
-            add_escape(out, 0xdc00 + beyond % 1024)
+            add_json_unicode_escape(out, 0xd800 + beyond / 1024 % 1024)?;
+            add_json_unicode_escape(out, 0xdc00 + beyond % 1024)
         }
     }
 }
 
 /// Returns the byte of a character that may be in a page: one of ASCII, except `<`, `>`, `&` and DEL.
-fn plain_byte(character: char) -> Option<u8>
+fn unescaped_json_byte(character: char) -> Option<u8>
     ensures { IfSome result IsPageByte }
 {
     match u8::try_from(u32::from(character)) {
@@ -74,7 +74,7 @@ fn plain_byte(character: char) -> Option<u8>
     }
 }
 
-/// Returns `json` with an escape for each character that `plain_byte` excludes. Such characters occur only in texts,
+/// Returns `json` with an escape for each character that `unescaped_json_byte` excludes. Such characters occur only in texts,
 /// which may contain escapes.
 #[tactic(auto, using(crate::proofs::PageTexts::empty_page))]
 pub fn escape_non_ascii(alloc: Global, json: &str) -> Result<Vec<u8>, AllocError>
@@ -82,9 +82,9 @@ pub fn escape_non_ascii(alloc: Global, json: &str) -> Result<Vec<u8>, AllocError
 {
     let mut out = Vec::new(alloc);
     for character in json.chars() {
-        match plain_byte(character) {
-            Some(byte) => add_byte(&mut out, byte)?,
-            None => add_escaped(&mut out, character)?,
+        match unescaped_json_byte(character) {
+            Some(byte) => add_json_byte(&mut out, byte)?,
+            None => add_json_escaped_character(&mut out, character)?,
         }
     }
     Ok(out)

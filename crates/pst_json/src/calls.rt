@@ -1,6 +1,6 @@
 //! Calls.
 
-use crate::values::{write_json_reply_word, write_json_value_and_text};
+use crate::values::{write_json_reply_without_value, write_json_value_and_text};
 use crate::writing::{write_json_byte_string, write_json_number_member};
 use json::Writer;
 use pst_case::Reply;
@@ -38,9 +38,9 @@ fn write_json_reply(
 ) -> Result<(), AllocError> {
     match reply {
         Reply::Value(value) => write_json_value_and_text(writer, alloc, model, value),
-        Reply::Misfit => write_json_reply_word(writer, "misfit"),
-        Reply::Failed => write_json_reply_word(writer, "failed"),
-        Reply::NotRun => write_json_reply_word(writer, "not-run"),
+        Reply::Misfit => write_json_reply_without_value(writer, "misfit"),
+        Reply::Failed => write_json_reply_without_value(writer, "failed"),
+        Reply::NotRun => write_json_reply_without_value(writer, "not-run"),
     }
 }
 

@@ -43,7 +43,7 @@ fn write_json_allowed_answers(
     }
     writer.end_array()?;
     write_json_bool_member(writer, "all", answer.allowed.all)?;
-    write_json_bool_member(writer, "only", answer.has_all())?;
+    write_json_bool_member(writer, "only", answer.has_all_allowed_answers())?;
     writer.end_object()
 }
 

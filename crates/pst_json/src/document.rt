@@ -2,9 +2,9 @@
 ghost use Rattle.std.specs.Prelude.{IfOk};
 ghost use Rattle.pst_json.specs.Page.{IsPageText};
 
-use crate::ascii::add_byte;
+use crate::ascii::add_json_byte;
 use crate::models::write_json_model;
-use crate::writing::into_ascii;
+use crate::writing::into_ascii_json;
 use json::Writer;
 use pst_model::Source;
 use pst_sources::SourceFile;
@@ -65,7 +65,7 @@ fn write_json_campaign(
 }
 
 /// Returns the first line of a document, up to the items.
-fn first_line(
+fn json_document_first_line(
     alloc: Global,
     files: &[SourceFile<'_>],
     campaign: Option<CampaignFacts>,
@@ -82,24 +82,24 @@ fn first_line(
     write_json_model(&mut writer, alloc, model)?;
     writer.key("items")?;
     writer.begin_array()?;
-    let mut start = into_ascii(alloc, writer)?;
-    add_byte(&mut start, b'\n')?;
+    let mut start = into_ascii_json(alloc, writer)?;
+    add_json_byte(&mut start, b'\n')?;
     Ok(start)
 }
 
 /// The first line of a document: the version, the names of the files, the model, and the start of the items.
-pub fn document_start(
+pub fn json_document_start(
     alloc: Global,
     files: &[SourceFile<'_>],
     model: &Source,
 ) -> Result<Vec<u8>, AllocError>
     ensures { IfOk result (λ text. IsPageText text.items) }
 {
-    first_line(alloc, files, None, model)
+    json_document_first_line(alloc, files, None, model)
 }
 
-/// The first line of a document whose items are the failures of a campaign, as `document_start` gives it, with the campaign.
-pub fn campaign_start(
+/// The first line of a document whose items are the failures of a campaign, as `json_document_start` gives it, with the campaign.
+pub fn json_campaign_document_start(
     alloc: Global,
     files: &[SourceFile<'_>],
     facts: CampaignFacts,
@@ -107,5 +107,5 @@ pub fn campaign_start(
 ) -> Result<Vec<u8>, AllocError>
     ensures { IfOk result (λ text. IsPageText text.items) }
 {
-    first_line(alloc, files, Some(facts), model)
+    json_document_first_line(alloc, files, Some(facts), model)
 }

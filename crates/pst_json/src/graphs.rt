@@ -5,7 +5,7 @@ use crate::reasons::write_json_dead_end;
 use crate::values::write_json_state_member;
 use crate::writing::{write_json_bool_member, write_json_number_member};
 use json::Writer;
-use pst_explain::{Explanation, Move, Position, Reason, Search, Target, whole_search};
+use pst_explain::{Explanation, Move, Position, Reason, Search, Target, build_search_if_small};
 use pst_model::Source;
 use pst_scene::{Call, Scene};
 use std::alloc::{AllocError, Global};
@@ -15,7 +15,7 @@ const MOST_POSITIONS: usize = 150;
 
 /// Returns how many interleavings there are of `together` commands and `more` commands of one further branch, if the
 /// first `together` commands have `orders` interleavings.
-fn with_branch_interleaved(orders: u64, together: u64, more: usize) -> u64 {
+fn count_interleavings_with_branch(orders: u64, together: u64, more: usize) -> u64 {
     let mut orders = orders;
     for count in 1..=more as u64 {
         let choices = orders.saturating_mul(together.saturating_add(count));
@@ -29,14 +29,14 @@ fn count_interleavings(scene: &Scene<'_>) -> u64 {
     let mut orders = 1;
     let mut together: u64 = 0;
     for branch in &scene.calls.branches {
-        orders = with_branch_interleaved(orders, together, branch.len());
+        orders = count_interleavings_with_branch(orders, together, branch.len());
         together = together.saturating_add(branch.len() as u64);
     }
     orders
 }
 
 /// Returns whether the search of an item is written: only if the item is neither explained nor valid nor broken.
-fn has_graph(reason: &Reason<'_>) -> bool {
+fn has_json_search_graph(reason: &Reason<'_>) -> bool {
     matches!(
         reason,
         Reason::Unexplained { .. } | Reason::Faulted { .. } | Reason::Invalid(_)
@@ -44,7 +44,7 @@ fn has_graph(reason: &Reason<'_>) -> bool {
 }
 
 /// Returns the commands of the interleaving of the verdict.
-fn shown_calls<'a>(
+fn calls_of_explanation_walk<'a>(
     alloc: Global,
     explanation: &Explanation<'a>,
 ) -> Result<Vec<Call<'a>>, AllocError> {
@@ -58,16 +58,16 @@ fn shown_calls<'a>(
 }
 
 /// The search of an item that is written, if it has one that is small and an initial state.
-fn search_of<'a>(
+fn search_for_json_graph<'a>(
     alloc: Global,
     explanation: &Explanation<'a>,
 ) -> Result<Option<Search<'a>>, AllocError> {
-    if !has_graph(&explanation.reason) {
+    if !has_json_search_graph(&explanation.reason) {
         return Ok(None);
     }
-    let shown = shown_calls(alloc, explanation)?;
+    let shown = calls_of_explanation_walk(alloc, explanation)?;
     let scene = &explanation.scene;
-    match whole_search(alloc, scene, shown.as_slice(), MOST_POSITIONS)? {
+    match build_search_if_small(alloc, scene, shown.as_slice(), MOST_POSITIONS)? {
         Some(search) if !search.positions.is_empty() => Ok(Some(search)),
         _ => Ok(None),
     }
@@ -83,7 +83,7 @@ fn write_json_position(
     writer.begin_object()?;
     writer.key("at")?;
     writer.begin_array()?;
-    for count in position.counts() {
+    for count in position.call_counts_by_part() {
         writer.u64(*count as u64)?;
     }
     writer.end_array()?;
@@ -145,7 +145,7 @@ pub fn write_json_search(
     alloc: Global,
     explanation: &Explanation<'_>,
 ) -> Result<(), AllocError> {
-    let search = search_of(alloc, explanation)?;
+    let search = search_for_json_graph(alloc, explanation)?;
     writer.key("search")?;
     writer.begin_object()?;
     writer.key("orders")?;

@@ -7,7 +7,7 @@ use crate::cores::write_json_core;
 use crate::failures::{write_json_broken_reply, write_json_failure};
 use crate::graphs::write_json_search;
 use crate::walks::write_json_walk;
-use crate::writing::{into_ascii, write_json_number_member, write_json_text_member};
+use crate::writing::{into_ascii_json, write_json_number_member, write_json_text_member};
 use json::Writer;
 use pst_explain::{Explanation, Reason, TreePlace};
 use pst_judge::{Judged, Verdict, Why};
@@ -108,7 +108,7 @@ fn write_json_verdict_reason(
 
 /// Returns the explanation of an item as a JSON object, without a line end. `trial` is the number of its trial, if it is a
 /// failure of a campaign.
-fn item_object(
+fn item_json_with_optional_trial(
     alloc: Global,
     explanation: &Explanation<'_>,
     trial: Option<usize>,
@@ -124,14 +124,14 @@ fn item_object(
     write_json_verdict_reason(&mut writer, alloc, explanation)?;
     write_json_search(&mut writer, alloc, explanation)?;
     writer.end_object()?;
-    into_ascii(alloc, writer)
+    into_ascii_json(alloc, writer)
 }
 
 /// Returns the explanation of an item as a JSON object, without a line end.
 pub fn item_json(alloc: Global, explanation: &Explanation<'_>) -> Result<Vec<u8>, AllocError>
     ensures { IfOk result (λ text. IsPageText text.items) }
 {
-    item_object(alloc, explanation, None)
+    item_json_with_optional_trial(alloc, explanation, None)
 }
 
 /// Returns the explanation of the failure of a trial, from 0, as `item_json` gives it, with the number of the trial.
@@ -142,5 +142,5 @@ pub fn trial_json(
 ) -> Result<Vec<u8>, AllocError>
     ensures { IfOk result (λ text. IsPageText text.items) }
 {
-    item_object(alloc, explanation, Some(trial))
+    item_json_with_optional_trial(alloc, explanation, Some(trial))
 }

@@ -24,7 +24,8 @@ mod walks;
 mod writing;
 
 pub use document::{
-    AFTER_ITEMS, AFTER_NO_ITEM, BETWEEN_ITEMS, CampaignFacts, campaign_start, document_start,
+    AFTER_ITEMS, AFTER_NO_ITEM, BETWEEN_ITEMS, CampaignFacts, json_campaign_document_start,
+    json_document_start,
 };
 pub use items::{item_json, trial_json};
 pub use page::{AFTER_DATA, BEFORE_DATA};

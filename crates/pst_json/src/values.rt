@@ -56,7 +56,7 @@ fn write_json_operation_name(
 }
 
 /// Begins an object with the member `key`, and the array that is its value.
-fn begin_listed(writer: &mut Writer<Global>, key: &str) -> Result<(), AllocError> {
+fn begin_json_object_with_array(writer: &mut Writer<Global>, key: &str) -> Result<(), AllocError> {
     writer.begin_object()?;
     writer.key(key)?;
     writer.begin_array()
@@ -64,7 +64,7 @@ fn begin_listed(writer: &mut Writer<Global>, key: &str) -> Result<(), AllocError
 
 /// Writes a value as JSON.
 #[cycle(value)]
-fn write_json_plain_value(
+fn write_json_value(
     writer: &mut Writer<Global>,
     model: &Source,
     value: &Value,
@@ -78,12 +78,12 @@ fn write_json_plain_value(
             write_json_array_items(writer, model, items.as_slice())
         }
         Value::Tuple(parts) => {
-            begin_listed(writer, "tuple")?;
+            begin_json_object_with_array(writer, "tuple")?;
             write_json_array_items(writer, model, parts.as_slice())?;
             writer.end_object()
         }
         Value::Map(keys, values) => {
-            begin_listed(writer, "map")?;
+            begin_json_object_with_array(writer, "map")?;
             let (keys, values) = (keys.get().as_slice(), values.get().as_slice());
             write_json_map_entries(writer, model, keys, values)?;
             writer.end_object()
@@ -93,11 +93,11 @@ fn write_json_plain_value(
             writer.begin_object()?;
             write_json_number_member(writer, "ref", *number as usize)?;
             writer.key("value")?;
-            write_json_plain_value(writer, model, value.get())?;
+            write_json_value(writer, model, value.get())?;
             writer.end_object()
         }
         Value::Call(operation, args) => {
-            begin_listed(writer, "call")?;
+            begin_json_object_with_array(writer, "call")?;
             write_json_operation_name(writer, model, *operation)?;
             write_json_array_items(writer, model, args.as_slice())?;
             writer.end_object()
@@ -113,7 +113,7 @@ fn write_json_array_items(
     items: &[Value],
 ) -> Result<(), AllocError> {
     for item in items {
-        write_json_plain_value(writer, model, item)?;
+        write_json_value(writer, model, item)?;
     }
     writer.end_array()
 }
@@ -133,7 +133,7 @@ fn write_json_map_entries(
         };
         writer.begin_array()?;
         write_json_map_key(writer, key)?;
-        write_json_plain_value(writer, model, value)?;
+        write_json_value(writer, model, value)?;
         writer.end_array()?;
         rest = others;
     }
@@ -155,7 +155,7 @@ pub fn write_json_value_and_text(
         write_json_number_member(writer, "bytes", text.len())?;
     } else {
         writer.key("value")?;
-        write_json_plain_value(writer, model, value)?;
+        write_json_value(writer, model, value)?;
     }
     writer.end_object()
 }
@@ -185,7 +185,10 @@ pub fn write_json_state_member(
 }
 
 /// Writes an object with a word in place of a value.
-pub fn write_json_reply_word(writer: &mut Writer<Global>, word: &str) -> Result<(), AllocError> {
+pub fn write_json_reply_without_value(
+    writer: &mut Writer<Global>,
+    word: &str,
+) -> Result<(), AllocError> {
     writer.begin_object()?;
     write_json_text_member(writer, "text", word)?;
     writer.end_object()

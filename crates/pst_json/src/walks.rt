@@ -7,7 +7,7 @@ use crate::writing::{write_json_byte_string, write_json_text_member};
 use json::Writer;
 use pst_explain::{BlockedCall, Explanation, Reason, Step, Walk};
 use pst_model::Source;
-use pst_scene::{PreAnswer, add_word};
+use pst_scene::{PreAnswer, add_interleaving_letters};
 use std::alloc::{AllocError, Global};
 
 /// Writes a member whose value is an interleaving of branches.
@@ -18,7 +18,7 @@ pub fn write_json_interleaving_member(
     word: &[usize],
 ) -> Result<(), AllocError> {
     let mut text = Vec::new(alloc);
-    add_word(&mut text, word)?;
+    add_interleaving_letters(&mut text, word)?;
     writer.key(key)?;
     write_json_byte_string(writer, alloc, text.as_slice())
 }
@@ -55,7 +55,7 @@ fn write_json_blocked_call(
 }
 
 /// What the interleaving of a reason shows.
-fn kind_of(reason: &Reason<'_>) -> &'static str {
+fn json_walk_kind(reason: &Reason<'_>) -> &'static str {
     match reason {
         Reason::Explained(_) => "explains",
         Reason::Unexplained { .. } => "furthest",
@@ -89,7 +89,7 @@ pub fn write_json_walk(
     let model = explanation.scene.model;
     writer.key("walk")?;
     writer.begin_object()?;
-    write_json_text_member(writer, "kind", kind_of(&explanation.reason))?;
+    write_json_text_member(writer, "kind", json_walk_kind(&explanation.reason))?;
     write_json_interleaving_member(writer, alloc, "word", walk.word.as_slice())?;
     if let Some(start) = &walk.start {
         write_json_state_member(writer, alloc, "start", model, start)?;

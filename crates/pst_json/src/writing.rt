@@ -14,7 +14,7 @@ use std::alloc::{AllocError, Global};
 pub const MOST_BYTES: usize = 4000;
 
 /// Returns the bytes as a text. If they are not UTF-8, each byte becomes the character with its number.
-fn decode_text(alloc: Global, bytes: &[u8]) -> Result<String, AllocError> {
+fn decode_utf8_or_latin1(alloc: Global, bytes: &[u8]) -> Result<String, AllocError> {
     if let Ok(text) = std::str::from_utf8(bytes) {
         return String::from_str(alloc, text);
     }
@@ -26,11 +26,11 @@ fn decode_text(alloc: Global, bytes: &[u8]) -> Result<String, AllocError> {
 }
 
 /// Returns the written JSON, in ASCII.
-pub fn into_ascii(alloc: Global, writer: Writer<Global>) -> Result<Vec<u8>, AllocError>
+pub fn into_ascii_json(alloc: Global, writer: Writer<Global>) -> Result<Vec<u8>, AllocError>
     ensures { IfOk result (λ text. IsPageText text.items) }
 {
     let json = writer.into_inner();
-    let json = decode_text(alloc, json.as_slice())?;
+    let json = decode_utf8_or_latin1(alloc, json.as_slice())?;
     escape_non_ascii(alloc, json.as_str())
 }
 
@@ -40,7 +40,7 @@ pub fn write_json_byte_string(
     alloc: Global,
     bytes: &[u8],
 ) -> Result<(), AllocError> {
-    let text = decode_text(alloc, bytes)?;
+    let text = decode_utf8_or_latin1(alloc, bytes)?;
     writer.string(text.as_str())
 }
 

@@ -70,7 +70,7 @@ fn are_lists(json: Option<&Json<'_>>) -> bool
     }
 }
 
-fn count_parts(json: Option<&Json<'_>>) -> usize
+fn count_if_present(json: Option<&Json<'_>>) -> usize
     ensures { result ≡ spec.count (shown json.entry) }
 {
     match json {
@@ -83,14 +83,14 @@ fn count_parts(json: Option<&Json<'_>>) -> usize
 fn count_item_parts(json: &Json<'_>) -> usize
     ensures { result ≡ spec.named (value_view json.now) }
 {
-    count_parts(json.get("prefix"))
-        + count_parts(json.get("branches"))
-        + count_parts(json.get("suffix"))
-        + count_parts(json.get("replies"))
+    count_if_present(json.get("prefix"))
+        + count_if_present(json.get("branches"))
+        + count_if_present(json.get("suffix"))
+        + count_if_present(json.get("replies"))
 }
 
 #[tactic(auto, using(crate::proofs::Views::views))]
-fn size_of(json: &Json<'_>) -> usize
+fn count_object_members(json: &Json<'_>) -> usize
     ensures { result ≡ spec.size_of (value_view json.now) }
 {
     match json {
@@ -103,7 +103,7 @@ fn size_of(json: &Json<'_>) -> usize
 fn is_item(json: &Json<'_>) -> bool
     ensures { result ≡ spec.is_item (value_view json.now) }
 {
-    size_of(json) == count_item_parts(json)
+    count_object_members(json) == count_item_parts(json)
         && is_part(json.get("prefix"))
         && are_branches(json.get("branches"))
         && is_part(json.get("suffix"))
@@ -111,7 +111,7 @@ fn is_item(json: &Json<'_>) -> bool
 }
 
 /// A word, and the commands of a part, if it is there.
-fn section(
+fn headed_commands_form(
     alloc: Global,
     model: &Source,
     word: &str,
@@ -147,8 +147,8 @@ fn two_forms(
 ) -> Result<Items<Form>, AllocError>
     ensures { IfOk result (λ forms. forms ≡ spec.two_forms model.now (items_view branches.now)) }
 {
-    let left = section(alloc, model, "left", branches.first())?;
-    let right = section(alloc, model, "right", others(branches).first())?;
+    let left = headed_commands_form(alloc, model, "left", branches.first())?;
+    let right = headed_commands_form(alloc, model, "right", others(branches).first())?;
     let mut forms = list_of(alloc, left)?;
     forms.push(right)?;
     Ok(forms)
@@ -190,7 +190,10 @@ fn suffix_forms(
     ensures { IfOk result (λ forms. forms ≡ spec.suffix_forms model.now (shown suffix.entry)) }
 {
     match suffix {
-        Some(json) => list_of(alloc, section(alloc, model, "suffix", Some(json))?),
+        Some(json) => list_of(
+            alloc,
+            headed_commands_form(alloc, model, "suffix", Some(json))?,
+        ),
         None => Ok(Items::new(alloc)),
     }
 }
@@ -261,7 +264,7 @@ fn item_branches(
 fn whole_form(alloc: Global, model: &Source, json: &Json<'_>) -> Result<Form, AllocError>
     ensures { IfOk result (λ form. form ≡ spec.whole_form model.now (value_view json.now)) }
 {
-    let prefix = section(alloc, model, "prefix", json.get("prefix"))?;
+    let prefix = headed_commands_form(alloc, model, "prefix", json.get("prefix"))?;
     let mut forms = list_of(alloc, prefix)?;
     forms.append(item_branches(alloc, model, json.get("branches"))?)?;
     let mut more = suffix_forms(alloc, model, json.get("suffix"))?;

@@ -142,7 +142,7 @@ fn list_form(
 }
 
 /// The tree of the list of replies to the next branch, or to the suffix if there is no more branch.
-fn next_form(
+fn branch_or_suffix_reply_form(
     alloc: Global,
     model: &Source,
     branches: &[Json<'_>],
@@ -159,7 +159,7 @@ fn next_form(
 }
 
 /// The trees of the lists of replies to the branches, and to the suffix after them.
-fn rest_forms(
+fn branch_and_suffix_reply_forms(
     alloc: Global,
     model: &Source,
     branches: &[Json<'_>],
@@ -172,7 +172,7 @@ fn rest_forms(
     let mut forms = Items::new(alloc);
     let mut rest = branches;
     for list in lists {
-        forms.push(next_form(alloc, model, rest, suffix, list)?)?;
+        forms.push(branch_or_suffix_reply_form(alloc, model, rest, suffix, list)?)?;
         rest = others(rest);
     }
     Ok(forms)
@@ -193,7 +193,7 @@ pub fn list_forms(
     let mut forms = Items::new(alloc);
     if let Some((first, others)) = lists.split_first() {
         forms.push(list_form(alloc, model, prefix, first)?)?;
-        forms.append(rest_forms(alloc, model, branches, suffix, others)?)?;
+        forms.append(branch_and_suffix_reply_forms(alloc, model, branches, suffix, others)?)?;
     }
     Ok(forms)
 }

@@ -147,7 +147,7 @@ fn put_list(writer: &mut Writer<Global>, replies: &[Reply]) -> Result<(), AllocE
 }
 
 /// Writes the lists of the branches and of the suffix, if it has commands, and the end of the lists.
-fn put_rest(
+fn write_json_later_reply_lists(
     writer: &mut Writer<Global>,
     branches: &[Items<Reply>],
     suffix: &[Reply],
@@ -173,7 +173,7 @@ fn put_lists(writer: &mut Writer<Global>, history: &History) -> Result<(), Alloc
 {
     writer.begin_array()?;
     put_list(writer, history.prefix.as_slice())?;
-    put_rest(
+    write_json_later_reply_lists(
         writer,
         history.branches.as_slice(),
         history.suffix.as_slice(),

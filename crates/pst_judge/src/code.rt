@@ -27,7 +27,7 @@ fn encode_tagged(tag: u8, number: u64, bytes: &mut Vec<u8>) -> Result<(), AllocE
 }
 
 /// Adds the code of an integer.
-fn put_int(number: i64, bytes: &mut Vec<u8>) -> Result<(), AllocError>
+fn encode_integer(number: i64, bytes: &mut Vec<u8>) -> Result<(), AllocError>
     ensures { OnOk result (bytes.new.items ≡ bytes.old.items ++ code_of_int number) }
 {
     let tag = if number < 0 { 1 } else { 0 };
@@ -35,7 +35,7 @@ fn put_int(number: i64, bytes: &mut Vec<u8>) -> Result<(), AllocError>
 }
 
 /// Appends the code of a bool.
-fn put_truth(truth: bool, bytes: &mut Vec<u8>) -> Result<(), AllocError>
+fn encode_bool(truth: bool, bytes: &mut Vec<u8>) -> Result<(), AllocError>
     ensures { OnOk result (bytes.new.items ≡ bytes.old.items ++ code_of_truth truth) }
 {
     bytes.push(if truth { 3 } else { 2 })?;
@@ -43,7 +43,7 @@ fn put_truth(truth: bool, bytes: &mut Vec<u8>) -> Result<(), AllocError>
 }
 
 /// Adds the code of a text.
-fn put_text(text: &[u8], bytes: &mut Vec<u8>) -> Result<(), AllocError>
+fn encode_text(text: &[u8], bytes: &mut Vec<u8>) -> Result<(), AllocError>
     ensures { OnOk result (bytes.new.items ≡ bytes.old.items ++ code_of_text text.now) }
 {
     encode_tagged(4, text.len() as u64, bytes)?;
@@ -51,23 +51,23 @@ fn put_text(text: &[u8], bytes: &mut Vec<u8>) -> Result<(), AllocError>
 }
 
 /// Adds the code of a key.
-fn put_key(key: &Key, bytes: &mut Vec<u8>) -> Result<(), AllocError>
+fn encode_key(key: &Key, bytes: &mut Vec<u8>) -> Result<(), AllocError>
     ensures { OnOk result (bytes.new.items ≡ bytes.old.items ++ code_of_key key.now) }
 {
     match key {
-        Key::Int(number) => put_int(*number, bytes),
-        Key::Bool(truth) => put_truth(*truth, bytes),
-        Key::Text(text) => put_text(text.as_bytes(), bytes),
+        Key::Int(number) => encode_integer(*number, bytes),
+        Key::Bool(truth) => encode_bool(*truth, bytes),
+        Key::Text(text) => encode_text(text.as_bytes(), bytes),
     }
 }
 
 /// Adds how many keys there are, and their codes.
-fn put_keys(keys: &[Key], bytes: &mut Vec<u8>) -> Result<(), AllocError>
+fn encode_keys(keys: &[Key], bytes: &mut Vec<u8>) -> Result<(), AllocError>
     ensures { OnOk result (bytes.new.items ≡ bytes.old.items ++ codes_by code_of_key keys.now) }
 {
     encode_number(keys.len() as u64, bytes)?;
     for key in keys {
-        put_key(key, bytes)?;
+        encode_key(key, bytes)?;
     }
     Ok(())
 }
@@ -86,7 +86,7 @@ fn encode_values(values: &[Value], bytes: &mut Vec<u8>) -> Result<(), AllocError
 
 /// Adds a tag, and then values.
 #[cycle(encode_value)]
-fn put_list(tag: u8, values: &[Value], bytes: &mut Vec<u8>) -> Result<(), AllocError>
+fn encode_tagged_values(tag: u8, values: &[Value], bytes: &mut Vec<u8>) -> Result<(), AllocError>
     ensures { OnOk result (bytes.new.items ≡ bytes.old.items ++ tag ∷ codes_by code values.now) }
 {
     bytes.push(tag)?;
@@ -95,11 +95,11 @@ fn put_list(tag: u8, values: &[Value], bytes: &mut Vec<u8>) -> Result<(), AllocE
 
 /// Adds the code of a map with these keys and values.
 #[cycle(encode_value)]
-fn put_map(keys: &[Key], values: &[Value], bytes: &mut Vec<u8>) -> Result<(), AllocError>
+fn encode_map(keys: &[Key], values: &[Value], bytes: &mut Vec<u8>) -> Result<(), AllocError>
     ensures { OnOk result (bytes.new.items ≡ bytes.old.items ++ code_of_map keys.now (codes_by code values.now)) }
 {
     bytes.push(7)?;
-    put_keys(keys, bytes)?;
+    encode_keys(keys, bytes)?;
     encode_values(values, bytes)
 }
 
@@ -110,12 +110,16 @@ pub(crate) fn encode_value(value: &Value, bytes: &mut Vec<u8>) -> Result<(), All
     ensures { OnOk result (bytes.new.items ≡ bytes.old.items ++ code value.now) }
 {
     match value {
-        Value::Int(number) => put_int(*number, bytes),
-        Value::Bool(truth) => put_truth(*truth, bytes),
-        Value::Text(text) => put_text(text.as_bytes(), bytes),
-        Value::Tuple(items) => put_list(5, items.as_slice(), bytes),
-        Value::List(items) => put_list(6, items.as_slice(), bytes),
-        Value::Map(keys, values) => put_map(keys.get().as_slice(), values.get().as_slice(), bytes),
+        Value::Int(number) => encode_integer(*number, bytes),
+        Value::Bool(truth) => encode_bool(*truth, bytes),
+        Value::Text(text) => encode_text(text.as_bytes(), bytes),
+        Value::Tuple(items) => encode_tagged_values(5, items.as_slice(), bytes),
+        Value::List(items) => encode_tagged_values(6, items.as_slice(), bytes),
+        Value::Map(keys, values) => encode_map(
+            keys.get().as_slice(),
+            values.get().as_slice(),
+            bytes,
+        ),
         Value::Var(number) => encode_tagged(8, *number as u64, bytes),
         Value::Ref(number, inner) => {
             encode_tagged(9, *number as u64, bytes)?;

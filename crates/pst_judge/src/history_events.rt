@@ -16,7 +16,7 @@ use pst_value::{Items, Value};
 use std::alloc::{AllocError, Global};
 
 /// The events of the prefix of a history with these recorded results.
-pub fn prefix_of(
+pub fn events_of_prefix(
     alloc: Global,
     shaped: &Shaped,
     history: &History,
@@ -32,7 +32,7 @@ pub fn prefix_of(
 
 /// The events of the branches and of the suffix of a history whose replies are all values, with the condition to check
 /// on them.
-pub fn branches_of<'a, C: Callbacks, A: Condition>(
+pub fn branches_with_events<'a, C: Callbacks, A: Condition>(
     callbacks: &'a C,
     condition: &'a A,
     alloc: Global,

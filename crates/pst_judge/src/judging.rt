@@ -13,7 +13,7 @@ ghost use Rattle.pst_judge.specs.Verdict.{first_broken, IsVerdict, IsVerdictAski
 ghost use Rattle.pst_model.specs.WellTyped.{WellModel};
 
 use crate::condition::{Condition, Postconditions};
-use crate::history_events::{branches_of, prefix_of};
+use crate::history_events::{branches_with_events, events_of_prefix};
 use crate::running::{EventsEnd, run_events};
 use crate::search::search;
 use crate::verdicts::Verdict;
@@ -37,7 +37,7 @@ fn first_broken_reply(number: u32, results: &[Option<Value>]) -> Option<u32>
 
 /// The verdict on a history whose replies are all values, from the state after the prefix. If no interleaving explains
 /// it, also returns the branch numbers of the true events in the interleaving that the verdict rests on.
-fn after_prefix<C: Callbacks, A: Condition>(
+fn verdict_after_prefix<C: Callbacks, A: Condition>(
     callbacks: &C,
     condition: &A,
     alloc: Global,
@@ -55,7 +55,7 @@ fn after_prefix<C: Callbacks, A: Condition>(
         (λ r. IsVerdictOfSearch m (A.asked condition.now m) (branch_events c history.now)
         (suffix_events c history.now) (branch_lengths c) (length c.prefix) state.now r.0 r.1.items) }
 {
-    let branches = branches_of(callbacks, condition, alloc, shaped, history, results)?;
+    let branches = branches_with_events(callbacks, condition, alloc, shaped, history, results)?;
     search(alloc, &branches, state, shaped.case().prefix.len())
 }
 
@@ -89,10 +89,10 @@ fn verdict_on_values<C: Callbacks, A: Condition>(
             return Ok((Verdict::Faulted(place), Vec::new(alloc)));
         }
     };
-    let prefix = prefix_of(alloc, shaped, history, results)?;
+    let prefix = events_of_prefix(alloc, shaped, history, results)?;
     match run_events(callbacks, condition, alloc, state, prefix.as_slice())? {
         EventsEnd::Through(last) => {
-            after_prefix(callbacks, condition, alloc, shaped, history, results, &last)
+            verdict_after_prefix(callbacks, condition, alloc, shaped, history, results, &last)
         }
         EventsEnd::Stopped(at, StopReason::False) => Ok((
             Verdict::Unexplained(at),
@@ -178,7 +178,7 @@ pub fn verdict<C: Callbacks>(
 }
 
 /// The interleaving of a verdict that explains, or else `letters`.
-fn letters_or_none(
+fn explaining_interleaving_or_given(
     alloc: Global,
     verdict: &Verdict,
     letters: Vec<usize>,
@@ -216,6 +216,6 @@ pub fn verdict_with_interleaving<C: Callbacks>(
         shaped,
         history,
     )?;
-    let word = letters_or_none(alloc, &verdict, letters)?;
+    let word = explaining_interleaving_or_given(alloc, &verdict, letters)?;
     Ok((verdict, word))
 }

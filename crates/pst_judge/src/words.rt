@@ -10,8 +10,8 @@ pub struct InterleavingText<'a> {
     pub branches: &'a [usize],
 }
 
-/// The letter of branch `branch`, from 0.
-fn letter(branch: usize) -> &'static str
+/// Returns the letter of branch `branch`, counted from 0.
+fn branch_letter(branch: usize) -> &'static str
     ensures { result.now ≡ letter branch ∷ [] }
 {
     match branch {
@@ -33,7 +33,7 @@ impl fmt::Display for InterleavingText<'_> {
             return write!(f, "-");
         }
         for branch in self.branches {
-            let letter = letter(*branch);
+            let letter = branch_letter(*branch);
             write!(f, "{letter}")?;
         }
         Ok(())

@@ -2,3 +2,5 @@
 pub mod ItemForm
 pub mod Places
 pub mod ItemReplies
+pub mod ValuePlaces
+pub mod ResultTypes

@@ -1,13 +1,15 @@
 //! Problems of the arguments of commands.
 
-use crate::command::{after_head, head_word};
+use crate::argument_fault::first_argument_fault;
+use crate::command::{CaseSearch, after_head, trees_in};
 use crate::ill::ValueFault;
-use crate::values::{CaseSearch, Wanted, problem_in};
+use crate::values::fault_problem;
 use pst_model::Op;
 use pst_problems::{
     FoundProblem, Problem, Signature, counted, operation_named, problem_at, with_note,
 };
 use pst_sexpr::Form;
+use pst_type_problems::head_word;
 use std::alloc::Global;
 
 /// The problem of a command with `found` arguments of `op`, which takes another number.
@@ -30,16 +32,15 @@ fn argument_problem(
     op: &Op,
 ) -> FoundProblem {
     let found = after_head(form).len();
-    let params = op.params.as_slice();
-    if found != params.len() {
+    if found != op.params.len() {
         return argument_count_problem(alloc, path, op, found);
     }
-    let other = Some(ValueFault::Argument);
-    problem_in(alloc, search, path, form, Wanted::Call(params), other)
+    let found = first_argument_fault(alloc, search, trees_in(form), op.params.as_slice())?;
+    fault_problem(alloc, search, path, found, ValueFault::Argument)
 }
 
 /// The problem `found`, if there is one, with the declaration of `op`.
-fn with_declared(alloc: Global, found: Option<Problem>, op: &Op) -> FoundProblem {
+fn add_operation_declaration_note(alloc: Global, found: Option<Problem>, op: &Op) -> FoundProblem {
     let declared = Signature {
         name: op.name.as_str(),
         params: op.params.as_slice(),
@@ -56,7 +57,11 @@ pub fn bad_argument_problem(
     form: &Form,
 ) -> FoundProblem {
     match operation_named(search.source.items.as_slice(), head_word(form)) {
-        Some(op) => with_declared(alloc, argument_problem(alloc, search, path, form, op)?, op),
+        Some(op) => add_operation_declaration_note(
+            alloc,
+            argument_problem(alloc, search, path, form, op)?,
+            op,
+        ),
         None => Ok(None),
     }
 }

@@ -1,7 +1,7 @@
 //! Messages on bytes that are no file of trees.
 
 use pst_sexpr::{FaultKind, MAX_BYTES, MAX_LEVELS, SexprFault};
-use pst_sources::{Input, Span, char_at, closed_item, open_item};
+use pst_sources::{Input, Span, char_at, closed_item, find_unclosed_item};
 use std::alloc::{AllocError, Global};
 use std::fmt::Display;
 
@@ -50,7 +50,7 @@ impl ByteFault {
 }
 
 /// The fault `wrong` with the note that the item at `next` begins while the one at `open` is still open.
-fn begun_in(
+fn with_open_item_note(
     alloc: Global,
     input: &Input<'_>,
     open: Span,
@@ -67,7 +67,7 @@ fn begun_in(
 
 /// The fault of a missing `)`, at the item that is probably not closed.
 fn missing_close(alloc: Global, input: &Input<'_>, place: usize) -> Result<ByteFault, AllocError> {
-    let Some(open) = open_item(input.bytes) else {
+    let Some(open) = find_unclosed_item(input.bytes) else {
         let what = "a `)` is missing: this `(` is not closed";
         return ByteFault::new(alloc, one_byte(place), what);
     };
@@ -76,7 +76,7 @@ fn missing_close(alloc: Global, input: &Input<'_>, place: usize) -> Result<ByteF
     let what = "a `)` is missing, probably in the item that begins here";
     let wrong = ByteFault::new(alloc, open.item, what)?;
     let wrong = match open.next {
-        Some(next) => begun_in(alloc, input, open.item, next, wrong)?,
+        Some(next) => with_open_item_note(alloc, input, open.item, next, wrong)?,
         None => wrong,
     };
     wrong.with(

@@ -4,8 +4,9 @@ ghost use Rattle.std.specs.Prelude.{◌≡◌};
 ghost use Rattle.pst_runs.specs.Replies.{listed};
 
 use pst_model::Source;
-use pst_problems::{head_of, operation_named};
+use pst_problems::operation_named;
 use pst_sexpr::{Form, node_of};
+use pst_type_problems::head_word;
 use pst_value::Ty;
 use std::alloc::{AllocError, Global};
 
@@ -21,6 +22,13 @@ pub struct Part<'a> {
     /// Its number in that tree, if the tree has all branches.
     pub branch: Option<usize>,
     pub commands: &'a [Form],
+}
+
+/// A search in the trees of a case: its model, and its parts.
+#[derive(Clone, Copy, Drop)]
+pub struct CaseSearch<'a> {
+    pub source: &'a Source,
+    pub parts: &'a [Part<'a>],
 }
 
 /// A command of a case: its part, its number in it, from 0, and its tree.
@@ -77,14 +85,6 @@ const BRANCHES: [&str; 4] = [
     "the third branch",
     "the fourth branch",
 ];
-
-/// The word that heads a tree, or an empty one.
-pub fn head_word(form: &Form) -> &str {
-    match head_of(form) {
-        Some(head) => head.as_str(),
-        None => "",
-    }
-}
 
 /// Whether a word heads a tree.
 pub fn is_headed(form: &Form, word: &str) -> bool {
@@ -184,7 +184,7 @@ pub fn parts_of_case<'a>(alloc: Global, form: &'a Form) -> Result<Vec<Part<'a>>,
 }
 
 /// The part of command `command`, counted from 1, and the number of the command in it. Both results count from 0.
-pub fn place_of(parts: &[Part<'_>], command: usize) -> Option<(usize, usize)> {
+pub fn find_part_of_command(parts: &[Part<'_>], command: usize) -> Option<(usize, usize)> {
     let mut left = command.saturating_sub(1);
     for (number, part) in parts.iter().enumerate() {
         let length = part.commands.len();
@@ -242,7 +242,11 @@ pub fn variable_number(word: &str) -> Option<usize> {
 }
 
 /// The type of the result of command `command`, counted from 1.
-pub fn result_of<'a>(source: &'a Source, parts: &[Part<'_>], command: usize) -> Option<&'a Ty> {
+pub fn result_type_of_command<'a>(
+    source: &'a Source,
+    parts: &[Part<'_>],
+    command: usize,
+) -> Option<&'a Ty> {
     let Some(command) = command_at(parts, command) else {
         return None;
     };

@@ -93,7 +93,7 @@ pub fn after_word<'a>(word: &str, form: &'a Form) -> Option<&'a [Form]>
 }
 
 /// Whether a tree is a node that begins with a word.
-fn is_call(form: &Form) -> bool
+fn is_node_with_head_word(form: &Form) -> bool
     ensures { result ≡ spec.is_call form.now }
 {
     match node_of(form) {
@@ -103,17 +103,17 @@ fn is_call(form: &Form) -> bool
 }
 
 /// The number of the first tree that is no call, if there is one.
-fn no_call(forms: &[Form]) -> Option<usize>
+fn find_first_non_call(forms: &[Form]) -> Option<usize>
     ensures { result ≡ spec.no_call forms.now }
 {
-    forms.iter().position(|form| !is_call(form))
+    forms.iter().position(|form| !is_node_with_head_word(form))
 }
 
 /// The fault of the commands of the tree `place`, if they have one.
 fn calls_fault(place: usize, commands: &[Form]) -> Option<FormFault>
     ensures { result ≡ spec.calls_fault place commands.now }
 {
-    let offset = no_call(commands)?;
+    let offset = find_first_non_call(commands)?;
     Some(FormFault::NoCall(place, offset + 1))
 }
 
@@ -134,21 +134,21 @@ fn branch_fault(number: usize, form: &Form) -> Option<FormFault>
     let Some(commands) = node_of(form) else {
         return Some(FormFault::NoBranch(number));
     };
-    let offset = no_call(commands)?;
+    let offset = find_first_non_call(commands)?;
     Some(FormFault::NoBranchCall(number, offset))
 }
 
 /// The first fault of branches, which are numbered from `number` on.
-fn branches_from(number: usize, forms: &[Form]) -> Option<FormFault>
+fn first_branch_fault_from(number: usize, forms: &[Form]) -> Option<FormFault>
     requires { number + length forms.now < 2 ^ 32 }
     ensures { result ≡ spec.branches_from number forms.now }
 {
     let (form, forms) = forms.split_first()?;
-    branch_fault(number, form).or(branches_from(number + 1, forms))
+    branch_fault(number, form).or(first_branch_fault_from(number + 1, forms))
 }
 
 /// Whether the number of some branches is allowed.
-fn are_allowed(branches: &[Form]) -> bool
+fn is_allowed_branch_count(branches: &[Form]) -> bool
     ensures { result ≡ are_two_to_four branches.now }
 {
     2 <= branches.len() && branches.len() <= 4
@@ -158,15 +158,15 @@ fn are_allowed(branches: &[Form]) -> bool
 fn branches_fault(branches: &[Form]) -> Option<FormFault>
     ensures { result ≡ spec.branches_fault branches.now }
 {
-    if are_allowed(branches) {
-        branches_from(1, branches)
+    if is_allowed_branch_count(branches) {
+        first_branch_fault_from(1, branches)
     } else {
         Some(FormFault::BranchCount(branches.len()))
     }
 }
 
 /// The fault of the first tree, whose number is `place`, after the last part.
-fn after_all(place: usize, forms: &[Form]) -> Option<FormFault>
+fn extra_tree_fault(place: usize, forms: &[Form]) -> Option<FormFault>
     ensures { result ≡ spec.after_all place forms.now }
 {
     if forms.is_empty() {
@@ -212,19 +212,24 @@ fn replies_fault(parts: ListedParts, place: usize, form: &Form, more: &[Form]) -
     ensures { result ≡ spec.replies_fault parts place form.now more.now }
 {
     match after_word(Section::Replies.word(), form) {
-        Some(lists) => after_all(place + 1, more).or(lists_fault(parts, lists)),
+        Some(lists) => extra_tree_fault(place + 1, more).or(lists_fault(parts, lists)),
         None => Some(FormFault::OtherPart(Section::Replies, place)),
     }
 }
 
 /// The fault of the trees after the suffix. The first of them is tree `place`.
-fn end_fault(is_run: bool, parts: ListedParts, place: usize, forms: &[Form]) -> Option<FormFault>
+fn fault_after_suffix(
+    is_run: bool,
+    parts: ListedParts,
+    place: usize,
+    forms: &[Form],
+) -> Option<FormFault>
     requires room { parts.branches + 2 < 2 ^ 64 }
     requires small { place < 2 ^ 32 }
     ensures { result ≡ spec.end_fault is_run parts place forms.now }
 {
     if !is_run {
-        return after_all(place, forms);
+        return extra_tree_fault(place, forms);
     }
     match forms.split_first() {
         Some((form, more)) => replies_fault(parts, place, form, more),
@@ -233,7 +238,12 @@ fn end_fault(is_run: bool, parts: ListedParts, place: usize, forms: &[Form]) -> 
 }
 
 /// The fault of the trees after the branches. The first of them is tree `place`.
-fn rest_fault(is_run: bool, branches: usize, place: usize, forms: &[Form]) -> Option<FormFault>
+fn fault_after_branches(
+    is_run: bool,
+    branches: usize,
+    place: usize,
+    forms: &[Form],
+) -> Option<FormFault>
     requires room { branches + 2 < 2 ^ 64 }
     requires small { place < 2 ^ 31 }
     ensures { result ≡ spec.rest_fault is_run branches place forms.now }
@@ -244,30 +254,35 @@ fn rest_fault(is_run: bool, branches: usize, place: usize, forms: &[Form]) -> Op
                 branches,
                 has_suffix: true,
             };
-            return calls_fault(place, commands).or(end_fault(is_run, parts, place + 1, more));
+            return calls_fault(place, commands).or(fault_after_suffix(
+                is_run,
+                parts,
+                place + 1,
+                more,
+            ));
         }
     }
     let parts = ListedParts {
         branches,
         has_suffix: false,
     };
-    end_fault(is_run, parts, place, forms)
+    fault_after_suffix(is_run, parts, place, forms)
 }
 
 /// The fault of the trees after `(left ..)`.
-fn right_fault(is_run: bool, forms: &[Form]) -> Option<FormFault>
+fn fault_after_left(is_run: bool, forms: &[Form]) -> Option<FormFault>
     ensures { result ≡ spec.right_fault is_run forms.now }
 {
     match forms.split_first() {
         Some((form, more)) => {
-            section_fault(Section::Right, 3, form).or(rest_fault(is_run, 2, 4, more))
+            section_fault(Section::Right, 3, form).or(fault_after_branches(is_run, 2, 4, more))
         }
         None => Some(FormFault::Missing(Section::Right)),
     }
 }
 
 /// The fault of the trees after the prefix.
-fn after_prefix(is_run: bool, forms: &[Form]) -> Option<FormFault>
+fn fault_after_prefix(is_run: bool, forms: &[Form]) -> Option<FormFault>
     ensures { result ≡ spec.after_prefix is_run forms.now }
 {
     let Some((form, more)) = forms.split_first() else {
@@ -275,9 +290,9 @@ fn after_prefix(is_run: bool, forms: &[Form]) -> Option<FormFault>
     };
     match after_word("branches", form) {
         Some(branches) => {
-            branches_fault(branches).or(rest_fault(is_run, branches.len(), 3, more))
+            branches_fault(branches).or(fault_after_branches(is_run, branches.len(), 3, more))
         }
-        None => section_fault(Section::Left, 2, form).or(right_fault(is_run, more)),
+        None => section_fault(Section::Left, 2, form).or(fault_after_left(is_run, more)),
     }
 }
 
@@ -287,7 +302,7 @@ fn parts_fault(is_run: bool, forms: &[Form]) -> Option<FormFault>
 {
     match forms.split_first() {
         Some((form, more)) => {
-            section_fault(Section::Prefix, 1, form).or(after_prefix(is_run, more))
+            section_fault(Section::Prefix, 1, form).or(fault_after_prefix(is_run, more))
         }
         None => Some(FormFault::Missing(Section::Prefix)),
     }

@@ -1,7 +1,9 @@
 //! The faults of commands and replies, and the messages about them.
 
-use crate::shown::wrong_tree;
-use pst_problems::{FoundProblem, TypeText, key_word, problem_at, problem_with_note, short_text};
+use crate::shown::problem_showing_tree;
+use pst_problems::{
+    FoundProblem, TypeText, key_type_word, problem_at, problem_with_note, short_text,
+};
 use pst_sexpr::Form;
 use pst_value::{KeyTy, Ty};
 use std::alloc::Global;
@@ -28,14 +30,16 @@ pub enum ValueFault<'a> {
     },
     /// A variable that names the command with this number, which is in another branch.
     OtherBranch(usize),
-    /// An argument with a fault about which nothing more is known.
+    /// An argument of another type, or that is not a value.
     Argument,
+    /// A tree that is refused, about which nothing more is known.
+    Unnamed,
 }
 
 /// The problem of `key`, which is not greater than `before`, the key before it.
 fn key_order_problem(alloc: Global, path: &[usize], key: &Form, before: &Form) -> FoundProblem {
     let key = short_text(alloc, key)?;
-    wrong_tree(
+    problem_showing_tree(
         alloc,
         path,
         format_args!("the keys of a map must rise: `{key}` comes after "),
@@ -85,23 +89,23 @@ pub fn value_fault_problem(
             before,
             form,
             after,
-        } => wrong_tree(alloc, path, before, form, after),
+        } => problem_showing_tree(alloc, path, before, form, after),
         ValueFault::OtherType(form, wanted) => {
             let wanted = TypeText(wanted);
             let before = format_args!("expected {wanted}, found ");
-            wrong_tree(alloc, path, before, form, "")
+            problem_showing_tree(alloc, path, before, form, "")
         }
         ValueFault::OtherKey(form, wanted) => {
-            let wanted = key_word(wanted);
+            let wanted = key_type_word(wanted);
             let before = format_args!("expected a key of type {wanted}, found ");
-            wrong_tree(alloc, path, before, form, "")
+            problem_showing_tree(alloc, path, before, form, "")
         }
         ValueFault::Falls(key, before) => key_order_problem(alloc, path, key, before),
         ValueFault::Later { number, command } => later_variable_problem(
             alloc, path, number, command,
         ),
         ValueFault::OtherBranch(number) => other_branch_problem(alloc, path, number),
-        ValueFault::Argument => problem_at(
+        ValueFault::Argument | ValueFault::Unnamed => problem_at(
             alloc,
             path,
             "an argument has another type, or is not a value",

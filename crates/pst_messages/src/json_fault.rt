@@ -42,7 +42,7 @@ fn found_fault(alloc: Global, line: &[u8], span: Span, what: &str, note: &str) -
 }
 
 /// Whether a value is an array that begins with a string, as calls do.
-fn is_call(line: &[u8], value: Span) -> bool {
+fn is_json_array_with_name(line: &[u8], value: Span) -> bool {
     is_array(line, value) && first_byte(line, value_at(line, value.start.saturating_add(1))) == b'"'
 }
 
@@ -53,7 +53,7 @@ fn call_fault(alloc: Global, line: &[u8], calls: Span, note: &str) -> FoundFault
         let Some(call) = parts.next(line) else {
             return Ok(None);
         };
-        if !is_call(line, call) {
+        if !is_json_array_with_name(line, call) {
             let found = shorten_json(line, call);
             let what = format_args!("`{found}` is not a call");
             return Ok(Some(ByteFault::new(alloc, call, what)?.with(alloc, note)?));
@@ -75,7 +75,11 @@ fn branch_fault(alloc: Global, line: &[u8], branch: Span) -> FoundFault {
     if !is_array(line, branch) {
         return found_fault(alloc, line, branch, "a branch is an array of calls", CALL);
     }
-    let note = if is_call(line, branch) { CALLS } else { CALL };
+    let note = if is_json_array_with_name(line, branch) {
+        CALLS
+    } else {
+        CALL
+    };
     call_fault(alloc, line, branch, note)
 }
 
@@ -186,16 +190,53 @@ fn members_fault(alloc: Global, line: &[u8], members: &[(&str, Json<'_>)]) -> Fo
 }
 
 /// The place in `text` from which on it is no JSON.
-fn bad_place(alloc: Global, text: &str) -> Result<usize, AllocError> {
+fn find_json_syntax_error_offset(alloc: Global, text: &str) -> Result<usize, AllocError> {
     let mut scratch = Scratch::new(alloc);
     let mut reader = Reader::new(text, &mut scratch)?;
     let _ = reader.skip_value(MAX_DEPTH);
     Ok(reader.offset())
 }
 
+/// The place after the first value of a line, if that is JSON and more follows it.
+fn place_after_value(alloc: Global, text: &str) -> Result<Option<usize>, AllocError> {
+    let line = text.as_bytes();
+    let whole = value_at(line, 0);
+    let Some(value) = text.get(whole.start..whole.end) else {
+        return Ok(None);
+    };
+    let mut scratch = Scratch::new(alloc);
+    match Json::parse(alloc, value, &mut scratch) {
+        Ok(_) => Ok(Some(value_at(line, whole.end).start)),
+        Err(Error::OutOfMemory) => Err(AllocError),
+        Err(_) => Ok(None),
+    }
+}
+
+/// A hint on the bytes at `place`, from which on a line is no JSON.
+fn hint_on_bad_json(text: &str, place: usize) -> &'static str {
+    let before = text.get(..place).unwrap_or("").trim_end();
+    let rest = text.get(place..).unwrap_or("");
+    match rest.as_bytes().first() {
+        Some(b'T' | b'F' | b'N') => "hint: JSON writes `true`, `false` and `null`",
+        Some(b'\'') => "hint: texts are in double quotes",
+        Some(b']' | b'}') if before.ends_with(",") => "hint: no comma is before a closing bracket",
+        Some(byte) if byte.is_ascii_alphabetic() => "hint: names and texts are in double quotes",
+        Some(b'0') => "hint: a number has no leading zeros",
+        _ => JSON_ITEM,
+    }
+}
+
 /// The fault of a line that is no JSON.
 fn not_json_fault(alloc: Global, text: &str) -> FoundFault {
-    let place = bad_place(alloc, text)?.min(text.len());
+    if let Some(place) = place_after_value(alloc, text)? {
+        let span = Span {
+            start: place,
+            end: place.saturating_add(1),
+        };
+        let what = "no JSON: something follows the object on its line";
+        return noted_fault(alloc, span, what, JSON_ITEM);
+    }
+    let place = find_json_syntax_error_offset(alloc, text)?.min(text.len());
     let column = place.saturating_add(1);
     let span = Span {
         start: place,
@@ -206,7 +247,8 @@ fn not_json_fault(alloc: Global, text: &str) -> FoundFault {
         return noted_fault(alloc, span, what, JSON_ITEM);
     }
     let what = format_args!("no JSON at column {column}");
-    Ok(Some(ByteFault::new(alloc, span, what)?.with(alloc, JSON_ITEM)?))
+    let hint = hint_on_bad_json(text, place);
+    Ok(Some(ByteFault::new(alloc, span, what)?.with(alloc, hint)?))
 }
 
 /// The fault of the form of the JSON item on a line, if it has one.

@@ -1,11 +1,11 @@
 //! The messages on inputs with JSON items.
 
 use crate::bytes::ByteFault;
-use crate::json_item::item_fault;
+use crate::json_item::{item_fault, json_at};
 use crate::message::{Asked, tree_errors};
 use pst_json_runs::{has_json, trees_text};
 use pst_model::{Source, Typed};
-use pst_sexpr::MAX_BYTES;
+use pst_sexpr::{Form, MAX_BYTES};
 use pst_sources::{Input, Notice, Notices, SourceFile, Span};
 use pst_typing::load;
 use std::alloc::{AllocError, Global};
@@ -46,7 +46,7 @@ impl LinePair {
     }
 
     /// The line that `place` is in, which is a place in the text with trees. It is this line or a later one.
-    fn on_to(self, json: &[u8], trees: &[u8], place: usize) -> LinePair {
+    fn advance_to_line_at(self, json: &[u8], trees: &[u8], place: usize) -> LinePair {
         let mut pair = self;
         for at in self.tree..place {
             if trees.get(at) == Some(&b'\n') {
@@ -63,6 +63,31 @@ impl LinePair {
     /// The place in the text with JSON items of a place in this line of the other text.
     fn place_in_json(self, place: usize) -> usize {
         place.saturating_sub(self.tree).saturating_add(self.json)
+    }
+}
+
+/// The bytes of a part of the item `tree` in `json`, a text with JSON items, if the part is at `span` in `trees`, the text
+/// with a tree in place of each of them. `path` leads to the part. In a JSON item the bytes may be those of an array
+/// around the part. The span may be empty if a text is not the one that is meant.
+pub fn span_in_json_text(
+    json: &[u8],
+    trees: &[u8],
+    tree: &Form,
+    path: &[usize],
+    span: Span,
+) -> Span {
+    let pair = LinePair::first().advance_to_line_at(json, trees, span.start);
+    let line = line_at(json, pair.json);
+    if !has_json(line) {
+        return Span {
+            start: pair.place_in_json(span.start),
+            end: pair.place_in_json(span.end),
+        };
+    }
+    let found = json_at(line, tree, path);
+    Span {
+        start: pair.json.saturating_add(found.start),
+        end: pair.json.saturating_add(found.end),
     }
 }
 
@@ -103,7 +128,7 @@ fn json_notice(
 }
 
 /// The files with a tree in place of each JSON item.
-fn tree_files<'a>(
+fn files_with_json_as_trees<'a>(
     alloc: Global,
     model: &Source,
     files: &[SourceFile<'a>],
@@ -124,7 +149,7 @@ fn item_errors(
     typed: &Typed,
     asked: Asked,
 ) -> Result<Notices, AllocError> {
-    let files = tree_files(alloc, typed.source(), input.files)?;
+    let files = files_with_json_as_trees(alloc, typed.source(), input.files)?;
     let text = trees_text(alloc, typed.source(), input.bytes)?;
     let trees = Input {
         files: files.as_slice(),
@@ -137,7 +162,7 @@ fn item_errors(
     };
     let mut pair = LinePair::first();
     for notice in all {
-        pair = pair.on_to(input.bytes, trees.bytes, notice.span.start);
+        pair = pair.advance_to_line_at(input.bytes, trees.bytes, notice.span.start);
         notices
             .all
             .push(json_notice(alloc, typed, input.bytes, pair, notice)?)?;

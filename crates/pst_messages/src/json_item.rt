@@ -1,21 +1,20 @@
 //! Refused JSON items.
 
 use crate::bytes::ByteFault;
-use crate::command::{head_word, trees_in};
+use crate::command::trees_in;
 use crate::json_fault::{json_fault, shorten_json};
-use crate::json_places::{JsonParts, first_byte, item_of, value_at};
+use crate::json_places::{JsonParts, array_element_span, first_byte, value_at};
+use crate::places::tree_at;
 use crate::runs::run_problem;
 use pst_json_runs::json_tree;
 use pst_model::Typed;
-use pst_problems::Problem;
+use pst_problems::{Problem, short_text};
 use pst_runs::read_runs;
 use pst_sexpr::Form;
 use pst_sources::Span;
+use pst_type_problems::head_word;
 use std::alloc::{AllocError, Global};
 use std::slice;
-
-/// What a message shows of a value that JSON does not spell.
-const NOTHING: &str = "`()`";
 
 /// The value of the member `name` of an item, or all its bytes.
 fn member(line: &[u8], name: &str) -> Span {
@@ -35,10 +34,10 @@ fn member(line: &[u8], name: &str) -> Span {
 
 /// The JSON of the part of an item whose tree has the head `head`, and how many numbers after the first of a path lead
 /// through trees without a head of their own.
-fn section(line: &[u8], head: &str) -> (Span, usize) {
+fn find_json_of_part(line: &[u8], head: &str) -> (Span, usize) {
     match head {
-        "left" => (item_of(line, member(line, "branches"), 0), 1),
-        "right" => (item_of(line, member(line, "branches"), 1), 1),
+        "left" => (array_element_span(line, member(line, "branches"), 0), 1),
+        "right" => (array_element_span(line, member(line, "branches"), 1), 1),
         "branches" => (member(line, head), 2),
         _ => (member(line, head), 1),
     }
@@ -46,7 +45,7 @@ fn section(line: &[u8], head: &str) -> (Span, usize) {
 
 /// The JSON of the tree at `path` in `tree`, the tree of the JSON item on a line. It is an array around it where trees and
 /// JSON differ in their parts.
-fn json_at(line: &[u8], tree: &Form, path: &[usize]) -> Span {
+pub fn json_at(line: &[u8], tree: &Form, path: &[usize]) -> Span {
     let Some((place, rest)) = path.split_first() else {
         return value_at(line, 0);
     };
@@ -54,14 +53,14 @@ fn json_at(line: &[u8], tree: &Form, path: &[usize]) -> Span {
         Some(part) => head_word(part),
         None => "",
     };
-    let (mut found, plain) = section(line, head);
+    let (mut found, plain) = find_json_of_part(line, head);
     for (level, number) in rest.iter().enumerate() {
         let has_head = level == 0 || level > plain;
         let before = if has_head { 1 } else { 0 };
         if *number < before {
             return found;
         }
-        found = item_of(line, found, *number - before);
+        found = array_element_span(line, found, *number - before);
     }
     found
 }
@@ -78,6 +77,15 @@ fn is_printable(bytes: &[u8]) -> bool {
     true
 }
 
+/// A hint on an object that is not what it has to be.
+fn hint_on_object(object: &str) -> &'static str {
+    if object.starts_with("{\"failed\":") {
+        "hint: a call that failed is `{\"failed\":null}`"
+    } else {
+        "hint: an object is a map, which only a `model2` has, or `{\"result\":n}` for a `ref`"
+    }
+}
+
 /// A hint on a value that is no array and no object, if no model has such a value.
 fn hint_on(line: &[u8], value: Span) -> Option<&'static str> {
     let bytes = line.get(value.start..value.end).unwrap_or(&[]);
@@ -87,9 +95,7 @@ fn hint_on(line: &[u8], value: Span) -> Option<&'static str> {
             Some("hint: integers only, from -9223372036854775808 to 9223372036854775807")
         }
         b'n' => Some("hint: there is no null; an option is a list: `[]` or `[1]`"),
-        b'{' => Some(
-            "hint: an object is a map, which only a `model2` has, or `{\"result\":n}` for a `ref`",
-        ),
+        b'{' => Some(hint_on_object(shorten_json(line, value))),
         _ => None,
     }
 }
@@ -113,25 +119,44 @@ fn first_foreign_value(line: &[u8], value: Span) -> (Span, Option<&'static str>)
     }
 }
 
-/// Whether a note says how a tree is written.
-fn is_on_trees(note: &str) -> bool {
-    note.starts_with("it is written `(")
+/// The note on a JSON item in place of `note`, a note on its tree. There is none if `note` says how a tree is written.
+fn json_note(note: &str) -> Option<&str> {
+    if note.starts_with("it is written `(")
         || note.starts_with("a call is `(")
         || note.starts_with("a reply is an integer,")
+        || note.starts_with("hint: the prefix has a list too")
+    {
+        None
+    } else if note.starts_with("a reference is written `$n`") {
+        Some("a reference is `{\"result\":n}`: it refers to the result of command `n`, from 1")
+    } else {
+        Some(note)
+    }
 }
 
-/// The fault with the notes that are not on trees.
+/// The fault with what `notes`, notes on the tree, say of the item.
 fn with_notes(alloc: Global, fault: ByteFault, notes: &[String]) -> Result<ByteFault, AllocError> {
     let mut fault = fault;
     for note in notes {
-        if !is_on_trees(note.as_str()) {
-            fault = fault.with(alloc, note.as_str())?;
+        if let Some(note) = json_note(note.as_str()) {
+            fault = fault.with(alloc, note)?;
         }
     }
     Ok(fault)
 }
 
-/// The fault at `value`, about which a message shows the value instead of `()`.
+/// How replies are written, for a note.
+const REPLIES: &str =
+    "`replies` is `[PREFIX, BRANCH, BRANCH, .., SUFFIX]`: an array of replies for each, not nested further";
+
+/// Whether `problem` is that an item has not one list of replies for each part.
+fn is_reply_list_count(problem: &Problem) -> bool {
+    problem
+        .what
+        .starts_with("the replies are lists, one for each part")
+}
+
+/// The fault at `value`, about which a message shows the value instead of its tree.
 fn value_fault(
     alloc: Global,
     line: &[u8],
@@ -148,17 +173,37 @@ fn value_fault(
     }
 }
 
+/// What a message says before and after the tree at `path`, if that is a node and the message shows it.
+fn around_shown_node<'a>(
+    alloc: Global,
+    tree: &Form,
+    path: &[usize],
+    what: &'a str,
+) -> Result<Option<(&'a str, &'a str)>, AllocError> {
+    let Some(form @ Form::Node(_)) = tree_at(tree, path) else {
+        return Ok(None);
+    };
+    let shown = short_text(alloc, form)?;
+    let shown = shown.as_str();
+    let shown = format!(in alloc; "`{shown}`")?;
+    Ok(what.split_once(shown.as_str()))
+}
+
 /// The fault that `problem`, a problem of the tree of a JSON item, is in the JSON.
-fn fault_of(
+fn json_fault_from_tree_problem(
     alloc: Global,
     line: &[u8],
     tree: &Form,
     problem: &Problem,
 ) -> Result<ByteFault, AllocError> {
+    let what = problem.what.as_str();
+    if is_reply_list_count(problem) {
+        let fault = ByteFault::new(alloc, member(line, "replies"), what)?.with(alloc, REPLIES)?;
+        return with_notes(alloc, fault, problem.notes.as_slice());
+    }
     let path = problem.path.as_slice().get(1..).unwrap_or(&[]);
     let value = json_at(line, tree, path);
-    let what = problem.what.as_str();
-    let fault = match what.split_once(NOTHING) {
+    let fault = match around_shown_node(alloc, tree, path, what)? {
         Some((before, after)) => value_fault(alloc, line, value, before, after)?,
         None => ByteFault::new(alloc, value, what)?,
     };
@@ -180,7 +225,12 @@ pub fn item_fault(
         return Ok(None);
     };
     match run_problem(alloc, typed.source(), tree.form(), fault)? {
-        Some(problem) => Ok(Some(fault_of(alloc, line, tree.form(), &problem)?)),
+        Some(problem) => Ok(Some(json_fault_from_tree_problem(
+            alloc,
+            line,
+            tree.form(),
+            &problem,
+        )?)),
         None => Ok(None),
     }
 }

@@ -54,7 +54,7 @@ impl Scan {
     }
 
     /// The scan after the byte `byte`.
-    fn after(self, byte: u8) -> Scan {
+    fn after_json_byte(self, byte: u8) -> Scan {
         if self.is_string {
             return self.in_string(byte);
         }
@@ -87,7 +87,7 @@ fn closed_end(line: &[u8], start: usize) -> usize {
         let Some(byte) = line.get(at) else {
             return at;
         };
-        scan = scan.after(*byte);
+        scan = scan.after_json_byte(*byte);
         if scan.depth == 0 && !scan.is_string {
             return at.saturating_add(1);
         }
@@ -149,7 +149,7 @@ impl JsonParts {
 }
 
 /// Part `number`, from 0, of an array, or else the value itself.
-pub fn item_of(line: &[u8], value: Span, number: usize) -> Span {
+pub fn array_element_span(line: &[u8], value: Span, number: usize) -> Span {
     if !is_array(line, value) {
         return value;
     }

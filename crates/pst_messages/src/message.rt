@@ -1,7 +1,6 @@
 //! The messages on refused inputs.
 
 use crate::bytes::{ByteFault, byte_fault};
-use crate::command::head_word;
 use crate::json_input::{first_json, json_errors};
 use crate::runs::run_problem;
 use pst_model::Typed;
@@ -12,8 +11,8 @@ use pst_sources::{
     Input, Notice, Notices, SourceFile, Span, first_item, span_in, span_of, text_of, tree_at,
 };
 use pst_syntax::read_model;
-use pst_type_problems::type_problems;
-use pst_typing::{ModelFile, Refusal, items_of, load};
+use pst_type_problems::{head_word, type_problems};
+use pst_typing::{ModelFile, Refusal, load, trees_after_model};
 use std::alloc::{AllocError, Global};
 use std::slice;
 
@@ -158,7 +157,7 @@ fn first_item_problem(
     typed: &Typed,
     trees: &[Tree],
 ) -> Result<Option<Problem>, AllocError> {
-    match read_runs(alloc, typed, items_of(trees)) {
+    match read_runs(alloc, typed, trees_after_model(trees)) {
         Ok(_) => Ok(None),
         Err(fault) => match trees.get(fault.run) {
             Some(tree) => run_problem(alloc, typed.source(), tree.form(), fault),
@@ -168,7 +167,7 @@ fn first_item_problem(
 }
 
 /// The error on the first refused item after a model.
-fn first_notices(
+fn notice_on_first_refused_item(
     alloc: Global,
     input: &Input<'_>,
     typed: &Typed,
@@ -213,7 +212,7 @@ fn with_file_hint(
 }
 
 /// Adds the line that counts the refused items without a message, if there are some.
-fn add_count(text: &mut String, more: usize) -> Result<(), AllocError> {
+fn add_unshown_refusal_count(text: &mut String, more: usize) -> Result<(), AllocError> {
     if more == 0 {
         return Ok(());
     }
@@ -235,7 +234,7 @@ fn each_item_notices(
     let mut notices = Notices::none(alloc);
     let mut span = tree_at(input.bytes, 0);
     let mut refused: usize = 0;
-    for (index, tree) in items_of(trees).iter().enumerate() {
+    for (index, tree) in trees_after_model(trees).iter().enumerate() {
         if refused < most {
             span = tree_at(input.bytes, span.end);
         }
@@ -256,7 +255,7 @@ fn each_item_notices(
         }
         refused = refused.saturating_add(1);
     }
-    add_count(&mut notices.more, refused.saturating_sub(most))?;
+    add_unshown_refusal_count(&mut notices.more, refused.saturating_sub(most))?;
     Ok(notices)
 }
 
@@ -270,7 +269,7 @@ fn item_notices(
     let trees = file.trees.as_slice();
     match asked {
         Asked::Model => Ok(Notices::none(alloc)),
-        Asked::FirstItem => first_notices(alloc, input, &file.typed, trees),
+        Asked::FirstItem => notice_on_first_refused_item(alloc, input, &file.typed, trees),
         Asked::EachItem => each_item_notices(alloc, input, &file.typed, trees, MOST_PROBLEMS),
         Asked::AllItems => each_item_notices(alloc, input, &file.typed, trees, usize::MAX),
     }
@@ -311,7 +310,7 @@ pub fn errors_of(alloc: Global, input: &Input<'_>, asked: Asked) -> Result<Notic
 /// The messages on the refused parts of an input, for a person to read. Each has the name of the file, the line and the
 /// column of what is wrong, that line with the place underlined, what was expected and found, and hints. `input` is the
 /// text of `files`. Returns `None` if no part that `asked` selects is refused.
-pub fn message_of(
+pub fn input_error_messages_text(
     alloc: Global,
     files: &[SourceFile<'_>],
     input: &[u8],

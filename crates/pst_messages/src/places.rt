@@ -17,7 +17,7 @@ pub fn tree_at<'a>(form: &'a Form, path: &[usize]) -> Option<&'a Form>
 }
 
 /// The numbers that lead from an item to the tree that has the fault `fault`.
-pub fn place_in(alloc: Global, fault: FormFault) -> Result<Vec<usize>, AllocError>
+pub fn path_to_form_fault(alloc: Global, fault: FormFault) -> Result<Vec<usize>, AllocError>
     ensures { IfOk result (λ path. path.items ≡ spec.place fault) }
 {
     match fault {

@@ -3,9 +3,10 @@ ghost use Rattle.std.specs.Prelude.{◌≡◌, ◌+◌, ◌<◌, ◌^◌, length
 ghost use Rattle.pst_messages.specs.ItemReplies as spec;
 ghost use Rattle.pst_runs.specs.Replies.{listed_at};
 
-use crate::command::{Part, after_head, is_headed, place_of, trees_in};
+use crate::command::{CaseSearch, Part, after_head, find_part_of_command, is_headed, trees_in};
 use crate::ill::{ValueFault, value_fault_problem};
-use crate::values::{CaseSearch, Wanted, problem_in};
+use crate::reply_fault::first_reply_fault;
+use crate::values::fault_problem;
 use pst_problems::{FoundProblem, Problem, counted, problem_at, problem_with_note, with_note};
 use pst_sexpr::{Form, node_of};
 use std::alloc::Global;
@@ -20,7 +21,7 @@ struct Reply<'a> {
 }
 
 /// The number of the `(replies ..)` tree among the trees of a run, and its lists.
-fn lists_of(form: &Form) -> Option<(usize, &[Form])> {
+fn find_reply_lists(form: &Form) -> Option<(usize, &[Form])> {
     for (place, part) in trees_in(form).iter().enumerate() {
         if is_headed(part, "replies") {
             return Some((place, after_head(part)));
@@ -71,13 +72,17 @@ fn list_count_problem(alloc: Global, path: &[usize], lists: usize, parts: usize)
 }
 
 /// The number of the first of `parts` with another number of replies than of commands. The first part has list `number`.
-fn first_other(lists: &[Form], number: usize, parts: &[Part<'_>]) -> Option<usize>
+fn first_part_with_wrong_reply_count(
+    lists: &[Form],
+    number: usize,
+    parts: &[Part<'_>],
+) -> Option<usize>
     requires { number + length parts.now < 2 ^ 64 }
     ensures { result ≡ spec.first_other lists.now number parts.now }
 {
     let (part, others) = parts.split_first()?;
     if replies_in(lists, number).len() == part.commands.len() {
-        first_other(lists, number + 1, others)
+        first_part_with_wrong_reply_count(lists, number + 1, others)
     } else {
         Some(number)
     }
@@ -92,7 +97,7 @@ fn list_problem(
     lists: &[Form],
     parts: &[Part<'_>],
 ) -> FoundProblem {
-    let Some(number) = first_other(lists, 0, parts) else {
+    let Some(number) = first_part_with_wrong_reply_count(lists, 0, parts) else {
         return Ok(None);
     };
     let path = [item, place, number.saturating_add(1)];
@@ -109,7 +114,7 @@ pub fn misfitting_replies_problem(
     form: &Form,
     parts: &[Part<'_>],
 ) -> FoundProblem {
-    match lists_of(form) {
+    match find_reply_lists(form) {
         Some((place, lists)) if lists.len() == parts.len() => {
             list_problem(alloc, item, place, lists, parts)
         }
@@ -120,10 +125,10 @@ pub fn misfitting_replies_problem(
 
 /// The reply to command `command`, counted from 1.
 fn reply_of<'a>(form: &'a Form, parts: &[Part<'_>], command: usize) -> Option<Reply<'a>> {
-    let Some((number, offset)) = place_of(parts, command) else {
+    let Some((number, offset)) = find_part_of_command(parts, command) else {
         return None;
     };
-    let Some((place, lists)) = lists_of(form) else {
+    let Some((place, lists)) = find_reply_lists(form) else {
         return None;
     };
     match replies_in(lists, number).get(offset) {
@@ -144,19 +149,20 @@ fn reply_problem(
     path: &[usize],
     form: &Form,
 ) -> FoundProblem {
-    let other = Some(ValueFault::Tree {
+    let other = ValueFault::Tree {
         before: "",
         form,
         after: " is not a reply",
-    });
+    };
     if node_of(form).is_none() {
-        return value_fault_problem(alloc, path, other);
+        return value_fault_problem(alloc, path, Some(other));
     }
-    problem_in(alloc, search, path, form, Wanted::Any, other)
+    let found = first_reply_fault(alloc, search, form)?;
+    fault_problem(alloc, search, path, found, other)
 }
 
 /// The problem `found`, if there is one, with a note on how replies are written.
-fn with_written(alloc: Global, found: Option<Problem>, has_maps: bool) -> FoundProblem {
+fn with_reply_syntax_note(alloc: Global, found: Option<Problem>, has_maps: bool) -> FoundProblem {
     let maps = if has_maps {
         ", (map (k v) ..) with rising keys"
     } else {
@@ -183,7 +189,7 @@ pub fn bad_reply_problem(
         Some(reply) => {
             let path = [item, reply.place, reply.list, reply.offset];
             let found = reply_problem(alloc, search, &path, reply.form)?;
-            with_written(alloc, found, search.source.has_maps)
+            with_reply_syntax_note(alloc, found, search.source.has_maps)
         }
         None => Ok(None),
     }

@@ -1,15 +1,16 @@
 //! Refused cases and runs.
 
 use crate::arguments::bad_argument_problem;
-use crate::command::{Command, Part, command_at, head_word, parts_of_case};
+use crate::command::{CaseSearch, Command, Part, command_at, parts_of_case};
 use crate::replies::{bad_reply_problem, misfitting_replies_problem};
 use crate::shape::bad_form_problem;
-use crate::values::{CaseSearch, Sought, Wanted, problem_in};
+use crate::variables::{Sought, variable_problem};
 use pst_case::CaseFaultKind;
 use pst_model::Source;
 use pst_problems::{FoundProblem, Problem, below, problem_at, unknown_among};
 use pst_runs::{RunFault, RunFaultKind};
 use pst_sexpr::Form;
+use pst_type_problems::head_word;
 use std::alloc::{AllocError, Global};
 
 /// The problem of the part at `path`, which has more than `most` commands.
@@ -56,13 +57,14 @@ fn over_limit_problem(alloc: Global, item: usize, parts: &[Part<'_>]) -> FoundPr
     )
 }
 
-/// The problem of the command at `path`, which has a fault of `kind`.
+/// The problem of command `number` at `path`, which has a fault of `kind`.
 fn command_problem(
     alloc: Global,
     search: &CaseSearch<'_>,
     path: &[usize],
     form: &Form,
     kind: CaseFaultKind,
+    number: usize,
 ) -> FoundProblem {
     match kind {
         CaseFaultKind::UnknownOp => {
@@ -71,7 +73,10 @@ fn command_problem(
             unknown_among(alloc, items, path.as_slice(), head_word(form), true)
         }
         CaseFaultKind::BadArgument => bad_argument_problem(alloc, search, path, form),
-        _ => problem_in(alloc, search, path, form, Wanted::Any, None),
+        CaseFaultKind::ForwardVar => {
+            variable_problem(alloc, search.parts, Sought::Later(number), path, form)
+        }
+        _ => variable_problem(alloc, search.parts, Sought::OtherBranch(number), path, form),
     }
 }
 
@@ -89,23 +94,12 @@ fn bad_command_problem(
     match part.branch {
         Some(branch) => {
             let path = [item, part.place, branch, offset];
-            command_problem(alloc, search, &path, form, kind)
+            command_problem(alloc, search, &path, form, kind, number)
         }
         None => {
             let path = [item, part.place, offset.saturating_add(1)];
-            command_problem(alloc, search, &path, form, kind)
+            command_problem(alloc, search, &path, form, kind, number)
         }
-    }
-}
-
-/// What a search for the tree at fault looks for.
-fn sought_by(kind: RunFaultKind, command: usize) -> Sought {
-    match kind {
-        RunFaultKind::Case(CaseFaultKind::ForwardVar) => Sought::Later(command),
-        RunFaultKind::Case(CaseFaultKind::CrossVar | CaseFaultKind::NoMemory) => {
-            Sought::OtherBranch(command)
-        }
-        _ => Sought::Value,
     }
 }
 
@@ -152,7 +146,6 @@ pub fn run_problem(
     let search = CaseSearch {
         source,
         parts: parts.as_slice(),
-        sought: sought_by(fault.kind, fault.command as usize),
     };
     match fault_problem(alloc, &search, form, fault)? {
         Some(found) => Ok(Some(found)),

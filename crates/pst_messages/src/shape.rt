@@ -1,14 +1,15 @@
 //! The form of cases and runs.
 
-use crate::command::{head_word, is_headed, trees_in};
+use crate::command::{is_headed, trees_in};
 use crate::form_fault::{FormFault, ListedParts, form_fault};
-use crate::places::{place_in, tree_at};
-use crate::shown::wrong_tree;
+use crate::places::{path_to_form_fault, tree_at};
+use crate::shown::problem_showing_tree;
 use pst_problems::{
     DidYouMean, FoundProblem, NearestName, counted, problem_at, problem_at_part, problem_with_note,
     problem_with_note_at_part, with_note,
 };
 use pst_sexpr::Form;
+use pst_type_problems::head_word;
 use std::alloc::{AllocError, Global};
 use std::fmt;
 
@@ -127,7 +128,7 @@ fn list_count_problem(
 
 /// The problem of a tree that is not written as a call.
 fn call_problem(alloc: Global, path: &[usize], tree: &Form) -> FoundProblem {
-    let found = wrong_tree(alloc, path, "", tree, " is not a call")?;
+    let found = problem_showing_tree(alloc, path, "", tree, " is not a call")?;
     with_note(alloc, found, "a call is `(OPERATION VALUE ..)`")
 }
 
@@ -152,7 +153,7 @@ fn fault_problem(
         FormFault::OtherPart(part, _) => {
             let word = part.word();
             let before = format_args!("expected `({word} ..)` here, found ");
-            wrong_tree(alloc, path, before, tree, "")
+            problem_showing_tree(alloc, path, before, tree, "")
         }
         FormFault::NoCall(_, _) | FormFault::NoBranchCall(_, _) => call_problem(alloc, path, tree),
         FormFault::BranchCount(count) => problem_at(
@@ -179,7 +180,7 @@ fn head_meant(alloc: Global, head: &str) -> Result<Option<DidYouMean<'static>>, 
 fn other_head_problem(alloc: Global, item: usize, form: &Form) -> FoundProblem {
     let head = head_word(form);
     if head.is_empty() {
-        return wrong_tree(alloc, &[item], "", form, " is neither a case nor a run");
+        return problem_showing_tree(alloc, &[item], "", form, " is neither a case nor a run");
     }
     if matches!(head, "model" | "model2") {
         return problem_at(
@@ -199,7 +200,7 @@ fn other_head_problem(alloc: Global, item: usize, form: &Form) -> FoundProblem {
 fn form_problem(alloc: Global, item: usize, form: &Form) -> FoundProblem {
     match form_fault(form) {
         Some(fault) => {
-            let place = place_in(alloc, fault)?;
+            let place = path_to_form_fault(alloc, fault)?;
             fault_problem(alloc, item, form, fault, place.as_slice())
         }
         None => Ok(None),
@@ -210,7 +211,7 @@ fn form_problem(alloc: Global, item: usize, form: &Form) -> FoundProblem {
 pub const JSON_ITEM: &str = "an item as JSON is one object on one line, which begins with `{`";
 
 /// Whether a tree is probably a piece of JSON.
-fn is_bracketed(form: &Form) -> bool {
+fn looks_like_json(form: &Form) -> bool {
     match form {
         Form::Word(word) => matches!(word.as_bytes().first(), Some(b'[' | b'{' | b']' | b'}')),
         Form::Text(_) | Form::Node(_) => false,
@@ -221,7 +222,7 @@ fn is_bracketed(form: &Form) -> bool {
 /// meant.
 pub fn bad_form_problem(alloc: Global, item: usize, form: &Form) -> FoundProblem {
     let found = form_problem(alloc, item, form)?;
-    if is_bracketed(form) {
+    if looks_like_json(form) {
         return with_note(alloc, found, JSON_ITEM);
     }
     let is_run = match head_meant(alloc, head_word(form))? {

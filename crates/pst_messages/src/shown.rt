@@ -6,7 +6,7 @@ use std::alloc::Global;
 use std::fmt::Display;
 
 /// A problem at `path` whose text shows `tree` between `before` and `after`.
-pub fn wrong_tree<D: Display + Drop>(
+pub fn problem_showing_tree<D: Display + Drop>(
     alloc: Global,
     path: &[usize],
     before: D,

@@ -128,13 +128,13 @@ impl<'a> Layout<'a> {
     }
 
     /// Whether the node that begins with token `number` is the state or the initial state of a model.
-    fn is_start(&self, number: usize) -> bool {
+    fn is_state_or_init_node(&self, number: usize) -> bool {
         matches!(self.head(number), Some(b"state") | Some(b"init"))
     }
 
     /// Whether the node that begins with token `number` is a case or a recorded run without a comment in it. If it is
     /// on one line in the file, it stays on one, however long that is.
-    fn is_item(&self, number: usize) -> bool {
+    fn is_uncommented_case_or_run(&self, number: usize) -> bool {
         let has_comment = match self.measures.get(number) {
             Some(measure) => measure.has_comment,
             None => false,
@@ -153,7 +153,7 @@ impl<'a> Layout<'a> {
     }
 
     /// Whether the part that begins with token `number` stays on the line. The part is not the head of its node.
-    fn stays(&self, frame: &Frame, number: usize) -> bool {
+    fn stays_on_line(&self, frame: &Frame, number: usize) -> bool {
         if frame.is_flat {
             return true;
         }
@@ -165,7 +165,7 @@ impl<'a> Layout<'a> {
             Rule::First(count) => frame.parts <= count,
             Rule::Filled | Rule::Operation => fits,
             Rule::Item => !begins_line,
-            Rule::Model => frame.parts <= 1 || fits && self.is_start(number),
+            Rule::Model => frame.parts <= 1 || fits && self.is_state_or_init_node(number),
         }
     }
 
@@ -178,7 +178,7 @@ impl<'a> Layout<'a> {
             Separator::Line(frame.style.indent)
         } else if frame.parts == 0 {
             Separator::None
-        } else if self.stays(frame, number) {
+        } else if self.stays_on_line(frame, number) {
             Separator::Space
         } else {
             Separator::Line(frame.style.indent)
@@ -186,7 +186,7 @@ impl<'a> Layout<'a> {
     }
 
     /// Separates a token from the one before it. Keeps empty lines between trees and between items of a model.
-    fn part(&mut self, number: usize, token: &Token) -> Result<(), AllocError> {
+    fn separate_token(&mut self, number: usize, token: &Token) -> Result<(), AllocError> {
         let has_blank = token.lines > 1 && self.frames.len() <= 1;
         match self.joint(number) {
             Separator::None => Ok(()),
@@ -213,7 +213,7 @@ impl<'a> Layout<'a> {
             None => style_without_head(column),
         };
         let is_kept = style.rule.keeps_lines() && self.has_lines(number);
-        let fits = self.fits(number, column) || self.is_item(number);
+        let fits = self.fits(number, column) || self.is_uncommented_case_or_run(number);
         let is_flat = self.is_in_flat() || fits && !is_kept;
         self.put(b"(")?;
         self.frames.push(Frame {
@@ -262,12 +262,12 @@ impl<'a> Layout<'a> {
             Kind::Comment => self.comment(token),
             Kind::Close => self.close(),
             Kind::Open => {
-                self.part(number, token)?;
+                self.separate_token(number, token)?;
                 self.note_part(false);
                 self.open(number)
             }
             Kind::Atom => {
-                self.part(number, token)?;
+                self.separate_token(number, token)?;
                 self.note_part(false);
                 let input = self.input;
                 let bytes = bytes_of(input, token);

@@ -18,21 +18,21 @@ use pst_sexpr::Form;
 use pst_syntax::{CallbackShape, FaultKind, callback_shape};
 use pst_value::Items;
 
-fn has_pre(seen: &[Option<CallbackShape<'_>>]) -> bool
+fn has_pre_callback(seen: &[Option<CallbackShape<'_>>]) -> bool
     ensures { result ≡ list_any (λ shape. holds faults.is_pre (shown_callback_option shape)) seen.now }
 {
     seen.iter()
         .any(|shape| matches!(shape, Some(CallbackShape::Pre(_))))
 }
 
-fn has_next(seen: &[Option<CallbackShape<'_>>]) -> bool
+fn has_next_callback(seen: &[Option<CallbackShape<'_>>]) -> bool
     ensures { result ≡ list_any (λ shape. holds faults.is_next (shown_callback_option shape)) seen.now }
 {
     seen.iter()
         .any(|shape| matches!(shape, Some(CallbackShape::Next(_))))
 }
 
-fn has_post(seen: &[Option<CallbackShape<'_>>]) -> bool
+fn has_post_callback(seen: &[Option<CallbackShape<'_>>]) -> bool
     ensures { result ≡ list_any (λ shape. holds faults.is_post (shown_callback_option shape)) seen.now }
 {
     seen.iter()
@@ -40,12 +40,12 @@ fn has_post(seen: &[Option<CallbackShape<'_>>]) -> bool
 }
 
 /// Whether no callback is missing.
-fn has_all(seen: &[Option<CallbackShape<'_>>]) -> bool
+fn has_all_callbacks(seen: &[Option<CallbackShape<'_>>]) -> bool
     ensures { result ≡ (list_any (λ shape. holds faults.is_pre (shown_callback_option shape)) seen.now
         && list_any (λ shape. holds faults.is_next (shown_callback_option shape)) seen.now
         && list_any (λ shape. holds faults.is_post (shown_callback_option shape)) seen.now) }
 {
-    has_pre(seen) && has_next(seen) && has_post(seen)
+    has_pre_callback(seen) && has_next_callback(seen) && has_post_callback(seen)
 }
 
 /// Adds the faults of the callback at `path`, after the callbacks `seen`.
@@ -68,7 +68,7 @@ fn add_callback_faults(
             faults,
             role,
             path,
-            has_pre(seen),
+            has_pre_callback(seen),
             body,
         )?,
         Some(CallbackShape::Next(body)) => add_single_expression_faults(
@@ -76,7 +76,7 @@ fn add_callback_faults(
             faults,
             role,
             path,
-            has_next(seen),
+            has_next_callback(seen),
             body,
         )?,
         Some(CallbackShape::Post(body)) => add_single_expression_faults(
@@ -84,7 +84,7 @@ fn add_callback_faults(
             faults,
             role,
             path,
-            has_post(seen),
+            has_post_callback(seen),
             body,
         )?,
         None => push_fault(walk, faults, path, role, FaultKind::UnknownForm)?,
@@ -112,7 +112,7 @@ pub fn add_callbacks_faults(
         seen.push(shape)?;
         number += 1;
     }
-    let are_there = has_all(seen.as_slice());
+    let are_there = has_all_callbacks(seen.as_slice());
     let role = Role::Callbacks;
     push_fault_unless(walk, faults, path, role, are_there, FaultKind::Missing)?;
     Ok(())

@@ -1,6 +1,6 @@
 //! What messages say of refused expressions.
 
-use crate::forms::{HeadedForm, expression_form, in_place_of, nearest_head, type_form};
+use crate::forms::{HeadedForm, expression_form, hint_for_foreign_word, nearest_head, type_form};
 use crate::found_problem::{
     FoundProblem, foreign_word_problem, missing_name_problem, missing_operation_problem,
     problem_at, problem_at_part, problem_with_note, problem_with_note_at_part, with_note,
@@ -27,14 +27,14 @@ pub fn spells_value(has_maps: bool, form: &Form) -> bool {
         Form::Word(word) => is_value(word.as_str()) || is_integer(word),
         Form::Text(_) => true,
         Form::Node(parts) => {
-            heads_expression(has_maps, form) || spell_value(has_maps, parts.as_slice())
+            heads_expression(has_maps, form) || any_spells_value(has_maps, parts.as_slice())
         }
     }
 }
 
 /// Whether one of the trees spells a value, or has one in it.
 #[cycle(spells_value)]
-fn spell_value(has_maps: bool, forms: &[Form]) -> bool {
+fn any_spells_value(has_maps: bool, forms: &[Form]) -> bool {
     for form in forms {
         if spells_value(has_maps, form) {
             return true;
@@ -132,7 +132,7 @@ pub fn part_count_problem(
 fn other_hint(name: &str) -> Option<&'static str> {
     match name {
         "in" | "when" => Some("clauses are in `(for (CLAUSE ..) BODY)`"),
-        _ => in_place_of(name),
+        _ => hint_for_foreign_word(name),
     }
 }
 
@@ -193,6 +193,9 @@ fn clause_list_problem(alloc: Global, path: &[usize]) -> FoundProblem {
     )
 }
 
+/// The hint on how a map gets its entries.
+const MAP_ENTRIES: &str = "hint: an empty map is `(map text int)`, and `(put m k v)` adds to it";
+
 /// The problem of a form with the head `word` and the right number of parts, one of which is not what it has
 /// to be. `path` leads to the form.
 fn wrong_part_problem(alloc: Global, path: &[usize], word: &str, parts: &[Form]) -> FoundProblem {
@@ -201,7 +204,7 @@ fn wrong_part_problem(alloc: Global, path: &[usize], word: &str, parts: &[Form])
         ("map", _) => with_note(
             alloc,
             map_keys_problem(alloc, below(path, alloc, 1)?.as_slice())?,
-            "hint: an empty map is `(map text int)`, and `(put m k v)` adds to it",
+            MAP_ENTRIES,
         ),
         ("for", _) => clause_list_problem(alloc, below(path, alloc, 1)?.as_slice()),
         ("call", _) => missing_operation_problem(alloc, below(path, alloc, 1)?.as_slice()),
@@ -224,7 +227,12 @@ fn node_problem(
     let head = word.as_str();
     match expression_form(has_maps, head) {
         Some(form) if parts.len() < form.least || parts.len() > form.most => {
-            part_count_problem(alloc, path, form, parts.len())
+            let found = part_count_problem(alloc, path, form, parts.len())?;
+            if head == "map" && !parts.is_empty() {
+                with_note(alloc, found, MAP_ENTRIES)
+            } else {
+                Ok(found)
+            }
         }
         Some(_) => wrong_part_problem(alloc, path, head, parts),
         None if is_value(head) || is_integer(word) => value_as_head_problem(

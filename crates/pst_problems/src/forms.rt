@@ -74,7 +74,7 @@ const TYPES: [HeadedForm; 4] = [
 ];
 
 /// Words of other languages, and what is written in their place.
-const FOREIGN: [(&str, &str); 116] = [
+const FOREIGN: [(&str, &str); 117] = [
     (">", "write `(< b a)` for `(> a b)`"),
     (">=", "write `(<= b a)` for `(>= a b)`"),
     ("!=", "write `(not (= a b))`"),
@@ -132,6 +132,7 @@ const FOREIGN: [(&str, &str); 116] = [
     ("match", "write `(if c a (if d b e))`"),
     ("cond", "write `(if c a (if d b e))`"),
     ("case", "write `(if c a (if d b e))`"),
+    ("switch", "write `(if c a (if d b e))`"),
     ("lambda", "there are no function values: declare a `fun`"),
     ("fn", "there are no function values: declare a `fun`"),
     ("defun", "a function is `(fun NAME ((p T) ..) T BODY)`"),
@@ -226,7 +227,7 @@ const FOREIGN: [(&str, &str); 116] = [
     ("False", "write `false`"),
 ];
 
-fn among(rows: &[HeadedForm], word: &str) -> Option<HeadedForm> {
+fn find_headed_form(rows: &[HeadedForm], word: &str) -> Option<HeadedForm> {
     for row in rows {
         if row.word == word {
             return Some(*row);
@@ -237,20 +238,24 @@ fn among(rows: &[HeadedForm], word: &str) -> Option<HeadedForm> {
 
 /// The form of expressions with the head `word`. The forms of maps count only if `has_maps`.
 pub fn expression_form(has_maps: bool, word: &str) -> Option<HeadedForm> {
-    if let Some(form) = among(&EXPRESSIONS, word) {
+    if let Some(form) = find_headed_form(&EXPRESSIONS, word) {
         return Some(form);
     }
-    if has_maps { among(&MAPS, word) } else { None }
+    if has_maps {
+        find_headed_form(&MAPS, word)
+    } else {
+        None
+    }
 }
 
 /// The form of types with the head `word`.
 pub fn type_form(word: &str) -> Option<HeadedForm> {
-    among(&TYPES, word)
+    find_headed_form(&TYPES, word)
 }
 
 /// Whether the word heads a form of maps.
 pub fn is_of_maps(word: &str) -> bool {
-    among(&MAPS, word).is_some()
+    find_headed_form(&MAPS, word).is_some()
 }
 
 /// Whether a word heads a form, a clause or a type.
@@ -259,7 +264,7 @@ pub fn is_head(has_maps: bool, word: &str) -> bool {
 }
 
 /// The second column of the row that begins with `word`.
-fn beside(rows: &[(&'static str, &'static str)], word: &str) -> Option<&'static str> {
+fn find_second_column(rows: &[(&'static str, &'static str)], word: &str) -> Option<&'static str> {
     for row in rows {
         if row.0 == word {
             return Some(row.1);
@@ -269,11 +274,11 @@ fn beside(rows: &[(&'static str, &'static str)], word: &str) -> Option<&'static 
 }
 
 /// What to write in the place of `word`, if it is a word of another language.
-pub fn in_place_of(word: &str) -> Option<&'static str> {
+pub fn hint_for_foreign_word(word: &str) -> Option<&'static str> {
     if word.starts_with("//") || word == "#" {
         return Some("a comment begins with `;`");
     }
-    beside(&FOREIGN, word)
+    find_second_column(&FOREIGN, word)
 }
 
 /// The nearest to `name` among the head words of `rows`, or `nearer` if none of them is nearer.

@@ -1,6 +1,6 @@
 //! What is wrong with a tree, if something is, and what messages say of refused names.
 
-use crate::forms::in_place_of;
+use crate::forms::hint_for_foreign_word;
 use crate::problem::{Problem, below};
 use pst_syntax::{MAX_NAME, is_name};
 use pst_value::Text;
@@ -78,7 +78,7 @@ pub fn foreign_word_problem<D: Display + Drop>(
     word: &str,
     what: D,
 ) -> FoundProblem {
-    match in_place_of(word) {
+    match hint_for_foreign_word(word) {
         Some(hint) => problem_with_note(alloc, path, what, format_args!("hint: {hint}")),
         None => problem_at(alloc, path, what),
     }
@@ -119,7 +119,7 @@ pub fn is_capitalized(word: &str) -> bool {
 pub const CAPITAL: &str = "hint: names begin with a lower-case letter";
 
 /// What a name that may not be declared means.
-fn meaning(name: &str) -> &'static str {
+fn meaning_of_reserved_name(name: &str) -> &'static str {
     match name {
         "s" => "the state",
         "r" => "the result",
@@ -141,7 +141,7 @@ pub fn bad_name_problem(alloc: Global, path: &[usize], word: &Text) -> FoundProb
             "a name is a lower-case letter, then letters, digits, `_` and `-`",
         );
     }
-    let meaning = meaning(name);
+    let meaning = meaning_of_reserved_name(name);
     let what = format_args!("`{name}` is {meaning}; choose another name");
     problem_at(alloc, path, what)
 }

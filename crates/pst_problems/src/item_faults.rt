@@ -14,7 +14,8 @@ use crate::callback_faults::add_callbacks_faults;
 use crate::fault::Role;
 use crate::param_faults::add_params_faults;
 use crate::seen_items::{
-    has_command, has_fun, has_fun_room, has_init, has_op, has_op_room, has_state,
+    has_command, has_fun, has_init, has_op, has_room_for_function, has_room_for_operation,
+    has_state,
 };
 use crate::telling::{
     Added, DeclaredName, Faults, Walk, push_fault, push_fault_unless, push_name_faults_at_part,
@@ -23,29 +24,29 @@ use crate::whole_faults::{
     add_single_expression_faults, add_whole_expr_faults, add_whole_ty_faults,
 };
 use pst_sexpr::Form;
-use pst_syntax::{FaultKind, FunShape, ItemShape, OpShape, is_free, is_name};
+use pst_syntax::{FaultKind, FunShape, ItemShape, OpShape, is_name, is_unreserved_name};
 
-/// Adds the faults of the state at `path`. `stands` is true if there was a state before it.
+/// Adds the faults of the state at `path`. `has_one` is true if there was a state before it.
 fn add_state_faults(
     walk: Walk,
     faults: &mut Faults,
     path: &[usize],
-    stands: bool,
+    has_one: bool,
     form: &Form,
 ) -> Added
     ensures { OnOk result (faults.new ≡ keep walk.limit faults.old
-        (unless_at path.now role.Item (not stands) DoubleName
+        (unless_at path.now role.Item (not has_one) DoubleName
         (spec.whole_ty_at walk.has_maps (below path.now 1) form.now))) }
 {
     let role = Role::Item;
-    push_fault_unless(walk, faults, path, role, !stands, FaultKind::DoubleName)?;
+    push_fault_unless(walk, faults, path, role, !has_one, FaultKind::DoubleName)?;
     add_whole_ty_faults(walk, faults, path, 1, form)?;
     Ok(())
 }
 
 /// Adds the faults of a function or an operation at `path`, apart from its body or its callbacks. `has_room`
 /// says whether the model may have one more.
-fn declared(
+fn add_declaration_faults(
     walk: Walk,
     faults: &mut Faults,
     path: &[usize],
@@ -82,11 +83,11 @@ fn add_fun_faults(
 {
     let name = DeclaredName {
         word: shape.name,
-        is_lawful: is_free(walk.has_maps, shape.name),
+        is_lawful: is_unreserved_name(walk.has_maps, shape.name),
         is_taken: has_fun(seen, shape.name),
     };
-    let has_room = has_fun_room(seen);
-    declared(
+    let has_room = has_room_for_function(seen);
+    add_declaration_faults(
         walk,
         faults,
         path,
@@ -116,8 +117,8 @@ fn add_op_faults(
         is_lawful: is_name(shape.name),
         is_taken: has_op(seen, shape.name),
     };
-    let has_room = has_op_room(seen);
-    declared(
+    let has_room = has_room_for_operation(seen);
+    add_declaration_faults(
         walk,
         faults,
         path,

@@ -35,6 +35,14 @@ pub const ITEM_FORMS: [ItemForm; 6] = [
     ),
 ];
 
+/// How an operation is written, for a note.
+pub const OPERATION: &str = "an operation is `(op NAME ((p T) ..) T (pre E) (next E) (post E))`";
+
+/// Whether `head` heads a callback.
+pub fn is_callback(head: &str) -> bool {
+    matches!(head, "pre" | "next" | "post")
+}
+
 /// The form of the items with the head `head`.
 pub fn item_form(head: &str) -> Option<ItemForm> {
     for form in ITEM_FORMS.as_slice() {

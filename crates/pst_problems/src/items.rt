@@ -1,19 +1,21 @@
 //! What messages say of refused items and of their parts.
 
-use crate::forms::in_place_of;
+use crate::forms::hint_for_foreign_word;
 use crate::found_problem::{
     FoundProblem, missing_name_problem, problem_at, problem_at_part, problem_with_note,
-    problem_with_note_at_part,
+    problem_with_note_at_part, with_note,
 };
-use crate::item_forms::{ITEM_FORMS, ItemForm, item_form, item_meant};
+use crate::item_forms::{ITEM_FORMS, ItemForm, OPERATION, is_callback, item_form, item_meant};
 use crate::names::{DidYouMean, NearestName, push_name};
 use crate::problem::{Problem, below};
+use crate::slips::operator_application_text;
 use crate::tree::{has_head, head_of};
 use crate::writing::{Listed, counted, short_text};
 use pst_sexpr::{Form, node_of};
 use pst_syntax::{FaultKind, MAX_DECLARED, MAX_PARTS};
 use pst_value::Items;
 use std::alloc::Global;
+use std::fmt;
 
 /// The heads of all items, for a note.
 const ITEMS: &str =
@@ -43,7 +45,7 @@ fn not_an_item_problem(alloc: Global, path: &[usize], form: &Form) -> FoundProbl
     let shown = short_text(alloc, form)?;
     let shown = shown.as_str();
     let what = format_args!("`{shown}` is not an item of a model");
-    match in_place_of(shown) {
+    match hint_for_foreign_word(shown) {
         Some(hint) => problem_with_note(alloc, path, what, format_args!("hint: {hint}")),
         None => problem_with_note(alloc, path, what, ITEMS),
     }
@@ -134,9 +136,60 @@ pub fn too_many_parameters_problem(alloc: Global, path: &[usize], params: &Form)
 
 /// The problem of a tree that is no parameter.
 pub fn parameter_problem(alloc: Global, path: &[usize], form: &Form) -> FoundProblem {
+    let what = "a parameter is `(NAME TYPE)`";
     match node_of(form) {
         Some([_, _]) => missing_name_problem(alloc, below(path, alloc, 0)?.as_slice()),
-        _ => problem_at(alloc, path, "a parameter is `(NAME TYPE)`"),
+        Some(_) => problem_at(alloc, path, what),
+        None => problem_with_note(
+            alloc,
+            path,
+            what,
+            "the parameters are in brackets: `((p T) (q U))`",
+        ),
+    }
+}
+
+/// How the callback `head` is written in the place of one with `has` parts.
+#[derive(Clone, Copy, Drop)]
+struct CallbackForm<'a> {
+    head: &'a str,
+    has: usize,
+}
+
+impl fmt::Display for CallbackForm<'_> {
+    fn fmt<W: fmt::Write>(&self, f: &mut fmt::Formatter<W>) -> fmt::Result {
+        let head = self.head;
+        if self.has > 1 && head != "next" {
+            write!(f, "hint: if all must hold, write `({head} (and a b))`")
+        } else {
+            write!(f, "it is written `({head} E)`")
+        }
+    }
+}
+
+/// The problem of a callback that has not one expression. `parts` are the parts after its head.
+fn callback_part_count_problem(
+    alloc: Global,
+    path: &[usize],
+    head: &str,
+    parts: &[Form],
+) -> FoundProblem {
+    let has = parts.len();
+    let what = format_args!("`{head}` takes 1 part, here it has {has}");
+    let found = problem_at(alloc, path, what)?;
+    match parts {
+        [left, Form::Word(operator), right] => {
+            match operator_application_text(alloc, operator.as_str(), left, right)? {
+                Some(written) => {
+                    let hint = format_args!(
+                        "hint: write `({head} {written})`: the operator comes first"
+                    );
+                    with_note(alloc, found, hint)
+                }
+                None => with_note(alloc, found, CallbackForm { head, has }),
+            }
+        }
+        _ => with_note(alloc, found, CallbackForm { head, has }),
     }
 }
 
@@ -153,11 +206,17 @@ pub fn callback_problem(
             let what = format_args!("the operation has two callbacks `{head}`");
             problem_at(alloc, path, what)
         }
+        (_, Some(head)) if is_callback(head.as_str()) => callback_part_count_problem(
+            alloc,
+            path,
+            head.as_str(),
+            node_of(form).unwrap_or(&[]).get(1..).unwrap_or(&[]),
+        ),
         _ => problem_with_note(
             alloc,
             path,
             "a callback is `(pre E)`, `(next E)` or `(post E)`",
-            "an operation is `(op NAME ((p T) ..) T (pre E) (next E) (post E))`",
+            OPERATION,
         ),
     }
 }

@@ -9,11 +9,11 @@ ghost use Rattle.pst_syntax.specs.ModelFaults.{model_faults};
 
 /// The faults with places are the faults of the model, in their order: each has the kind and the item of that
 /// fault.
-pub fn placed_as_faults()
+pub fn placed_faults_are_model_faults()
     ensures { (trees : List Form) → map unplaced (placed_faults trees) ≡ model_faults trees }
 {}
 
 /// The reader refuses a model by the first of its faults with places.
-pub fn first_placed()
+pub fn reader_refuses_first_placed_fault()
     ensures { (trees : List Form) → refusal (model_of trees) ≡ first (map unplaced (placed_faults trees)) }
 {}

@@ -36,7 +36,8 @@ mod writing;
 
 pub use fault::{FormFault, Role};
 pub use forms::{
-    HeadedForm, expression_form, in_place_of, is_head, is_of_maps, nearest_head, type_form,
+    HeadedForm, expression_form, hint_for_foreign_word, is_head, is_of_maps, nearest_head,
+    type_form,
 };
 pub use found_problem::{
     CAPITAL, FoundProblem, foreign_word_problem, in_single_quotes, is_capitalized, problem_at,
@@ -48,4 +49,6 @@ pub use operations::{operation_named, unknown_among};
 pub use problem::{MOST_PROBLEMS, Problem, below};
 pub use syntax::form_problems;
 pub use tree::head_of;
-pub use writing::{Count, FormText, Listed, Signature, TypeText, counted, key_word, short_text};
+pub use writing::{
+    Count, FormText, Listed, Signature, TypeText, counted, key_type_word, short_text,
+};

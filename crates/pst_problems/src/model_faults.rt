@@ -13,7 +13,7 @@ ghost use Rattle.pst_syntax.specs.declared.fault.FaultKind.TheVariants.{OverLimi
 use crate::fault::{FormFault, Role};
 use crate::item_faults::add_item_faults;
 use crate::problem::below;
-use crate::seen_items::has_items;
+use crate::seen_items::has_required_items;
 use crate::telling::{
     Added, DeclaredName, Faults, Walk, push_fault, push_fault_unless, push_name_faults_at_part,
 };
@@ -40,7 +40,7 @@ fn add_items_faults(walk: Walk, faults: &mut Faults, path: &[usize], forms: &[Fo
         seen.push(shape)?;
         number += 1;
     }
-    let are_there = has_items(seen.as_slice());
+    let are_there = has_required_items(seen.as_slice());
     let role = Role::Model;
     push_fault_unless(walk, faults, path, role, are_there, FaultKind::Missing)?;
     Ok(())

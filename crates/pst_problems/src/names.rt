@@ -5,8 +5,18 @@ use std::alloc::{AllocError, Global};
 use std::fmt;
 use strsim::levenshtein;
 
+/// Whether `candidate` has as many bytes as `name`, and each of them is one of `name`.
+fn has_same_bytes(candidate: &str, name: &str) -> bool {
+    let bytes = name.as_bytes();
+    candidate.len() == name.len()
+        && candidate
+            .as_bytes()
+            .iter()
+            .all(|byte| bytes.iter().any(|other| other == byte))
+}
+
 /// The nearest to a name among the candidates so far: at most two edits away, and fewer than the name has
-/// bytes.
+/// bytes. A name of three bytes that is two edits away has the same bytes in another order.
 #[derive(Clone, Copy, Drop)]
 pub struct NearestName<'a> {
     /// The number of edits that is too great.
@@ -32,7 +42,8 @@ impl<'a> NearestName<'a> {
         name: &str,
     ) -> Result<NearestName<'a>, AllocError> {
         let edits = levenshtein(alloc, candidate, name)?;
-        if edits < self.limit {
+        let is_alike = edits < 2 || name.len() > 3 || has_same_bytes(candidate, name);
+        if is_alike && edits < self.limit {
             Ok(NearestName {
                 limit: edits,
                 best: Some(candidate),
@@ -51,8 +62,7 @@ impl<'a> NearestName<'a> {
     }
 }
 
-/// The known name that is nearest to `name`, as a hint: at most two edits away, and fewer than `name` has
-/// bytes.
+/// The known name that is nearest to `name`, as a hint: see [`NearestName`].
 pub fn nearest<'a>(
     alloc: Global,
     known: &'a Items<Text>,

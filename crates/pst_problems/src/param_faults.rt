@@ -18,11 +18,11 @@ use crate::telling::{
 };
 use crate::whole_faults::add_whole_ty_faults;
 use pst_sexpr::Form;
-use pst_syntax::{FaultKind, MAX_PARTS, ParamShape, is_free, param_shape};
+use pst_syntax::{FaultKind, MAX_PARTS, ParamShape, is_unreserved_name, param_shape};
 use pst_value::{Items, Text};
 
 /// Whether there are no more than there may be.
-fn are_few(forms: &[Form]) -> bool
+fn is_allowed_parameter_count(forms: &[Form]) -> bool
     ensures { result ≡ are_few forms.now }
 {
     forms.len() <= MAX_PARTS
@@ -57,7 +57,7 @@ fn add_param_faults(
     };
     let name = DeclaredName {
         word: shape.name,
-        is_lawful: is_free(walk.has_maps, shape.name),
+        is_lawful: is_unreserved_name(walk.has_maps, shape.name),
         is_taken: is_param(seen, shape.name),
     };
     push_name_faults_at_part(walk, faults, path, 0, Role::ParameterName, name)?;
@@ -95,7 +95,7 @@ pub fn add_params_faults(walk: Walk, faults: &mut Faults, path: &[usize], forms:
     let path = below(path, walk.alloc, 2)?;
     let path = path.as_slice();
     let role = Role::Parameters;
-    let are_few = are_few(forms);
+    let are_few = is_allowed_parameter_count(forms);
     push_fault_unless(walk, faults, path, role, are_few, FaultKind::OverLimit)?;
     add_params_faults_after(walk, faults, path, forms)?;
     Ok(())

@@ -16,7 +16,9 @@ use crate::telling::{
 };
 use crate::type_faults::add_ty_part_faults;
 use pst_sexpr::{Form, value_of};
-use pst_syntax::{FaultKind, MAX_PARTS, MAX_TY_LEVELS, Shape, is_free, is_used_operation};
+use pst_syntax::{
+    FaultKind, MAX_PARTS, MAX_TY_LEVELS, Shape, is_unreserved_name, is_usable_operation_name,
+};
 use pst_value::{LIMIT, Text};
 
 /// Whether an expression keeps to the limits besides that of its depth.
@@ -45,7 +47,7 @@ pub fn add_bound_faults(
         (part_at none_at none_at none_at (spec.below path.now number) role.Name
         (Declared (is_free walk.has_maps word.now) is_taken word.now))) }
 {
-    let is_lawful = is_free(walk.has_maps, word);
+    let is_lawful = is_unreserved_name(walk.has_maps, word);
     let name = DeclaredName {
         word,
         is_lawful,
@@ -77,7 +79,7 @@ pub fn add_operation_name_faults(
         (part_at none_at none_at none_at (spec.below path.now 1) role.Operation (Operation word.now))) }
 {
     let path = below(path, walk.alloc, 1)?;
-    let holds = is_used_operation(word);
+    let holds = is_usable_operation_name(word);
     push_fault_unless(
         walk,
         faults,

@@ -35,7 +35,7 @@ pub fn has_command(seen: &[Option<ItemShape<'_>>]) -> bool
 }
 
 /// Whether no item is missing that a model has to have.
-pub fn has_items(seen: &[Option<ItemShape<'_>>]) -> bool
+pub fn has_required_items(seen: &[Option<ItemShape<'_>>]) -> bool
     ensures { result ≡ (list_any (λ shape. holds faults.is_state (shown_item_option shape)) seen.now
         && list_any (λ shape. holds faults.is_init (shown_item_option shape)) seen.now
         && list_any (λ shape. holds faults.is_command (shown_item_option shape)) seen.now) }
@@ -44,7 +44,7 @@ pub fn has_items(seen: &[Option<ItemShape<'_>>]) -> bool
 }
 
 /// Whether there is room for one more function.
-pub fn has_fun_room(seen: &[Option<ItemShape<'_>>]) -> bool
+pub fn has_room_for_function(seen: &[Option<ItemShape<'_>>]) -> bool
     ensures { result ≡
         nat_lt (count_by (λ shape. holds faults.is_fun (shown_item_option shape)) seen.now) max_declared }
 {
@@ -55,7 +55,7 @@ pub fn has_fun_room(seen: &[Option<ItemShape<'_>>]) -> bool
 }
 
 /// Whether there is room for one more operation.
-pub fn has_op_room(seen: &[Option<ItemShape<'_>>]) -> bool
+pub fn has_room_for_operation(seen: &[Option<ItemShape<'_>>]) -> bool
     ensures { result ≡
         nat_lt (count_by (λ shape. holds faults.is_op (shown_item_option shape)) seen.now) max_declared }
 {

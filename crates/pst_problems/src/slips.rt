@@ -1,9 +1,9 @@
 //! Hints on what other languages write: operators between their operands, commas, fields and the like.
 
-use crate::forms::{expression_form, in_place_of};
+use crate::forms::{expression_form, hint_for_foreign_word};
 use crate::found_problem::{FoundProblem, with_note};
 use crate::problem::Problem;
-use crate::tree::part_at;
+use crate::tree::{head_of, part_at};
 use crate::writing::short_text;
 use pst_sexpr::{Form, is_integer, node_of, word_of};
 use pst_value::Text;
@@ -23,12 +23,16 @@ fn operator_meant(operator: &str) -> Option<&str> {
 }
 
 /// How `operator` is applied to `left` and `right`, if it is an operator of this or of another language.
-fn application(
+pub fn operator_application_text(
     alloc: Global,
     operator: &str,
-    left: &str,
-    right: &str,
+    left: &Form,
+    right: &Form,
 ) -> Result<Option<String>, AllocError> {
+    let left = short_text(alloc, left)?;
+    let right = short_text(alloc, right)?;
+    let left = left.as_str();
+    let right = right.as_str();
     match operator {
         ">" => Ok(Some(format!(in alloc; "(< {right} {left})")?)),
         ">=" => Ok(Some(format!(in alloc; "(<= {right} {left})")?)),
@@ -50,7 +54,7 @@ fn heads_form(has_maps: bool, form: &Form) -> bool {
 
 /// What to write in the place of a node with the trees `parts`, if the second of them is an operator and the
 /// first is none.
-fn operator_first(
+fn rewrite_with_operator_first(
     alloc: Global,
     has_maps: bool,
     parts: &[Form],
@@ -61,9 +65,7 @@ fn operator_first(
     if heads_form(has_maps, left) {
         return Ok(None);
     }
-    let left = short_text(alloc, left)?;
-    let right = short_text(alloc, right)?;
-    application(alloc, operator.as_str(), left.as_str(), right.as_str())
+    operator_application_text(alloc, operator.as_str(), left, right)
 }
 
 /// The trees of the node `form`, or of the node that has the word `form` as its second tree. `path` leads to
@@ -92,13 +94,13 @@ fn is_signed_name(word: &str, sign: &str) -> bool {
 }
 
 /// What to write in the place of a word that is neither an integer nor a name.
-fn in_place_of_word(word: &Text) -> Option<&'static str> {
+fn hint_for_malformed_word(word: &Text) -> Option<&'static str> {
     let name = word.as_str();
     let is_number = word
         .as_bytes()
         .first()
         .is_some_and(|byte| byte.is_ascii_digit());
-    if is_integer(word) || in_place_of(name).is_some() {
+    if is_integer(word) || hint_for_foreign_word(name).is_some() {
         None
     } else if name.ends_with(",") {
         Some("there are no commas: spaces separate the parts")
@@ -120,18 +122,18 @@ fn in_place_of_word(word: &Text) -> Option<&'static str> {
 }
 
 /// What to write in the place of a part of a refused tree, if it is a word of another language.
-fn in_place_of_part(form: &Form) -> Option<&'static str> {
+fn hint_for_malformed_part(form: &Form) -> Option<&'static str> {
     let word = word_of(form)?;
     if word.as_str().starts_with("'") {
         return Some("a text is in double quotes");
     }
-    in_place_of_word(word)
+    hint_for_malformed_word(word)
 }
 
 /// What to write in the place of the first word of another language among `forms`.
-fn in_place_of_parts(forms: &[Form]) -> Option<&'static str> {
+fn hint_for_first_malformed_part(forms: &[Form]) -> Option<&'static str> {
     for form in forms {
-        if let Some(hint) = in_place_of_part(form) {
+        if let Some(hint) = hint_for_malformed_part(form) {
             return Some(hint);
         }
     }
@@ -142,8 +144,8 @@ fn in_place_of_parts(forms: &[Form]) -> Option<&'static str> {
 /// its parts.
 pub fn with_word_hint(alloc: Global, form: &Form, found: Option<Problem>) -> FoundProblem {
     let meant = match form {
-        Form::Node(parts) => in_place_of_parts(parts.as_slice()),
-        Form::Word(word) => in_place_of_word(word),
+        Form::Node(parts) => hint_for_first_malformed_part(parts.as_slice()),
+        Form::Word(word) => hint_for_malformed_word(word),
         Form::Text(_) => None,
     };
     match meant {
@@ -163,6 +165,31 @@ fn without_notes(found: Option<Problem>) -> Option<Problem> {
     }
 }
 
+/// The problem `found` of the expression at `path`, with a hint if the expression is a clause of a form that another
+/// language chooses with.
+fn with_choice_hint(
+    alloc: Global,
+    model: &Form,
+    path: &[usize],
+    found: Option<Problem>,
+) -> FoundProblem {
+    let Some((_, before)) = path.split_last() else {
+        return Ok(found);
+    };
+    let around = part_at(model, before.get(1..).unwrap_or(&[])).and_then(head_of);
+    match around.map(Text::as_str) {
+        Some(word @ ("cond" | "case" | "match" | "switch")) => match hint_for_foreign_word(word) {
+            Some(hint) => with_note(
+                alloc,
+                found,
+                format_args!("hint: there is no `{word}`: {hint}"),
+            ),
+            None => Ok(found),
+        },
+        _ => Ok(found),
+    }
+}
+
 /// The problem `found` of the expression `form`, which `path` leads to, with a hint if it is written as in
 /// another language. A hint on an operator between its operands is the only note.
 pub fn with_expression_hint(
@@ -173,10 +200,11 @@ pub fn with_expression_hint(
     form: &Form,
     found: Option<Problem>,
 ) -> FoundProblem {
+    let found = with_choice_hint(alloc, model, path, found)?;
     let Some(parts) = trees_around(model, path, form) else {
         return with_word_hint(alloc, form, found);
     };
-    match operator_first(alloc, has_maps, parts)? {
+    match rewrite_with_operator_first(alloc, has_maps, parts)? {
         Some(written) => {
             let written = written.as_str();
             let hint = format_args!("hint: write `{written}`: the operator comes first");

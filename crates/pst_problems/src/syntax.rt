@@ -16,7 +16,7 @@ use crate::names::{DidYouMean, NearestName, push_name};
 use crate::problem::{MOST_PROBLEMS, Problem};
 use crate::slips::{with_expression_hint, with_word_hint};
 use crate::tree::{has_head, head_of, part_at};
-use crate::types::{deep_type_problem, item_type_problem, type_problem};
+use crate::types::{deep_type_problem, item_type_problem, type_problem, with_parameter_order_hint};
 use crate::writing::Listed;
 use pst_sexpr::{Form, Tree, node_of, word_of};
 use pst_syntax::{FaultKind, MAX_TREES};
@@ -174,12 +174,15 @@ fn hinted_problem(alloc: Global, model: &Form, form: &Form, fault: &FormFault) -
             with_expression_hint(alloc, has_maps, model, fault.path.as_slice(), form, found)
         }
         (FaultKind::UnknownForm, Role::Item | Role::Callback) => with_word_hint(alloc, form, found),
+        (FaultKind::UnknownForm, Role::Type) => {
+            with_parameter_order_hint(alloc, model, fault.path.as_slice(), found)
+        }
         _ => Ok(found),
     }
 }
 
 /// Whether something is missing that the faults before may account for, since they are in the same tree.
-fn may_follow(fault: &FormFault, before: &[FormFault]) -> bool {
+fn may_stem_from_earlier_fault(fault: &FormFault, before: &[FormFault]) -> bool {
     let path = fault.path.as_slice();
     let is_in = |other: &FormFault| other.path.as_slice().get(..path.len()) == Some(path);
     fault.kind == FaultKind::Missing && before.iter().any(is_in)
@@ -215,7 +218,7 @@ pub fn form_problems(alloc: Global, trees: &[Tree]) -> Result<Vec<Problem>, Allo
         let Some(form) = part_at(model, path) else {
             continue;
         };
-        if may_follow(fault, before) {
+        if may_stem_from_earlier_fault(fault, before) {
             continue;
         }
         if let Some(problem) = hinted_problem(alloc, model, form, fault)? {

@@ -14,7 +14,7 @@ use pst_sexpr::Form;
 use pst_syntax::{FaultKind, MAX_PARTS, TyShape, ty_shape};
 
 /// Whether a type keeps to the limits besides that of its depth.
-fn ty_fits(shape: &TyShape<'_>) -> bool
+fn is_type_within_limits(shape: &TyShape<'_>) -> bool
     ensures { result ≡ ty_fits (shown_ty shape.now) }
 {
     match shape {
@@ -48,7 +48,7 @@ pub fn add_ty_faults(
         faults,
         path,
         role,
-        ty_fits(&shape),
+        is_type_within_limits(&shape),
         FaultKind::OverLimit,
     )?;
     add_ty_parts_faults(walk, faults, role, path, &shape, room - 1)?;

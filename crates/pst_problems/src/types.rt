@@ -3,13 +3,14 @@
 use crate::expressions::{
     map_keys_problem, part_count_problem, spells_value, too_many_items_problem,
 };
-use crate::forms::{in_place_of, is_of_maps, type_form};
+use crate::forms::{hint_for_foreign_word, is_of_maps, type_form};
 use crate::found_problem::{
     FoundProblem, foreign_word_problem, problem_at, problem_with_note, problem_with_note_at_part,
     with_note,
 };
+use crate::item_forms::{OPERATION, is_callback};
 use crate::names::{DidYouMean, NearestName};
-use crate::problem::below;
+use crate::problem::{Problem, below};
 use crate::tree::{has_head, part_at};
 use crate::writing::short_text;
 use pst_sexpr::{Form, node_of, word_of};
@@ -78,9 +79,41 @@ fn unknown_type_word_problem(alloc: Global, path: &[usize], word: &str) -> Found
     }
     let what = format_args!("`{word}` is not a type");
     match near_type(alloc, word)? {
-        Some(hint) if in_place_of(word).is_none() => problem_with_note(alloc, path, what, hint),
+        Some(hint) if hint_for_foreign_word(word).is_none() => problem_with_note(
+            alloc, path, what, hint,
+        ),
         _ => foreign_word_problem(alloc, path, word, what),
     }
+}
+
+/// The problem `found` of the type `form`, which `path` leads to, with a hint if it is the name of a parameter whose
+/// type comes before it.
+pub fn with_parameter_order_hint(
+    alloc: Global,
+    model: &Form,
+    path: &[usize],
+    found: Option<Problem>,
+) -> FoundProblem {
+    let Some((_, before)) = path.split_last() else {
+        return Ok(found);
+    };
+    let Some(around) = part_at(model, before.get(1..).unwrap_or(&[])) else {
+        return Ok(found);
+    };
+    match node_of(around) {
+        Some([Form::Word(ty), Form::Word(name)]) if is_plain_type(ty.as_str()) => {
+            let ty = ty.as_str();
+            let name = name.as_str();
+            let hint = format_args!("hint: the name comes first: `({name} {ty})`");
+            with_note(alloc, found, hint)
+        }
+        _ => Ok(found),
+    }
+}
+
+/// Whether `word` is a type by itself.
+fn is_plain_type(word: &str) -> bool {
+    matches!(word, "int" | "bool" | "text")
 }
 
 /// The type that `word` probably means, as a hint.
@@ -99,8 +132,12 @@ fn unknown_type_head_problem(
     form: &Form,
     head: &str,
 ) -> FoundProblem {
+    if is_callback(head) {
+        let what = "expected the type of the result here, before the callbacks";
+        return problem_with_note(alloc, path, what, OPERATION);
+    }
     let what = format_args!("`{head}` is not a type");
-    match in_place_of(head) {
+    match hint_for_foreign_word(head) {
         Some(hint) => problem_with_note_at_part(alloc, path, 0, what, format_args!("hint: {hint}")),
         None => nothing_like_a_type_problem(alloc, path, form),
     }
@@ -138,7 +175,7 @@ pub fn type_problem(
 
 /// How many numbers of `path` lead to the type of the items of a list that is written out. The path leads to
 /// it, or to a type in it.
-fn item_type_length(model: &Form, path: &[usize]) -> usize {
+fn path_length_to_item_type(model: &Form, path: &[usize]) -> usize {
     let mut length: usize = 1;
     let mut form = Some(model);
     for number in path.get(1..).unwrap_or(&[]) {
@@ -163,7 +200,7 @@ pub fn item_type_problem(
     kind: FaultKind,
 ) -> FoundProblem {
     let hint = "hint: a list begins with the type of its items: `(list int 1 2)`";
-    let length = item_type_length(model, path);
+    let length = path_length_to_item_type(model, path);
     let whole = path.get(..length).unwrap_or(path);
     let ty = part_at(model, whole.get(1..).unwrap_or(&[]));
     if ty.is_some_and(|ty| spells_value(has_maps, ty)) {

@@ -41,21 +41,21 @@ pub fn add_whole_expr_faults(
     add_expr_part_faults(walk, faults, path, number, form, MAX_EXPR_LEVELS)
 }
 
-/// Adds the faults of a callback or an item with an expression at `path`. `stands` is true if there was one before
+/// Adds the faults of a callback or an item with an expression at `path`. `has_one` is true if there was one before
 /// it.
 pub fn add_single_expression_faults(
     walk: Walk,
     faults: &mut Faults,
     role: Role,
     path: &[usize],
-    stands: bool,
+    has_one: bool,
     form: &Form,
 ) -> Added
     ensures { OnOk result (faults.new ≡ keep walk.limit faults.old
-        (unless_at path.now role (not stands) DoubleName
+        (unless_at path.now role (not has_one) DoubleName
         (spec.whole_expr_at walk.has_maps (below path.now 1) form.now))) }
 {
-    push_fault_unless(walk, faults, path, role, !stands, FaultKind::DoubleName)?;
+    push_fault_unless(walk, faults, path, role, !has_one, FaultKind::DoubleName)?;
     add_whole_expr_faults(walk, faults, path, 1, form)?;
     Ok(())
 }

@@ -7,7 +7,7 @@ use std::alloc::{AllocError, Global};
 use std::fmt;
 
 /// The word for a type of keys.
-pub fn key_word(keys: KeyTy) -> &'static str {
+pub fn key_type_word(keys: KeyTy) -> &'static str {
     match keys {
         KeyTy::Int => "int",
         KeyTy::Bool => "bool",
@@ -45,7 +45,7 @@ fn write_type<W: fmt::Write>(f: &mut fmt::Formatter<W>, ty: &Ty) -> fmt::Result 
             write_last(f, named.get())
         }
         Ty::Map(keys, value) => {
-            let keys = key_word(*keys);
+            let keys = key_type_word(*keys);
             write!(f, "(map {keys} ")?;
             write_last(f, value.get())
         }

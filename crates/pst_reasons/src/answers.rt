@@ -86,7 +86,7 @@ pub(crate) fn split_first(answers: &[Value]) -> Option<(&Value, &[Value])>
 }
 
 /// Returns whether one of `answers` would be right for an event on `state`, the state before it.
-pub(crate) fn right_answer_is_unique(
+pub(crate) fn is_any_answer_right(
     model: &Source,
     alloc: Global,
     state: &Value,
@@ -100,7 +100,7 @@ pub(crate) fn right_answer_is_unique(
     };
     match is_right(model, alloc, state, event, first)? {
         Ok(true) => Ok(Ok(true)),
-        Ok(false) => right_answer_is_unique(model, alloc, state, event, rest),
+        Ok(false) => is_any_answer_right(model, alloc, state, event, rest),
         Err(fault) => Ok(Err(fault)),
     }
 }

@@ -1,7 +1,7 @@
 //! Conditions that check other answers of a command in place of its recorded one.
 ghost use Rattle.std.specs.Prelude.{◌≡◌, []};
 
-use crate::answers::{is_right, right_answer_is_unique};
+use crate::answers::{is_any_answer_right, is_right};
 use crate::asked::SomePostconditions;
 use pst_eval::Callbacks;
 use pst_judge::{Condition, Event};
@@ -69,7 +69,7 @@ impl<'a> Condition for AnswersExcluded<'a> {
         event: &Event,
     ) -> Result<Result<bool, Fault>, AllocError> {
         if event.number == self.number {
-            return match right_answer_is_unique(self.model, alloc, state, event, self.answers)? {
+            return match is_any_answer_right(self.model, alloc, state, event, self.answers)? {
                 Ok(right) => Ok(Ok(!right)),
                 Err(fault) => Ok(Err(fault)),
             };

@@ -15,7 +15,9 @@ use crate::numbers::count_branch_commands;
 use pst_case::{History, Shaped};
 use pst_eval::Callbacks;
 use pst_grid::StepOutcome;
-use pst_judge::{Branches, Condition, Event, branches_of, event_outcome, prefix_of};
+use pst_judge::{
+    Branches, Condition, Event, branches_with_events, event_outcome, events_of_prefix,
+};
 use pst_value::{Items, Value};
 use std::alloc::{AllocError, Global};
 
@@ -64,7 +66,7 @@ fn split_letter(word: &[usize]) -> Option<(&usize, &[usize])>
 
 /// Appends to `states` the state after the event of each letter of `word` in turn, up to the first event that is not
 /// true. If all are true, the result also has the last state.
-fn along_word<C: Callbacks, A: Condition>(
+fn append_states_along_word<C: Callbacks, A: Condition>(
     branches: &Branches<'_, C, A>,
     alloc: Global,
     state: Value,
@@ -100,14 +102,14 @@ fn along_word<C: Callbacks, A: Condition>(
         StepOutcome::Next(next) => {
             done[*branch] = index + 1;
             states.push(next.copy(alloc)?)?;
-            along_word(branches, alloc, next, word, done, states)
+            append_states_along_word(branches, alloc, next, word, done, states)
         }
     }
 }
 
 /// Appends to `states` the states of a run after its prefix: those of the interleaving `word` of the branches, and, if
 /// it has a letter for each command of the branches, those of the suffix.
-fn after_prefix<C: Callbacks, A: Condition>(
+fn append_states_after_prefix<C: Callbacks, A: Condition>(
     branches: &Branches<'_, C, A>,
     alloc: Global,
     state: Value,
@@ -127,7 +129,7 @@ fn after_prefix<C: Callbacks, A: Condition>(
 {
     let parts = branches.shaped.case().branches.as_slice();
     let done = vec![in alloc; 0; parts.len()]?;
-    let (states, last) = along_word(branches, alloc, state, word, done, states)?;
+    let (states, last) = append_states_along_word(branches, alloc, state, word, done, states)?;
     let Some(last) = last else {
         return Ok(states);
     };
@@ -172,7 +174,7 @@ pub fn states<C: Callbacks, A: Condition>(
         return Ok(states);
     };
     states.push(state.copy(alloc)?)?;
-    let prefix = prefix_of(alloc, shaped, history, results)?;
+    let prefix = events_of_prefix(alloc, shaped, history, results)?;
     let (states, last) = append_states(
         callbacks,
         condition,
@@ -184,6 +186,6 @@ pub fn states<C: Callbacks, A: Condition>(
     let Some(last) = last else {
         return Ok(states);
     };
-    let branches = branches_of(callbacks, condition, alloc, shaped, history, results)?;
-    after_prefix(&branches, alloc, last, word, states)
+    let branches = branches_with_events(callbacks, condition, alloc, shaped, history, results)?;
+    append_states_after_prefix(&branches, alloc, last, word, states)
 }

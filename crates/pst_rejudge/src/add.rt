@@ -7,7 +7,7 @@ use pst_value::Text;
 use std::alloc::{AllocError, Global};
 
 /// Adds a member that is a text.
-pub fn add_words(
+pub fn add_text_field(
     alloc: Global,
     fields: &mut Vec<Field>,
     name: Name,
@@ -21,7 +21,7 @@ pub fn add_words(
 }
 
 /// Adds a member that is a number.
-pub fn add_number(fields: &mut Vec<Field>, name: Name, number: u64) -> Result<(), AllocError>
+pub fn add_number_field(fields: &mut Vec<Field>, name: Name, number: u64) -> Result<(), AllocError>
     ensures { OnOk result (fields.new.items ≡ fields.old.items ++ spec.Number name number ∷ []) }
 {
     fields.push(Field::Number(name, number))?;

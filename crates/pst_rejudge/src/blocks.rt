@@ -4,8 +4,8 @@ ghost use Rattle.pst_rejudge.specs.Blocks.{IsBlock};
 ghost use Rattle.pst_sexpr.specs.Reading.{max_bytes};
 
 use crate::each::ItemResult;
-use crate::keeping::{keep_bytes, last_lines};
-use crate::stream_judging::line_answers;
+use crate::keeping::{split_bytes_into_lines, take_last_unended_line};
+use crate::stream_judging::judge_items_on_lines;
 use crate::stream_reading::{Unread, read_some};
 use pst_eval::Callbacks;
 use pst_model::Typed;
@@ -52,7 +52,7 @@ impl From<Unread> for StreamFault {
 /// not ended, at first empty.
 ///
 /// `typed` is the model of the callbacks. After a fault the stream cannot be continued.
-pub fn next_block<I: Read, C: Callbacks + Sync, R: Threads + Sync>(
+pub fn read_and_judge_block<I: Read, C: Callbacks + Sync, R: Threads + Sync>(
     rt: &R,
     callbacks: &C,
     alloc: Global,
@@ -70,16 +70,16 @@ pub fn next_block<I: Read, C: Callbacks + Sync, R: Threads + Sync>(
 {
     let count = read_some(reader, buffer)?;
     if count == 0 {
-        let lines = last_lines(alloc, kept)?;
-        let answers = line_answers(rt, callbacks, alloc, typed, lines.as_slice())?;
+        let lines = take_last_unended_line(alloc, kept)?;
+        let answers = judge_items_on_lines(rt, callbacks, alloc, typed, lines.as_slice())?;
         return Ok(Block {
             answers,
             is_last: true,
         });
     }
     let mut lines = Vec::new(alloc);
-    keep_bytes(alloc, MAX_KEPT, &mut lines, kept, &buffer[..count])?;
-    let answers = line_answers(rt, callbacks, alloc, typed, lines.as_slice())?;
+    split_bytes_into_lines(alloc, MAX_KEPT, &mut lines, kept, &buffer[..count])?;
+    let answers = judge_items_on_lines(rt, callbacks, alloc, typed, lines.as_slice())?;
     Ok(Block {
         answers,
         is_last: false,

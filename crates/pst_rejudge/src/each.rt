@@ -4,7 +4,7 @@ ghost use Rattle.std.specs.Prelude.{◌≡◌, IfOk};
 ghost use Rattle.std.specs.List.{AllZip};
 ghost use Rattle.pst_rejudge.specs.Answers.{IsAnswer};
 
-use crate::reading::read_one;
+use crate::reading::read_run_of_tree;
 use crate::sharing::may_share_models;
 use crate::steps::ProgressCounter;
 use pst_eval::Callbacks;
@@ -31,7 +31,7 @@ pub enum ItemResult {
 }
 
 /// Reads and judges the item that a tree spells.
-pub fn answer_of<C: Callbacks>(
+pub fn read_and_judge_tree<C: Callbacks>(
     callbacks: &C,
     alloc: Global,
     typed: &Typed,
@@ -40,7 +40,7 @@ pub fn answer_of<C: Callbacks>(
     requires { typed.now ≡ C.model callbacks.now }
     ensures { IfOk result (IsAnswer (C.model callbacks.now) tree.now) }
 {
-    match read_one(alloc, typed, tree)? {
+    match read_run_of_tree(alloc, typed, tree)? {
         Ok(run) => Ok(ItemResult::Judged(judge_one(callbacks, alloc, &run)?)),
         Err(RunFault { kind, command, .. }) => Ok(ItemResult::Refused { kind, command }),
     }
@@ -57,7 +57,7 @@ fn answer_with_progress<C: Callbacks>(
     requires { typed.now ≡ C.model callbacks.now }
     ensures { IfOk result (IsAnswer (C.model callbacks.now) tree.now) }
 {
-    let answer = answer_of(callbacks, alloc, typed, tree)?;
+    let answer = read_and_judge_tree(callbacks, alloc, typed, tree)?;
     steps.add(1);
     Ok(answer)
 }

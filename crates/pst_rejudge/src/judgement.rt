@@ -3,7 +3,7 @@ ghost use Rattle.std.specs.Prelude.{◌≡◌, [], ◌∷◌, ◌++◌, IfOk, On
 ghost use Rattle.pst_rejudge.specs.Verdicts.{judged_fields, merge_field, outcome_fields, place_fields, refused_fields};
 ghost use Rattle.pst_judge.specs.declared.judgement.Judged.TheVariants as judged;
 
-use crate::add::{add_number, add_words};
+use crate::add::{add_number_field, add_text_field};
 use crate::field::{Field, Name};
 use crate::merge::interleaving_text;
 use pst_eval::FaultPlace;
@@ -15,9 +15,9 @@ use std::alloc::{AllocError, Global};
 fn add_place(alloc: Global, fields: &mut Vec<Field>, place: &FaultPlace) -> Result<(), AllocError>
     ensures { OnOk result (fields.new.items ≡ fields.old.items ++ place_fields place.now) }
 {
-    add_number(fields, Name::Command, place.command as u64)?;
-    add_words(alloc, fields, Name::Callback, place.callback.name())?;
-    add_words(alloc, fields, Name::Fault, place.fault.name())
+    add_number_field(fields, Name::Command, place.command as u64)?;
+    add_text_field(alloc, fields, Name::Callback, place.callback.name())?;
+    add_text_field(alloc, fields, Name::Fault, place.fault.name())
 }
 
 /// Adds an interleaving, the numbers of its branches.
@@ -39,42 +39,46 @@ fn add_verdict(alloc: Global, fields: &mut Vec<Field>, verdict: &Verdict) -> Res
 {
     match verdict {
         Verdict::Explained(word) => {
-            add_words(alloc, fields, Name::Verdict, "explained")?;
+            add_text_field(alloc, fields, Name::Verdict, "explained")?;
             add_interleaving(alloc, fields, word)
         }
         Verdict::Faulted(place) => {
-            add_words(alloc, fields, Name::Verdict, "fault")?;
+            add_text_field(alloc, fields, Name::Verdict, "fault")?;
             add_place(alloc, fields, place)
         }
         Verdict::Unexplained(far) => {
-            add_words(alloc, fields, Name::Verdict, "unexplained")?;
-            add_number(fields, Name::Far, *far as u64)
+            add_text_field(alloc, fields, Name::Verdict, "unexplained")?;
+            add_number_field(fields, Name::Far, *far as u64)
         }
         Verdict::Broken(command) => {
-            add_words(alloc, fields, Name::Verdict, "broken")?;
-            add_number(fields, Name::Command, *command as u64)
+            add_text_field(alloc, fields, Name::Verdict, "broken")?;
+            add_number_field(fields, Name::Command, *command as u64)
         }
     }
 }
 
 /// Adds why a case is not valid.
-fn add_reason(alloc: Global, fields: &mut Vec<Field>, why: &Why) -> Result<(), AllocError>
+fn add_invalid_case_fields(
+    alloc: Global,
+    fields: &mut Vec<Field>,
+    why: &Why,
+) -> Result<(), AllocError>
     ensures { OnOk result (fields.new.items ≡ fields.old.items ++ outcome_fields (judged.Invalid why.now)) }
 {
     match why {
         Why::PreFalse { command, merge } => {
-            add_words(alloc, fields, Name::Verdict, "prefalse")?;
-            add_number(fields, Name::Command, *command as u64)?;
+            add_text_field(alloc, fields, Name::Verdict, "prefalse")?;
+            add_number_field(fields, Name::Command, *command as u64)?;
             add_interleaving(alloc, fields, merge)
         }
         Why::CallbackFault { place, merge } => {
-            add_words(alloc, fields, Name::Verdict, "casefault")?;
+            add_text_field(alloc, fields, Name::Verdict, "casefault")?;
             add_place(alloc, fields, place)?;
             add_interleaving(alloc, fields, merge)
         }
         Why::NoMemory => {
-            add_words(alloc, fields, Name::Verdict, "refused")?;
-            add_words(alloc, fields, Name::Stage, "memory")
+            add_text_field(alloc, fields, Name::Verdict, "refused")?;
+            add_text_field(alloc, fields, Name::Stage, "memory")
         }
     }
 }
@@ -88,11 +92,11 @@ pub fn judged_fields(
     ensures { IfOk result (λ fields. fields.items ≡ judged_fields number judged.now) }
 {
     let mut fields = Vec::new(alloc);
-    add_number(&mut fields, Name::Item, number as u64)?;
+    add_number_field(&mut fields, Name::Item, number as u64)?;
     match judged {
         Judged::Verdict(verdict) => add_verdict(alloc, &mut fields, verdict)?,
-        Judged::Valid => add_words(alloc, &mut fields, Name::Verdict, "valid")?,
-        Judged::Invalid(why) => add_reason(alloc, &mut fields, why)?,
+        Judged::Valid => add_text_field(alloc, &mut fields, Name::Verdict, "valid")?,
+        Judged::Invalid(why) => add_invalid_case_fields(alloc, &mut fields, why)?,
     }
     Ok(fields)
 }
@@ -107,10 +111,10 @@ pub fn refused_fields(
     ensures { IfOk result (λ fields. fields.items ≡ refused_fields number kind command) }
 {
     let mut fields = Vec::new(alloc);
-    add_number(&mut fields, Name::Item, number as u64)?;
-    add_words(alloc, &mut fields, Name::Verdict, "refused")?;
-    add_words(alloc, &mut fields, Name::Stage, "item")?;
-    add_number(&mut fields, Name::Command, command as u64)?;
-    add_words(alloc, &mut fields, Name::Fault, kind.name())?;
+    add_number_field(&mut fields, Name::Item, number as u64)?;
+    add_text_field(alloc, &mut fields, Name::Verdict, "refused")?;
+    add_text_field(alloc, &mut fields, Name::Stage, "item")?;
+    add_number_field(&mut fields, Name::Command, command as u64)?;
+    add_text_field(alloc, &mut fields, Name::Fault, kind.name())?;
     Ok(fields)
 }

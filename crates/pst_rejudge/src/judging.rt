@@ -3,8 +3,8 @@ ghost use Rattle.std.specs.Prelude.{◌≡◌, All, IfOk, IfSome};
 ghost use Rattle.pst_rejudge.specs.Parts.{IsJudgedPart, joined};
 ghost use Rattle.pst_rejudge.specs.Places.{StandsIn};
 
-use crate::parts::parts_of;
-use crate::places::{in_order, place_parts};
+use crate::parts::split_into_parts;
+use crate::places::{join_places_in_order, put_judged_parts_in_order};
 use crate::reading::PartFault;
 use crate::sharing::{may_send_parts, may_share_models};
 use crate::steps::ProgressCounter;
@@ -63,7 +63,7 @@ pub fn judge_in_parts<C: Callbacks + Sync, R: Threads + Sync>(
 {
     may_share_models();
     may_send_parts();
-    let parts = parts_of(alloc, input)?;
+    let parts = split_into_parts(alloc, input)?;
     let next = AtomicUsize::new(0);
     let offers = [0u8; OFFERS];
     let taken = offers
@@ -88,8 +88,8 @@ pub fn judge_in_parts<C: Callbacks + Sync, R: Threads + Sync>(
         .collect::<Result<Vec<Vec<JudgedPart>>, PartFault>>(rt, alloc)?;
     match taken {
         Ok(lists) => {
-            let places = place_parts(alloc, parts.as_slice(), lists)?;
-            in_order(alloc, places)
+            let places = put_judged_parts_in_order(alloc, parts.as_slice(), lists)?;
+            join_places_in_order(alloc, places)
         }
         Err(PartFault::NotRead) => Ok(None),
         Err(PartFault::NoMemory) => Err(AllocError),

@@ -52,7 +52,7 @@ fn add_byte(
 
 /// Splits bytes into lines: adds those that end to `lines`, and keeps the one that has begun. It keeps at most
 /// `limit` bytes of each line.
-pub(crate) fn keep_bytes(
+pub(crate) fn split_bytes_into_lines(
     alloc: Global,
     limit: usize,
     lines: &mut Vec<Vec<u8>>,
@@ -72,7 +72,10 @@ pub(crate) fn keep_bytes(
 }
 
 /// The line that the end of the stream ends, if one has begun.
-pub(crate) fn last_lines(alloc: Global, kept: &mut Vec<u8>) -> Result<Vec<Vec<u8>>, AllocError>
+pub(crate) fn take_last_unended_line(
+    alloc: Global,
+    kept: &mut Vec<u8>,
+) -> Result<Vec<Vec<u8>>, AllocError>
     ensures { IfOk result (λ lines. (limit : ℕ) (line : List ℕ) → 0 < limit → kept.old.items ≡ take limit line
         → map (λ l. l.items) lines.items ≡ map (take limit) (last_line line)) }
 {

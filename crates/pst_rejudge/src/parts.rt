@@ -11,7 +11,7 @@ const PARTS: usize = 256;
 const LEAST_PART: usize = 256;
 
 /// The first place after `from` at which a line begins with a bracket, if there is one.
-fn next_line(input: &[u8], from: usize) -> Option<usize>
+fn find_next_bracket_line(input: &[u8], from: usize) -> Option<usize>
     ensures { IfSome result (λ at. (0 < at) × (at ≤ length input.now) × EndsLine (take at input.now)) }
 {
     for end in from..input.len().saturating_sub(1) {
@@ -23,26 +23,26 @@ fn next_line(input: &[u8], from: usize) -> Option<usize>
 }
 
 /// Splits the input before the second line that begins with a bracket, if there is one.
-pub fn head_and_rest(input: &[u8]) -> Option<(&[u8], &[u8])>
+pub fn split_before_second_bracket_line(input: &[u8]) -> Option<(&[u8], &[u8])>
     ensures { IfSome result (λ r. EndsLine r.0.now × (input.now ≡ r.0.now ++ r.1.now)) }
 {
     let first = if input.first() == Some(&b'(') {
         0
     } else {
-        next_line(input, 0)?
+        find_next_bracket_line(input, 0)?
     };
-    let second = next_line(input, first)?;
+    let second = find_next_bracket_line(input, first)?;
     Some(input.split_at(second))
 }
 
 /// The parts of an input. Each but the last ends before a line that begins with a bracket.
-pub fn parts_of<'a>(alloc: Global, input: &'a [u8]) -> Result<Vec<&'a [u8]>, AllocError>
+pub fn split_into_parts<'a>(alloc: Global, input: &'a [u8]) -> Result<Vec<&'a [u8]>, AllocError>
     ensures { IfOk result (λ parts. AreParts input.now (map (λ part. part.now) parts.items)) }
 {
     let mut parts = Vec::new(alloc);
     let least = (input.len() / PARTS).max(LEAST_PART);
     let mut rest = input;
-    while let Some(at) = next_line(rest, least) {
+    while let Some(at) = find_next_bracket_line(rest, least) {
         let (part, behind) = rest.split_at(at);
         parts.push(part)?;
         rest = behind;

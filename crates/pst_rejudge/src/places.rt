@@ -40,7 +40,7 @@ fn fill_places(
 }
 
 /// All parts that were taken, each in its place.
-pub(crate) fn place_parts(
+pub(crate) fn put_judged_parts_in_order(
     alloc: Global,
     parts: &[&[u8]],
     lists: Vec<Vec<JudgedPart>>,
@@ -56,7 +56,7 @@ pub(crate) fn place_parts(
 }
 
 /// How many runs the places hold.
-fn count_of(places: &[Option<JudgedRuns>]) -> usize {
+fn count_runs_in_places(places: &[Option<JudgedRuns>]) -> usize {
     let mut count: usize = 0;
     for place in places {
         if let Some(content) = place {
@@ -67,7 +67,7 @@ fn count_of(places: &[Option<JudgedRuns>]) -> usize {
 }
 
 /// The runs of each place, and their judgements as one list, or `None` if some place is empty.
-pub(crate) fn in_order(
+pub(crate) fn join_places_in_order(
     alloc: Global,
     places: Vec<Option<JudgedRuns>>,
 ) -> Result<Option<JudgedParts>, AllocError>
@@ -78,7 +78,7 @@ pub(crate) fn in_order(
         (λ read. IfSome read (λ all. all.judged.items ≡ flat_map judged_in places.items)) }
 {
     let mut runs = Vec::with_capacity(alloc, places.len())?;
-    let mut judged = Vec::with_capacity(alloc, count_of(places.as_slice()))?;
+    let mut judged = Vec::with_capacity(alloc, count_runs_in_places(places.as_slice()))?;
     for place in places {
         let Some(mut content) = place else {
             return Ok(None);

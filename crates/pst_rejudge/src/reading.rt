@@ -14,7 +14,7 @@ use std::slice;
 
 /// The run that a tree spells, or its first fault.
 #[tactic(auto, using(crate::proofs::One::one))]
-pub fn read_one(
+pub fn read_run_of_tree(
     alloc: Global,
     typed: &Typed,
     tree: &Tree,

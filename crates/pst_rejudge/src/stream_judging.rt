@@ -4,7 +4,7 @@ ghost use Rattle.std.specs.List.{AllZip};
 ghost use Rattle.pst_json_runs.specs.Lines.{has_json};
 ghost use Rattle.pst_rejudge.specs.StreamAnswers.{IsLineAnswer, IsTreeAnswer};
 
-use crate::each::{ItemResult, answer_of};
+use crate::each::{ItemResult, read_and_judge_tree};
 use crate::sharing::may_share_models;
 use pst_eval::Callbacks;
 use pst_json_runs::{has_json, json_tree};
@@ -19,7 +19,7 @@ use std::thread::Threads;
 const FEW_LINES: usize = 16;
 
 /// Reads and judges the tree that a line spells. A line that spells none, or more than one, is refused as `BadForm`.
-fn tree_answer<C: Callbacks>(
+fn judge_tree_on_line<C: Callbacks>(
     callbacks: &C,
     alloc: Global,
     typed: &Typed,
@@ -44,11 +44,11 @@ fn tree_answer<C: Callbacks>(
     if trees.len() != 1 {
         return Ok(refused);
     }
-    answer_of(callbacks, alloc, typed, &trees[0])
+    read_and_judge_tree(callbacks, alloc, typed, &trees[0])
 }
 
 /// Reads and judges the JSON item of a line. A line that is longer than a file may be is refused as `BadForm`.
-fn json_answer<C: Callbacks>(
+fn judge_json_item_on_line<C: Callbacks>(
     callbacks: &C,
     alloc: Global,
     typed: &Typed,
@@ -65,12 +65,12 @@ fn json_answer<C: Callbacks>(
         });
     }
     let tree = json_tree(alloc, typed.source(), line)?;
-    answer_of(callbacks, alloc, typed, &tree)
+    read_and_judge_tree(callbacks, alloc, typed, &tree)
 }
 
 /// Reads and judges the item that a line spells, as a tree or as JSON. A line that spells none, or more than one, is refused
 /// as `BadForm`.
-fn line_answer<C: Callbacks>(
+fn judge_item_on_line<C: Callbacks>(
     callbacks: &C,
     alloc: Global,
     typed: &Typed,
@@ -80,14 +80,14 @@ fn line_answer<C: Callbacks>(
     ensures { IfOk result (IsLineAnswer (C.model callbacks.now) line.now) }
 {
     if has_json(line) {
-        json_answer(callbacks, alloc, typed, line)
+        judge_json_item_on_line(callbacks, alloc, typed, line)
     } else {
-        tree_answer(callbacks, alloc, typed, line)
+        judge_tree_on_line(callbacks, alloc, typed, line)
     }
 }
 
 /// Judges each line, and returns the answers in order. Several threads judge the lines at once.
-pub(crate) fn line_answers<C: Callbacks + Sync, R: Threads + Sync>(
+pub(crate) fn judge_items_on_lines<C: Callbacks + Sync, R: Threads + Sync>(
     rt: &R,
     callbacks: &C,
     alloc: Global,
@@ -106,7 +106,7 @@ pub(crate) fn line_answers<C: Callbacks + Sync, R: Threads + Sync>(
             |line: &Vec<u8>| -> Result<ItemResult, AllocError>
                 requires { typed.now ≡ C.model callbacks.now }
                 ensures { IfOk result (IsLineAnswer (C.model callbacks.entry.now) line.now.items) }
-            { line_answer(callbacks, alloc, typed, line.as_slice()) },
+            { judge_item_on_line(callbacks, alloc, typed, line.as_slice()) },
         )
         .collect::<Result<Vec<ItemResult>, AllocError>>(rt, alloc)?
 }

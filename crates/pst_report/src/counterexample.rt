@@ -3,7 +3,7 @@ ghost use Rattle.std.specs.Prelude.{◌≡◌, IfOk, string_bytes};
 ghost use Rattle.pst_report.specs.Matching.{AreMatching, IsMatching};
 ghost use Rattle.pst_report.specs.Text as spec;
 
-use crate::kind::own_failure;
+use crate::kind::failing_run_before_shrinking;
 use pst_case::{Run, shape};
 use pst_model::Typed;
 use pst_runs::write_runs;
@@ -13,7 +13,7 @@ use pst_trial::JudgedRun;
 use std::alloc::{AllocError, Global};
 
 /// The case with the history that it broke with.
-pub(crate) fn run_of(
+pub(crate) fn run_of_failing_case(
     alloc: Global,
     typed: &Typed,
     taken: &FailingCase<JudgedRun>,
@@ -40,7 +40,7 @@ pub(crate) fn report_run_line(
     requires { IsMatching typed.now taken.now }
     ensures { IfOk result (λ line. line.items ≡ spec.run_line typed.now taken.now) }
 {
-    let runs = [run_of(alloc, typed, taken)?];
+    let runs = [run_of_failing_case(alloc, typed, taken)?];
     let mut out = Out::new(Vec::new(alloc));
     match write_runs(alloc, typed, &runs, &mut out) {
         Ok(()) => Ok(out.into_inner()),
@@ -131,7 +131,12 @@ pub fn failure_lines(
     requires { AreMatching typed.now shrunk.now }
     ensures { IfOk result (λ lines. lines.items ≡ spec.failure_lines typed.now number shrunk.now) }
 {
-    let mut lines = report_unshrunk_run_lines(alloc, typed, number, own_failure(shrunk))?;
+    let mut lines = report_unshrunk_run_lines(
+        alloc,
+        typed,
+        number,
+        failing_run_before_shrinking(shrunk),
+    )?;
     lines.extend_from_slice(steps_line(alloc, shrunk)?.as_bytes())?;
     lines.extend_from_slice(report_shrunk_run_lines(alloc, typed, &shrunk.last)?.as_slice())?;
     Ok(lines)

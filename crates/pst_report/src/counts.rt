@@ -49,7 +49,10 @@ fn lost_line(alloc: Global, entries: &[Entry<Record>]) -> Result<String, AllocEr
 }
 
 /// The lines of the trials that failed, and of those that passed.
-fn judged_lines(alloc: Global, entries: &[Entry<Record>]) -> Result<String, AllocError>
+fn failed_and_passed_count_lines(
+    alloc: Global,
+    entries: &[Entry<Record>],
+) -> Result<String, AllocError>
     ensures { IfOk result (λ lines. string_bytes lines ≡ spec.judged_lines entries.now) }
 {
     let mut lines = count_line(alloc, "passed", EntryKind::Passed, entries)?;
@@ -60,7 +63,7 @@ fn judged_lines(alloc: Global, entries: &[Entry<Record>]) -> Result<String, Allo
 }
 
 /// The lines of the numbers for which there is no run.
-fn missing_lines(alloc: Global, entries: &[Entry<Record>]) -> Result<String, AllocError>
+fn missing_run_count_lines(alloc: Global, entries: &[Entry<Record>]) -> Result<String, AllocError>
     ensures { IfOk result (λ lines. string_bytes lines ≡ spec.missing_lines entries.now) }
 {
     let mut lines = count_line(alloc, "genfault", EntryKind::GenFaulted, entries)?;
@@ -74,7 +77,7 @@ fn missing_lines(alloc: Global, entries: &[Entry<Record>]) -> Result<String, All
 pub fn count_lines(alloc: Global, entries: &[Entry<Record>]) -> Result<String, AllocError>
     ensures { IfOk result (λ lines. string_bytes lines ≡ spec.count_lines entries.now) }
 {
-    let mut lines = judged_lines(alloc, entries)?;
-    lines.push_str(missing_lines(alloc, entries)?.as_str())?;
+    let mut lines = failed_and_passed_count_lines(alloc, entries)?;
+    lines.push_str(missing_run_count_lines(alloc, entries)?.as_str())?;
     Ok(lines)
 }

@@ -3,8 +3,8 @@ ghost use Rattle.std.specs.Prelude.{◌≡◌, IfOk};
 ghost use Rattle.pst_report.specs.Failures.{IsFailureOf, IsLastFailure, case_line};
 ghost use Rattle.pst_report.specs.Matching.{IsMatching};
 
-use crate::counterexample::{report_run_line, run_of};
-use crate::least::failure_of;
+use crate::counterexample::{report_run_line, run_of_failing_case};
+use crate::least::shrinking_of_failed_trial;
 use pst_case::Run;
 use pst_model::Typed;
 use pst_runs::write_runs;
@@ -32,7 +32,7 @@ fn case_line(
 ) -> Result<Vec<u8>, AllocError>
     ensures { IfOk result (λ line. line.items ≡ case_line typed.now taken.now) }
 {
-    let Run { shaped, history: _ } = run_of(alloc, typed, taken)?;
+    let Run { shaped, history: _ } = run_of_failing_case(alloc, typed, taken)?;
     let cases = [Run {
         shaped,
         history: None,
@@ -65,7 +65,7 @@ fn failure_text(
 pub fn shrunk_failure(alloc: Global, record: &Record) -> Result<Option<ShrunkFailure>, AllocError>
     ensures { IfOk result (IsLastFailure record.now) }
 {
-    match failure_of(record) {
+    match shrinking_of_failed_trial(record) {
         Some(shrunk) => {
             let failure = failure_text(alloc, record.plan().typed(), &shrunk.last)?;
             Ok(Some(failure))

@@ -40,7 +40,7 @@ impl EntryKind {
 }
 
 /// The trial's own failing run: the first that was shrunk.
-pub fn own_failure(shrunk: &Shrunk<JudgedRun>) -> &FailingCase<JudgedRun>
+pub fn failing_run_before_shrinking(shrunk: &Shrunk<JudgedRun>) -> &FailingCase<JudgedRun>
     ensures { result.now ≡ spec.own_failure shrunk.now }
 {
     match shrunk.before.as_slice().first() {
@@ -67,7 +67,7 @@ fn kind_of_outcome(outcome: &TrialOutcome) -> EntryKind
         TrialOutcome::GenFaulted(_) => EntryKind::GenFaulted,
         TrialOutcome::Passed { .. } => EntryKind::Passed,
         TrialOutcome::Failed { shrunk, .. } => {
-            kind_of_verdict(&own_failure(shrunk).history.verdict)
+            kind_of_verdict(&failing_run_before_shrinking(shrunk).history.verdict)
         }
     }
 }

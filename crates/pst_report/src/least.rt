@@ -20,7 +20,7 @@ fn fault_of(done: &Record) -> Option<FaultPlace>
 }
 
 /// How the case of a trial was shrunk, if the trial failed.
-pub(crate) fn failure_of(done: &Record) -> Option<&Shrunk<JudgedRun>>
+pub(crate) fn shrinking_of_failed_trial(done: &Record) -> Option<&Shrunk<JudgedRun>>
     ensures failure { MatchOption result (spec.failure_in done.now.outcome ≡ None)
         (λ s. spec.failure_in done.now.outcome ≡ Some s.now) }
     ensures matching { IfSome result (λ s. AreMatching done.now.plan.model s.now) }
@@ -57,7 +57,7 @@ pub fn least_failure<'a>(
 {
     for (number, entry) in entries.iter().enumerate() {
         if let Entry::Done(record) = entry
-            && let Some(shrunk) = failure_of(record)
+            && let Some(shrunk) = shrinking_of_failed_trial(record)
         {
             return Some((number, shrunk));
         }

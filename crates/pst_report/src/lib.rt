@@ -21,6 +21,6 @@ pub use failures::{ShrunkFailure, shrunk_failure};
 pub use fault::ReportFault;
 pub use kind::EntryKind;
 pub use least::{least_failure, least_fault};
-pub use object::{add_failure, report_fields};
-pub use status::{CampaignStatus, campaign_status, ended_status};
+pub use object::{add_losses_and_least_failure, report_fields};
+pub use status::{CampaignStatus, campaign_status, status_of_early_ended_campaign};
 pub use writer::report;

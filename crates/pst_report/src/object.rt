@@ -5,12 +5,12 @@ ghost use Rattle.pst_report.specs.Matching.{AreMatching, IsMatching};
 ghost use Rattle.pst_report.specs.Object as spec;
 
 use crate::counterexample::{ending_name, report_run_line};
-use crate::kind::{EntryKind, count_of, own_failure};
+use crate::kind::{EntryKind, count_of, failing_run_before_shrinking};
 use crate::least::least_failure;
 use crate::status::CampaignStatus;
 use pst_ledger::{Closed, Entry};
 use pst_model::Typed;
-use pst_rejudge::{Field, Name, add_number, add_words};
+use pst_rejudge::{Field, Name, add_number_field, add_text_field};
 use pst_shrink::{FailingCase, Shrunk};
 use pst_trial::{JudgedRun, Plan, Record, Settings};
 use pst_value::Text;
@@ -34,10 +34,10 @@ fn report_case_settings_fields(
 ) -> Result<(), AllocError>
     ensures { OnOk result (fields.new.items ≡ fields.old.items ++ spec.case_fields settings.now) }
 {
-    add_number(fields, Name::Seed, settings.seed)?;
-    add_number(fields, Name::Trials, settings.trials as u64)?;
-    add_number(fields, Name::Commands, settings.commands as u64)?;
-    add_number(fields, Name::Branches, settings.branches as u64)
+    add_number_field(fields, Name::Seed, settings.seed)?;
+    add_number_field(fields, Name::Trials, settings.trials as u64)?;
+    add_number_field(fields, Name::Commands, settings.commands as u64)?;
+    add_number_field(fields, Name::Branches, settings.branches as u64)
 }
 
 /// Adds how cases are driven.
@@ -47,13 +47,13 @@ fn report_drive_settings_fields(
 ) -> Result<(), AllocError>
     ensures { OnOk result (fields.new.items ≡ fields.old.items ++ spec.drive_fields settings.now) }
 {
-    add_number(fields, Name::Suffix, settings.suffix as u64)?;
-    add_number(fields, Name::Repeats, settings.repeats as u64)?;
-    add_number(fields, Name::Limit, settings.limit as u64)
+    add_number_field(fields, Name::Suffix, settings.suffix as u64)?;
+    add_number_field(fields, Name::Repeats, settings.repeats as u64)?;
+    add_number_field(fields, Name::Limit, settings.limit as u64)
 }
 
 /// Adds how many numbers ended in the way of a kind.
-fn add_count(
+fn add_trial_count_field(
     fields: &mut Vec<Field>,
     name: Name,
     kind: EntryKind,
@@ -62,26 +62,32 @@ fn add_count(
     ensures { OnOk result
         (fields.new.items ≡ fields.old.items ++ spec.count_field name kind entries.now ∷ []) }
 {
-    add_number(fields, name, count_of(kind, entries) as u64)
+    add_number_field(fields, name, count_of(kind, entries) as u64)
 }
 
 /// Adds the counts of the trials that passed or failed.
-fn add_judged(fields: &mut Vec<Field>, entries: &[Entry<Record>]) -> Result<(), AllocError>
+fn add_passed_and_failed_counts(
+    fields: &mut Vec<Field>,
+    entries: &[Entry<Record>],
+) -> Result<(), AllocError>
     ensures { OnOk result (fields.new.items ≡ fields.old.items ++ spec.judged_fields entries.now) }
 {
-    add_count(fields, Name::Passed, EntryKind::Passed, entries)?;
-    add_count(fields, Name::Unexplained, EntryKind::Unexplained, entries)?;
-    add_count(fields, Name::Faulted, EntryKind::Faulted, entries)?;
-    add_count(fields, Name::Broken, EntryKind::Broken, entries)
+    add_trial_count_field(fields, Name::Passed, EntryKind::Passed, entries)?;
+    add_trial_count_field(fields, Name::Unexplained, EntryKind::Unexplained, entries)?;
+    add_trial_count_field(fields, Name::Faulted, EntryKind::Faulted, entries)?;
+    add_trial_count_field(fields, Name::Broken, EntryKind::Broken, entries)
 }
 
 /// Adds the counts of the numbers for which there is no run.
-fn add_missing(fields: &mut Vec<Field>, entries: &[Entry<Record>]) -> Result<(), AllocError>
+fn add_missing_run_counts(
+    fields: &mut Vec<Field>,
+    entries: &[Entry<Record>],
+) -> Result<(), AllocError>
     ensures { OnOk result (fields.new.items ≡ fields.old.items ++ spec.missing_fields entries.now) }
 {
-    add_count(fields, Name::GenFault, EntryKind::GenFaulted, entries)?;
-    add_count(fields, Name::Lost, EntryKind::Lost, entries)?;
-    add_count(fields, Name::Undrawn, EntryKind::Undrawn, entries)
+    add_trial_count_field(fields, Name::GenFault, EntryKind::GenFaulted, entries)?;
+    add_trial_count_field(fields, Name::Lost, EntryKind::Lost, entries)?;
+    add_trial_count_field(fields, Name::Undrawn, EntryKind::Undrawn, entries)
 }
 
 /// The first members of the object of a campaign: how it ended, the name of its model, its plan, and how many
@@ -98,8 +104,8 @@ pub fn report_fields(
 {
     let entries = closed.entries();
     let mut fields = Vec::new(alloc);
-    add_words(alloc, &mut fields, Name::Verdict, status_word(status))?;
-    add_words(
+    add_text_field(alloc, &mut fields, Name::Verdict, status_word(status))?;
+    add_text_field(
         alloc,
         &mut fields,
         Name::Model,
@@ -107,8 +113,8 @@ pub fn report_fields(
     )?;
     report_case_settings_fields(&mut fields, plan.settings())?;
     report_drive_settings_fields(&mut fields, plan.settings())?;
-    add_judged(&mut fields, entries)?;
-    add_missing(&mut fields, entries)?;
+    add_passed_and_failed_counts(&mut fields, entries)?;
+    add_missing_run_counts(&mut fields, entries)?;
     Ok(fields)
 }
 
@@ -129,7 +135,7 @@ fn tree_text(
 }
 
 /// Adds a run and the verdict on it, under two names.
-fn add_run(
+fn add_failing_run_fields(
     alloc: Global,
     fields: &mut Vec<Field>,
     typed: &Typed,
@@ -147,7 +153,7 @@ fn add_run(
 }
 
 /// Adds how the case of a trial that failed was shrunk.
-fn add_shrunk(
+fn add_shrinking_fields(
     alloc: Global,
     fields: &mut Vec<Field>,
     typed: &Typed,
@@ -156,10 +162,16 @@ fn add_shrunk(
     requires { AreMatching typed.now shrunk.now }
 {
     let from = (Name::From, Name::FromVerdict);
-    add_run(alloc, fields, typed, from, own_failure(shrunk))?;
-    add_number(fields, Name::Steps, shrunk.before.len() as u64)?;
-    add_words(alloc, fields, Name::Ending, ending_name(shrunk.ending))?;
-    add_run(
+    add_failing_run_fields(
+        alloc,
+        fields,
+        typed,
+        from,
+        failing_run_before_shrinking(shrunk),
+    )?;
+    add_number_field(fields, Name::Steps, shrunk.before.len() as u64)?;
+    add_text_field(alloc, fields, Name::Ending, ending_name(shrunk.ending))?;
+    add_failing_run_fields(
         alloc,
         fields,
         typed,
@@ -184,7 +196,7 @@ fn lost_trial_texts(alloc: Global, entries: &[Entry<Record>]) -> Result<Vec<Text
 /// number of a failed trial, its own failing run, and the last run of shrinking, each with its verdict.
 ///
 /// The records must belong to the plan, each at its own number. `AllocError`: an allocation failed.
-pub fn add_failure(
+pub fn add_losses_and_least_failure(
     alloc: Global,
     fields: &mut Vec<Field>,
     plan: &Plan,
@@ -194,8 +206,8 @@ pub fn add_failure(
 {
     fields.push(Field::Lines(Name::Losses, lost_trial_texts(alloc, entries)?))?;
     if let Some((number, shrunk)) = least_failure(plan, entries) {
-        add_number(fields, Name::Least, number as u64)?;
-        add_shrunk(alloc, fields, plan.typed(), shrunk)?;
+        add_number_field(fields, Name::Least, number as u64)?;
+        add_shrinking_fields(alloc, fields, plan.typed(), shrunk)?;
     }
     Ok(())
 }

@@ -83,7 +83,7 @@ fn any_did_not_pass(entries: &[Entry<Record>]) -> bool
 
 /// How a campaign that may end early ended: `Incomplete` if a number is lost; else `Failed` if a trial did not pass, though
 /// numbers may be undrawn; else as [`campaign_status`] says.
-pub fn ended_status(closed: &Closed<Record>) -> CampaignStatus
+pub fn status_of_early_ended_campaign(closed: &Closed<Record>) -> CampaignStatus
     ensures { result ≡ spec.ended_status closed.now }
 {
     let entries = closed.entries();

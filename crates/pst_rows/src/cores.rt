@@ -11,7 +11,7 @@ use pst_judge::{Verdict, verdict};
 use pst_model::Typed;
 use pst_reasons::minimal_core;
 use pst_runs::read_runs;
-use pst_typing::{items_of, load};
+use pst_typing::{load, trees_after_model};
 use std::alloc::{AllocError, Global};
 
 /// The numbers of a core.
@@ -72,7 +72,7 @@ pub fn core_answer(alloc: Global, text: &str) -> Result<String, AllocError> {
     let Ok(file) = load(alloc, text.as_bytes())? else {
         return String::from_str(alloc, "no model");
     };
-    match read_runs(alloc, &file.typed, items_of(file.trees.as_slice())) {
+    match read_runs(alloc, &file.typed, trees_after_model(file.trees.as_slice())) {
         Ok(runs) => first_text(alloc, &file.typed, runs.as_slice()),
         Err(_) => String::from_str(alloc, "no items"),
     }

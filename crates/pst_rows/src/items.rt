@@ -10,7 +10,7 @@ use pst_model::Typed;
 use pst_runs::{read_runs, write_runs};
 use pst_sexpr::{Out, read};
 use pst_tests::support::typed_of;
-use pst_typing::{items_of, load};
+use pst_typing::{load, trees_after_model};
 use std::alloc::{AllocError, Global};
 use std::thread::Threads;
 
@@ -57,7 +57,7 @@ pub fn runs_answer(alloc: Global, text: &str) -> Result<String, AllocError> {
     let Ok(file) = load(alloc, text.as_bytes())? else {
         return String::from_str(alloc, "no model");
     };
-    match read_runs(alloc, &file.typed, items_of(file.trees.as_slice())) {
+    match read_runs(alloc, &file.typed, trees_after_model(file.trees.as_slice())) {
         Ok(runs) => verdicts_answer(alloc, &file.typed, runs),
         Err(fault) => {
             let run = fault.run;
@@ -102,7 +102,7 @@ pub fn alone_answer(alloc: Global, text: &str) -> Result<String, AllocError> {
     let Ok(file) = load(alloc, text.as_bytes())? else {
         return String::from_str(alloc, "no model");
     };
-    match read_runs(alloc, &file.typed, items_of(file.trees.as_slice())) {
+    match read_runs(alloc, &file.typed, trees_after_model(file.trees.as_slice())) {
         Ok(runs) => lines_alone(alloc, &file.typed, runs),
         Err(_) => String::from_str(alloc, "no items"),
     }
@@ -166,7 +166,7 @@ fn case_validity(alloc: Global, typed: &Typed, case: Case) -> Option<&'static st
 /// The validity of the last item of a text, as [`case_validity`] returns it.
 fn validity(alloc: Global, text: &str) -> Option<&'static str> {
     let file = load(alloc, text.as_bytes()).ok()?.ok()?;
-    let mut runs = read_runs(alloc, &file.typed, items_of(file.trees.as_slice())).ok()?;
+    let mut runs = read_runs(alloc, &file.typed, trees_after_model(file.trees.as_slice())).ok()?;
     let case = runs.pop()?.shaped.into_case();
     case_validity(alloc, &file.typed, case)
 }

@@ -4,12 +4,20 @@ use crate::requests::Request;
 use pst_cli::{Shown, judge_file, judge_file_keep_going};
 use pst_sexpr::Out;
 use pst_sources::{Input, joined};
-use pst_warnings::{warnings_on_answers, warnings_on_runs};
+use pst_warnings::{ItemInput, warnings_on_answers, warnings_on_runs};
 use std::alloc::{AllocError, Global};
 use std::thread::Threads;
 
 /// The warnings on judged items; `None`: the items are not judged.
 type Warnings = Result<Option<Option<String>>, AllocError>;
+
+/// An input without JSON items.
+fn as_read(input: Input<'_>) -> ItemInput<'_> {
+    ItemInput {
+        trees: input,
+        read: input.files,
+    }
+}
 
 /// The warnings on the items, up to the first refused one.
 fn on_runs<R: Threads + Sync>(rt: &R, alloc: Global, input: Input<'_>) -> Warnings {
@@ -23,7 +31,7 @@ fn on_runs<R: Threads + Sync>(rt: &R, alloc: Global, input: Input<'_>) -> Warnin
         compiled,
         alloc,
         compiled.typed(),
-        input,
+        as_read(input),
         judged.runs.as_slice(),
         judged.judged.as_slice(),
     )?;
@@ -43,7 +51,7 @@ fn on_answers<R: Threads + Sync>(rt: &R, alloc: Global, input: Input<'_>) -> War
         compiled,
         alloc,
         compiled.typed(),
-        input,
+        as_read(input),
         answered.file.trees.as_slice(),
         answered.answers.as_slice(),
     )?;

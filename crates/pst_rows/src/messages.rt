@@ -1,7 +1,7 @@
 //! The messages beside the refusals of files, and the warnings on models.
 
 use crate::requests::Request;
-use pst_messages::{Asked, message_of};
+use pst_messages::{Asked, input_error_messages_text};
 use pst_sources::{SourceFile, joined};
 use pst_warnings::warnings_of;
 use std::alloc::{AllocError, Global};
@@ -15,7 +15,7 @@ pub fn message_answer(
 ) -> Result<String, AllocError> {
     let files = request.files.as_slice();
     let text = joined(alloc, files)?;
-    match message_of(alloc, files, text.as_slice(), asked)? {
+    match input_error_messages_text(alloc, files, text.as_slice(), asked)? {
         Some(message) => Ok(message),
         None => String::from_str(alloc, "nothing is refused\n"),
     }
@@ -53,7 +53,7 @@ fn is_within(message: &str, file: &SourceFile<'_>) -> bool {
 /// Whether the message of a file is at a place in the file.
 fn has_message_within(alloc: Global, file: &SourceFile<'_>) -> Result<bool, AllocError> {
     let files = slice::from_ref(file);
-    match message_of(alloc, files, file.bytes.as_slice(), Asked::FirstItem)? {
+    match input_error_messages_text(alloc, files, file.bytes.as_slice(), Asked::FirstItem)? {
         Some(message) => Ok(is_within(message.as_str(), file)),
         None => Ok(false),
     }

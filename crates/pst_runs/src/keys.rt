@@ -31,9 +31,9 @@ fn key_word(word: &Text) -> Option<Key>
     Some(Key::Int(integer_of(word)?))
 }
 
-/// The key that a tree spells.
+/// Returns the key that a tree spells.
 #[tactic(auto, unfolding(crate::specs::Values::key_of))]
-fn key_of(alloc: Global, form: &Form) -> Result<Option<Key>, AllocError>
+pub fn key_of(alloc: Global, form: &Form) -> Result<Option<Key>, AllocError>
     ensures { IfOk result (λ key. key ≡ spec.key_of form.now) }
 {
     match form {

@@ -15,5 +15,7 @@ mod values;
 mod write;
 
 pub use fault::{RunFault, RunFaultKind};
+pub use keys::{key_of, pair_of};
 pub use reader::read_runs;
+pub use values::{Spelling, value_of};
 pub use write::{WriteFault, run_tree, value_form, write_runs};

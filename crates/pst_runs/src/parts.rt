@@ -27,7 +27,7 @@ struct Sections<'a> {
 }
 
 /// Returns the parts of `form` after the word `name`. `None` if `form` is no node that begins with this word.
-fn section<'a>(name: &str, form: &'a Form) -> Option<&'a [Form]>
+fn parts_of_headed_node<'a>(name: &str, form: &'a Form) -> Option<&'a [Form]>
     ensures { option_copied result ≡ spec.section name.now form.now }
 {
     let (first, parts) = node_of(form)?.split_first()?;
@@ -47,7 +47,7 @@ fn section_commands(
 ) -> Result<Option<Items<SpelledCommand>>, AllocError>
     ensures { IfOk result (λ commands. commands ≡ spec.section_commands typed.now name.now form.now) }
 {
-    match section(name, form) {
+    match parts_of_headed_node(name, form) {
         Some(forms) => commands_of(alloc, typed, forms),
         None => Ok(None),
     }
@@ -122,7 +122,7 @@ fn branches_of(
 {
     match forms {
         [left, right] => two_branches(alloc, typed, left, right),
-        [branches] => match section("branches", branches) {
+        [branches] => match parts_of_headed_node("branches", branches) {
             Some(forms) => each_branch(alloc, typed, forms),
             None => Ok(None),
         },
@@ -145,7 +145,7 @@ fn sections_of(parts: &[Form]) -> Sections<'_>
     ensures { shown_sections result ≡ spec.sections_of parts.now }
 {
     if let Some((front, last)) = front_and_last(parts) {
-        if let Some(suffix) = section("suffix", last) {
+        if let Some(suffix) = parts_of_headed_node("suffix", last) {
             return Sections {
                 front,
                 suffix: Some(suffix),
@@ -226,7 +226,7 @@ fn with_replies<'a>(
 ) -> Option<ItemParts<'a>>
     ensures { shown_option result ≡ spec.with_replies form.now (shown_sections sections.now) read }
 {
-    let lists = section("replies", form)?;
+    let lists = parts_of_headed_node("replies", form)?;
     if is_number_of_parts(lists.len(), sections, &read) && are_nodes(lists) {
         Some(ItemParts {
             read,

@@ -6,7 +6,7 @@ ghost use Rattle.pst_runs.specs.Lawful.{AreLawful};
 use crate::fault::{ItemFault, RunFault, RunFaultKind};
 use crate::parts::{ItemParts, parts_of};
 use crate::reading::shaped_of;
-use crate::replies::{are_counted, history_of};
+use crate::replies::{history_of, reply_counts_match};
 use pst_case::{Run, Shaped};
 use pst_model::Typed;
 use pst_sexpr::{Form, Tree};
@@ -27,7 +27,7 @@ fn run_of(
         let history = None;
         return Ok(Ok(Run { shaped, history }));
     };
-    if !are_counted(shaped.case(), lists) {
+    if !reply_counts_match(shaped.case(), lists) {
         return Ok(Err(ItemFault {
             kind: RunFaultKind::NotAFit,
             command: 0,
@@ -47,7 +47,7 @@ fn run_of(
 
 /// Returns the run that a tree spells, or its first fault.
 #[tactic(auto, unfolding(crate::specs::Items::item_of))]
-fn item_of(alloc: Global, typed: &Typed, form: &Form) -> Result<Result<Run, ItemFault>, AllocError>
+fn read_run(alloc: Global, typed: &Typed, form: &Form) -> Result<Result<Run, ItemFault>, AllocError>
     ensures { IfOk result (λ run. run ≡ spec.item_of typed.now form.now) }
 {
     let Some(parts) = parts_of(alloc, typed, form)? else {
@@ -81,7 +81,7 @@ pub fn read_runs(alloc: Global, typed: &Typed, trees: &[Tree]) -> Result<Vec<Run
     let mut runs = Vec::with_capacity(alloc, trees.len())?;
     for tree in trees {
         let run = runs.len() + 1;
-        match item_of(alloc, typed, tree.form()) {
+        match read_run(alloc, typed, tree.form()) {
             Ok(Ok(read)) => runs.push(read)?,
             Ok(Err(ItemFault { kind, command })) => return Err(RunFault { run, command, kind }),
             Err(AllocError) => return Err(RunFault::from(AllocError)),

@@ -60,7 +60,7 @@ fn readable_case(alloc: Global, case: SpelledCase) -> Result<Case, AllocError>
 }
 
 /// Returns why a command cannot be read whole, if it cannot.
-fn unread(command: &SpelledCommand) -> Option<CaseFaultKind>
+fn fault_of_unreadable_command(command: &SpelledCommand) -> Option<CaseFaultKind>
     ensures { result ≡ spec.unread command.now }
 {
     match command {
@@ -76,7 +76,7 @@ fn part_unread(number: u32, commands: &[SpelledCommand]) -> Option<CaseFault>
     ensures { result ≡ spec.part_unread number commands.now }
 {
     let (command, commands) = commands.split_first()?;
-    match unread(command) {
+    match fault_of_unreadable_command(command) {
         Some(kind) => Some(CaseFault {
             kind,
             command: number,
@@ -124,7 +124,7 @@ fn is_over_limit(case: &SpelledCase) -> bool
     )
 }
 
-/// Returns whether the fault `unread` comes before the fault `shape`.
+/// Returns whether the fault `fault_of_unreadable_command` comes before the fault `shape`.
 fn comes_before(unread: &CaseFault, shape: &CaseFault) -> bool
     ensures { result ≡ spec.comes_before unread.now shape.now }
 {
@@ -146,7 +146,7 @@ fn is_unknown(kind: CaseFaultKind) -> bool
 }
 
 /// Returns the first fault of a case whose shape is faulty.
-fn first_of(unread: Option<CaseFault>, shape: CaseFault) -> CaseFault
+fn earlier_case_fault(unread: Option<CaseFault>, shape: CaseFault) -> CaseFault
     ensures { Some result ≡ spec.first_of unread (Some shape) }
 {
     match unread {
@@ -187,7 +187,7 @@ pub fn shaped_of(
             if fault.kind == CaseFaultKind::NoMemory {
                 return Err(AllocError);
             }
-            Ok(Err(first_of(unread, fault)))
+            Ok(Err(earlier_case_fault(unread, fault)))
         }
     }
 }

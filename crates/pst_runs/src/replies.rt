@@ -78,7 +78,7 @@ fn reply_of(
 
 /// The replies of a part after others, or the number of the first command whose tree spells no reply.
 #[tactic(auto, using(crate::proofs::Behind::behind))]
-fn replies_from(
+fn read_remaining_replies(
     alloc: Global,
     typed: &Typed,
     number: u32,
@@ -100,7 +100,7 @@ fn replies_from(
         return Ok(Err(number));
     };
     read.push(reply)?;
-    replies_from(alloc, typed, number + 1, read, commands, forms)
+    read_remaining_replies(alloc, typed, number + 1, read, commands, forms)
 }
 
 /// Returns the replies of a part, whose commands are numbered from `number` on, or the number of the first command
@@ -118,13 +118,13 @@ fn part_replies(
         replies ≡ spec.part_replies typed.now number commands.now forms.now) }
 {
     let read = with_room(alloc, commands.len())?;
-    replies_from(alloc, typed, number, read, commands, forms)
+    read_remaining_replies(alloc, typed, number, read, commands, forms)
 }
 
 /// Returns `read` with the replies of `branches` appended, or the number of the first command whose tree spells no
 /// reply. `before` commands precede the branches.
 #[tactic(auto, using(crate::proofs::Behind::behind))]
-fn branches_from(
+fn read_remaining_branch_replies(
     alloc: Global,
     typed: &Typed,
     before: u32,
@@ -146,7 +146,7 @@ fn branches_from(
         Ok(replies) => {
             read.push(replies)?;
             let before = before + branch.len() as u32;
-            branches_from(alloc, typed, before, read, branches, lists)
+            read_remaining_branch_replies(alloc, typed, before, read, branches, lists)
         }
         Err(number) => Ok(Err(number)),
     }
@@ -177,7 +177,9 @@ pub fn history_of(
     };
     let before = commands.len() as u32;
     let read = with_room(alloc, branches.len())?;
-    let branch_replies = match branches_from(alloc, typed, before, read, branches, lists)? {
+    let branch_replies = match read_remaining_branch_replies(
+        alloc, typed, before, read, branches, lists,
+    )? {
         Ok(replies) => replies,
         Err(number) => return Ok(Err(number)),
     };
@@ -193,7 +195,7 @@ pub fn history_of(
     }
 }
 
-fn branches_count(branches: &[Items<Command>], lists: &[Form]) -> bool
+fn branch_reply_counts_match(branches: &[Items<Command>], lists: &[Form]) -> bool
     ensures { result ≡ spec.branches_count branches.now lists.now }
 {
     let Some((branch, branches)) = branches.split_first() else {
@@ -201,20 +203,20 @@ fn branches_count(branches: &[Items<Command>], lists: &[Form]) -> bool
     };
     match lists.split_first() {
         Some((list, lists)) => {
-            listed(list).len() == branch.len() && branches_count(branches, lists)
+            listed(list).len() == branch.len() && branch_reply_counts_match(branches, lists)
         }
         None => false,
     }
 }
 
 /// Returns whether each part has one reply for each command.
-pub fn are_counted(case: &Case, lists: &[Form]) -> bool
+pub fn reply_counts_match(case: &Case, lists: &[Form]) -> bool
     ensures { result ≡ spec.are_counted case.now lists.now }
 {
     match lists.split_first() {
         Some((list, lists)) => {
             listed(list).len() == case.prefix.len()
-                && branches_count(case.branches.as_slice(), lists)
+                && branch_reply_counts_match(case.branches.as_slice(), lists)
                 && listed_at(lists, case.branches.len()).len() == case.suffix.len()
         }
         None => false,

@@ -45,7 +45,7 @@ const MAX_DIGITS: usize = 4;
 
 /// Returns the number of the variable with these digits.
 #[tactic(auto, using(crate::proofs::Small::small))]
-fn number_of(digits: &[u8]) -> Option<u32>
+fn read_variable_number(digits: &[u8]) -> Option<u32>
     ensures { result ≡ spec.number_in digits.now }
 {
     if digits.len() > MAX_DIGITS || !are_digits(digits) {
@@ -60,7 +60,7 @@ fn variable_of(word: &Text, symbolic: bool) -> Option<Value>
     match word.as_bytes() {
         [] => None,
         [first, digits @ ..] => if symbolic && *first == b'$' {
-            Some(Value::Var(number_of(digits)?))
+            Some(Value::Var(read_variable_number(digits)?))
         } else {
             None
         },

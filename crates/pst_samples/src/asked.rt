@@ -14,7 +14,7 @@ pub fn is_bare(call: &RealCall, name: &str) -> bool
 }
 
 /// The argument of a call that has that name and one argument, an integer.
-pub fn number_of(call: &RealCall, name: &str) -> Option<i64>
+pub fn integer_argument_of(call: &RealCall, name: &str) -> Option<i64>
     ensures { MatchOption result (IsNumbered name.now call.now → ⊥) (λ n. HasNumber name.now n call.now) }
 {
     if call.name.as_str() != name {
@@ -30,7 +30,7 @@ pub fn number_of(call: &RealCall, name: &str) -> Option<i64>
 pub fn side_of(call: &RealCall) -> Option<Side>
     ensures { MatchOption result (IsMeet call.now → ⊥) (λ _. IsMeet call.now) }
 {
-    match number_of(call, "meet") {
+    match integer_argument_of(call, "meet") {
         Some(1) => Some(Side::First),
         Some(2) => Some(Side::Second),
         _ => None,

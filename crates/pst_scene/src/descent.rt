@@ -81,7 +81,7 @@ pub fn in_expr<'a>(
         },
         Expr::For(clauses, body) => {
             let built = Items::new(context.alloc);
-            match in_clauses(clauses.as_slice(), body.get(), site, env, turns, built)? {
+            match visit_clauses(clauses.as_slice(), body.get(), site, env, turns, built)? {
                 Visited::Part(part, _) => Ok(part),
                 _ => faulty_part_here(expr, site, env, turns),
             }
@@ -210,7 +210,7 @@ fn in_items<'a>(
 
 /// The result of visiting clauses, and after them the body.
 #[cycle(descent)]
-fn in_clauses<'a>(
+fn visit_clauses<'a>(
     clauses: &'a [Clause],
     body: &'a Expr,
     site: &Site<'a>,
@@ -236,7 +236,7 @@ fn in_clauses<'a>(
             Tried::Faults(fault) => { Ok(Visited::Part(in_expr(list, site, env, turns)?, fault)) }
             Tried::Gives(value, left) => match items_of(value) {
                 Ok(items) => {
-                    in_each(
+                    visit_clauses_for_each_item(
                         rest,
                         body,
                         name.as_bytes(),
@@ -254,7 +254,7 @@ fn in_clauses<'a>(
         Clause::When(test) => match try_evaluate(test, context, env, turns)? {
             Tried::Faults(fault) => { Ok(Visited::Part(in_expr(test, site, env, turns)?, fault)) }
             Tried::Gives(Value::Bool(true), left) => {
-                in_clauses(rest, body, site, env, left, built)
+                visit_clauses(rest, body, site, env, left, built)
             }
             Tried::Gives(Value::Bool(false), left) => Ok(Visited::Built(built, left)),
             _ => Ok(Visited::Itself),
@@ -264,7 +264,7 @@ fn in_clauses<'a>(
 
 /// The result of visiting the other clauses for each item.
 #[cycle(descent)]
-fn in_each<'a>(
+fn visit_clauses_for_each_item<'a>(
     rest: &'a [Clause],
     body: &'a Expr,
     name: &[u8],
@@ -286,7 +286,7 @@ fn in_each<'a>(
             Err(_) => return Ok(Visited::Itself),
         }
         let inner = Env::With(&*name, item, &*env);
-        match in_clauses(rest, body, site, &inner, left, built)? {
+        match visit_clauses(rest, body, site, &inner, left, built)? {
             Visited::Built(more, fewer) => {
                 built = more;
                 left = fewer;

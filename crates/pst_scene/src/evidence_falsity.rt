@@ -46,7 +46,7 @@ fn without_not(expr: &Expr) -> &Expr {
 }
 
 /// Whether something is known of a part.
-fn is_something(evidence: &Evidence) -> bool {
+fn is_evidence_known(evidence: &Evidence) -> bool {
     !matches!(evidence, Evidence::Nothing)
 }
 
@@ -72,7 +72,7 @@ fn compared_values(
 }
 
 /// The expression itself, with what is known of it.
-fn whole_expression<'a>(
+fn whole_as_false_part<'a>(
     alloc: Global,
     model: &Source,
     expr: &'a Expr,
@@ -107,7 +107,7 @@ fn false_part_of<'a>(
     }
     match false_part_within(alloc, model, expr, env)? {
         Some(found) => Ok(Some(found)),
-        None => Ok(Some(whole_expression(alloc, model, expr, env)?)),
+        None => Ok(Some(whole_as_false_part(alloc, model, expr, env)?)),
     }
 }
 
@@ -134,7 +134,7 @@ fn false_part_within<'a>(
                 None => None,
             };
             match found {
-                Some(part) if is_something(&part.evidence) => Ok(Some(part)),
+                Some(part) if is_evidence_known(&part.evidence) => Ok(Some(part)),
                 _ => Ok(None),
             }
         }

@@ -3,7 +3,9 @@
 use crate::calls::Call;
 use crate::evidence_falsity::{Evidence, FalsePart, false_part};
 use crate::scene::Scene;
-use crate::texts::{expression_text, join_texts, operation_of_call, text_of, value_text};
+use crate::texts::{
+    copy_explanation_text, expression_text, join_explanation_parts, operation_of_call, value_text,
+};
 use crate::walk::recorded_arguments;
 use pst_case::Reply;
 use pst_eval::Env;
@@ -21,8 +23,8 @@ fn wanted_text(
     let value = value_text(alloc, model, value)?;
     let value = value.as_slice();
     match part {
-        None => join_texts(alloc, &[b"the model says ", value]),
-        Some(part) => join_texts(alloc, &[part, b" is false: the model says ", value]),
+        None => join_explanation_parts(alloc, &[b"the model says ", value]),
+        Some(part) => join_explanation_parts(alloc, &[part, b" is false: the model says ", value]),
     }
 }
 
@@ -36,7 +38,7 @@ fn compared_text(
 ) -> Result<Vec<u8>, AllocError> {
     let first = value_text(alloc, model, first)?;
     let second = value_text(alloc, model, second)?;
-    join_texts(
+    join_explanation_parts(
         alloc,
         &[
             part,
@@ -63,7 +65,7 @@ fn part_text(
             wanted_text(alloc, model, shown, value)
         }
         Evidence::Compares(first, second) => compared_text(alloc, model, part, first, second),
-        Evidence::Nothing => join_texts(alloc, &[part, b" is false"]),
+        Evidence::Nothing => join_explanation_parts(alloc, &[part, b" is false"]),
     }
 }
 
@@ -119,7 +121,7 @@ pub fn falsity_text(
 ) -> Result<Vec<u8>, AllocError> {
     match falsity {
         Falsity::Unknown => Ok(Vec::new(alloc)),
-        Falsity::Faults => text_of(alloc, "it faults"),
+        Falsity::Faults => copy_explanation_text(alloc, "it faults"),
         Falsity::Part { found, is_whole } => part_text(alloc, model, found, *is_whole),
     }
 }

@@ -13,7 +13,7 @@ pub fn letter(branch: usize) -> u8 {
 }
 
 /// Adds an interleaving of branches: a letter for each branch in `word`, or `-` if it is empty.
-pub fn add_word(out: &mut Vec<u8>, word: &[usize]) -> Result<(), AllocError> {
+pub fn add_interleaving_letters(out: &mut Vec<u8>, word: &[usize]) -> Result<(), AllocError> {
     if word.is_empty() {
         out.push(b'-')?;
     }

@@ -38,7 +38,7 @@ pub use evidence_falsity::{Evidence, FalsePart, false_part};
 pub use falsity::{Falsity, falsity_of, falsity_text};
 pub use faulty::{FaultyPart, faulty_part};
 pub use forms::{add_form, add_quoted};
-pub use letters::add_word;
+pub use letters::add_interleaving_letters;
 pub use order::{call_numbered, calls_in_order, count_before, first_calls, next_calls};
 pub use outcome::{DeadEnd, Outcome, dead_end_text, outcome_of};
 pub use page::Page;
@@ -46,7 +46,9 @@ pub use scene::{Scene, scene_of};
 pub use spelling::{add_number, add_reply, add_str, add_value};
 pub use style::Style;
 pub use table::{Cell, Table, two_cells};
-pub use texts::{expression_text, join_texts, operation_of_call, text_of, value_text};
+pub use texts::{
+    copy_explanation_text, expression_text, join_explanation_parts, operation_of_call, value_text,
+};
 pub use walk::{
     PreAnswer, calls_before, evaluate_precondition, initial_state, recorded_arguments,
     reference_to_result, state_after, state_before, states_along,

@@ -4,7 +4,7 @@ use crate::calls::Call;
 use crate::evaluating::evaluate;
 use crate::falsity::{Falsity, falsity_of, falsity_text};
 use crate::scene::Scene;
-use crate::texts::{join_texts, operation_of_call, text_of};
+use crate::texts::{copy_explanation_text, join_explanation_parts, operation_of_call};
 use crate::walk::{PreAnswer, evaluate_precondition, recorded_arguments, state_after};
 use pst_case::Reply;
 use pst_eval::Env;
@@ -37,7 +37,7 @@ pub enum Outcome<'a> {
 }
 
 /// Returns whether the postcondition of a command is true of `answer`.
-fn is_right(
+fn answer_satisfies_postcondition(
     alloc: Global,
     scene: &Scene<'_>,
     state: &Value,
@@ -90,7 +90,7 @@ fn outcome_of_answer<'a>(
     call: &Call<'_>,
     answer: &Value,
 ) -> Result<Outcome<'a>, AllocError> {
-    if is_right(alloc, scene, state, call, answer)? {
+    if answer_satisfies_postcondition(alloc, scene, state, call, answer)? {
         return next_state(alloc, scene, state, call);
     }
     let falsity = falsity_of(alloc, scene, call, state)?;
@@ -118,12 +118,12 @@ pub fn dead_end_text(
     dead_end: &DeadEnd<'_>,
 ) -> Result<Vec<u8>, AllocError> {
     match dead_end {
-        DeadEnd::PreFalse => text_of(alloc, "pre is false"),
+        DeadEnd::PreFalse => copy_explanation_text(alloc, "pre is false"),
         DeadEnd::PreFaults(fault) => {
-            join_texts(alloc, &[b"pre faults with ", fault.name().as_bytes()])
+            join_explanation_parts(alloc, &[b"pre faults with ", fault.name().as_bytes()])
         }
         DeadEnd::PostFails(falsity) => falsity_text(alloc, model, falsity),
-        DeadEnd::NoValue => text_of(alloc, "it answered no value"),
-        DeadEnd::NextFaults => text_of(alloc, "next faults"),
+        DeadEnd::NoValue => copy_explanation_text(alloc, "it answered no value"),
+        DeadEnd::NextFaults => copy_explanation_text(alloc, "next faults"),
     }
 }

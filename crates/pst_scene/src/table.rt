@@ -80,7 +80,7 @@ fn sum_of(numbers: &[usize]) -> usize {
 }
 
 /// Returns the sum of the widths that are at most `share`, and how many are greater.
-fn small_and_large(widths: &[usize], share: usize) -> (usize, usize) {
+fn sum_small_and_count_large(widths: &[usize], share: usize) -> (usize, usize) {
     let mut sum = 0usize;
     let mut large = 0usize;
     for width in widths {
@@ -97,7 +97,7 @@ fn small_and_large(widths: &[usize], share: usize) -> (usize, usize) {
 /// keeps its width, and the others share the rest equally.
 fn fit_widths(alloc: Global, widths: &[usize], room: usize) -> Result<Vec<usize>, AllocError> {
     let share = room.checked_div(widths.len()).unwrap_or(0);
-    let (sum, large) = small_and_large(widths, share);
+    let (sum, large) = sum_small_and_count_large(widths, share);
     let most = room.saturating_sub(sum).checked_div(large).unwrap_or(0);
     let mut fitted = Vec::new(alloc);
     for width in widths {

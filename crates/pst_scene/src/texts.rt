@@ -11,7 +11,7 @@ use pst_value::Value;
 use std::alloc::{AllocError, Global};
 
 /// Returns the parts, joined to one text.
-pub fn join_texts(alloc: Global, parts: &[&[u8]]) -> Result<Vec<u8>, AllocError> {
+pub fn join_explanation_parts(alloc: Global, parts: &[&[u8]]) -> Result<Vec<u8>, AllocError> {
     let mut text = Vec::new(alloc);
     for part in parts {
         text.extend_from_slice(part)?;
@@ -20,7 +20,7 @@ pub fn join_texts(alloc: Global, parts: &[&[u8]]) -> Result<Vec<u8>, AllocError>
 }
 
 /// A text of one part.
-pub fn text_of(alloc: Global, part: &str) -> Result<Vec<u8>, AllocError> {
+pub fn copy_explanation_text(alloc: Global, part: &str) -> Result<Vec<u8>, AllocError> {
     let mut text = Vec::new(alloc);
     add_str(&mut text, part)?;
     Ok(text)

@@ -68,7 +68,7 @@ impl Scanner {
     }
 
     /// Begins a node at the place.
-    fn open(&mut self, alloc: Global, place: usize) -> Result<(), SexprFault>
+    fn begin_node(&mut self, alloc: Global, place: usize) -> Result<(), SexprFault>
         ensures { Gives (λ _. self.new) result (spec.opened MAX_LEVELS place self.old) }
     {
         if self.nodes.len() >= MAX_LEVELS {
@@ -84,7 +84,7 @@ impl Scanner {
     }
 
     /// Ends the innermost node.
-    fn close(&mut self, alloc: Global, place: usize) -> Result<(), SexprFault>
+    fn end_node(&mut self, alloc: Global, place: usize) -> Result<(), SexprFault>
         ensures { Gives (λ _. self.new) result (spec.closed place self.old) }
     {
         match self.nodes.pop() {
@@ -103,15 +103,20 @@ impl Scanner {
 
     /// Reads a byte between trees.
     #[tactic(auto, unfolding(crate::specs::Scan::between))]
-    fn between(&mut self, alloc: Global, place: usize, byte: u8) -> Result<(), SexprFault>
+    fn read_byte_between_trees(
+        &mut self,
+        alloc: Global,
+        place: usize,
+        byte: u8,
+    ) -> Result<(), SexprFault>
         ensures { Gives (λ _. self.new) result (spec.between MAX_LEVELS place byte self.old) }
     {
         if is_blank(byte) {
             return Ok(());
         }
         match byte {
-            b'(' => self.open(alloc, place),
-            b')' => self.close(alloc, place),
+            b'(' => self.begin_node(alloc, place),
+            b')' => self.end_node(alloc, place),
             b'"' => {
                 self.mode = Mode::Quoted;
                 self.quote = place;
@@ -130,7 +135,12 @@ impl Scanner {
 
     /// Reads a byte in a word or between trees.
     #[tactic(auto, unfolding(crate::specs::Scan::plain))]
-    fn plain(&mut self, alloc: Global, place: usize, byte: u8) -> Result<(), SexprFault>
+    fn read_unquoted_byte(
+        &mut self,
+        alloc: Global,
+        place: usize,
+        byte: u8,
+    ) -> Result<(), SexprFault>
         ensures { Gives (λ _. self.new) result (spec.plain MAX_LEVELS place byte self.old) }
     {
         if is_word_byte(byte) {
@@ -138,12 +148,12 @@ impl Scanner {
             return Ok(());
         }
         self.end_word(alloc)?;
-        self.between(alloc, place, byte)
+        self.read_byte_between_trees(alloc, place, byte)
     }
 
     /// Reads a byte in a text.
     #[tactic(auto, unfolding(crate::specs::Scan::quoted))]
-    fn quoted(&mut self, alloc: Global, place: usize, byte: u8) -> Result<(), SexprFault>
+    fn read_quoted_byte(&mut self, alloc: Global, place: usize, byte: u8) -> Result<(), SexprFault>
         ensures { Gives (λ _. self.new) result (spec.quoted place byte self.old) }
     {
         if byte == b'"' {
@@ -168,7 +178,7 @@ impl Scanner {
 
     /// Reads the byte after `\`.
     #[tactic(auto, unfolding(crate::specs::Scan::escaped))]
-    fn escaped(&mut self, place: usize, byte: u8) -> Result<(), SexprFault>
+    fn read_escaped_byte(&mut self, place: usize, byte: u8) -> Result<(), SexprFault>
         ensures { Gives (λ _. self.new) result (spec.escaped place byte self.old) }
     {
         if !is_escaped_byte(byte) {
@@ -184,7 +194,7 @@ impl Scanner {
 
     /// Reads a byte in a comment.
     #[tactic(auto, unfolding(crate::specs::Scan::comment))]
-    fn comment(&mut self, byte: u8)
+    fn read_comment_byte(&mut self, byte: u8)
         ensures { self.new ≡ spec.comment byte self.old }
     {
         if byte == b'\n' {
@@ -197,11 +207,11 @@ impl Scanner {
         ensures { Gives (λ _. self.new) result (spec.step MAX_LEVELS self.old place byte) }
     {
         match self.mode {
-            Mode::Plain => self.plain(alloc, place, byte),
-            Mode::Quoted => self.quoted(alloc, place, byte),
-            Mode::Escaped => self.escaped(place, byte),
+            Mode::Plain => self.read_unquoted_byte(alloc, place, byte),
+            Mode::Quoted => self.read_quoted_byte(alloc, place, byte),
+            Mode::Escaped => self.read_escaped_byte(place, byte),
             Mode::Comment => {
-                self.comment(byte);
+                self.read_comment_byte(byte);
                 Ok(())
             }
         }

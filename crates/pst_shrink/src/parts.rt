@@ -5,21 +5,9 @@ ghost use Rattle.pst_case.specs.Shape.{commands_of, joined};
 ghost use Rattle.pst_shrink.specs.Candidates.{command_uses, others, branch_others, is_used};
 ghost use Rattle.pst_shrink.specs.Number.{renumber_command};
 
-use pst_case::{Case, Command, renumber_command};
+use pst_case::{Case, Command, joined_len, renumber_command};
 use pst_value::Items;
 use std::alloc::{AllocError, Global};
-
-/// How many commands the branches have together.
-#[tactic(auto, using(crate::proofs::Counting::counting))]
-fn joined_len(branches: &[Items<Command>]) -> u32
-    requires { length (joined branches.now) < 2 ^ 32 }
-    ensures { result ≡ length (joined branches.now) }
-{
-    let Some((branch, branches)) = branches.split_first() else {
-        return 0;
-    };
-    branch.len() as u32 + joined_len(branches)
-}
 
 /// How many commands the case has.
 #[tactic(auto, using(crate::proofs::Counting::counting))]

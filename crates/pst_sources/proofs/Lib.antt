@@ -1,1 +1,5 @@
 pub mod Places
+pub mod Counted
+pub mod Scanned
+pub mod First
+pub mod Found

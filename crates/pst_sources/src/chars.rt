@@ -3,7 +3,7 @@
 use std::alloc::{AllocError, Global};
 
 /// Returns the length in bytes of a character whose first byte is `first`.
-fn width_of(first: u8) -> usize {
+fn byte_length_of_char(first: u8) -> usize {
     match first {
         0xc0..=0xdf => 2,
         0xe0..=0xef => 3,
@@ -14,7 +14,7 @@ fn width_of(first: u8) -> usize {
 
 /// Returns the character at `at` and its length in bytes. `None` if the bytes there are no character.
 pub fn char_at(input: &[u8], at: usize) -> Option<(char, usize)> {
-    let width = width_of(*input.get(at)?);
+    let width = byte_length_of_char(*input.get(at)?);
     let bytes = input.get(at..at.saturating_add(width))?;
     match std::str::from_utf8(bytes) {
         Ok(text) => Some((text.chars().next()?, width)),
@@ -23,7 +23,7 @@ pub fn char_at(input: &[u8], at: usize) -> Option<(char, usize)> {
 }
 
 /// Returns the first of `at` and the next three places that is not inside a character, or `at` if all four are.
-pub fn char_from(input: &[u8], at: usize) -> usize {
+pub fn char_start_from(input: &[u8], at: usize) -> usize {
     for more in 0..4 {
         let later = at.saturating_add(more);
         match input.get(later) {

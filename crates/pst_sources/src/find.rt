@@ -1,10 +1,21 @@
 //! Finds the bytes of the tree at a path.
+ghost use Rattle.std.specs.Prelude.{◌≡◌, ℕ, List, MatchOption, slice_get};
+ghost use Rattle.pst_sexpr.specs.declared.form.Form.{Form};
+ghost use Rattle.pst_sexpr.specs.Parts.{node_of};
+ghost use Rattle.pst_sexpr.specs.Reading.{Spells};
+ghost use Rattle.pst_sources.specs.Paths as paths;
+ghost use Rattle.pst_sources.specs.Paths.{IsWithin, HasTree};
+ghost use Rattle.pst_sources.specs.Scanning.{HasTreesFrom};
 
 use crate::scan::tree_at;
 use crate::span::Span;
 
 /// Returns the tree after the first `count` trees from `from` on.
-fn tree_after(input: &[u8], from: usize, count: usize) -> Span {
+fn tree_after(input: &[u8], from: usize, count: usize) -> Span
+    ensures within { IsWithin input.now result }
+    ensures found { (trees : List Form) (tree : Form) → HasTreesFrom input.now from trees
+        → slice_get trees count ≡ Some tree → HasTree input.now result tree }
+{
     let mut at = from;
     for _ in 0..count {
         at = tree_at(input, at).end;
@@ -13,27 +24,40 @@ fn tree_after(input: &[u8], from: usize, count: usize) -> Span {
 }
 
 /// Returns tree `number`, from 0, of those that begin at `from` and end before a `)` or the end of the input.
-fn tree_numbered(input: &[u8], from: usize, number: usize) -> Option<Span> {
+fn tree_numbered(input: &[u8], from: usize, number: usize) -> Option<Span>
+    ensures within { MatchOption result (Unit {0}) (IsWithin input.now) }
+    ensures found { (trees : List Form) (tree : Form) → HasTreesFrom input.now from trees
+        → slice_get trees number ≡ Some tree → MatchOption result ⊥ (λ span. HasTree input.now span tree) }
+{
     let span = tree_after(input, from, number);
-    if input.get(span.start) == Some(&b')') || span.start == span.end {
-        None
-    } else {
-        Some(span)
-    }
+    let byte = *input.get(span.start)?;
+    if byte == b')' { None } else { Some(span) }
 }
 
 /// Returns part `number`, from 0, of the node `tree`.
-fn part_of(input: &[u8], tree: Span, number: usize) -> Option<Span> {
-    if input.get(tree.start) == Some(&b'(') {
-        tree_numbered(input, tree.start.saturating_add(1), number)
+fn part_of(input: &[u8], tree: Span, number: usize) -> Option<Span>
+    ensures within { MatchOption result (Unit {0}) (IsWithin input.now) }
+    ensures found { (node : Form) (parts : List Form) (part : Form) → HasTree input.now tree node
+        → node_of node ≡ Some parts → slice_get parts number ≡ Some part
+        → MatchOption result ⊥ (λ span. HasTree input.now span part) }
+{
+    let byte = *input.get(tree.start)?;
+    if byte == b'(' {
+        tree_numbered(input, tree.start + 1, number)
     } else {
         None
     }
 }
 
-/// Returns the bytes of the tree at `path` in `tree`. The path is the number of a part, from 0, then that of a part of
-/// this part, and so on. If a part is missing, returns the bytes of the last tree on the path.
-pub fn span_in(input: &[u8], tree: Span, path: &[usize]) -> Span {
+/// Returns the bytes of the tree at `path` in `tree`. The path is the number of a part, from 0, then that
+/// of a part of this part, and so on. If a part is missing, returns the bytes of the last tree on the path.
+///
+/// `found` says this of bytes that spell one tree from the first byte on.
+pub fn span_in(input: &[u8], tree: Span, path: &[usize]) -> Span
+    ensures within { IsWithin input.now tree → IsWithin input.now result }
+    ensures found { (whole : Form) (part : Form) → HasTree input.now tree whole
+        → paths.tree_in path.now whole ≡ Some part → HasTree input.now result part }
+{
     let mut found = tree;
     for number in path {
         let Some(part) = part_of(input, found, *number) else {
@@ -44,9 +68,15 @@ pub fn span_in(input: &[u8], tree: Span, path: &[usize]) -> Span {
     found
 }
 
-/// Returns the bytes of the tree at `path`: the number of a tree of the file, from 0, and then a path in it, as for
-/// `span_in`. If the file has no such tree, returns all its bytes.
-pub fn span_of(input: &[u8], path: &[usize]) -> Span {
+/// Returns the bytes of the tree at `path`: the number of a tree of the file, from 0, and then a path in it,
+/// as for `span_in`. If the file has no such tree, returns all its bytes.
+///
+/// `found` says this of every file that spells trees.
+pub fn span_of(input: &[u8], path: &[usize]) -> Span
+    ensures within { IsWithin input.now result }
+    ensures found { (trees : List Form) (tree : Form) → Spells input.now trees
+        → paths.tree_at path.now trees ≡ Some tree → HasTree input.now result tree }
+{
     let all = Span {
         start: 0,
         end: input.len(),

@@ -86,7 +86,7 @@ impl<'a> Input<'a> {
     }
 
     /// Returns the name of the file of `at`, if `other` is in another file.
-    fn other_file(&self, at: usize, other: usize) -> Option<&'a str> {
+    fn file_name_unless_same_file(&self, at: usize, other: usize) -> Option<&'a str> {
         let found = locate(self.files, at)?;
         let from = locate(self.files, other)?;
         if found.file == from.file {
@@ -105,7 +105,7 @@ impl<'a> Input<'a> {
     /// Returns the line of `at`, as `line 3`, or `line 3 of FILE` if `other` is in another file.
     pub fn line_at(&self, alloc: Global, at: usize, other: usize) -> Result<String, AllocError> {
         let line = self.shown_place(alloc, at)?.line;
-        match self.other_file(at, other) {
+        match self.file_name_unless_same_file(at, other) {
             Some(name) => format!(in alloc; "line {line} of {name}"),
             None => format!(in alloc; "line {line}"),
         }
@@ -114,7 +114,7 @@ impl<'a> Input<'a> {
     /// Returns the line and the column of `at`, as `3:7`, or `FILE:3:7` if `other` is in another file.
     pub fn place_at(&self, alloc: Global, at: usize, other: usize) -> Result<String, AllocError> {
         let Place { line, column, .. } = self.shown_place(alloc, at)?;
-        match self.other_file(at, other) {
+        match self.file_name_unless_same_file(at, other) {
             Some(name) => format!(in alloc; "{name}:{line}:{column}"),
             None => format!(in alloc; "{line}:{column}"),
         }

@@ -2,7 +2,8 @@
 //! trees: their bytes, their line and column, and the line as messages show it; and notices, which messages and warnings
 //! are made of.
 //!
-//! The places of trees serve messages, which are tested and not proved: no contract says which bytes a path leads to.
+//! `span_of` and `span_in` find the bytes of the tree at a path. It is proved that they spell this tree.
+//! Messages themselves are tested and not proved.
 //!
 //! `AllocError` means that an allocation failed.
 #![tactic(auto)]
@@ -26,7 +27,7 @@ pub use find::{span_in, span_of};
 pub use input::{FilePart, Input, LastLine};
 pub use laws::starts;
 pub use notice::{Notice, NoticePlace, Notices, notice_text, place_in, text_of};
-pub use open::{Unclosed, open_item};
+pub use open::{Unclosed, find_unclosed_item};
 pub use scan::{State, is_space, state_after, tree_at};
 pub use shown::{LineStart, Place, first_line, line_from, place_of, place_on};
 pub use span::Span;

@@ -87,7 +87,7 @@ fn bracket(at: usize) -> Span {
 
 /// Returns the item that is probably not closed. Only items that begin a line count. If one of them is nested deeper
 /// than its kind may be, this is the item before it; else it is the last item of all.
-pub fn open_item(input: &[u8]) -> Option<Unclosed> {
+pub fn find_unclosed_item(input: &[u8]) -> Option<Unclosed> {
     let mut state = State::Between;
     let mut depth: usize = 0;
     let mut last: Option<usize> = None;

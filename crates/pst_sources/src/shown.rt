@@ -1,6 +1,6 @@
 //! The line of a place, as messages show it.
 
-use crate::chars::{char_from, shown_chars};
+use crate::chars::{char_start_from, shown_chars};
 use crate::span::Span;
 use std::alloc::{AllocError, Global};
 
@@ -95,13 +95,13 @@ pub fn place_on(
     let is_long = line_end(input, begin).saturating_sub(begin) > WIDTH;
     let offset = span.start.saturating_sub(begin);
     let from = if is_long && offset > BEFORE {
-        char_from(input, span.start.saturating_sub(BEFORE))
+        char_start_from(input, span.start.saturating_sub(BEFORE))
     } else {
         begin
     };
     let end = line_end(input, from);
     let to = if is_long {
-        end.min(char_from(input, from.saturating_add(WIDTH)))
+        end.min(char_start_from(input, from.saturating_add(WIDTH)))
     } else {
         end
     };

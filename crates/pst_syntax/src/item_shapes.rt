@@ -177,7 +177,7 @@ pub fn param_shape(form: &Form) -> Option<ParamShape<'_>>
 }
 
 /// Whether the language that a word heads has maps.
-fn language(word: &str) -> Option<bool>
+fn model_head_has_maps(word: &str) -> Option<bool>
     ensures { result ≡ spec.language word.now }
 {
     if word == "model" {
@@ -194,7 +194,7 @@ fn model_headed<'a>(word: &str, parts: &'a [Form]) -> Option<ModelShape<'a>>
 {
     let (name, items) = parts.split_first()?;
     let name = word_of(name)?;
-    let has_maps = language(word)?;
+    let has_maps = model_head_has_maps(word)?;
     Some(ModelShape {
         has_maps,
         name,

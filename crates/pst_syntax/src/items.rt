@@ -15,7 +15,7 @@ use crate::item_shapes::{
     param_shape,
 };
 use crate::limits::{MAX_DECLARED, MAX_EXPR_LEVELS, MAX_PARTS, MAX_TY_LEVELS};
-use crate::names::{declared, is_free, is_name};
+use crate::names::{declared, is_name, is_unreserved_name};
 use crate::read::{read_expr, read_ty};
 use pst_model::{Expr, Fun, Item, Op, Param};
 use pst_sexpr::Form;
@@ -53,7 +53,12 @@ fn param_of(
     ensures { Gives result (spec.param_of has_maps params.now (shown_param shape.now)) }
 {
     let is_taken = is_param(params, shape.name);
-    let name = declared(alloc, is_free(has_maps, shape.name), is_taken, shape.name)?;
+    let name = declared(
+        alloc,
+        is_unreserved_name(has_maps, shape.name),
+        is_taken,
+        shape.name,
+    )?;
     let ty = whole_ty(alloc, has_maps, shape.ty)?;
     Ok(Param { name, ty })
 }
@@ -110,7 +115,7 @@ fn callback_body(
 }
 
 /// The callbacks, with one more.
-fn callback_of(
+fn add_callback_of_shape(
     alloc: Global,
     has_maps: bool,
     callbacks: Callbacks,
@@ -145,7 +150,7 @@ fn with_callback(
     ensures { Gives result (known (callback_shape form.now) (spec.callback_of has_maps callbacks)) }
 {
     match callback_shape(form) {
-        Some(shape) => callback_of(alloc, has_maps, callbacks, &shape),
+        Some(shape) => add_callback_of_shape(alloc, has_maps, callbacks, &shape),
         None => Err(FaultKind::UnknownForm),
     }
 }
@@ -275,7 +280,12 @@ fn fun_of(
         shape.now.result.now shape.now.body.now) }
 {
     let is_taken = has_fun(seen, shape.name);
-    let name = declared(alloc, is_free(has_maps, shape.name), is_taken, shape.name)?;
+    let name = declared(
+        alloc,
+        is_unreserved_name(has_maps, shape.name),
+        is_taken,
+        shape.name,
+    )?;
     let params = params_of(alloc, has_maps, shape.params)?;
     let result = whole_ty(alloc, has_maps, shape.result)?;
     let body = whole_expr(alloc, has_maps, shape.body)?;
@@ -315,7 +325,12 @@ fn op_parts(
 
 /// An item after others, in the language with or without maps.
 #[tactic(auto, unfolding(crate::specs::Items::item_of))]
-pub fn item_of(alloc: Global, has_maps: bool, seen: &[Item], form: &Form) -> Result<Item, FaultKind>
+pub fn read_item(
+    alloc: Global,
+    has_maps: bool,
+    seen: &[Item],
+    form: &Form,
+) -> Result<Item, FaultKind>
     ensures { Gives result (spec.item_of has_maps seen.now form.now) }
 {
     let Some(shape) = item_shape(form) else {

@@ -11,17 +11,17 @@ ghost use Rattle.pst_syntax.specs.Faults.{expr_faults, ty_faults, first, refusal
 ghost use Rattle.pst_syntax.specs.Items.{IsModel, HasItems, model_of};
 
 /// A model has one state, one init and one command, and at most 64 functions and 64 operations.
-pub fn model_items()
+pub fn model_item_counts_are_lawful()
     ensures { (source : Source) → IsModel source → HasItems source.items }
 {}
 
 /// Each operation of a model is the first of its name, which is a name, and its types have at most 16 levels.
-pub fn model_operations()
+pub fn model_operations_are_lawful()
     ensures { (source : Source) → IsModel source → HasOperations source.items }
 {}
 
 /// The operations of a model headed `model` have no map among their types.
-pub fn model_language()
+pub fn plain_model_types_have_no_maps()
     ensures { (source : Source) → IsModel source → KeepsLanguage source }
 {}
 
@@ -38,6 +38,6 @@ pub fn first_refusal_of_ty()
 {}
 
 /// A model is refused by the first of its faults, and read if it has none.
-pub fn first_refusal()
+pub fn first_refusal_of_model()
     ensures { (trees : List Form) → refusal (model_of trees) ≡ first (model_faults trees) }
 {}

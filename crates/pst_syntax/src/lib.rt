@@ -24,7 +24,7 @@ pub use item_shapes::{
 };
 pub use limits::{MAX_DECLARED, MAX_EXPR_LEVELS, MAX_NAME, MAX_PARTS, MAX_TREES, MAX_TY_LEVELS};
 pub use model::Model;
-pub use names::{is_free, is_name, is_short, is_used, is_used_operation};
+pub use names::{is_name, is_short, is_unreserved_name, is_usable_name, is_usable_operation_name};
 pub use reader::read_model;
 pub use shape::{FoldShape, Shape, key_shape, shape_of};
 pub use ty_shapes::{ClauseShape, TyShape, clause_shape, ty_shape};

@@ -67,7 +67,7 @@ fn is_reserved(has_maps: bool, word: &str) -> bool
 
 /// Whether a function, a parameter or a bound name may be named so in the language with or without maps,
 /// whatever the length of the name.
-pub fn is_free(has_maps: bool, word: &Text) -> bool
+pub fn is_unreserved_name(has_maps: bool, word: &Text) -> bool
     ensures { result ≡ spec.is_free has_maps word.now }
 {
     is_name(word) && !is_reserved(has_maps, word.as_str())
@@ -76,15 +76,15 @@ pub fn is_free(has_maps: bool, word: &Text) -> bool
 /// Whether a word may be used as the name of a function, a parameter or a bound name in the language with or
 /// without maps.
 #[tactic(auto, unfolding(crate::specs::Names::is_used))]
-pub fn is_used(has_maps: bool, word: &Text) -> bool
+pub fn is_usable_name(has_maps: bool, word: &Text) -> bool
     ensures { result ≡ spec.is_used has_maps word.now }
 {
-    is_free(has_maps, word) && is_short(word)
+    is_unreserved_name(has_maps, word) && is_short(word)
 }
 
 /// Whether a word may be used as the name of an operation.
 #[tactic(auto, unfolding(crate::specs::Names::is_used_operation))]
-pub fn is_used_operation(word: &Text) -> bool
+pub fn is_usable_operation_name(word: &Text) -> bool
     ensures { result ≡ spec.is_used_operation word.now }
 {
     is_name(word) && is_short(word)

@@ -12,7 +12,7 @@ ghost use Rattle.pst_syntax.specs.Shown.{shown, shown_ty, shown_clause};
 
 use crate::fault::FaultKind;
 use crate::limits::{MAX_PARTS, MAX_TY_LEVELS};
-use crate::names::{declared, is_free, is_used_operation};
+use crate::names::{declared, is_unreserved_name, is_usable_operation_name};
 use crate::shape::{FoldShape, Shape, shape_of};
 use crate::ty_shapes::{ClauseShape, TyShape, clause_shape, ty_shape};
 use pst_model::{Clause, Expr};
@@ -21,25 +21,30 @@ use pst_value::{Boxed, Items, LIMIT, Text, Ty};
 use std::alloc::Global;
 
 /// A bound name.
-fn bound(alloc: Global, has_maps: bool, name: &Text) -> Result<Text, FaultKind>
+fn read_bound_name(alloc: Global, has_maps: bool, name: &Text) -> Result<Text, FaultKind>
     ensures { Gives result (spec.bound has_maps name.now) }
 {
-    declared(alloc, is_free(has_maps, name), false, name)
+    declared(alloc, is_unreserved_name(has_maps, name), false, name)
 }
 
 /// A bound name beside another one.
-fn bound_beside(alloc: Global, has_maps: bool, other: &Text, name: &Text) -> Result<Text, FaultKind>
+fn read_distinct_bound_name(
+    alloc: Global,
+    has_maps: bool,
+    other: &Text,
+    name: &Text,
+) -> Result<Text, FaultKind>
     ensures { Gives result (spec.bound_beside has_maps other.now name.now) }
 {
     let is_taken = other.as_str() == name.as_str();
-    declared(alloc, is_free(has_maps, name), is_taken, name)
+    declared(alloc, is_unreserved_name(has_maps, name), is_taken, name)
 }
 
 /// The name of an operation at a use of it.
 fn used_operation(alloc: Global, name: &Text) -> Result<Text, FaultKind>
     ensures { Gives result (spec.used_operation name.now) }
 {
-    if !is_used_operation(name) {
+    if !is_usable_operation_name(name) {
         return Err(FaultKind::UnknownForm);
     }
     Ok(name.copy(alloc)?)
@@ -62,7 +67,7 @@ fn read_text(alloc: Global, text: &Text) -> Result<Expr, FaultKind>
 }
 
 /// An item of a tuple, if its place has at most 64 bits.
-fn item_at(tuple: Boxed<Expr>, place: &Text) -> Option<Expr>
+fn build_tuple_item_expr(tuple: Boxed<Expr>, place: &Text) -> Option<Expr>
     ensures { ok_or result OverLimit ≡ spec.item_at tuple place.now }
 {
     let place = value_of(place)?;
@@ -183,7 +188,9 @@ fn expr_parts(
         }
         Shape::Tuple(items) => read_tuple(alloc, has_maps, items, room),
         Shape::At(tuple, place) => {
-            item_at(boxed(alloc, has_maps, tuple, room)?, place).ok_or(FaultKind::OverLimit)
+            build_tuple_item_expr(boxed(alloc, has_maps, tuple, room)?, place).ok_or(
+                FaultKind::OverLimit,
+            )
         }
         Shape::List(item, items) => read_list(alloc, has_maps, item, items, room),
         Shape::For(parts, body) => read_for(alloc, has_maps, parts, body, room),
@@ -254,7 +261,7 @@ fn read_let(
         (spec.expr_parts has_maps (spec.ty_of has_maps ty_room) (spec.expr_of has_maps room)
         (Let name.now value.now body.now)) }
 {
-    let name = bound(alloc, has_maps, name)?;
+    let name = read_bound_name(alloc, has_maps, name)?;
     let value = boxed(alloc, has_maps, value, room)?;
     Ok(Expr::Let(name, value, boxed(alloc, has_maps, body, room)?))
 }
@@ -311,9 +318,9 @@ fn read_fold(
         (Fold shape.now.name.now shape.now.list.now shape.now.built.now shape.now.first.now
         shape.now.body.now)) }
 {
-    let name = bound(alloc, has_maps, shape.name)?;
+    let name = read_bound_name(alloc, has_maps, shape.name)?;
     let list = boxed(alloc, has_maps, shape.list, room)?;
-    let built = bound_beside(alloc, has_maps, shape.name, shape.built)?;
+    let built = read_distinct_bound_name(alloc, has_maps, shape.name, shape.built)?;
     let first = boxed(alloc, has_maps, shape.first, room)?;
     Ok(Expr::Fold(
         name,
@@ -385,7 +392,7 @@ fn read_clause(alloc: Global, has_maps: bool, form: &Form, room: usize) -> Resul
     };
     match shape {
         ClauseShape::In(name, list) => {
-            let name = bound(alloc, has_maps, name)?;
+            let name = read_bound_name(alloc, has_maps, name)?;
             Ok(Clause::In(name, read_expr(alloc, has_maps, list, room)?))
         }
         ClauseShape::When(test) => Ok(Clause::When(read_expr(alloc, has_maps, test, room)?)),

@@ -9,7 +9,7 @@ ghost use Rattle.pst_syntax.specs.declared.fault.FaultKind.{FaultKind};
 use crate::count::room_after;
 use crate::fault::{FaultKind, SyntaxFault, fault};
 use crate::item_shapes::{ModelShape, model_shape};
-use crate::items::{has_command, has_init, has_state, item_of};
+use crate::items::{has_command, has_init, has_state, read_item};
 use crate::limits::MAX_TREES;
 use crate::model::Model;
 use crate::names::{declared, is_name};
@@ -24,7 +24,7 @@ fn items_of(alloc: Global, has_maps: bool, forms: &[Form]) -> Result<Items<Item>
     let mut items = Items::new(alloc);
     for form in forms {
         let number = items.len() + 1;
-        match item_of(alloc, has_maps, items.as_slice(), form) {
+        match read_item(alloc, has_maps, items.as_slice(), form) {
             Ok(item) => items.push(item)?,
             Err(kind) => return Err(fault(kind, number)),
         }

@@ -8,7 +8,7 @@ ghost use Rattle.pst_syntax.specs.Shape as spec;
 ghost use Rattle.pst_syntax.specs.Shown.{shown_option};
 
 use crate::heads::{Head, head_of};
-use crate::names::is_used;
+use crate::names::is_usable_name;
 use crate::place::is_place;
 use pst_model as model;
 use pst_sexpr::{Form, is_integer, node_of, word_of};
@@ -51,7 +51,7 @@ pub struct FoldShape<'a> {
 }
 
 /// The trees, or `None` if there are no trees.
-pub fn some_of(forms: &[Form]) -> Option<&[Form]>
+pub fn forms_unless_empty(forms: &[Form]) -> Option<&[Form]>
     ensures { option_copied result ≡ spec.some_of forms.now }
 {
     match forms {
@@ -72,7 +72,7 @@ fn word_shape(has_maps: bool, word: &Text) -> Option<Shape<'_>>
     if word.as_str() == "false" {
         return Some(Shape::Truth(false));
     }
-    if word.as_str() == "s" || word.as_str() == "r" || is_used(has_maps, word) {
+    if word.as_str() == "s" || word.as_str() == "r" || is_usable_name(has_maps, word) {
         return Some(Shape::Used(word));
     }
     None
@@ -115,7 +115,7 @@ fn at_shape<'a>(tuple: &'a Form, place: &'a Form) -> Option<Shape<'a>>
 fn for_shape<'a>(clauses: &'a Form, body: &'a Form) -> Option<Shape<'a>>
     ensures { shown_option result ≡ spec.headed head.For (clauses.now ∷ body.now ∷ []) }
 {
-    Some(Shape::For(some_of(node_of(clauses)?)?, body))
+    Some(Shape::For(forms_unless_empty(node_of(clauses)?)?, body))
 }
 
 fn fold_shape(parts: &[Form]) -> Option<Shape<'_>>
@@ -145,7 +145,7 @@ fn headed(head: Head, parts: &[Form]) -> Option<Shape<'_>>
         (Head::Or, [a, b]) => Some(Shape::Or(a, b)),
         (Head::Unary(operator), [a]) => Some(Shape::Unary(operator, a)),
         (Head::Binary(operator), [a, b]) => Some(Shape::Binary(operator, a, b)),
-        (Head::Tuple, items) => Some(Shape::Tuple(some_of(items)?)),
+        (Head::Tuple, items) => Some(Shape::Tuple(forms_unless_empty(items)?)),
         (Head::At, [tuple, place]) => at_shape(tuple, place),
         (Head::List, [ty, items @ ..]) => Some(Shape::List(ty, items)),
         (Head::For, [clauses, body]) => for_shape(clauses, body),
@@ -166,7 +166,7 @@ fn node_shape(has_maps: bool, parts: &[Form]) -> Option<Shape<'_>>
     let word = word_of(first)?;
     match head_of(has_maps, word.as_str()) {
         Some(head) => headed(head, parts),
-        None => if is_used(has_maps, word) {
+        None => if is_usable_name(has_maps, word) {
             Some(Shape::Apply(word, parts))
         } else {
             None

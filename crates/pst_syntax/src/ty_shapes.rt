@@ -5,7 +5,7 @@ ghost use Rattle.pst_syntax.specs.Shape as spec;
 ghost use Rattle.pst_syntax.specs.Shown.{shown_ty_option, shown_clause_option};
 
 use crate::heads::{Head, head_of};
-use crate::shape::{key_shape, some_of};
+use crate::shape::{forms_unless_empty, key_shape};
 use pst_sexpr::{Form, node_of, word_of};
 use pst_value::{KeyTy, Text};
 
@@ -50,7 +50,7 @@ fn ty_node(has_maps: bool, parts: &[Form]) -> Option<TyShape<'_>>
 {
     let (first, parts) = parts.split_first()?;
     match (head_of(has_maps, word_of(first)?.as_str())?, parts) {
-        (Head::Tuple, types) => Some(TyShape::Tuple(some_of(types)?)),
+        (Head::Tuple, types) => Some(TyShape::Tuple(forms_unless_empty(types)?)),
         (Head::List, [ty]) => Some(TyShape::List(ty)),
         (Head::Map, [key, value]) => Some(TyShape::Map(key_shape(key)?, value)),
         (Head::Ref, [ty]) => Some(TyShape::Ref(ty)),

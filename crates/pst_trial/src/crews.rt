@@ -10,7 +10,7 @@ use crate::driver::Driver;
 use crate::plan::Plan;
 use crate::record::Record;
 use crate::shrinking::ShrinkProgress;
-use crate::trials::trial_by;
+use crate::trials::run_trial_with_driver;
 use pst_case::History;
 use pst_driver::{Crew, DriveFault, Relations, Subject, run_with};
 use pst_judge::Valid;
@@ -65,7 +65,7 @@ impl<'r, 'c, 's, J: Relations, S: Subject, R: Wait> Driver for CrewDriver<'r, 'c
 
 /// Does what `trial_with_progress` does, on the system of a crew and with its threads, which run by the model of the
 /// plan.
-pub fn trial_with<J: Relations, S: Subject, R: Wait>(
+pub fn run_trial_with_crew<J: Relations, S: Subject, R: Wait>(
     rt: &R,
     alloc: Global,
     plan: &Arc<Plan>,
@@ -81,7 +81,7 @@ pub fn trial_with<J: Relations, S: Subject, R: Wait>(
         (arc_value plan.now) number r.outcome) }
     ensures fault { IfErr result (MayFail (λ v f. IsDriveFault J.resetting v.case f)) }
 {
-    trial_by(
+    run_trial_with_driver(
         alloc,
         plan,
         number,

@@ -21,7 +21,7 @@ mod threads;
 mod trials;
 
 pub use cases::trial_case;
-pub use crews::{CrewDriver, trial_with};
+pub use crews::{CrewDriver, run_trial_with_crew};
 pub use driver::Driver;
 pub use outcome::TrialOutcome;
 pub use plan::Plan;
@@ -34,4 +34,4 @@ pub use settings::{
 pub use sharing::may_share_records;
 pub use shrinking::ShrinkProgress;
 pub use threads::{ThreadDriver, trial, trial_with_progress};
-pub use trials::trial_by;
+pub use trials::run_trial_with_driver;

@@ -11,7 +11,7 @@ use crate::driver::Driver;
 use crate::plan::Plan;
 use crate::record::Record;
 use crate::shrinking::ShrinkProgress;
-use crate::trials::trial_by;
+use crate::trials::run_trial_with_driver;
 use pst_case::History;
 use pst_driver::{DriveFault, run};
 use pst_judge::Valid;
@@ -123,7 +123,7 @@ pub fn trial_with_progress<R: Threads + Wait>(
         (fails system.new) (fails system.old)
         (reset_fails system.new) (reset_fails system.old) }
 {
-    trial_by(
+    run_trial_with_driver(
         alloc,
         plan,
         number,

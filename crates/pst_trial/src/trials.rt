@@ -79,7 +79,7 @@ fn try_case<D: Driver>(
 
 /// Returns the outcome of trial `number`: generates its case, drives and judges it, and shrinks it if a run is
 /// not explained.
-fn outcome_of<D: Driver>(
+fn generate_drive_and_shrink<D: Driver>(
     alloc: Global,
     plan: &Plan,
     number: u64,
@@ -100,7 +100,7 @@ fn outcome_of<D: Driver>(
 ///
 /// The fault is that of the drive that failed, also while a case is shrunk, or `NoMemory`, and then there is no
 /// record.
-pub fn trial_by<D: Driver>(
+pub fn run_trial_with_driver<D: Driver>(
     alloc: Global,
     plan: &Arc<Plan>,
     number: u64,
@@ -114,7 +114,7 @@ pub fn trial_by<D: Driver>(
     ensures keeps { D.keeps driver.old driver.new }
 {
     let shared = Arc::try_clone(plan)?;
-    match outcome_of(alloc, plan, number, driver) {
+    match generate_drive_and_shrink(alloc, plan, number, driver) {
         Ok(outcome) => Ok(Record::new(shared, number, outcome)),
         Err(fault) => Err(fault),
     }

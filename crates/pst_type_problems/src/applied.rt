@@ -5,8 +5,8 @@ use crate::operands::operand_type_problem;
 use crate::trees::tree_in;
 use pst_model::{Fun, Item, Param};
 use pst_problems::{
-    FoundProblem, Problem, Signature, below, counted, in_place_of, is_of_maps, nearest_head,
-    operation_named, problem_at, problem_with_note_at_part, unknown_among, with_note,
+    FoundProblem, Problem, Signature, below, counted, hint_for_foreign_word, is_of_maps,
+    nearest_head, operation_named, problem_at, problem_with_note_at_part, unknown_among, with_note,
 };
 use pst_sexpr::word_of;
 use pst_typing::Kind;
@@ -205,7 +205,7 @@ fn unknown_function_near(leaf: &BlamedPart<'_>, name: &str) -> FoundProblem {
 
 /// The problem of a function that no item declares.
 fn unknown_function_problem(leaf: &BlamedPart<'_>, name: &str) -> FoundProblem {
-    if let Some(hint) = in_place_of(name) {
+    if let Some(hint) = hint_for_foreign_word(name) {
         return unknown_function_noted(leaf, name, format_args!("hint: {hint}"));
     }
     if is_of_maps(name) {

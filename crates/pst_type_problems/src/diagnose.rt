@@ -10,11 +10,11 @@ use crate::spelling::spelled;
 use crate::trees::head_word;
 use pst_model::{Expr, Op};
 use pst_problems::{
-    FoundProblem, Listed, Problem, is_of_maps, key_word, nearest, operation_named, problem_at,
+    FoundProblem, Listed, Problem, is_of_maps, key_type_word, nearest, operation_named, problem_at,
     problem_at_part, problem_with_note, with_note,
 };
 use pst_sexpr::{Form, word_of};
-use pst_typing::{Context, Kind, KindForm};
+use pst_typing::{Context, Kind, KindForm, key_type};
 use pst_value::{Items, KeyTy, Text, Ty};
 use std::alloc::Global;
 use std::fmt::Display;
@@ -238,22 +238,13 @@ fn at_problem(leaf: &BlamedPart<'_>) -> FoundProblem {
     problem_at_part(leaf.alloc, leaf.path, 2, what)
 }
 
-/// The type of the values that are keys of the type `keys`.
-fn key_type(keys: KeyTy) -> Ty {
-    match keys {
-        KeyTy::Int => Ty::Int,
-        KeyTy::Bool => Ty::Bool,
-        KeyTy::Text => Ty::Text,
-    }
-}
-
 /// The problem of a key of another type than the keys of the map, if it has one.
 fn ill_key(leaf: &BlamedPart<'_>, keys: KeyTy) -> FoundProblem {
     let Some(found) = leaf.kinds.get(1) else {
         return Ok(None);
     };
     let wanted = Kind::of(leaf.alloc, &key_type(keys))?;
-    let word = key_word(keys);
+    let word = key_type_word(keys);
     let what = format_args!("the keys of the map are {word}");
     operand_type_problem(leaf, what, 2, &wanted, found)
 }

@@ -13,4 +13,5 @@ mod trees;
 mod typing;
 mod walk;
 
+pub use trees::head_word;
 pub use typing::type_problems;

@@ -2,7 +2,8 @@
 
 use crate::diagnose::BlamedPart;
 use crate::operands::{
-    list_wanted_problem, operand_type_problem, with_reference_hint, with_references_hint,
+    list_wanted_problem, operand_type_problem, with_item_hint, with_reference_hint,
+    with_references_hint,
 };
 use crate::spelling::spelled;
 use crate::trees::{clause_iterates_over_list, clauses_of};
@@ -26,6 +27,10 @@ pub fn nth_problem(leaf: &BlamedPart<'_>, list: &Kind, place: &Kind) -> FoundPro
             "`nth` takes a list and a place, found int and a list",
             "hint: in the other order the two fit: `(nth LIST PLACE)`",
         ),
+        (KindForm::Tuple(_), _) => {
+            let refused = list_wanted_problem(leaf.alloc, leaf.path, "`nth`", 1, list)?;
+            with_item_hint(leaf.alloc, refused, list)
+        }
         _ => list_wanted_problem(leaf.alloc, leaf.path, "`nth`", 1, list),
     }
 }

@@ -58,6 +58,18 @@ fn with_keys_hint(alloc: Global, refused: Option<Problem>, found: &Kind) -> Foun
     }
 }
 
+/// The problem `refused` of a form that takes an item out of another type than `found`, with a hint how an item is
+/// taken out of that.
+pub fn with_item_hint(alloc: Global, refused: Option<Problem>, found: &Kind) -> FoundProblem {
+    let hint = match found.form(alloc)? {
+        KindForm::Tuple(_) => "hint: for a tuple write `(at TUPLE PLACE)`, counted from 1",
+        KindForm::List(_) => "hint: for a list write `(nth LIST PLACE)`, counted from 0",
+        KindForm::Map(_, _) => "hint: for a map write `(get MAP KEY)`",
+        _ => return Ok(refused),
+    };
+    with_note(alloc, refused, hint)
+}
+
 /// The problem of the expression at `path`, which has the type `found` instead of `wanted`.
 pub fn other_type_problem<D: Display + Drop>(
     alloc: Global,
@@ -110,14 +122,7 @@ pub fn first_operand_problem<D: Display + Drop>(
 /// The problem of the first part of `at`, which is no tuple.
 pub fn tuple_wanted_problem(leaf: &BlamedPart<'_>, found: &Kind) -> FoundProblem {
     let refused = first_operand_problem(leaf, "`at` takes a tuple", found)?;
-    match found.form(leaf.alloc)? {
-        KindForm::List(_) => with_note(
-            leaf.alloc,
-            refused,
-            "hint: for a list write `(nth LIST PLACE)`, counted from 0",
-        ),
-        _ => Ok(refused),
-    }
+    with_item_hint(leaf.alloc, refused, found)
 }
 
 /// The problem of a form that takes a text or a list, and whose first part is neither.
@@ -156,7 +161,13 @@ pub fn map_wanted_problem(leaf: &BlamedPart<'_>, head: &str, found: &Kind) -> Fo
         None => false,
     };
     if !is_second {
-        return first_operand_problem(leaf, format_args!("`{head}`: expected a map"), found);
+        let what = format_args!("`{head}`: expected a map");
+        let refused = first_operand_problem(leaf, what, found)?;
+        return if head == "get" {
+            with_item_hint(leaf.alloc, refused, found)
+        } else {
+            Ok(refused)
+        };
     }
     let found = spelled(leaf.alloc, found)?;
     problem_with_note(

@@ -2,7 +2,7 @@
 
 ghost use Rattle.std.specs.Prelude.{◌≤◌};
 
-use pst_problems::key_word;
+use pst_problems::key_type_word;
 use pst_typing::{Kind, KindForm};
 use std::alloc::{AllocError, Global};
 
@@ -63,7 +63,7 @@ fn spell(
         },
         KindForm::Map(keys, value) => {
             text.push_str("(map ")?;
-            text.push_str(key_word(keys))?;
+            text.push_str(key_type_word(keys))?;
             spell_last(text, alloc, " ", &value, references, left)
         }
     }

@@ -12,11 +12,11 @@ use crate::blame::{Blame, Found};
 use crate::context::Context;
 use crate::kinds::Kind;
 use crate::operators::{
-    binary_type, copy_kind, int_type, keys_type, kind_if, kind_of, part_type, text_type,
-    unary_type, values_type, where_true,
+    binary_type, copy_kind, int_type, keys_type, kind_if, kind_of, kind_of_type_if_true, part_type,
+    text_type, unary_type, values_type,
 };
 use crate::refusal::Refusal;
-use crate::scope::{Names, find_name, function_called, operation_called};
+use crate::scope::{Names, function_called, kind_of_variable, operation_called};
 use pst_model::{Binary, Clause, Expr, Param, Unary};
 use pst_value::{Items, KeyTy, LIMIT, Ty};
 use std::alloc::{AllocError, Global};
@@ -56,7 +56,7 @@ fn kind_of_whole(
         Expr::Int(number) => int_type(alloc, *number),
         Expr::Bool(_) => kind_of(alloc, &Ty::Bool),
         Expr::Text(text) => text_type(alloc, text.as_bytes()),
-        Expr::Name(name) => find_name(names, name.as_bytes()),
+        Expr::Name(name) => kind_of_variable(names, name.as_bytes()),
         Expr::Let(_, _, _) => copy_kind(kinds.get(1)),
         Expr::If(_, _, _) => kind_of_if(alloc, kinds),
         Expr::And(_, _) => kind_of_and_or(alloc, kinds),
@@ -98,7 +98,7 @@ fn kind_of_and_or(alloc: Global, kinds: &[Kind]) -> Result<Kind, Refusal>
     if !first.is(alloc, &Ty::Bool)? {
         return Err(Refusal::Ill);
     }
-    where_true(alloc, second.is(alloc, &Ty::Bool)?, &Ty::Bool)
+    kind_of_type_if_true(alloc, second.is(alloc, &Ty::Bool)?, &Ty::Bool)
 }
 
 /// The kind that an operator of one operand gives.

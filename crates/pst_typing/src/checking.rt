@@ -4,11 +4,13 @@ ghost use Rattle.std.specs.Prelude.{IfOk};
 ghost use Rattle.pst_typing.specs.Checked.{Checks};
 ghost use Rattle.pst_typing.specs.Least.{IsWhole, Judged};
 
-use crate::items::first_ill;
+use crate::items::first_ill_typed_item_number;
 use crate::type_fault::TypeFault;
 use pst_model::{Source, Typed, state_of};
 use pst_syntax::Model;
-use pst_syntax::laws::{model_items, model_language, model_operations};
+use pst_syntax::laws::{
+    model_item_counts_are_lawful, model_operations_are_lawful, plain_model_types_have_no_maps,
+};
 use std::alloc::{AllocError, Global};
 
 /// The number of the first item that is not well typed.
@@ -19,7 +21,7 @@ fn first_ill_typed_item(alloc: Global, source: &Source) -> Result<Option<usize>,
 {
     let items = source.items.as_slice();
     match state_of(items) {
-        Some(state) => first_ill(alloc, items, state),
+        Some(state) => first_ill_typed_item_number(alloc, items, state),
         None => unreachable!(),
     }
 }
@@ -30,9 +32,9 @@ fn first_ill_typed_item(alloc: Global, source: &Source) -> Result<Option<usize>,
 pub fn check(alloc: Global, model: Model) -> Result<Typed, (Model, TypeFault)>
     ensures { Checks model result }
 {
-    model_items();
-    model_operations();
-    model_language();
+    model_item_counts_are_lawful();
+    model_operations_are_lawful();
+    plain_model_types_have_no_maps();
     match first_ill_typed_item(alloc, model.source()) {
         Ok(None) => Ok(Typed::new(model.into_source())),
         Ok(Some(number)) => Err((model, TypeFault::Item(number))),

@@ -31,7 +31,7 @@ fn has_type(
     }
 }
 
-fn has_pre(alloc: Global, items: &[Item], state: &Ty, op: &Op) -> Result<bool, AllocError>
+fn is_well_typed_pre(alloc: Global, items: &[Item], state: &Ty, op: &Op) -> Result<bool, AllocError>
     ensures { IfOk result (λ has. has ≡
         spec.has_type items.now false (rules.pre_context state.now op.now) op.now.pre truth) }
 {
@@ -48,7 +48,12 @@ fn has_pre(alloc: Global, items: &[Item], state: &Ty, op: &Op) -> Result<bool, A
     has_type(&op.pre, &truth, &context, &scope)
 }
 
-fn has_next(alloc: Global, items: &[Item], state: &Ty, op: &Op) -> Result<bool, AllocError>
+fn is_well_typed_next(
+    alloc: Global,
+    items: &[Item],
+    state: &Ty,
+    op: &Op,
+) -> Result<bool, AllocError>
     ensures { IfOk result (λ has. has ≡
         spec.has_type items.now false (rules.next_context state.now op.now) op.now.next state.now) }
 {
@@ -66,7 +71,12 @@ fn has_next(alloc: Global, items: &[Item], state: &Ty, op: &Op) -> Result<bool, 
     has_type(&op.next, &state, &context, &scope)
 }
 
-fn has_post(alloc: Global, items: &[Item], state: &Ty, op: &Op) -> Result<bool, AllocError>
+fn is_well_typed_post(
+    alloc: Global,
+    items: &[Item],
+    state: &Ty,
+    op: &Op,
+) -> Result<bool, AllocError>
     ensures { IfOk result (λ has. has ≡
         spec.has_type items.now true (rules.post_context state.now op.now) op.now.post truth) }
 {
@@ -99,13 +109,13 @@ fn is_well_typed_operation(
     if holds_ref(&op.result) {
         return Ok(false);
     }
-    if !has_pre(alloc, items, state, op)? {
+    if !is_well_typed_pre(alloc, items, state, op)? {
         return Ok(false);
     }
-    if !has_next(alloc, items, state, op)? {
+    if !is_well_typed_next(alloc, items, state, op)? {
         return Ok(false);
     }
-    has_post(alloc, items, state, op)
+    is_well_typed_post(alloc, items, state, op)
 }
 
 /// Whether an expression over all functions has a type in mode plain, among no names.
@@ -180,7 +190,11 @@ pub fn is_well_typed_item(
 
 /// The number, from 1, of the first item that is not well typed.
 #[tactic(auto, using(crate::proofs::Ill::ill_step, crate::proofs::Ill::ill_here))]
-pub fn first_ill(alloc: Global, items: &[Item], state: &Ty) -> Result<Option<usize>, AllocError>
+pub fn first_ill_typed_item_number(
+    alloc: Global,
+    items: &[Item],
+    state: &Ty,
+) -> Result<Option<usize>, AllocError>
     ensures { IfOk result (λ number. number ≡ spec.first_ill items.now state.now 1 [] items.now) }
 {
     for at in 0..items.len() {

@@ -24,13 +24,14 @@ pub use blame::{Blame, Found};
 pub use checking::check;
 pub use context::Context;
 pub use expressions::infer;
-pub use items::{first_ill, is_well_typed_item};
+pub use items::{first_ill_typed_item_number, is_well_typed_item};
 pub use kinds::{Kind, KindForm};
 pub use laws::{
     first_ill_is_least, ill_is_not_well, ill_typed_item_is_unique, items_are_exact, types_are_exact,
 };
 pub use load_refusal::Refusal;
-pub use loading::{ModelFile, items_of, load};
+pub use loading::{ModelFile, load, trees_after_model};
+pub use operators::key_type;
 pub use parts::{model_name, operation_name, operation_parameters, operation_result};
 pub use scope::Scope;
 pub use type_fault::TypeFault;

@@ -89,7 +89,7 @@ pub fn load(alloc: Global, input: &[u8]) -> Result<Result<ModelFile, Refusal>, A
 }
 
 /// The trees after the model: all but the first.
-pub fn items_of(trees: &[Tree]) -> &[Tree]
+pub fn trees_after_model(trees: &[Tree]) -> &[Tree]
     ensures { result.now ≡ items_of trees.now }
 {
     match trees.split_first() {

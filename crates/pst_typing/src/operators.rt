@@ -35,7 +35,7 @@ pub fn copy_kind(kind: Option<&Kind>) -> Result<Kind, Refusal>
 }
 
 /// The kind of a type, if a test is passed.
-pub fn where_true(alloc: Global, test: bool, ty: &Ty) -> Result<Kind, Refusal>
+pub fn kind_of_type_if_true(alloc: Global, test: bool, ty: &Ty) -> Result<Kind, Refusal>
     ensures { Answers (spec.where_true test (Some ty.now)) result }
 {
     if test {
@@ -156,8 +156,8 @@ fn referred_type(alloc: Global, reference: &Kind) -> Result<Kind, Refusal>
     }
 }
 
-/// The type of the keys of maps, as values.
-fn key_type(keys: KeyTy) -> Ty
+/// Returns the type of the values that are keys of the type `keys`.
+pub fn key_type(keys: KeyTy) -> Ty
     ensures { result ≡ rules.key_type keys }
 {
     match keys {
@@ -188,7 +188,7 @@ pub fn values_type(alloc: Global, map: &Kind) -> Result<Kind, Refusal>
 }
 
 /// Whether the first is a map type, and the second the type of its keys.
-fn has_keys(alloc: Global, map: &Kind, key: &Kind) -> Result<bool, AllocError>
+fn is_map_with_key_type(alloc: Global, map: &Kind, key: &Kind) -> Result<bool, AllocError>
     ensures { IfOk result (λ has. has ≡ is_ty (spec.keys_type map.now) key.now) }
 {
     match keys_type(alloc, map) {
@@ -223,10 +223,10 @@ fn nth_type(alloc: Global, list: &Kind, place: &Kind) -> Result<Kind, Refusal>
 }
 
 /// The kind of what `get` takes out of the first at the second.
-fn get_type(alloc: Global, map: &Kind, key: &Kind) -> Result<Kind, Refusal>
+fn kind_of_get_result(alloc: Global, map: &Kind, key: &Kind) -> Result<Kind, Refusal>
     ensures { Answers (spec.where_true (is_ty (spec.keys_type map.now) key.now) (spec.values_type map.now)) result }
 {
-    if has_keys(alloc, map, key)? {
+    if is_map_with_key_type(alloc, map, key)? {
         values_type(alloc, map)
     } else {
         Err(Refusal::Ill)
@@ -260,8 +260,8 @@ pub fn unary_type(
     ensures { Answers (spec.unary_type is_post operator operand.now) result }
 {
     match operator {
-        Unary::Not => where_true(alloc, operand.is(alloc, &Ty::Bool)?, &Ty::Bool),
-        Unary::Len => where_true(alloc, is_sequence(alloc, operand)?, &Ty::Int),
+        Unary::Not => kind_of_type_if_true(alloc, operand.is(alloc, &Ty::Bool)?, &Ty::Bool),
+        Unary::Len => kind_of_type_if_true(alloc, is_sequence(alloc, operand)?, &Ty::Int),
         Unary::Deref => {
             if !is_post {
                 return Err(Refusal::Ill);
@@ -284,21 +284,29 @@ pub fn binary_type(
 {
     match operator {
         Binary::Add | Binary::Sub | Binary::Mul | Binary::Div | Binary::Rem => {
-            where_true(alloc, both_int(alloc, first, second)?, &Ty::Int)
+            kind_of_type_if_true(alloc, both_int(alloc, first, second)?, &Ty::Int)
         }
         Binary::Less | Binary::LessEqual => {
-            where_true(alloc, are_orderable(alloc, first, second)?, &Ty::Bool)
+            kind_of_type_if_true(alloc, are_orderable(alloc, first, second)?, &Ty::Bool)
         }
         Binary::Equal => {
             let are = are_comparable(alloc, is_post, first, second)?;
-            where_true(alloc, are, &Ty::Bool)
+            kind_of_type_if_true(alloc, are, &Ty::Bool)
         }
-        Binary::Same => where_true(alloc, are_references(alloc, first, second)?, &Ty::Bool),
+        Binary::Same => kind_of_type_if_true(
+            alloc,
+            are_references(alloc, first, second)?,
+            &Ty::Bool,
+        ),
         Binary::Append => kind_if(are_joined(alloc, first, second)?, first),
         Binary::Nth => nth_type(alloc, first, second),
-        Binary::Get => get_type(alloc, first, second),
-        Binary::Has => where_true(alloc, has_keys(alloc, first, second)?, &Ty::Bool),
-        Binary::Del => kind_if(has_keys(alloc, first, second)?, first),
+        Binary::Get => kind_of_get_result(alloc, first, second),
+        Binary::Has => kind_of_type_if_true(
+            alloc,
+            is_map_with_key_type(alloc, first, second)?,
+            &Ty::Bool,
+        ),
+        Binary::Del => kind_if(is_map_with_key_type(alloc, first, second)?, first),
         Binary::Range => range_type(alloc, first, second),
     }
 }
@@ -314,7 +322,7 @@ pub fn int_type(alloc: Global, number: i64) -> Result<Kind, Refusal>
 pub fn text_type(alloc: Global, bytes: &[u8]) -> Result<Kind, Refusal>
     ensures { Answers (spec.where_true (lawful.is_text bytes.now) (Some text)) result }
 {
-    where_true(alloc, is_text(bytes), &Ty::Text)
+    kind_of_type_if_true(alloc, is_text(bytes), &Ty::Text)
 }
 
 /// Whether it has at most `LIMIT` bytes, each 32 to 126.

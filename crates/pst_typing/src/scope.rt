@@ -83,7 +83,7 @@ fn kind_seen<'a>(seen: &'a [TypedName], name: &[u8]) -> Option<&'a Kind>
 }
 
 /// The kind of a variable.
-pub fn find_name(names: &Names<'_>, name: &[u8]) -> Result<Kind, Refusal>
+pub fn kind_of_variable(names: &Names<'_>, name: &[u8]) -> Result<Kind, Refusal>
     ensures { Answers (rules.type_named (names_in names.now) name.now) result }
 {
     match names {
@@ -92,7 +92,7 @@ pub fn find_name(names: &Names<'_>, name: &[u8]) -> Result<Kind, Refusal>
             if *bound == name {
                 return Ok(kind.copy()?);
             }
-            find_name(outer, name)
+            kind_of_variable(outer, name)
         }
     }
 }

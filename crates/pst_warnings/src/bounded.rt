@@ -76,7 +76,7 @@ impl<'a> Callbacks for Bounded<'a> {
     ghost model = { λ b. b.limited.callbacks.now };
 
     fn init(&self, alloc: Global) -> Answer {
-        self.limited.begin()?;
+        self.limited.fail_if_out_of_steps()?;
         self.clear_commands(alloc);
         self.limited.init(alloc)
     }
@@ -101,7 +101,7 @@ impl<'a> Callbacks for Bounded<'a> {
         arguments: &[Value],
         r: &Value,
     ) -> Answer {
-        self.limited.begin()?;
+        self.limited.fail_if_out_of_steps()?;
         self.record_command(alloc, op, arguments)?;
         self.limited.next(alloc, op, state, arguments, r)
     }

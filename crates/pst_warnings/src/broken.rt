@@ -1,13 +1,14 @@
 //! Why recorded runs are broken.
 
-use pst_explain::broken_text;
+use crate::item_input::ItemInput;
+use pst_explain::explain_broken_run;
 use pst_judge::{Judged, Verdict};
-use pst_messages::{parts_of_case, place_of};
+use pst_messages::{find_part_of_command, parts_of_case};
 use pst_model::Typed;
 use pst_rejudge::ItemResult;
 use pst_runs::read_runs;
 use pst_sexpr::{Form, Tree, node_of, read, word_of};
-use pst_sources::{Input, span_of};
+use pst_sources::{Notice, span_of};
 use std::alloc::{AllocError, Global};
 use std::slice;
 
@@ -68,7 +69,7 @@ fn path_to_reply(
     let parts = parts_of_case(alloc, form)?;
     let trees = node_of(form).unwrap_or(&[]);
     let replies = trees.iter().position(|tree| is_replies(tree));
-    match (replies, place_of(parts.as_slice(), command)) {
+    match (replies, find_part_of_command(parts.as_slice(), command)) {
         (Some(replies), Some((part, offset))) => {
             Vec::from_slice(alloc, &[item, replies, part.saturating_add(1), offset])
         }
@@ -87,16 +88,16 @@ fn sentence_of(
         return Ok(None);
     };
     match runs.first() {
-        Some(run) => broken_text(alloc, typed, run, command),
+        Some(run) => explain_broken_run(alloc, typed, run, command),
         None => Ok(None),
     }
 }
 
 /// The message on the first broken item, and how many others there are.
-fn text_of(
+fn message_on_broken_items(
     alloc: Global,
     typed: &Typed,
-    input: &Input<'_>,
+    input: &ItemInput<'_>,
     trees: &[Tree],
     broken: &Broken,
 ) -> Result<Option<String>, AllocError> {
@@ -111,9 +112,14 @@ fn text_of(
         return Ok(None);
     };
     let path = path_to_reply(alloc, tree.form(), item, broken.command as usize)?;
-    let span = span_of(input.bytes, path.as_slice());
-    let what = format!(in alloc; "item {item} is broken: {sentence}")?;
-    let mut text = input.message(alloc, span, what.as_str(), &[])?;
+    let notice = Notice {
+        span: span_of(input.trees.bytes, path.as_slice()),
+        is_warning: false,
+        what: format!(in alloc; "item {item} is broken: {sentence}")?,
+        notes: Vec::new(alloc),
+        lines: String::new(alloc),
+    };
+    let mut text = input.text_on_part(alloc, tree.form(), path.as_slice(), notice)?;
     let more = broken.count.saturating_sub(1);
     if more > 0 {
         let items = if more == 1 { "item is" } else { "items are" };
@@ -127,10 +133,10 @@ fn text_of(
 ///
 /// `typed` is the model of the input, and `judged` are the judgements on all items in their order. If an item is
 /// broken, the function reads the trees of the input once more; it returns `None` if that fails.
-pub fn broken_run(
+pub fn explain_first_broken_run(
     alloc: Global,
     typed: &Typed,
-    input: Input<'_>,
+    input: ItemInput<'_>,
     judged: &[Judged],
 ) -> Result<Option<String>, AllocError> {
     let mut broken = None;
@@ -140,18 +146,18 @@ pub fn broken_run(
     let Some(broken) = broken else {
         return Ok(None);
     };
-    match read(alloc, input.bytes) {
-        Ok(trees) => text_of(alloc, typed, &input, trees.as_slice(), &broken),
+    match read(alloc, input.trees.bytes) {
+        Ok(trees) => message_on_broken_items(alloc, typed, &input, trees.as_slice(), &broken),
         Err(_) => Ok(None),
     }
 }
 
 /// Says why the first broken item is broken, and how many others are, for a person to read. Returns `None` if no item
 /// is broken. `answers` are the answers to all items in their order, and `trees` are the trees of the input.
-pub fn broken_answer(
+pub fn explain_first_broken_result(
     alloc: Global,
     typed: &Typed,
-    input: Input<'_>,
+    input: ItemInput<'_>,
     trees: &[Tree],
     answers: &[ItemResult],
 ) -> Result<Option<String>, AllocError> {
@@ -162,7 +168,7 @@ pub fn broken_answer(
         }
     }
     match broken {
-        Some(broken) => text_of(alloc, typed, &input, trees, &broken),
+        Some(broken) => message_on_broken_items(alloc, typed, &input, trees, &broken),
         None => Ok(None),
     }
 }

@@ -32,7 +32,7 @@ pub fn have_preconditions(alloc: Global, items: &[Item]) -> Result<Vec<bool>, Al
 }
 
 /// Whether one of the commands calls a marked operation.
-fn any_marked(marks: &[bool], commands: &[Command]) -> bool {
+fn any_calls_marked_operation(marks: &[bool], commands: &[Command]) -> bool {
     commands
         .iter()
         .any(|command| marks.get(command.op as usize) == Some(&true))
@@ -40,13 +40,12 @@ fn any_marked(marks: &[bool], commands: &[Command]) -> bool {
 
 /// Whether a command of a case calls a marked operation.
 pub fn calls_marked(marks: &[bool], case: &Case) -> bool {
-    any_marked(marks, case.prefix.as_slice())
-        || case
-            .branches
-            .as_slice()
-            .iter()
-            .any(|branch| any_marked(marks, branch.as_slice()))
-        || any_marked(marks, case.suffix.as_slice())
+    any_calls_marked_operation(marks, case.prefix.as_slice())
+        || case.branches.as_slice().iter().any(|branch| any_calls_marked_operation(
+            marks,
+            branch.as_slice(),
+        ))
+        || any_calls_marked_operation(marks, case.suffix.as_slice())
 }
 
 /// Whether all results are known.
@@ -70,7 +69,7 @@ fn count_commands_before_branch(case: &Case, branch: usize) -> usize {
 }
 
 /// The number, from 1, of the command at `place`, from 0, in the interleaving `word`.
-fn number_at(case: &Case, word: &[usize], place: usize) -> usize {
+fn command_number_in_interleaving(case: &Case, word: &[usize], place: usize) -> usize {
     let behind = case.prefix.len();
     let letter = place.saturating_sub(behind);
     if place < behind {
@@ -115,7 +114,7 @@ pub fn first_false_precondition<C: Callbacks>(
     }
     match states.pop() {
         Some(state) => Ok(Some(FailingCommand {
-            command: number_at(case, word, count.saturating_sub(1)),
+            command: command_number_in_interleaving(case, word, count.saturating_sub(1)),
             state,
         })),
         None => Ok(None),

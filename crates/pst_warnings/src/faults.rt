@@ -37,7 +37,7 @@ fn item_number_of_callback(items: &[Item], callback: Callback, operation: u32) -
 
 /// The path to the expression of the callback that faults. In the tree of an operation, its callbacks come after its
 /// head, its name, its parameters and its type.
-fn path_of(
+fn path_to_faulting_expression(
     alloc: Global,
     items: &[Item],
     commands: &[Command],
@@ -108,7 +108,7 @@ pub fn faulty_scripts_warning(
         return Ok(warnings);
     };
     let items = typed.source().items.as_slice();
-    let path = path_of(alloc, items, first.commands.as_slice(), first.place)?;
+    let path = path_to_faulting_expression(alloc, items, first.commands.as_slice(), first.place)?;
     let mut faults = warning(
         alloc,
         input,
@@ -126,7 +126,7 @@ pub fn faulty_scripts_warning(
 ///
 /// `input` begins with the model, `seed` and `commands` are those of the campaign's plan, and `number` is the number of
 /// the trial.
-pub fn genfault_text(
+pub fn explain_generation_fault(
     alloc: Global,
     input: &[u8],
     seed: u64,

@@ -10,13 +10,15 @@ mod bounded;
 mod broken;
 mod failing;
 mod faults;
+mod item_input;
 mod places;
 mod preconditions;
 mod scripts;
 mod spelling;
 mod warning;
 
-pub use broken::{broken_answer, broken_run};
-pub use faults::genfault_text;
+pub use broken::{explain_first_broken_result, explain_first_broken_run};
+pub use faults::explain_generation_fault;
+pub use item_input::ItemInput;
 pub use preconditions::{warnings_on_answers, warnings_on_runs};
 pub use warning::{warnings_in, warnings_of};

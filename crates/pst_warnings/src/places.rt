@@ -1,6 +1,6 @@
 //! The places of the commands of an item.
 
-use pst_messages::{Part, command_with_path, parts_of_case, place_of};
+use pst_messages::{Part, command_with_path, find_part_of_command, parts_of_case};
 use pst_problems::short_text;
 use pst_sexpr::Form;
 use std::alloc::{AllocError, Global};
@@ -49,7 +49,7 @@ impl fmt::Display for CommandPlace {
 
 /// The place of command `command`, counted from 1, in its case.
 fn place_in(parts: &[Part<'_>], command: usize) -> Option<CommandPlace> {
-    let (part, offset) = place_of(parts, command)?;
+    let (part, offset) = find_part_of_command(parts, command)?;
     Some(CommandPlace {
         part: letter_of(parts, part),
         number: offset.saturating_add(1),
@@ -57,14 +57,14 @@ fn place_in(parts: &[Part<'_>], command: usize) -> Option<CommandPlace> {
 }
 
 /// The path of `first` and then `rest`.
-fn path_of(alloc: Global, first: usize, rest: &[usize]) -> Result<Vec<usize>, AllocError> {
+fn prepend_to_path(alloc: Global, first: usize, rest: &[usize]) -> Result<Vec<usize>, AllocError> {
     let mut path = Vec::from_slice(alloc, &[first])?;
     path.extend_from_slice(rest)?;
     Ok(path)
 }
 
 /// The spot of command `command`, counted from 1, of item `item`. `None` if the item has no such command.
-pub fn spot_of(
+pub fn find_spot_of_command(
     alloc: Global,
     form: &Form,
     item: usize,
@@ -77,7 +77,7 @@ pub fn spot_of(
     let Some((steps, call)) = command_with_path(alloc, parts.as_slice(), command)? else {
         return Ok(None);
     };
-    let path = path_of(alloc, item, steps.as_slice())?;
+    let path = prepend_to_path(alloc, item, steps.as_slice())?;
     let call = short_text(alloc, call)?;
     Ok(Some(Spot { path, place, call }))
 }

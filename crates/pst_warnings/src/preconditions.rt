@@ -3,7 +3,8 @@ ghost use Rattle.std.specs.Prelude.{◌≡◌, All};
 ghost use Rattle.pst_runs.specs.Lawful.{AreLawful, IsLawful};
 
 use crate::failing::{FailingCommand, calls_marked, first_false_precondition, have_preconditions};
-use crate::places::{Spot, spot_of};
+use crate::item_input::ItemInput;
+use crate::places::{Spot, find_spot_of_command};
 use crate::spelling::short_value;
 use crate::warning::warning;
 use pst_case::Run;
@@ -12,8 +13,7 @@ use pst_judge::{Judged, Verdict};
 use pst_model::{Source, Typed};
 use pst_rejudge::ItemResult;
 use pst_runs::read_runs;
-use pst_sexpr::{Tree, read};
-use pst_sources::{Input, notice_text};
+use pst_sexpr::{Form, Tree, read};
 use pst_value::Value;
 use std::alloc::{AllocError, Global};
 use std::slice;
@@ -24,7 +24,7 @@ const MOST: usize = 8;
 /// The subject of the warnings: an input, its model, and the operations whose precondition is not just `true`.
 #[derive(Drop)]
 struct Subject<'a> {
-    input: Input<'a>,
+    input: ItemInput<'a>,
     source: &'a Source,
     conditional: Vec<bool>,
 }
@@ -47,16 +47,17 @@ fn precondition_warning(
     let Some(tree) = trees.get(item) else {
         return Ok(String::new(alloc));
     };
-    match spot_of(alloc, tree.form(), item, failing.command)? {
-        Some(spot) => spot_warning(alloc, subject, item, &spot, &failing.state),
+    match find_spot_of_command(alloc, tree.form(), item, failing.command)? {
+        Some(spot) => spot_warning(alloc, subject, tree.form(), item, &spot, &failing.state),
         None => Ok(String::new(alloc)),
     }
 }
 
-/// The warning on the command at `spot`, with the state before it.
+/// The warning on the command at `spot` of item `item`, which is `tree`, with the state before the command.
 fn spot_warning(
     alloc: Global,
     subject: &Subject<'_>,
+    tree: &Form,
     item: usize,
     spot: &Spot,
     state: &Value,
@@ -66,7 +67,7 @@ fn spot_warning(
     let state = short_value(alloc, subject.source, state)?;
     let warning = warning(
         alloc,
-        &subject.input,
+        &subject.input.trees,
         spot.path.as_slice(),
         format_args!(
             "item {item}: the precondition of {place} {call} is not true in the interleaving that explains it"
@@ -75,11 +76,13 @@ fn spot_warning(
             "the state before it is {state}; a verdict on a recorded run checks no precondition"
         ),
     )?;
-    notice_text(alloc, &subject.input, &warning)
+    subject
+        .input
+        .text_on_part(alloc, tree, spot.path.as_slice(), warning)
 }
 
 /// Adds the recorded run of item `item`, which the interleaving `word` explains, if it gets a warning.
-fn add_run<C: Callbacks>(
+fn add_run_with_false_precondition<C: Callbacks>(
     found: &mut FoundItems,
     callbacks: &C,
     alloc: Global,
@@ -112,7 +115,7 @@ fn explaining_interleaving(judged: &Judged) -> Option<&[usize]> {
 }
 
 /// The text of the warnings on the items in `found`; `None` if it is empty.
-fn text_of(
+fn precondition_warnings_text(
     alloc: Global,
     subject: &Subject<'_>,
     trees: &[Tree],
@@ -137,7 +140,7 @@ fn text_of(
 
 /// Adds the items of `runs` that get a warning. `judged` are their judgements, and `first` is the number of the first
 /// one, from 1.
-fn add_runs<C: Callbacks>(
+fn add_runs_with_false_preconditions<C: Callbacks>(
     found: &mut FoundItems,
     callbacks: &C,
     alloc: Global,
@@ -156,7 +159,7 @@ fn add_runs<C: Callbacks>(
             return Ok(());
         };
         if let Some(word) = explaining_interleaving(judged) {
-            add_run(found, callbacks, alloc, subject, item, run, word)?;
+            add_run_with_false_precondition(found, callbacks, alloc, subject, item, run, word)?;
         }
         item = item.saturating_add(1);
         rest = later;
@@ -166,7 +169,7 @@ fn add_runs<C: Callbacks>(
 }
 
 /// Adds the items of all `parts` that get a warning. `judged` are their judgements in their order.
-fn add_parts<C: Callbacks>(
+fn add_false_preconditions_of_parts<C: Callbacks>(
     found: &mut FoundItems,
     callbacks: &C,
     alloc: Global,
@@ -179,7 +182,7 @@ fn add_parts<C: Callbacks>(
     let mut first: usize = 1;
     let mut left = judged;
     for runs in parts {
-        add_runs(
+        add_runs_with_false_preconditions(
             found,
             callbacks,
             alloc,
@@ -195,7 +198,7 @@ fn add_parts<C: Callbacks>(
 }
 
 /// Adds item `item`, counted from 1, of the input if it was judged and gets a warning.
-fn add_answer<C: Callbacks>(
+fn add_result_with_false_precondition<C: Callbacks>(
     found: &mut FoundItems,
     callbacks: &C,
     alloc: Global,
@@ -217,7 +220,7 @@ fn add_answer<C: Callbacks>(
         return Ok(());
     }
     match read_runs(alloc, typed, slice::from_ref(tree)) {
-        Ok(runs) => add_runs(
+        Ok(runs) => add_runs_with_false_preconditions(
             found,
             callbacks,
             alloc,
@@ -231,10 +234,10 @@ fn add_answer<C: Callbacks>(
 }
 
 /// The subject of the warnings on an input; `None` if the precondition of each operation is the expression `true`.
-fn subject_of<'a>(
+fn subject_of_precondition_warnings<'a>(
     alloc: Global,
     typed: &'a Typed,
-    input: Input<'a>,
+    input: ItemInput<'a>,
 ) -> Result<Option<Subject<'a>>, AllocError> {
     let source = typed.source();
     let conditional = have_preconditions(alloc, source.items.as_slice())?;
@@ -267,22 +270,22 @@ pub fn warnings_on_runs<C: Callbacks>(
     callbacks: &C,
     alloc: Global,
     typed: &Typed,
-    input: Input<'_>,
+    input: ItemInput<'_>,
     parts: &[Vec<Run>],
     judged: &[Judged],
 ) -> Result<Option<String>, AllocError>
     requires { All (λ runs. AreLawful (C.model callbacks.now) runs.items) parts.now }
 {
-    let Some(subject) = subject_of(alloc, typed, input)? else {
+    let Some(subject) = subject_of_precondition_warnings(alloc, typed, input)? else {
         return Ok(None);
     };
     let mut found = nothing_found(alloc);
-    add_parts(&mut found, callbacks, alloc, &subject, parts, judged)?;
+    add_false_preconditions_of_parts(&mut found, callbacks, alloc, &subject, parts, judged)?;
     if found.count == 0 {
         return Ok(None);
     }
-    match read(alloc, subject.input.bytes) {
-        Ok(trees) => text_of(alloc, &subject, trees.as_slice(), &found),
+    match read(alloc, subject.input.trees.bytes) {
+        Ok(trees) => precondition_warnings_text(alloc, &subject, trees.as_slice(), &found),
         Err(_) => Ok(None),
     }
 }
@@ -293,21 +296,21 @@ pub fn warnings_on_answers<C: Callbacks>(
     callbacks: &C,
     alloc: Global,
     typed: &Typed,
-    input: Input<'_>,
+    input: ItemInput<'_>,
     trees: &[Tree],
     answers: &[ItemResult],
 ) -> Result<Option<String>, AllocError>
     requires { typed.now ≡ C.model callbacks.now }
 {
-    let Some(subject) = subject_of(alloc, typed, input)? else {
+    let Some(subject) = subject_of_precondition_warnings(alloc, typed, input)? else {
         return Ok(None);
     };
     let mut found = nothing_found(alloc);
     for (index, answer) in answers.iter().enumerate() {
         let item = index.saturating_add(1);
-        add_answer(
+        add_result_with_false_precondition(
             &mut found, callbacks, alloc, typed, &subject, trees, item, answer,
         )?;
     }
-    text_of(alloc, &subject, trees, &found)
+    precondition_warnings_text(alloc, &subject, trees, &found)
 }

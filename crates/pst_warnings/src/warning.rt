@@ -6,7 +6,7 @@ use pst_compile::{Compiled, compile};
 use pst_model::Item;
 use pst_sexpr::{Form, Tree, node_of, word_of};
 use pst_sources::{Input, Notice, Notices, SourceFile, span_of, text_of};
-use pst_typing::{ModelFile, items_of, load};
+use pst_typing::{ModelFile, load, trees_after_model};
 use std::alloc::{AllocError, Global};
 use std::fmt::Display;
 
@@ -56,7 +56,7 @@ fn no_initial_call_warning(
 }
 
 /// The warning that no script calls the operation `name`.
-fn never_called(
+fn uncalled_operation_warning(
     alloc: Global,
     input: &Input<'_>,
     item: usize,
@@ -83,7 +83,7 @@ fn uncalled_warnings(
     for (number, item) in items.iter().enumerate() {
         if let Item::Op(op) = item {
             if called.get(operation) == Some(&false) {
-                warnings.push(never_called(alloc, input, number, op.name.as_str())?)?;
+                warnings.push(uncalled_operation_warning(alloc, input, number, op.name.as_str())?)?;
             }
             operation = operation.saturating_add(1);
         }
@@ -134,7 +134,7 @@ fn add_further_model_warnings(
     trees: &[Tree],
     warnings: &mut Vec<Notice>,
 ) -> Result<(), AllocError> {
-    for (index, tree) in items_of(trees).iter().enumerate() {
+    for (index, tree) in trees_after_model(trees).iter().enumerate() {
         if is_model(tree.form()) {
             let path = [index.saturating_add(1)];
             let warning = warning(

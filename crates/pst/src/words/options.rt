@@ -49,7 +49,10 @@ fn shared_option<'a>(alloc: Global) -> Result<Arg<'a>, AllocError> {
 }
 
 /// Adds the arguments that choose what is tested: a system, or a client with its options.
-pub fn with_client<'a>(alloc: Global, command: Command<'a>) -> Result<Command<'a>, AllocError> {
+pub fn add_system_or_client_arguments<'a>(
+    alloc: Global,
+    command: Command<'a>,
+) -> Result<Command<'a>, AllocError> {
     command
         .arg(system_argument(alloc)?)?
         .arg(client_option(alloc))?

@@ -114,7 +114,10 @@ fn chooses_cases(number: &PlanNumber) -> bool {
 }
 
 /// Adds an option for each number of a campaign's plan.
-pub fn with_numbers<'a>(alloc: Global, command: Command<'a>) -> Result<Command<'a>, AllocError> {
+pub fn add_campaign_number_options<'a>(
+    alloc: Global,
+    command: Command<'a>,
+) -> Result<Command<'a>, AllocError> {
     let mut command = command;
     for number in &PLAN_NUMBERS {
         command = command.arg(plan_option(alloc, number))?;
@@ -123,7 +126,7 @@ pub fn with_numbers<'a>(alloc: Global, command: Command<'a>) -> Result<Command<'
 }
 
 /// Adds an option for each number of `generate`: which trials there are, and what chooses their cases.
-pub fn with_case_numbers<'a>(
+pub fn add_generate_number_options<'a>(
     alloc: Global,
     command: Command<'a>,
 ) -> Result<Command<'a>, AllocError> {
@@ -145,7 +148,7 @@ fn small_number(words: &ArgMatches<'_>, name: &str) -> Option<u32> {
 }
 
 /// The settings that the arguments of `generate` give: no trial is driven with them. Each was found to be in its range.
-pub fn case_settings(words: &ArgMatches<'_>) -> Option<Settings>
+pub fn generate_settings_from_arguments(words: &ArgMatches<'_>) -> Option<Settings>
     ensures { IfSome result AreInRange }
 {
     let settings = Settings {
@@ -165,7 +168,7 @@ pub fn case_settings(words: &ArgMatches<'_>) -> Option<Settings>
 }
 
 /// The settings that the arguments of `campaign` give. Each has a default and was found to be in its range.
-pub fn settings(words: &ArgMatches<'_>) -> Option<Settings>
+pub fn campaign_settings_from_arguments(words: &ArgMatches<'_>) -> Option<Settings>
     ensures { IfSome result AreInRange }
 {
     let settings = Settings {

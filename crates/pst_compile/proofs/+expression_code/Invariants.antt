@@ -16,8 +16,8 @@ decreases-expressions::unary_code l = 4 * weight l.operand.now + 3
 abbrev pub decreases-expressions::binary_code : goal.decreases-expressions::binary_code
 decreases-expressions::binary_code l = 4 * (weight l.first.now + weight l.second.now) + 3
 
-abbrev pub decreases-expressions::put_code : goal.decreases-expressions::put_code
-decreases-expressions::put_code l = 4 * (weight l.map.now + weight l.key.now + weight l.value.now) + 3
+abbrev pub decreases-expressions::map_put_code : goal.decreases-expressions::map_put_code
+decreases-expressions::map_put_code l = 4 * (weight l.map.now + weight l.key.now + weight l.value.now) + 3
 
 abbrev pub decreases-expressions::let_code : goal.decreases-expressions::let_code
 decreases-expressions::let_code l = 4 * (weight l.bound.now + weight l.body.now) + 3
@@ -40,8 +40,8 @@ decreases-expressions::apply_code l = 4 * total (map weight l.exprs.now) + 3
 abbrev pub decreases-expressions::operands_code : goal.decreases-expressions::operands_code
 decreases-expressions::operands_code l = 4 * total (map weight l.exprs.now) + 2
 
-abbrev pub decreases-overwriting::overwrite : goal.decreases-overwriting::overwrite
-decreases-overwriting::overwrite l = 4 * weight l.expr.now + 1
+abbrev pub decreases-overwriting::overwriting_code : goal.decreases-overwriting::overwriting_code
+decreases-overwriting::overwriting_code l = 4 * weight l.expr.now + 1
 
 abbrev pub decreases-overwriting::overwrite_by_let : goal.decreases-overwriting::overwrite_by_let
 decreases-overwriting::overwrite_by_let l = 4 * (weight l.bound.now + weight l.body.now) + 3
@@ -55,14 +55,14 @@ decreases-loops::for_code l = 4 * (total (map clause_weight l.clauses.now) + wei
 abbrev pub decreases-loops::fold_code : goal.decreases-loops::fold_code
 decreases-loops::fold_code l = 4 * (weight l.list.now + weight l.first.now + weight l.body.now) + 3
 
-abbrev pub decreases-loops::visit_code : goal.decreases-loops::visit_code
-decreases-loops::visit_code l = 4 * (total (map clause_weight l.clauses.now) + weight l.body.now) + 2
+abbrev pub decreases-loops::clauses_code : goal.decreases-loops::clauses_code
+decreases-loops::clauses_code l = 4 * (total (map clause_weight l.clauses.now) + weight l.body.now) + 2
 
-abbrev pub decreases-loops::in_code : goal.decreases-loops::in_code
-decreases-loops::in_code l = 4 * (weight l.list.now + 1 + total (map clause_weight l.rest.now) + weight l.body.now) + 1
+abbrev pub decreases-loops::in_clause_code : goal.decreases-loops::in_clause_code
+decreases-loops::in_clause_code l = 4 * (weight l.list.now + 1 + total (map clause_weight l.rest.now) + weight l.body.now) + 1
 
-abbrev pub decreases-loops::when_code : goal.decreases-loops::when_code
-decreases-loops::when_code l = 4 * (weight l.test.now + 1 + total (map clause_weight l.rest.now) + weight l.body.now) + 1
+abbrev pub decreases-loops::when_clause_code : goal.decreases-loops::when_clause_code
+decreases-loops::when_clause_code l = 4 * (weight l.test.now + 1 + total (map clause_weight l.rest.now) + weight l.body.now) + 1
 
 abbrev pub invariant-expressions::operands_code-loop-expr : goal.invariant-expressions::operands_code-loop-expr
 invariant-expressions::operands_code-loop-expr l =

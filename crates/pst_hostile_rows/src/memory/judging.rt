@@ -13,7 +13,7 @@ use pst_judge::{Valid, verdict};
 use pst_model::Typed;
 use pst_runs::{RunFaultKind, WriteFault, read_runs, write_runs};
 use pst_sexpr::Out;
-use pst_typing::items_of;
+use pst_typing::trees_after_model;
 use rand_pcg::Pcg64;
 use std::alloc::{AllocError, Global};
 use std::thread::Threads;
@@ -23,7 +23,7 @@ fn runs_of(alloc: Global, typed: &Typed) -> Result<Vec<Run>, Refused>
     ensures { IfOk result (λ runs. AreLawful typed.now runs.items) }
 {
     let trees = trees_of(alloc)?;
-    match read_runs(alloc, typed, items_of(trees.as_slice())) {
+    match read_runs(alloc, typed, trees_after_model(trees.as_slice())) {
         Ok(runs) => Ok(runs),
         Err(fault) if fault.kind == RunFaultKind::Case(CaseFaultKind::NoMemory) => {
             Err(Refused::NoMemory)

@@ -33,7 +33,7 @@ fn item_form(
 
 /// Proves that a valid run is read from its tree. It allocates nothing: it only uses the invariants of the types of the
 /// model and of the case.
-pub fn is_read(typed: &Typed, run: &Run)
+pub fn prove_run_is_read_back(typed: &Typed, run: &Run)
     requires { IsLawful typed.now run.now }
     ensures { IsRead typed.now run.now }
 {
@@ -54,7 +54,7 @@ pub fn run_tree(alloc: Global, typed: &Typed, run: &Run) -> Result<Tree, AllocEr
     // It is read as the run.
     ensures read { IfOk result (λ tree. item_of typed.now tree ≡ Ok run.now) }
 {
-    is_read(typed, run);
+    prove_run_is_read_back(typed, run);
     let form = item_form(alloc, typed.source(), run.shaped.case(), &run.history)?;
     Ok(Tree::new(form))
 }

@@ -8,21 +8,21 @@ ghost use Rattle.pst_sexpr.specs.Reading.{Spells};
 ghost use Rattle.pst_sexpr.specs.Writing.{Writes};
 
 use crate::write::fault::WriteFault;
-use crate::write::items::{is_read, run_tree};
+use crate::write::items::{prove_run_is_read_back, run_tree};
 use pst_case::Run;
 use pst_model::Typed;
 use pst_sexpr::{Sink, Tree, WriteFailed, put_all, write};
 use std::alloc::{AllocError, Global};
 
 /// Proves that the lines of valid runs spell their trees, and that these are read as the runs. It allocates nothing: it
-/// only uses `is_read` for each run.
-fn are_read(typed: &Typed, runs: &[Run])
+/// only uses `prove_run_is_read_back` for each run.
+fn prove_runs_are_read_back(typed: &Typed, runs: &[Run])
     requires { AreLawful typed.now runs.now }
     ensures spelled { Spells (lines_of (run_forms typed.now runs.now)) (run_forms typed.now runs.now) }
     ensures read { runs_of typed.now (run_forms typed.now runs.now) ≡ Ok runs.now }
 {
     for run in runs {
-        is_read(typed, run);
+        prove_run_is_read_back(typed, run);
     }
 }
 
@@ -83,7 +83,7 @@ pub fn write_runs<W: Sink>(
     // The trees are read as the runs.
     ensures read { runs_of typed.now (run_forms typed.now runs.now) ≡ Ok runs.now }
 {
-    are_read(typed, runs);
+    prove_runs_are_read_back(typed, runs);
     let trees = run_trees(alloc, typed, runs)?;
     write_lines(trees.as_slice(), writer)?;
     Ok(())

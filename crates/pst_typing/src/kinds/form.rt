@@ -63,38 +63,38 @@ pub fn node_holds_ref(alloc: Global, nodes: &Nodes, number: usize) -> Result<boo
 {
     let mut held = Items::new(alloc);
     for at in 0..nodes.len() {
-        let holds = holds_by(nodes.get(at), held.as_slice());
+        let holds = node_holds_ref_by_parts(nodes.get(at), held.as_slice());
         held.push(holds)?;
     }
-    Ok(held_at(held.as_slice(), number))
+    Ok(part_holds_ref(held.as_slice(), number))
 }
 
 /// Whether a node holds a reference or a call, by what is known of the nodes before it.
-fn holds_by(node: &Node, held: &[bool]) -> bool
+fn node_holds_ref_by_parts(node: &Node, held: &[bool]) -> bool
     requires { IsBelow (length held.now) node.now }
     ensures { result ≡ spec.node_holds held.now node.now }
 {
     match node {
         Node::Int | Node::Bool | Node::Text => false,
-        Node::Tuple(parts) => any_held(parts.as_slice(), held),
-        Node::List(part) | Node::Map(_, part) => held_at(held, *part),
+        Node::Tuple(parts) => any_part_holds_ref(parts.as_slice(), held),
+        Node::List(part) | Node::Map(_, part) => part_holds_ref(held, *part),
         Node::Ref(_) | Node::Call => true,
     }
 }
 
-fn any_held(parts: &[usize], held: &[bool]) -> bool
+fn any_part_holds_ref(parts: &[usize], held: &[bool]) -> bool
     requires { AreBelow (length held.now) parts.now }
     ensures { result ≡ list_any (spec.held_at held.now) parts.now }
 {
     for part in parts {
-        if held_at(held, *part) {
+        if part_holds_ref(held, *part) {
             return true;
         }
     }
     false
 }
 
-fn held_at(held: &[bool], part: usize) -> bool
+fn part_holds_ref(held: &[bool], part: usize) -> bool
     requires { part < length held.now }
     ensures { result ≡ spec.held_at held.now part }
 {

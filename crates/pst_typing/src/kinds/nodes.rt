@@ -120,15 +120,15 @@ fn renumbered(alloc: Global, node: &Node, places: &[usize]) -> Result<Node, Allo
         Node::Bool => Ok(Node::Bool),
         Node::Text => Ok(Node::Text),
         Node::Tuple(parts) => Ok(Node::Tuple(all_renumbered(alloc, parts.as_slice(), places)?)),
-        Node::List(part) => Ok(Node::List(place_of(places, *part))),
-        Node::Map(keys, part) => Ok(Node::Map(*keys, place_of(places, *part))),
-        Node::Ref(part) => Ok(Node::Ref(place_of(places, *part))),
+        Node::List(part) => Ok(Node::List(new_number_of_part(places, *part))),
+        Node::Map(keys, part) => Ok(Node::Map(*keys, new_number_of_part(places, *part))),
+        Node::Ref(part) => Ok(Node::Ref(new_number_of_part(places, *part))),
         Node::Call => Ok(Node::Call),
     }
 }
 
 /// The place of a part.
-fn place_of(places: &[usize], part: usize) -> usize
+fn new_number_of_part(places: &[usize], part: usize) -> usize
     requires { part < length places.now }
     ensures { result ≡ slice_index places.now part }
 {
@@ -146,7 +146,7 @@ fn all_renumbered(
 {
     let mut copies = Items::new(alloc);
     for part in parts {
-        copies.push(place_of(places, *part))?;
+        copies.push(new_number_of_part(places, *part))?;
     }
     Ok(copies)
 }

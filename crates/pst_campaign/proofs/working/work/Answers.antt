@@ -2,4 +2,4 @@ use Rattle.pst_campaign.proofs.Given.{always}
 use Rattle.pst_campaign.proofs.working.work.Goals as goal
 
 pub returns-clause-marked : goal.returns-clause-marked
-returns-clause-marked g c = always c.work_with.ensures.marked
+returns-clause-marked g c = always c.run_trials_until_over.ensures.marked

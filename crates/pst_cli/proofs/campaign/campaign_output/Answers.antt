@@ -4,7 +4,7 @@ use Rattle.pst_cli.proofs.campaign.campaign_output.Goals as goal
 pub returns-in-Ok : goal.returns-in-Ok
 returns-in-Ok g c =
     accepted_output _ _ c.args.settings c.args.systems.items c.args.input.now c.in-Ok.file.typed c.in-Ok.file.trees.items
-    (rw c.in-Ok.is at c.in_ok-file.ensures) c.output_for.result c.output_for.ensures
+    (rw c.in-Ok.is at c.in_ok-file.ensures) c.run_campaign_on_model.result c.run_campaign_on_model.ensures
 
 pub returns-in-Err : goal.returns-in-Err
 returns-in-Err g c =

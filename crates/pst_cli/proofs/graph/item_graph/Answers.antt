@@ -15,21 +15,21 @@ returns-in_default-get c =
     let here : c.in-Some.index ≡ c.args.number - 1 = c.in-Some.ensures.1 in
     λ h. let within : c.args.number ≤ length c.args.all.now = h.1 in absurd (omega arith)
 
-pub graph_item-requires-clause-shaped : goal.graph_item-requires-clause-shaped
-graph_item-requires-clause-shaped c =
+pub draw_search_as_graphviz-requires-clause-shaped : goal.draw_search_as_graphviz-requires-clause-shaped
+draw_search_as_graphviz-requires-clause-shaped c =
     let found = c.in-Some-get.ensures.lookup in
     (lawful_here c.args.compiled.now c.args.runs.now c.in-Some.index c.in-Some-get.run'.now found.3.0 found.1
     c.requires.lawful).model
 
-pub graph_item-requires-clause-matches : goal.graph_item-requires-clause-matches
-graph_item-requires-clause-matches c =
+pub draw_search_as_graphviz-requires-clause-matches : goal.draw_search_as_graphviz-requires-clause-matches
+draw_search_as_graphviz-requires-clause-matches c =
     let found = c.in-Some-get.ensures.lookup in
     history_matches c.args.compiled.now c.in-Some-get.run'.now
     (lawful_here c.args.compiled.now c.args.runs.now c.in-Some.index c.in-Some-get.run'.now found.3.0 found.1
     c.requires.lawful)
 
-pub graph_item-requires-clause-judged : goal.graph_item-requires-clause-judged
-graph_item-requires-clause-judged c =
+pub draw_search_as_graphviz-requires-clause-judged : goal.draw_search_as_graphviz-requires-clause-judged
+draw_search_as_graphviz-requires-clause-judged c =
     let m = c.args.compiled.now in
     let runs = c.args.runs.now in
     let all = c.args.all.now in

@@ -7,7 +7,7 @@ use Rattle.pst_cli.proofs.item_report.drive_item.Goals as goal
 pub returns-in-Ok-clause-report : goal.returns-in-Ok-clause-report
 returns-in-Ok-clause-report g c =
     driven_item c.args.compiled.now _ _ _ c.args.valid c.in-Ok.history c.requires.model c.into_shaped-shaped.ensures.validity (rw c.typed.ensures at c.in-Ok.ensures.matches) (rw c.typed.ensures at c.in-Ok.ensures.driven)
-    c.run_report.result (rw c.into_shaped-shaped.ensures.same at c.run_report.ensures)
+    c.judge_driven_run.result (rw c.into_shaped-shaped.ensures.same at c.judge_driven_run.ensures)
 
 pub returns-in-Err-clause-report : goal.returns-in-Err-clause-report
 returns-in-Err-clause-report g c =

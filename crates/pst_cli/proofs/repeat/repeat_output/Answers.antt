@@ -25,22 +25,22 @@ returns-in-Ok-2-clause-output g c =
     let m = c.in-Ok.file.compiled in
     let trees = c.in-Ok.file.trees.items in
     let runs = c.in-Ok-2.runs.items in
-    let items : items_of trees ≡ c.items_of-items.result.now = ap items_of (sym c.as_slice.ensures.value) ∙ sym c.items_of-items.ensures in
-    let read : runs_of m c.items_of-items.result.now ≡ Ok runs = rw (c.typed.ensures, c.in-Ok-2.is) at c.in_ok-runs.ensures.runs in
+    let items : items_of trees ≡ c.trees_after_model-items.result.now = ap items_of (sym c.as_slice.ensures.value) ∙ sym c.trees_after_model-items.ensures in
+    let read : runs_of m c.trees_after_model-items.result.now ≡ Ok runs = rw (c.typed.ensures, c.in-Ok-2.is) at c.in_ok-runs.ensures.runs in
     let AreSo : Output → Type 0 = λ o. ReportsAll m (s.answers c.args.system.now.value) (s.fails c.args.system.now.value) (s.reset_fails c.args.system.now.value) c.args.repeats c.as_slice-in-Ok-2.result.now o.text.items o.status in
     let IsSo : Output → Type 0 = λ o. IsRepeatOutput (s.answers c.args.system.now.value) (s.fails c.args.system.now.value) (s.reset_fails c.args.system.now.value) c.args.repeats c.args.input.now o.text.items o.status in
     let so : (o : Output) → AreSo o → IsSo o =
     λ o h. let OfRuns : List Run → Type 0 = λ rs. ReportsAll m (s.answers c.args.system.now.value) (s.fails c.args.system.now.value) (s.reset_fails c.args.system.now.value) c.args.repeats rs o.text.items o.status in
     reported m trees runs (rw c.in-Ok.is at c.in_ok-file.ensures) (ap (runs_of m) items ∙ read) (subst OfRuns c.as_slice-in-Ok-2.ensures.value h) in
-    if_ok_then AreSo IsSo so c.all_reports.result c.all_reports.ensures.reported
+    if_ok_then AreSo IsSo so c.drive_and_join_all_reports.result c.drive_and_join_all_reports.ensures.reported
 
 pub returns-clause-output : goal.returns-clause-output
 returns-clause-output g c =
     let s = (g.dyn-1.0.entry c.args.system.now.vtable).1 in
     let m = c.in-Ok.file.compiled in
     let trees = c.in-Ok.file.trees.items in
-    let items : items_of trees ≡ c.items_of-items.result.now = ap items_of (sym c.as_slice.ensures.value) ∙ sym c.items_of-items.ensures in
-    let read : runs_of m c.items_of-items.result.now ≡ Err c.in-Err-2.fault = rw (c.typed.ensures, c.in-Err-2.is) at c.in_ok-runs.ensures.runs in
+    let items : items_of trees ≡ c.trees_after_model-items.result.now = ap items_of (sym c.as_slice.ensures.value) ∙ sym c.trees_after_model-items.ensures in
+    let read : runs_of m c.trees_after_model-items.result.now ≡ Err c.in-Err-2.fault = rw (c.typed.ensures, c.in-Err-2.is) at c.in_ok-runs.ensures.runs in
     let HasText : Output → Type 0 = λ o. o.text.items ≡ run_line c.in-Err-2.fault in
     let IsRefused : Output → Type 0 = λ o. o.status ≡ Refused in
     let IsSo : Output → Type 0 = λ o. IsRepeatOutput (s.answers c.args.system.now.value) (s.fails c.args.system.now.value) (s.reset_fails c.args.system.now.value) c.args.repeats c.args.input.now o.text.items o.status in

@@ -14,8 +14,8 @@ returns-clause-driven g c =
     (rw (c.as_slice-2.ensures, c.as_slice-branches.ensures) at c.in_ok-branches.ensures.replies)
     (rw (c.as_slice-3.ensures, c.new-2.ensures) at c.in_ok-suffix.ensures)
 
-pub run_part-requires : goal.run_part-requires
-run_part-requires g c = rw c.as_slice.ensures (prefix_known _ _ c.requires.shaped)
+pub call_commands_in_order-requires : goal.call_commands_in_order-requires
+call_commands_in_order-requires g c = rw c.as_slice.ensures (prefix_known _ _ c.requires.shaped)
 
 pub run_branches-requires : goal.run_branches-requires
 run_branches-requires g c = (search rules, rw c.as_slice-branches.ensures (each_branch_known _ _ c.requires.shaped))

@@ -26,19 +26,19 @@ eval_all-loop-expr-preserved t c =
     all_goes (mean_in c.args.context.now) c.args.exprs.now c.loop-expr.expr-index c.expr-item.result c.loop-expr.all c.push.new.self (env_of c.args.env.now) c.loop-expr.turns c.args.turns.now c.eval.new.turns c.in_ok-eval.field-0
     c.loop-expr-test.true c.expr-item.is c.loop-expr.invariant c.in_ok-eval.ensures c.in_ok-push.ensures.ok
 
-pub visit_each-returns-in_err-more : goal.visit_each-returns-in_err-more
-visit_each-returns-in_err-more t c =
+pub eval_clauses_for_each-returns-in_err-more : goal.eval_clauses_for_each-returns-in_err-more
+eval_clauses_for_each-returns-in_err-more t c =
     let p = err_from_is_err_and c.from_residual-in_err-more.result c.from_residual-in_err-more.ensures.1 in
     rw (p.1, p.2) (each_stops (visit (parts_in c.args.context.now c.args.rest.now) (mean_in c.args.context.now c.args.body.now)) c.args.name.now (env_of c.args.env.now) c.args.items.now c.loop-item.item-index c.item-item.result c.loop-item.built c.args.built c.loop-item.turns c.args.turns.now c.take_turn.new.turns _ c.loop-item-test.true c.item-item.is c.in_ok-take_turn.ensures c.loop-item.invariant c.in_err-more.ensures)
 
-pub visit_each-loop-item-preserved : goal.visit_each-loop-item-preserved
-visit_each-loop-item-preserved t c =
-    each_goes (visit (parts_in c.args.context.now c.args.rest.now) (mean_in c.args.context.now c.args.body.now)) c.args.name.now (env_of c.args.env.now) c.args.items.now c.loop-item.item-index c.item-item.result c.loop-item.built c.args.built c.in_ok-more.more c.loop-item.turns c.args.turns.now c.take_turn.new.turns c.visit.new.turns c.loop-item-test.true c.item-item.is c.in_ok-take_turn.ensures c.loop-item.invariant c.in_ok-more.ensures
+pub eval_clauses_for_each-loop-item-preserved : goal.eval_clauses_for_each-loop-item-preserved
+eval_clauses_for_each-loop-item-preserved t c =
+    each_goes (visit (parts_in c.args.context.now c.args.rest.now) (mean_in c.args.context.now c.args.body.now)) c.args.name.now (env_of c.args.env.now) c.args.items.now c.loop-item.item-index c.item-item.result c.loop-item.built c.args.built c.in_ok-more.more c.loop-item.turns c.args.turns.now c.take_turn.new.turns c.eval_clauses.new.turns c.loop-item-test.true c.item-item.is c.in_ok-take_turn.ensures c.loop-item.invariant c.in_ok-more.ensures
 
-pub visit-returns-in-In : goal.visit-returns-in-In
-visit-returns-in-In t c =
+pub eval_clauses-returns-in-In : goal.eval_clauses-returns-in-In
+eval_clauses-returns-in-In t c =
     let e = visit_in c.args.context.now.items.now (functions_in c.args.context.now) c.args.clauses.now c.in-Some.rest.now c.in-Some.first.now c.in-In.name c.in-In.list (mean_in c.args.context.now c.args.body.now) (env_of c.args.env.now) c.args.built c.in_ok-items-in-In.items c.in_ok-value-in-In.value c.args.turns.now c.eval-in-In.new.turns c.in-Some.ensures c.in-In.is c.in_ok-value-in-In.ensures c.in_ok-items-in-In.ensures in
-    rw e (rw (c.as_bytes.ensures, c.as_slice.ensures) at c.visit_each.ensures)
+    rw e (rw (c.as_bytes.ensures, c.as_slice.ensures) at c.eval_clauses_for_each.ensures)
 
 pub comprehension-returns-in_err-built : goal.comprehension-returns-in_err-built
 comprehension-returns-in_err-built t c =
@@ -50,8 +50,8 @@ eval_fold-returns t c =
     let e = fold_in c.args.context.now.items.now (functions_in c.args.context.now) c.args.name.now c.args.list.now c.args.acc.now c.args.first.now c.args.body.now _ (env_of c.args.env.now) c.in_ok-items.items c.in_ok-value.value c.in_ok-first.first c.args.turns.now c.eval.new.turns c.eval-2.new.turns refl (rw c.get.ensures at c.in_ok-value.ensures) c.in_ok-items.ensures (rw c.get-2.ensures at c.in_ok-first.ensures) in
     rw e (rw (c.get-3.ensures, c.as_bytes.ensures, c.as_bytes-2.ensures, c.as_slice.ensures) at c.fold_over.ensures)
 
-pub visit-returns-then-branch : goal.visit-returns-then-branch
-visit-returns-then-branch t c =
+pub eval_clauses-returns-then-branch : goal.eval_clauses-returns-then-branch
+eval_clauses-returns-then-branch t c =
     let holds = rw c.if-branch.true at c.in_ok-truth_of-in-When.ensures in
     let e = visit_when c.args.context.now.items.now (functions_in c.args.context.now) c.args.clauses.now c.in-Some.rest.now c.in-Some.first.now c.in-When.test (mean_in c.args.context.now c.args.body.now) (env_of c.args.env.now) c.args.built c.in_ok-value-in-When.value c.args.turns.now c.eval-in-When.new.turns c.in-Some.ensures c.in-When.is c.in_ok-value-in-When.ensures holds in
-    rw e c.visit.ensures
+    rw e c.eval_clauses.ensures

@@ -34,11 +34,11 @@ decreases-eval_all l = 4 * (total (map weight l.exprs.now) + functions_weight (r
 abbrev pub decreases-comprehension : goal.decreases-comprehension
 decreases-comprehension l = 4 * (total (map clause_weight l.clauses.now) + weight l.body.now + functions_weight (reverse l.context.now.earlier.now)) + 2
 
-abbrev pub decreases-visit : goal.decreases-visit
-decreases-visit l = 4 * (total (map clause_weight l.clauses.now) + weight l.body.now + functions_weight (reverse l.context.now.earlier.now)) + 1
+abbrev pub decreases-eval_clauses : goal.decreases-eval_clauses
+decreases-eval_clauses l = 4 * (total (map clause_weight l.clauses.now) + weight l.body.now + functions_weight (reverse l.context.now.earlier.now)) + 1
 
-abbrev pub decreases-visit_each : goal.decreases-visit_each
-decreases-visit_each l = 4 * (total (map clause_weight l.rest.now) + weight l.body.now + functions_weight (reverse l.context.now.earlier.now)) + 2
+abbrev pub decreases-eval_clauses_for_each : goal.decreases-eval_clauses_for_each
+decreases-eval_clauses_for_each l = 4 * (total (map clause_weight l.rest.now) + weight l.body.now + functions_weight (reverse l.context.now.earlier.now)) + 2
 
 abbrev pub decreases-eval_fold : goal.decreases-eval_fold
 decreases-eval_fold l = 4 * (weight l.list.now + weight l.first.now + weight l.body.now + functions_weight (reverse l.context.now.earlier.now)) + 2
@@ -53,8 +53,8 @@ abbrev pub invariant-eval_all-loop-expr : goal.invariant-eval_all-loop-expr
 invariant-eval_all-loop-expr l =
     all_from l.all (map (mean_in l.context) (drop l.expr-index l.exprs)) (env_of l.env) l.turns ≡ all_from [] (map (mean_in l.context) l.exprs) (env_of l.env) l.initial.turns
 
-abbrev pub invariant-visit_each-loop-item : goal.invariant-visit_each-loop-item
-invariant-visit_each-loop-item l =
+abbrev pub invariant-eval_clauses_for_each-loop-item : goal.invariant-eval_clauses_for_each-loop-item
+invariant-eval_clauses_for_each-loop-item l =
     let next = visit (parts_in l.context l.rest) (mean_in l.context l.body) in
     visit_each next l.name (env_of l.env) (drop l.item-index l.items) l.built l.turns ≡ visit_each next l.name (env_of l.env) l.items l.initial.built l.initial.turns
 

@@ -6,13 +6,13 @@ use Rattle.pst_grid.proofs.plain_search.+search.Goals as goal
 
 pub explore-returns-then-branch : goal.explore-returns-then-branch
 explore-returns-then-branch g t c =
-    explored-found (g.S.Steps.outcome c.args.steps.now) (g.S.Steps.rest c.args.steps.now) ToEnd c.args.lengths.now c.args.state.now c.args.search.now c.loop-branch.search c.visit.new.search c.loop-branch.branch c.loop-branch.invariant.covered
-    (rw c.if-branch.true at c.in_ok-visit.ensures)
+    explored-found (g.S.Steps.outcome c.args.steps.now) (g.S.Steps.rest c.args.steps.now) ToEnd c.args.lengths.now c.args.state.now c.args.search.now c.loop-branch.search c.explore_branch_plainly.new.search c.loop-branch.branch c.loop-branch.invariant.covered
+    (rw c.if-branch.true at c.in_ok-explore_branch_plainly.ensures)
 
 pub explore-loop-branch-preserved : goal.explore-loop-branch-preserved
 explore-loop-branch-preserved g t c = record {
-  covered = explored-more (g.S.Steps.outcome c.args.steps.now) (g.S.Steps.rest c.args.steps.now) ToEnd c.args.lengths.now c.args.state.now c.args.search.now c.loop-branch.search c.visit.new.search c.loop-branch.branch c.loop-branch.invariant.covered
-      (rw c.if-branch.false at c.in_ok-visit.ensures);
+  covered = explored-more (g.S.Steps.outcome c.args.steps.now) (g.S.Steps.rest c.args.steps.now) ToEnd c.args.lengths.now c.args.state.now c.args.search.now c.loop-branch.search c.explore_branch_plainly.new.search c.loop-branch.branch c.loop-branch.invariant.covered
+      (rw c.if-branch.false at c.in_ok-explore_branch_plainly.ensures);
   some_left = c.loop-branch.invariant.some_left;
 }
 
@@ -20,8 +20,8 @@ pub explore-returns : goal.explore-returns
 explore-returns g t c =
     explored-all (g.S.Steps.outcome c.args.steps.now) (g.S.Steps.rest c.args.steps.now) ToEnd c.args.lengths.now c.args.state.now c.args.search.now c.loop-branch.search c.loop-branch.branch c.loop-branch.invariant.some_left (omega arith) c.loop-branch.invariant.covered
 
-pub visit-returns-then-branch : goal.visit-returns-then-branch
-visit-returns-then-branch g t c =
+pub explore_branch_plainly-returns-then-branch : goal.explore_branch_plainly-returns-then-branch
+explore_branch_plainly-returns-then-branch g t c =
     let here = c.args.search.now in
     let lengths = c.args.lengths.now in
     let b = c.args.branch in
@@ -32,8 +32,8 @@ visit-returns-then-branch g t c =
     visited-found (g.S.Steps.outcome c.args.steps.now) (g.S.Steps.rest c.args.steps.now) ToEnd lengths c.args.state.now here.done.items here.word.items b c.requires.place left
     c.in-Next.next c.enter.new.self.done.items c.enter.new.self.word.items c.explore.new.search turn_is e.done e.word (rw c.if-branch.true at c.in_ok-explore-in-Next.ensures)
 
-pub visit-returns-else-branch : goal.visit-returns-else-branch
-visit-returns-else-branch g t c =
+pub explore_branch_plainly-returns-else-branch : goal.explore_branch_plainly-returns-else-branch
+explore_branch_plainly-returns-else-branch g t c =
     let here = c.args.search.now in
     let lengths = c.args.lengths.now in
     let b = c.args.branch in
@@ -50,8 +50,8 @@ visit-returns-else-branch g t c =
           c.in-Next.next here.best c.enter.new.self explored c.leave.new.self.best turn_is e.done e.word e.best h c.leave.ensures.best;
     }
 
-pub visit-returns-in_ok-note_next-in-Stop : goal.visit-returns-in_ok-note_next-in-Stop
-visit-returns-in_ok-note_next-in-Stop g t c =
+pub explore_branch_plainly-returns-in_ok-note_next-in-Stop : goal.explore_branch_plainly-returns-in_ok-note_next-in-Stop
+explore_branch_plainly-returns-in_ok-note_next-in-Stop g t c =
     let here = c.args.search.now in
     let b = c.args.branch in
     let index_is : c.index-index.result.now ≡ get_or here.done.items b 0 = grind (arith, common_steps) in

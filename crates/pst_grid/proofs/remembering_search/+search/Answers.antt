@@ -70,27 +70,27 @@ pub explore-loop-branch-preserved : goal.explore-loop-branch-preserved
 explore-loop-branch-preserved g t c =
     let turn = g.S.Steps.outcome c.args.steps.now in
     let now = c.loop-branch.search in
-    let new = c.visit.new.search in
+    let new = c.explore_branch.new.search in
     let kept = c.loop-branch.invariant in
     let at = kept.covered.covered.done in
-    let h = rw c.if-branch.false at c.in_ok-visit.ensures in
+    let h = rw c.if-branch.false at c.in_ok-explore_branch.ensures in
     let covered = explored-more turn (g.S.Steps.rest c.args.steps.now) c.args.goal c.args.lengths.now c.args.state.now c.args.search.now now new c.loop-branch.branch kept.covered.covered h.ends.covered in
     record {
       fresh = still-fresh _ _ _ _ _ _ _ _ _ covered.covered c.requires.fresh;
       covered = record {
         covered = covered;
-        accounted = subst (λ d. AreAccounted turn (g.S.Steps.rest c.args.steps.now) c.args.goal c.args.lengths.now (sum d + 1) new.best c.visit.new.seen.keys) at h.ends.accounted;
+        accounted = subst (λ d. AreAccounted turn (g.S.Steps.rest c.args.steps.now) c.args.goal c.args.lengths.now (sum d + 1) new.best c.explore_branch.new.seen.keys) at h.ends.accounted;
       };
       grown = grown-more _ _ _ _ _ _ c.loop-branch.branch _ _ _ _ _ _ kept.grown
-          (subst (λ d. IsGrown turn c.args.lengths.now (g.S.Steps.most_rest c.args.steps.now) 1 (sum d + 1) d c.args.state.now c.loop-branch.seen.keys c.visit.new.seen.keys now.steps new.steps) at h.grown);
+          (subst (λ d. IsGrown turn c.args.lengths.now (g.S.Steps.most_rest c.args.steps.now) 1 (sum d + 1) d c.args.state.now c.loop-branch.seen.keys c.explore_branch.new.seen.keys now.steps new.steps) at h.grown);
     }
 
 pub explore-returns-then-branch : goal.explore-returns-then-branch
 explore-returns-then-branch g t c =
     let kept = c.loop-branch.invariant in
-    let h = rw c.if-branch.true at c.in_ok-visit.ensures in
+    let h = rw c.if-branch.true at c.in_ok-explore_branch.ensures in
     let is = rw (c.if-not-branch.false, c.deref-2.ensures.value) at c.in_ok-remember.ensures in
-    let visited = subst (λ d. IsGrown (g.S.Steps.outcome c.args.steps.now) c.args.lengths.now (g.S.Steps.most_rest c.args.steps.now) 1 (sum d + 1) d c.args.state.now c.loop-branch.seen.keys c.visit.new.seen.keys c.loop-branch.search.steps c.visit.new.search.steps) kept.covered.covered.done h.grown in
+    let visited = subst (λ d. IsGrown (g.S.Steps.outcome c.args.steps.now) c.args.lengths.now (g.S.Steps.most_rest c.args.steps.now) 1 (sum d + 1) d c.args.state.now c.loop-branch.seen.keys c.explore_branch.new.seen.keys c.loop-branch.search.steps c.explore_branch.new.search.steps) kept.covered.covered.done h.grown in
     record {
       grown = grown-first _ _ _ _ _ (c.loop-branch.branch + 1) _ _ _ _ _ (omega arith) is (grown-more _ _ _ _ _ _ c.loop-branch.branch _ _ _ _ _ _ kept.grown visited);
       ends = explored-found _ _ _ _ _ c.args.search.now c.loop-branch.search _ c.loop-branch.branch kept.covered.covered h.ends;
@@ -108,8 +108,8 @@ explore-returns g t c =
           (record { covered = explored-all _ _ _ _ _ here c.loop-branch.search c.loop-branch.branch left (omega arith) kept.covered.covered; accounted = kept.covered.accounted });
     }
 
-pub visit-returns-then-index-lengths : goal.visit-returns-then-index-lengths
-visit-returns-then-index-lengths g t c =
+pub explore_branch-returns-then-index-lengths : goal.explore_branch-returns-then-index-lengths
+explore_branch-returns-then-index-lengths g t c =
     let turn = g.S.Steps.outcome c.args.steps.now in
     let here = c.args.search.now in
     let lengths = c.args.lengths.now in
@@ -122,8 +122,8 @@ visit-returns-then-index-lengths g t c =
       };
     }
 
-pub visit-returns-then-branch : goal.visit-returns-then-branch
-visit-returns-then-branch g t c =
+pub explore_branch-returns-then-branch : goal.explore_branch-returns-then-branch
+explore_branch-returns-then-branch g t c =
     let turn = g.S.Steps.outcome c.args.steps.now in
     let rest = g.S.Steps.rest c.args.steps.now in
     let here = c.args.search.now in
@@ -142,8 +142,8 @@ visit-returns-then-branch g t c =
       ends = visited-found turn rest c.args.goal lengths c.args.state.now here.done.items here.word.items b c.requires.place left c.in-Next.next entered.done.items entered.word.items c.explore.new.search turn_is e.done e.word h.ends;
     }
 
-pub visit-returns-else-branch : goal.visit-returns-else-branch
-visit-returns-else-branch g t c =
+pub explore_branch-returns-else-branch : goal.explore_branch-returns-else-branch
+explore_branch-returns-else-branch g t c =
     let turn = g.S.Steps.outcome c.args.steps.now in
     let rest = g.S.Steps.rest c.args.steps.now in
     let most = g.S.Steps.most_rest c.args.steps.now in
@@ -175,8 +175,8 @@ visit-returns-else-branch g t c =
       };
     }
 
-pub visit-returns-in_ok-note_next-in-Stop : goal.visit-returns-in_ok-note_next-in-Stop
-visit-returns-in_ok-note_next-in-Stop g t c =
+pub explore_branch-returns-in_ok-note_next-in-Stop : goal.explore_branch-returns-in_ok-note_next-in-Stop
+explore_branch-returns-in_ok-note_next-in-Stop g t c =
     let here = c.args.search.now in
     let b = c.args.branch in
     let index_is : c.index-index.result.now ≡ get_or here.done.items b 0 = grind (arith, common_steps) in

@@ -7,8 +7,8 @@ use Rattle.pst_grid.proofs.remembering_search.+search.Given as goal
 abbrev pub decreases-explore : goal.decreases-explore
 decreases-explore g l = 2 * (sum l.lengths.now - sum l.search.now.done.items) + 1
 
-abbrev pub decreases-visit : goal.decreases-visit
-decreases-visit g l = 2 * (sum l.lengths.now - sum l.search.now.done.items)
+abbrev pub decreases-explore_branch : goal.decreases-explore_branch
+decreases-explore_branch g l = 2 * (sum l.lengths.now - sum l.search.now.done.items)
 
 abbrev pub invariant-explore-loop-branch : goal.invariant-explore-loop-branch
 invariant-explore-loop-branch g l =

@@ -25,8 +25,8 @@ run_events-requires g c =
     let f = prefix_fits m c.args.shaped.now.case c.args.history.now c.requires.shape c.requires.matches c.requires.answered in
     (ts, rw c.in-Ok.is at (c.in_ok-opening.ensures.fits [] ts), rw (c.as_slice.ensures, c.in_ok-prefix.ensures) f)
 
-pub after_prefix-requires-clause-state : goal.after_prefix-requires-clause-state
-after_prefix-requires-clause-state g c =
+pub verdict_after_prefix-requires-clause-state : goal.verdict_after_prefix-requires-clause-state
+verdict_after_prefix-requires-clause-state g c =
     let m = g.C.Callbacks.model c.args.callbacks.now in
     let ts = result_types m c.args.shaped.now.case in
     let f = prefix_fits m c.args.shaped.now.case c.args.history.now c.requires.shape c.requires.matches c.requires.answered in
@@ -40,7 +40,7 @@ returns-in-Through-clause-verdict g c =
     let says = rw c.in-Ok.is at c.in_ok-opening.ensures.says in
     let end = rw (c.as_slice.ensures, c.in_ok-prefix.ensures) at c.in_ok-last.ensures.end in
     let l = prefix_length m c.args.shaped.now.case c.args.history.now c.requires.shape c.requires.matches c.requires.answered in
-    if_ok_map _ _ c.after_prefix.result (λ r a. prefix_through m asked c.args.shaped.now.case c.args.history.now c.in-Ok.opening c.in-Through.last r.0 r.1.items says (sym end ∙ c.in-Through.is) l a) c.after_prefix.ensures
+    if_ok_map _ _ c.verdict_after_prefix.result (λ r a. prefix_through m asked c.args.shaped.now.case c.args.history.now c.in-Ok.opening c.in-Through.last r.0 r.1.items says (sym end ∙ c.in-Through.is) l a) c.verdict_after_prefix.ensures
 
 pub returns-in-Through-clause-letters : goal.returns-in-Through-clause-letters
 returns-in-Through-clause-letters g c =
@@ -49,7 +49,7 @@ returns-in-Through-clause-letters g c =
     let says = rw c.in-Ok.is at c.in_ok-opening.ensures.says in
     let end = rw (c.as_slice.ensures, c.in_ok-prefix.ensures) at c.in_ok-last.ensures.end in
     let l = prefix_length m c.args.shaped.now.case c.args.history.now c.requires.shape c.requires.matches c.requires.answered in
-    if_ok_map _ _ c.after_prefix.result (λ r a. prefix_through_letters m asked c.args.shaped.now.case c.args.history.now c.in-Ok.opening c.in-Through.last r.0 r.1.items says (sym end ∙ c.in-Through.is) l a) c.after_prefix.ensures
+    if_ok_map _ _ c.verdict_after_prefix.result (λ r a. prefix_through_letters m asked c.args.shaped.now.case c.args.history.now c.in-Ok.opening c.in-Through.last r.0 r.1.items says (sym end ∙ c.in-Through.is) l a) c.verdict_after_prefix.ensures
 
 pub returns-in-Stopped-default-False-clause-letters : goal.returns-in-Stopped-default-False-clause-letters
 returns-in-Stopped-default-False-clause-letters g c =

@@ -18,5 +18,5 @@ loop-form-preserved c = record {
 pub returns : goal.returns
 returns c =
     complete shown_item_option role.Model is_state is_init is_command (λ seen. items_faults_at c.args.walk.has_maps seen c.args.path.now) c.args.path.now (λ seen number. refl)
-    c.args.walk.limit c.loop-form.number c.loop-form.form-index c.args.forms.now c.loop-form.seen _ c.has_items-are_there.result _ c.loop-form.faults c.push_fault_unless.new.faults
-    c.loop-form-test.false c.loop-form.invariant.same c.has_items-are_there.ensures c.as_slice-2.ensures c.in_ok-push_fault_unless.ensures
+    c.args.walk.limit c.loop-form.number c.loop-form.form-index c.args.forms.now c.loop-form.seen _ c.has_required_items-are_there.result _ c.loop-form.faults c.push_fault_unless.new.faults
+    c.loop-form-test.false c.loop-form.invariant.same c.has_required_items-are_there.ensures c.as_slice-2.ensures c.in_ok-push_fault_unless.ensures

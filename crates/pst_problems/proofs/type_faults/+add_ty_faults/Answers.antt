@@ -10,8 +10,8 @@ pub add_ty_faults-returns : goal.add_ty_faults-returns
 add_ty_faults-returns t c =
     let ne : c.args.room ≢ 0 = search rules in
     let e : ty_shape c.args.walk.has_maps c.args.form.now ≡ Some (shown_ty c.in-Some.shape) = sym c.ty_shape.ensures ∙ ap shown_ty_option c.in-Some.is in
-    ty_whole c.args.walk.limit c.args.walk.has_maps c.args.room c.args.role c.args.path.now c.args.form.now (shown_ty c.in-Some.shape) c.ty_fits.result
-    c.args.faults.now c.push_fault_unless.new.faults c.add_ty_parts_faults.new.faults ne e c.ty_fits.ensures c.in_ok-push_fault_unless.ensures c.in_ok-add_ty_parts_faults.ensures
+    ty_whole c.args.walk.limit c.args.walk.has_maps c.args.room c.args.role c.args.path.now c.args.form.now (shown_ty c.in-Some.shape) c.is_type_within_limits.result
+    c.args.faults.now c.push_fault_unless.new.faults c.add_ty_parts_faults.new.faults ne e c.is_type_within_limits.ensures c.in_ok-push_fault_unless.ensures c.in_ok-add_ty_parts_faults.ensures
 
 pub add_tys_faults-loop-form-preserved : goal.add_tys_faults-loop-form-preserved
 add_tys_faults-loop-form-preserved t c = record {

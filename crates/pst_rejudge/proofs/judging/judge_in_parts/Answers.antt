@@ -29,5 +29,5 @@ returns-in-Ok g c =
     let stand = all_of_zip (Stand m keeps parts) offers lists (rw c.in-Ok.is at of_model) in
     let places = c.in_ok-places-in-Ok.places.items in
     let filled = subst (λ l. All (Stand m keeps l) lists → AreFilled m keeps l places) c.as_slice.ensures.value (c.in_ok-places-in-Ok.ensures m keeps) stand in
-    if_in_all m keeps c.args.input.now parts places c.in_order.result c.in_ok-parts.ensures filled
-    c.in_order.ensures.all c.in_order.ensures.runs c.in_order.ensures.judged
+    if_in_all m keeps c.args.input.now parts places c.join_places_in_order.result c.in_ok-parts.ensures filled
+    c.join_places_in_order.ensures.all c.join_places_in_order.ensures.runs c.join_places_in_order.ensures.judged

@@ -16,12 +16,12 @@ decreases-in_body l = 4 * functions_weight (reverse l.site.now.context.earlier.n
 abbrev pub decreases-in_items : goal.decreases-in_items
 decreases-in_items l = 4 * (weight l.body.now + functions_weight (reverse l.site.now.context.earlier.now)) + 2
 
-abbrev pub decreases-in_clauses : goal.decreases-in_clauses
-decreases-in_clauses l =
+abbrev pub decreases-visit_clauses : goal.decreases-visit_clauses
+decreases-visit_clauses l =
     4 * (total (map clause_weight l.clauses.now) + weight l.body.now + functions_weight (reverse l.site.now.context.earlier.now)) + 2
 
-abbrev pub decreases-in_each : goal.decreases-in_each
-decreases-in_each l =
+abbrev pub decreases-visit_clauses_for_each_item : goal.decreases-visit_clauses_for_each_item
+decreases-visit_clauses_for_each_item l =
     4 * (total (map clause_weight l.rest.now) + weight l.body.now + functions_weight (reverse l.site.now.context.earlier.now)) + 3
 
 abbrev pub invariant-in_items-loop-item : goal.invariant-in_items-loop-item
@@ -29,7 +29,7 @@ invariant-in_items-loop-item l =
     let f = fold_over (mean_in l.site.context l.body) l.name l.acc (env_of l.env) in
     f (drop l.item-index l.items) l.built l.left ≡ f l.items l.initial.built l.turns
 
-abbrev pub invariant-in_each-loop-item : goal.invariant-in_each-loop-item
-invariant-in_each-loop-item l =
+abbrev pub invariant-visit_clauses_for_each_item-loop-item : goal.invariant-visit_clauses_for_each_item-loop-item
+invariant-visit_clauses_for_each_item-loop-item l =
     let next = visit (parts_in l.site.context l.rest) (mean_in l.site.context l.body) in
     visit_each next l.name (env_of l.env) (drop l.item-index l.items) l.built l.left ≡ visit_each next l.name (env_of l.env) l.items l.initial.built l.turns

@@ -8,11 +8,11 @@ unreachable-requires c =
     let some = c.source-model.ensures.well.opening_is in
     absurd (cc)
 
-pub start-requires : goal.start-requires
-start-requires c = λ stuck. init_starts c.source-model.result.now c.source-model.ensures.well ((init_is c.source-model.result.now c.in-Some.opening.now (sym (rw (c.in-Some.is, c.as_slice.ensures) at c.initial_state_of.ensures))) ∙ stuck)
+pub eval_with_max_turns-requires : goal.eval_with_max_turns-requires
+eval_with_max_turns-requires c = λ stuck. init_starts c.source-model.result.now c.source-model.ensures.well ((init_is c.source-model.result.now c.in-Some.opening.now (sym (rw (c.in-Some.is, c.as_slice.ensures) at c.initial_state_of.ensures))) ∙ stuck)
 
 pub returns-clause-says : goal.returns-clause-says
-returns-clause-says c = rw (sym c.source-model.ensures.same) (says_at _ _ c.start.result (sym (init_is c.source-model.result.now c.in-Some.opening.now (sym (rw (c.in-Some.is, c.as_slice.ensures) at c.initial_state_of.ensures)))) c.start.ensures)
+returns-clause-says c = rw (sym c.source-model.ensures.same) (says_at _ _ c.eval_with_max_turns.result (sym (init_is c.source-model.result.now c.in-Some.opening.now (sym (rw (c.in-Some.is, c.as_slice.ensures) at c.initial_state_of.ensures)))) c.eval_with_max_turns.ensures)
 
 pub returns-clause-fits : goal.returns-clause-fits
-returns-clause-fits c = rw (sym c.source-model.ensures.same) (init_gives c.source-model.result.now c.start.result c.source-model.ensures.well (says_at _ _ c.start.result (sym (init_is c.source-model.result.now c.in-Some.opening.now (sym (rw (c.in-Some.is, c.as_slice.ensures) at c.initial_state_of.ensures)))) c.start.ensures))
+returns-clause-fits c = rw (sym c.source-model.ensures.same) (init_gives c.source-model.result.now c.eval_with_max_turns.result c.source-model.ensures.well (says_at _ _ c.eval_with_max_turns.result (sym (init_is c.source-model.result.now c.in-Some.opening.now (sym (rw (c.in-Some.is, c.as_slice.ensures) at c.initial_state_of.ensures)))) c.eval_with_max_turns.ensures))

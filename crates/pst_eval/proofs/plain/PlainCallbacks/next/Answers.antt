@@ -11,11 +11,11 @@ unreachable-requires c =
     let some = o.1 in
     absurd (cc)
 
-pub start-requires : goal.start-requires
-start-requires c = λ stuck. next_starts c.source-model.result.now c.args.op c.args.state.now c.args.arguments.now c.args.r.now c.source-model.ensures.well (rw (sym c.source-model.ensures.same) at c.requires) ((next_is c.source-model.result.now c.args.op c.in-Some.operation.now c.args.state.now c.args.arguments.now c.args.r.now (sym (rw (c.in-Some.is, c.as_slice.ensures) at c.operation_of.ensures))) ∙ (rw c.as_slice-2.ensures at stuck))
+pub eval_with_max_turns-requires : goal.eval_with_max_turns-requires
+eval_with_max_turns-requires c = λ stuck. next_starts c.source-model.result.now c.args.op c.args.state.now c.args.arguments.now c.args.r.now c.source-model.ensures.well (rw (sym c.source-model.ensures.same) at c.requires) ((next_is c.source-model.result.now c.args.op c.in-Some.operation.now c.args.state.now c.args.arguments.now c.args.r.now (sym (rw (c.in-Some.is, c.as_slice.ensures) at c.operation_of.ensures))) ∙ (rw c.as_slice-2.ensures at stuck))
 
 pub returns-clause-says : goal.returns-clause-says
-returns-clause-says c = rw (sym c.source-model.ensures.same) (says_at _ _ c.start.result (sym (next_is c.source-model.result.now c.args.op c.in-Some.operation.now c.args.state.now c.args.arguments.now c.args.r.now (sym (rw (c.in-Some.is, c.as_slice.ensures) at c.operation_of.ensures)))) (rw c.as_slice-2.ensures at c.start.ensures))
+returns-clause-says c = rw (sym c.source-model.ensures.same) (says_at _ _ c.eval_with_max_turns.result (sym (next_is c.source-model.result.now c.args.op c.in-Some.operation.now c.args.state.now c.args.arguments.now c.args.r.now (sym (rw (c.in-Some.is, c.as_slice.ensures) at c.operation_of.ensures)))) (rw c.as_slice-2.ensures at c.eval_with_max_turns.ensures))
 
 pub returns-clause-fits : goal.returns-clause-fits
-returns-clause-fits c = rw (sym c.source-model.ensures.same) (next_gives c.source-model.result.now c.args.op c.args.state.now c.args.arguments.now c.args.r.now c.start.result c.source-model.ensures.well (says_at _ _ c.start.result (sym (next_is c.source-model.result.now c.args.op c.in-Some.operation.now c.args.state.now c.args.arguments.now c.args.r.now (sym (rw (c.in-Some.is, c.as_slice.ensures) at c.operation_of.ensures)))) (rw c.as_slice-2.ensures at c.start.ensures)))
+returns-clause-fits c = rw (sym c.source-model.ensures.same) (next_gives c.source-model.result.now c.args.op c.args.state.now c.args.arguments.now c.args.r.now c.eval_with_max_turns.result c.source-model.ensures.well (says_at _ _ c.eval_with_max_turns.result (sym (next_is c.source-model.result.now c.args.op c.in-Some.operation.now c.args.state.now c.args.arguments.now c.args.r.now (sym (rw (c.in-Some.is, c.as_slice.ensures) at c.operation_of.ensures)))) (rw c.as_slice-2.ensures at c.eval_with_max_turns.ensures)))

@@ -1,5 +1,5 @@
 use Rattle.pst_typing.proofs.Taking.{below_at}
 use Rattle.pst_typing.proofs.kinds.nodes.all_renumbered.Goals as goal
 
-pub place_of-requires : goal.place_of-requires
-place_of-requires c = below_at _ c.args.parts.now c.loop-part.part-index c.requires c.loop-part-test.true
+pub new_number_of_part-requires : goal.new_number_of_part-requires
+new_number_of_part-requires c = below_at _ c.args.parts.now c.loop-part.part-index c.requires c.loop-part-test.true

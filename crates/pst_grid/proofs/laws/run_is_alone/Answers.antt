@@ -1,5 +1,0 @@
-use Rattle.pst_grid.proofs.Alone.{runs-alone}
-use Rattle.pst_grid.proofs.laws.run_is_alone.Goals as goal
-
-pub returns : goal.returns
-returns g c = runs-alone

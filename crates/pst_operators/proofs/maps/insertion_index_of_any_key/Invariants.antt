@@ -1,0 +1,7 @@
+use Rattle.std.proofs.Common.{◌≡◌, ◌+◌, drop}
+use Rattle.std.specs.List.{prefix_len}
+use Rattle.pst_value.specs.Keys.{key_less}
+use Rattle.pst_operators.proofs.maps.insertion_index_of_any_key.Given as goal
+
+abbrev pub invariant-loop-i : goal.invariant-loop-i
+invariant-loop-i l = prefix_len (λ m. key_less m l.key) l.keys ≡ l.i + prefix_len (λ m. key_less m l.key) (drop l.i l.keys)

@@ -1,5 +1,0 @@
-use Rattle.pst_syntax.proofs.Operations.{model_operations}
-use Rattle.pst_syntax.proofs.laws.model_operations.Goals as goal
-
-pub returns : goal.returns
-returns c = model_operations
