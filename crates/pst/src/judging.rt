@@ -12,7 +12,7 @@ use pst_cli::{
     judge_text_keep_going,
 };
 use pst_sexpr::{Out, Sink, put_all};
-use pst_warnings::{
+use pst_messages::{
     ItemInput, explain_first_broken_result, explain_first_broken_run, warnings_on_answers,
     warnings_on_runs,
 };

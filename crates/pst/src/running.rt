@@ -19,7 +19,7 @@ use pst_driver::Misfits;
 use pst_sexpr::{Out, Sink};
 use pst_sources::{Input, SourceFile};
 use pst_system::BoxedSystem;
-use pst_warnings::ItemInput;
+use pst_messages::ItemInput;
 use std::io;
 use std::io::Write;
 use std::rt::{Files, Runtime};

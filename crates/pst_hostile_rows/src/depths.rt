@@ -7,7 +7,7 @@ use pst_print::print_model;
 use pst_sexpr::{Out, read, write};
 use pst_sources::SourceFile;
 use pst_syntax::{Model, read_model};
-use pst_warnings::warnings_of;
+use pst_messages::warnings_of;
 use std::alloc::Global;
 use std::sync::Wait;
 use std::thread::Threads;

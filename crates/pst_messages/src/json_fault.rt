@@ -2,10 +2,10 @@
 
 use crate::bytes::ByteFault;
 use crate::json_places::{JsonParts, first_byte, is_array, value_at};
-use crate::shape::JSON_ITEM;
 use json::{Error, MAX_DEPTH, Reader, Scratch, Value as Json};
-use pst_problems::NearestName;
+use pst_run_problems::JSON_ITEM;
 use pst_sources::Span;
+use pst_syntax_problems::NearestName;
 use std::alloc::{AllocError, Global};
 
 /// A fault of a JSON item, if it has one.

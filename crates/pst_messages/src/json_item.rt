@@ -1,18 +1,15 @@
 //! Refused JSON items.
 
 use crate::bytes::ByteFault;
-use crate::command::trees_in;
 use crate::json_fault::{json_fault, shorten_json};
 use crate::json_places::{JsonParts, array_element_span, first_byte, value_at};
-use crate::places::tree_at;
-use crate::runs::run_problem;
 use pst_json_runs::json_tree;
 use pst_model::Typed;
-use pst_problems::{Problem, short_text};
+use pst_run_problems::{run_problem, trees_in};
 use pst_runs::read_runs;
-use pst_sexpr::Form;
+use pst_sexpr::{Form, tree_in};
 use pst_sources::Span;
-use pst_type_problems::head_word;
+use pst_syntax_problems::{Problem, head_word, short_text};
 use std::alloc::{AllocError, Global};
 use std::slice;
 
@@ -180,7 +177,7 @@ fn around_shown_node<'a>(
     path: &[usize],
     what: &'a str,
 ) -> Result<Option<(&'a str, &'a str)>, AllocError> {
-    let Some(form @ Form::Node(_)) = tree_at(tree, path) else {
+    let Some(form @ Form::Node(_)) = tree_in(tree, path) else {
         return Ok(None);
     };
     let shown = short_text(alloc, form)?;

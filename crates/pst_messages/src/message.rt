@@ -2,16 +2,16 @@
 
 use crate::bytes::{ByteFault, byte_fault};
 use crate::json_input::{first_json, json_errors};
-use crate::runs::run_problem;
 use pst_model::Typed;
-use pst_problems::{MOST_PROBLEMS, Problem, form_problems};
+use pst_run_problems::run_problem;
 use pst_runs::{RunFault, read_runs};
 use pst_sexpr::{Tree, read};
 use pst_sources::{
     Input, Notice, Notices, SourceFile, Span, first_item, span_in, span_of, text_of, tree_at,
 };
 use pst_syntax::read_model;
-use pst_type_problems::{head_word, type_problems};
+use pst_syntax_problems::{MOST_PROBLEMS, Problem, form_problems, head_word};
+use pst_type_problems::type_problems;
 use pst_typing::{ModelFile, Refusal, load, trees_after_model};
 use std::alloc::{AllocError, Global};
 use std::slice;

@@ -1,36 +1,83 @@
-//! The places of faults in the trees of an item.
-ghost use Rattle.std.specs.Prelude.{◌≡◌, IfOk, option_copied};
-ghost use Rattle.pst_messages.specs.Places as spec;
+//! The places of the commands of an item.
 
-use crate::form_fault::FormFault;
-use pst_sexpr::{Form, node_of};
+use pst_run_problems::{Part, command_with_path, find_part_of_command, parts_of_case};
+use pst_sexpr::Form;
+use pst_syntax_problems::short_text;
 use std::alloc::{AllocError, Global};
+use std::fmt;
 
-/// The tree that `path` leads to from `form`, if there is one.
-pub fn tree_at<'a>(form: &'a Form, path: &[usize]) -> Option<&'a Form>
-    ensures { option_copied result ≡ spec.tree_at path.now form.now }
-{
-    let Some((number, path)) = path.split_first() else {
-        return Some(form);
-    };
-    tree_at(node_of(form)?.get(*number)?, path)
+/// The place of a command, and its spelling.
+#[derive(Drop)]
+pub struct Spot {
+    /// The path to its tree.
+    pub path: Vec<usize>,
+    /// Its place in its case.
+    pub place: CommandPlace,
+    /// The command as it is written.
+    pub call: String,
 }
 
-/// The numbers that lead from an item to the tree that has the fault `fault`.
-pub fn path_to_form_fault(alloc: Global, fault: FormFault) -> Result<Vec<usize>, AllocError>
-    ensures { IfOk result (λ path. path.items ≡ spec.place fault) }
-{
-    match fault {
-        FormFault::OtherHead
-        | FormFault::Missing(_)
-        | FormFault::ListCount(_, _)
-        | FormFault::NoList => Vec::from_slice(alloc, &[]),
-        FormFault::OtherPart(_, place) | FormFault::Misplaced(place) => {
-            Vec::from_slice(alloc, &[place])
-        }
-        FormFault::NoCall(place, number) => Vec::from_slice(alloc, &[place, number]),
-        FormFault::BranchCount(_) => Vec::from_slice(alloc, &[2]),
-        FormFault::NoBranch(number) => Vec::from_slice(alloc, &[2, number]),
-        FormFault::NoBranchCall(number, offset) => Vec::from_slice(alloc, &[2, number, offset]),
+/// The letter of part `number`.
+fn letter_of(parts: &[Part<'_>], number: usize) -> char {
+    match parts.get(number) {
+        Some(part) if part.is_prefix => 'P',
+        Some(part) if part.is_branch => match number {
+            1 => 'L',
+            2 => 'R',
+            3 => 'S',
+            _ => 'T',
+        },
+        _ => 'X',
     }
+}
+
+/// The place of a command in its case, shown as `P1`, `L2` or `X1`.
+#[derive(Clone, Copy, Drop)]
+pub struct CommandPlace {
+    /// The letter of its part.
+    part: char,
+    /// Its number in the part, from 1.
+    number: usize,
+}
+
+impl fmt::Display for CommandPlace {
+    fn fmt<W: fmt::Write>(&self, f: &mut fmt::Formatter<W>) -> fmt::Result {
+        let CommandPlace { part, number } = *self;
+        write!(f, "{part}{number}")
+    }
+}
+
+/// The place of command `command`, counted from 1, in its case.
+fn place_in(parts: &[Part<'_>], command: usize) -> Option<CommandPlace> {
+    let (part, offset) = find_part_of_command(parts, command)?;
+    Some(CommandPlace {
+        part: letter_of(parts, part),
+        number: offset.saturating_add(1),
+    })
+}
+
+/// The path of `first` and then `rest`.
+fn prepend_to_path(alloc: Global, first: usize, rest: &[usize]) -> Result<Vec<usize>, AllocError> {
+    let mut path = Vec::from_slice(alloc, &[first])?;
+    path.extend_from_slice(rest)?;
+    Ok(path)
+}
+
+/// The spot of command `command`, counted from 1, of item `item`. `None` if the item has no such command.
+pub fn find_spot_of_command(
+    alloc: Global,
+    form: &Form,
+    item: usize,
+    command: usize,
+) -> Result<Option<Spot>, AllocError> {
+    let parts = parts_of_case(alloc, form)?;
+    let Some(place) = place_in(parts.as_slice(), command) else {
+        return Ok(None);
+    };
+    let Some((steps, call)) = command_with_path(alloc, parts.as_slice(), command)? else {
+        return Ok(None);
+    };
+    let path = prepend_to_path(alloc, item, steps.as_slice())?;
+    let call = short_text(alloc, call)?;
+    Ok(Some(Spot { path, place, call }))
 }

@@ -3,7 +3,7 @@
 use crate::requests::Request;
 use pst_messages::{Asked, input_error_messages_text};
 use pst_sources::{SourceFile, joined};
-use pst_warnings::warnings_of;
+use pst_messages::warnings_of;
 use std::alloc::{AllocError, Global};
 use std::slice;
 

@@ -1,5 +1,5 @@
 -- The parts of a tree, and the node of its parts.
-use Rattle.std.specs.Prelude.{ℕ, Bool, true, false, List, ◌∷◌, Option, Some, None}
+use Rattle.std.specs.Prelude.{ℕ, Bool, true, false, List, [], ◌∷◌, slice_get, Option, Some, None}
 use Rattle.pst_sexpr.specs.declared.form.Form.{Form, out-Form}
 use Rattle.pst_sexpr.specs.declared.form.Form.TheOpen.{Form-F}
 use Rattle.pst_sexpr.specs.declared.form.Form.TheVariants.{Word, Node}
@@ -30,6 +30,12 @@ headed word parts = Node (Word word ∷ parts)
 abbrev pub and_then : {A B : Type 0} → Option A → (A → Option B) → Option B
 and_then None f = None
 and_then (Some a) f = f a
+
+-- the tree at a path in a tree: the number of a part, from 0, and then a path in this part
+abbrev pub tree_in : List ℕ → Form → Option Form
+tree_in [] tree = Some tree
+tree_in (number ∷ path) tree =
+    and_then (node_of tree) (λ parts. and_then (slice_get parts number) (tree_in path))
 
 -- it stands there where the test holds
 abbrev pub where_true : {A : Type 0} → Bool → A → Option A

@@ -30,7 +30,7 @@ pub use integer::{are_digits, integer_of, is_integer, magnitude_of, value_of};
 pub use limits::{MAX_BYTES, MAX_LEVELS};
 pub use nodes::{headed, list_of, word};
 pub use out::Out;
-pub use parts::{node_of, word_of};
+pub use parts::{node_of, tree_in, word_of};
 pub use put::{put_all, put_each};
 pub use reader::read;
 pub use sink::{Failed, Sink, WriteFailed};

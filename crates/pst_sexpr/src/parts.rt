@@ -25,3 +25,13 @@ pub fn node_of(form: &Form) -> Option<&[Form]>
         Form::Text(_) | Form::Word(_) => None,
     }
 }
+
+/// The tree at `path` in a tree, if there is one: the number of a part, from 0, and then a path in this part.
+pub fn tree_in<'a>(form: &'a Form, path: &[usize]) -> Option<&'a Form>
+    ensures { option_copied result ≡ spec.tree_in path.now form.now }
+{
+    let Some((number, path)) = path.split_first() else {
+        return Some(form);
+    };
+    tree_in(node_of(form)?.get(*number)?, path)
+}

@@ -3,15 +3,9 @@ use Rattle.std.specs.Prelude.{◌≡◌, ℕ, ◌≤◌, Bool, true, ◌||◌, �
 use Rattle.std.specs.Prelude.{None, slice_get, slice_range}
 use Rattle.pst_sexpr.specs.declared.form.Form.{Form}
 use Rattle.pst_sexpr.specs.Bytes.{is_word_byte}
-use Rattle.pst_sexpr.specs.Parts.{node_of, and_then}
+use Rattle.pst_sexpr.specs.Parts.{and_then, tree_in}
 use Rattle.pst_sexpr.specs.Reading.{Spells}
 use Rattle.pst_sources.specs.declared.span.Span.{Span}
-
--- the tree at a path in a tree: the number of a part, from 0, and then a path in this part
-abbrev pub tree_in : List ℕ → Form → Option Form
-tree_in [] tree = Some tree
-tree_in (number ∷ path) tree =
-    and_then (node_of tree) (λ parts. and_then (slice_get parts number) (tree_in path))
 
 -- the tree at a path in some trees: the number of one of them, from 0, and then a path in it
 abbrev pub tree_at : List ℕ → List Form → Option Form

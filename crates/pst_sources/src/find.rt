@@ -1,7 +1,7 @@
 //! Finds the bytes of the tree at a path.
 ghost use Rattle.std.specs.Prelude.{◌≡◌, ℕ, List, MatchOption, slice_get};
 ghost use Rattle.pst_sexpr.specs.declared.form.Form.{Form};
-ghost use Rattle.pst_sexpr.specs.Parts.{node_of};
+ghost use Rattle.pst_sexpr.specs.Parts.{node_of, tree_in};
 ghost use Rattle.pst_sexpr.specs.Reading.{Spells};
 ghost use Rattle.pst_sources.specs.Paths as paths;
 ghost use Rattle.pst_sources.specs.Paths.{IsWithin, HasTree};
@@ -56,7 +56,7 @@ fn part_of(input: &[u8], tree: Span, number: usize) -> Option<Span>
 pub fn span_in(input: &[u8], tree: Span, path: &[usize]) -> Span
     ensures within { IsWithin input.now tree → IsWithin input.now result }
     ensures found { (whole : Form) (part : Form) → HasTree input.now tree whole
-        → paths.tree_in path.now whole ≡ Some part → HasTree input.now result part }
+        → tree_in path.now whole ≡ Some part → HasTree input.now result part }
 {
     let mut found = tree;
     for number in path {

@@ -2,13 +2,13 @@
 
 use crate::diagnose::BlamedPart;
 use crate::operands::operand_type_problem;
-use crate::trees::tree_in;
+use crate::trees::part_or_whole;
 use pst_model::{Fun, Item, Param};
-use pst_problems::{
+use pst_sexpr::word_of;
+use pst_syntax_problems::{
     FoundProblem, Problem, Signature, below, counted, hint_for_foreign_word, is_of_maps,
     nearest_head, operation_named, problem_at, problem_with_note_at_part, unknown_among, with_note,
 };
-use pst_sexpr::word_of;
 use pst_typing::Kind;
 use std::alloc::AllocError;
 use std::fmt::Display;
@@ -162,7 +162,7 @@ fn unknown_at(
 
 /// The problem of a call of an operation, if it has one.
 pub fn call_problem(leaf: &BlamedPart<'_>) -> FoundProblem {
-    let Some(name) = word_of(tree_in(leaf.form, 1)) else {
+    let Some(name) = word_of(part_or_whole(leaf.form, 1)) else {
         return Ok(None);
     };
     let name = name.as_str();

@@ -7,13 +7,12 @@ use crate::operands::{
     tuple_wanted_problem,
 };
 use crate::spelling::spelled;
-use crate::trees::head_word;
 use pst_model::{Expr, Op};
-use pst_problems::{
-    FoundProblem, Listed, Problem, is_of_maps, key_type_word, nearest, operation_named, problem_at,
-    problem_at_part, problem_with_note, with_note,
-};
 use pst_sexpr::{Form, word_of};
+use pst_syntax_problems::{
+    FoundProblem, Listed, Problem, head_word, is_of_maps, key_type_word, nearest, operation_named,
+    problem_at, problem_at_part, problem_with_note, with_note,
+};
 use pst_typing::{Context, Kind, KindForm, key_type};
 use pst_value::{Items, KeyTy, Text, Ty};
 use std::alloc::Global;

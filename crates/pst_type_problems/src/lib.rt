@@ -13,5 +13,4 @@ mod trees;
 mod typing;
 mod walk;
 
-pub use trees::head_word;
 pub use typing::type_problems;

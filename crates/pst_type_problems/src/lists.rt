@@ -8,8 +8,8 @@ use crate::operands::{
 use crate::spelling::spelled;
 use crate::trees::{clause_iterates_over_list, clauses_of};
 use pst_model::Expr;
-use pst_problems::{FoundProblem, TypeText, problem_at_part, problem_with_note};
 use pst_sexpr::Form;
+use pst_syntax_problems::{FoundProblem, TypeText, problem_at_part, problem_with_note};
 use pst_typing::{Kind, KindForm};
 use pst_value::Ty;
 use std::alloc::AllocError;

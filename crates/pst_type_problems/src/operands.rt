@@ -2,7 +2,7 @@
 
 use crate::diagnose::BlamedPart;
 use crate::spelling::{spelled, spelled_as_value};
-use pst_problems::{
+use pst_syntax_problems::{
     FoundProblem, Problem, below, problem_at, problem_at_part, problem_with_note, with_note,
 };
 use pst_typing::{Kind, KindForm};

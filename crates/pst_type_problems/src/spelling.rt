@@ -2,7 +2,7 @@
 
 ghost use Rattle.std.specs.Prelude.{◌≤◌};
 
-use pst_problems::key_type_word;
+use pst_syntax_problems::key_type_word;
 use pst_typing::{Kind, KindForm};
 use std::alloc::{AllocError, Global};
 

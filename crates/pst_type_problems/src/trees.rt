@@ -1,19 +1,11 @@
 //! The trees of expressions and of their parts.
 
-use pst_problems::head_of;
 use pst_sexpr::{Form, node_of};
+use pst_syntax_problems::head_word;
 use std::alloc::AllocError;
 
-/// The head word of a node, or an empty word if it has none.
-pub fn head_word(form: &Form) -> &str {
-    match head_of(form) {
-        Some(head) => head.as_str(),
-        None => "",
-    }
-}
-
 /// Tree `number` in `form`, or `form` itself if it holds no such tree.
-pub fn tree_in(form: &Form, number: usize) -> &Form {
+pub fn part_or_whole(form: &Form, number: usize) -> &Form {
     match node_of(form) {
         Some(trees) => trees.get(number).unwrap_or(form),
         None => form,
@@ -36,7 +28,7 @@ pub fn clause_iterates_over_list(clause: &Form) -> bool {
 /// Goes from a tree to tree `number` in it: extends `path`, and returns that tree.
 fn enter<'a>(path: &mut Vec<usize>, form: &'a Form, number: usize) -> Result<&'a Form, AllocError> {
     path.push(number)?;
-    Ok(tree_in(form, number))
+    Ok(part_or_whole(form, number))
 }
 
 /// Goes from the tree of a comprehension to the expression of clause `part`, or to the body if it has no such clause.

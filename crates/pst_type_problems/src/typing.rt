@@ -2,13 +2,14 @@
 
 use crate::diagnose::{BlamedPart, diagnose};
 use crate::operands::other_type_problem;
-use crate::trees::{enter_part, head_word, tree_in};
+use crate::trees::{enter_part, part_or_whole};
 use crate::walk::{names_in, part_at};
 use pst_model::{Expr, Fun, Item, Op, Source, state_of};
-use pst_problems::{
-    FoundProblem, MOST_PROBLEMS, Problem, problem_at, problem_with_note, push_problem, with_note,
-};
 use pst_sexpr::{Form, node_of};
+use pst_syntax_problems::{
+    FoundProblem, MOST_PROBLEMS, Problem, head_word, problem_at, problem_with_note, push_problem,
+    with_note,
+};
 use pst_typing::{Blame, Context, Found, Kind, Scope, holds_call, holds_ref, infer};
 use pst_value::Ty;
 use std::alloc::{AllocError, Global};
@@ -249,7 +250,7 @@ fn tell_function(
     };
     let scope = Scope::Parameters(fun.params.as_slice());
     let site = Site {
-        form: tree_in(here.form, 4),
+        form: part_or_whole(here.form, 4),
         path: &[0, number, 4],
         called: fun.name.as_str(),
         wanted: &result,
@@ -268,7 +269,7 @@ fn tell_body(
     here: ItemSite<'_>,
 ) -> Result<(), AllocError> {
     let site = Site {
-        form: tree_in(here.form, 1),
+        form: part_or_whole(here.form, 1),
         path: &[0, here.number, 1],
         called,
         wanted,
@@ -347,7 +348,7 @@ pub fn type_problems(
                 alloc,
                 items,
                 state: &state,
-                form: tree_in(model, place),
+                form: part_or_whole(model, place),
                 number: place,
                 has_maps: source.has_maps,
             };

@@ -1,6 +1,7 @@
 use Rattle.std.proofs.Common.{◌≡◌, drop, Some}
 use Rattle.pst_sexpr.specs.declared.form.Form.{Form}
-use Rattle.pst_sources.specs.Paths.{IsWithin, HasTree, tree_in}
+use Rattle.pst_sexpr.specs.Parts.{tree_in}
+use Rattle.pst_sources.specs.Paths.{IsWithin, HasTree}
 use Rattle.pst_sources.proofs.Found.{IsOnWay}
 use Rattle.pst_sources.proofs.find.span_in.Given as goal
 

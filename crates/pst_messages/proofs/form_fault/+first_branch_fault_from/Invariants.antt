@@ -1,5 +1,0 @@
-use Rattle.std.proofs.Common.{length}
-use Rattle.pst_messages.proofs.form_fault.+first_branch_fault_from.Given as goal
-
-abbrev pub decreases-first_branch_fault_from : goal.decreases-first_branch_fault_from
-decreases-first_branch_fault_from l = length l.forms.now

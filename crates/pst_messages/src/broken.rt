@@ -1,0 +1,174 @@
+//! Why recorded runs are broken.
+
+use crate::item_input::ItemInput;
+use pst_explain::explain_broken_run;
+use pst_judge::{Judged, Verdict};
+use pst_model::Typed;
+use pst_rejudge::ItemResult;
+use pst_run_problems::{find_part_of_command, parts_of_case};
+use pst_runs::read_runs;
+use pst_sexpr::{Form, Tree, node_of, read, word_of};
+use pst_sources::{Notice, span_of};
+use std::alloc::{AllocError, Global};
+use std::slice;
+
+/// The broken items: the first of them, and how many there are.
+#[derive(Drop)]
+struct Broken {
+    /// The number of the first, from 1.
+    item: usize,
+    /// The number of its command whose reply is no value, from 1.
+    command: u32,
+    count: usize,
+}
+
+/// Adds item `item` if it is broken.
+fn count_if_broken(broken: Option<Broken>, item: usize, judged: &Judged) -> Option<Broken> {
+    let Judged::Verdict(Verdict::Broken(command)) = judged else {
+        return broken;
+    };
+    match broken {
+        Some(
+            Broken {
+                item,
+                command,
+                count,
+            },
+        ) => Some(Broken {
+            item,
+            command,
+            count: count.saturating_add(1),
+        }),
+        None => Some(Broken {
+            item,
+            command: *command,
+            count: 1,
+        }),
+    }
+}
+
+/// Whether a tree has the head `replies`.
+fn is_replies(form: &Form) -> bool {
+    match node_of(form).unwrap_or(&[]).first() {
+        Some(head) => match word_of(head) {
+            Some(word) => word.as_str() == "replies",
+            None => false,
+        },
+        None => false,
+    }
+}
+
+/// The path to the reply to command `command` of item `item`, or to the item if it has no such reply. Each part has a
+/// tree of its replies after the head `replies`.
+fn path_to_reply(
+    alloc: Global,
+    form: &Form,
+    item: usize,
+    command: usize,
+) -> Result<Vec<usize>, AllocError> {
+    let parts = parts_of_case(alloc, form)?;
+    let trees = node_of(form).unwrap_or(&[]);
+    let replies = trees.iter().position(|tree| is_replies(tree));
+    match (replies, find_part_of_command(parts.as_slice(), command)) {
+        (Some(replies), Some((part, offset))) => {
+            Vec::from_slice(alloc, &[item, replies, part.saturating_add(1), offset])
+        }
+        _ => Vec::from_slice(alloc, &[item]),
+    }
+}
+
+/// The sentence that says why the item `tree` is broken.
+fn sentence_of(
+    alloc: Global,
+    typed: &Typed,
+    tree: &Tree,
+    command: u32,
+) -> Result<Option<Vec<u8>>, AllocError> {
+    let Ok(runs) = read_runs(alloc, typed, slice::from_ref(tree)) else {
+        return Ok(None);
+    };
+    match runs.first() {
+        Some(run) => explain_broken_run(alloc, typed, run, command),
+        None => Ok(None),
+    }
+}
+
+/// The message on the first broken item, and how many others there are.
+fn message_on_broken_items(
+    alloc: Global,
+    typed: &Typed,
+    input: &ItemInput<'_>,
+    trees: &[Tree],
+    broken: &Broken,
+) -> Result<Option<String>, AllocError> {
+    let item = broken.item;
+    let Some(tree) = trees.get(item) else {
+        return Ok(None);
+    };
+    let Some(sentence) = sentence_of(alloc, typed, tree, broken.command)? else {
+        return Ok(None);
+    };
+    let Ok(sentence) = std::str::from_utf8(sentence.as_slice()) else {
+        return Ok(None);
+    };
+    let path = path_to_reply(alloc, tree.form(), item, broken.command as usize)?;
+    let notice = Notice {
+        span: span_of(input.trees.bytes, path.as_slice()),
+        is_warning: false,
+        what: format!(in alloc; "item {item} is broken: {sentence}")?,
+        notes: Vec::new(alloc),
+        lines: String::new(alloc),
+    };
+    let mut text = input.text_on_part(alloc, tree.form(), path.as_slice(), notice)?;
+    let more = broken.count.saturating_sub(1);
+    if more > 0 {
+        let items = if more == 1 { "item is" } else { "items are" };
+        write!(text, "{more} more {items} broken\n")?;
+    }
+    Ok(Some(text))
+}
+
+/// Says why the first broken item is broken, and how many others are, for a person to read. Returns `None` if no item
+/// is broken.
+///
+/// `typed` is the model of the input, and `judged` are the judgements on all items in their order. If an item is
+/// broken, the function reads the trees of the input once more; it returns `None` if that fails.
+pub fn explain_first_broken_run(
+    alloc: Global,
+    typed: &Typed,
+    input: ItemInput<'_>,
+    judged: &[Judged],
+) -> Result<Option<String>, AllocError> {
+    let mut broken = None;
+    for (index, judged) in judged.iter().enumerate() {
+        broken = count_if_broken(broken, index.saturating_add(1), judged);
+    }
+    let Some(broken) = broken else {
+        return Ok(None);
+    };
+    match read(alloc, input.trees.bytes) {
+        Ok(trees) => message_on_broken_items(alloc, typed, &input, trees.as_slice(), &broken),
+        Err(_) => Ok(None),
+    }
+}
+
+/// Says why the first broken item is broken, and how many others are, for a person to read. Returns `None` if no item
+/// is broken. `answers` are the answers to all items in their order, and `trees` are the trees of the input.
+pub fn explain_first_broken_result(
+    alloc: Global,
+    typed: &Typed,
+    input: ItemInput<'_>,
+    trees: &[Tree],
+    answers: &[ItemResult],
+) -> Result<Option<String>, AllocError> {
+    let mut broken = None;
+    for (index, answer) in answers.iter().enumerate() {
+        if let ItemResult::Judged(judged) = answer {
+            broken = count_if_broken(broken, index.saturating_add(1), judged);
+        }
+    }
+    match broken {
+        Some(broken) => message_on_broken_items(alloc, typed, &input, trees, &broken),
+        None => Ok(None),
+    }
+}

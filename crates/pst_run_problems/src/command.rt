@@ -1,0 +1,251 @@
+//! The commands of a case, and where they are.
+
+ghost use Rattle.std.specs.Prelude.{◌≡◌};
+ghost use Rattle.pst_runs.specs.Replies.{listed};
+
+use pst_model::Source;
+use pst_sexpr::{Form, node_of};
+use pst_syntax_problems::{has_head, head_word, operation_named};
+use pst_value::Ty;
+use std::alloc::{AllocError, Global};
+
+/// A part of a case: where it is in its item, and its commands.
+#[derive(Clone, Copy, Drop)]
+pub struct Part<'a> {
+    /// What messages call it.
+    pub called: &'static str,
+    pub is_prefix: bool,
+    pub is_branch: bool,
+    /// The number of its tree in the item.
+    pub place: usize,
+    /// Its number in that tree, if the tree has all branches.
+    pub branch: Option<usize>,
+    pub commands: &'a [Form],
+}
+
+/// A search in the trees of a case: its model, and its parts.
+#[derive(Clone, Copy, Drop)]
+pub struct CaseSearch<'a> {
+    pub source: &'a Source,
+    pub parts: &'a [Part<'a>],
+}
+
+/// A command of a case: its part, its number in it, from 0, and its tree.
+#[derive(Clone, Copy, Drop)]
+pub struct Command<'a> {
+    pub part: Part<'a>,
+    pub offset: usize,
+    pub form: &'a Form,
+}
+
+/// The head of a part with one list of commands.
+#[derive(Clone, Copy, Drop)]
+struct Head {
+    word: &'static str,
+    is_prefix: bool,
+    is_branch: bool,
+}
+
+/// The commands before the branches.
+const PREFIX: Head = Head {
+    word: "prefix",
+    is_prefix: true,
+    is_branch: false,
+};
+
+/// The first branch of two.
+const LEFT: Head = Head {
+    word: "left",
+    is_prefix: false,
+    is_branch: true,
+};
+
+/// The second branch of two.
+const RIGHT: Head = Head {
+    word: "right",
+    is_prefix: false,
+    is_branch: true,
+};
+
+/// The commands after the branches.
+const SUFFIX: Head = Head {
+    word: "suffix",
+    is_prefix: false,
+    is_branch: false,
+};
+
+/// The heads of parts with one list of commands.
+const HEADS: [Head; 4] = [PREFIX, LEFT, RIGHT, SUFFIX];
+
+/// The names of the branches of a `(branches ..)` tree.
+const BRANCHES: [&str; 4] = [
+    "the first branch",
+    "the second branch",
+    "the third branch",
+    "the fourth branch",
+];
+
+/// The trees in a tree.
+pub fn trees_in(form: &Form) -> &[Form]
+    ensures { result.now ≡ listed form.now }
+{
+    match node_of(form) {
+        Some(trees) => trees,
+        None => &[],
+    }
+}
+
+/// The trees after the head of a tree.
+pub fn after_head(form: &Form) -> &[Form] {
+    match trees_in(form).split_first() {
+        Some((_, trees)) => trees,
+        None => &[],
+    }
+}
+
+/// The part that `form` is, with the head `head`. `place` is the number of its tree in the item.
+fn headed_part(head: Head, form: &Form, place: usize) -> Part<'_> {
+    Part {
+        called: head.word,
+        is_prefix: head.is_prefix,
+        is_branch: head.is_branch,
+        place,
+        branch: None,
+        commands: after_head(form),
+    }
+}
+
+/// Branch `number`, counted from 1, of a `(branches ..)` tree. That tree is tree `place` of the item.
+fn branch_part(form: &Form, place: usize, number: usize) -> Part<'_> {
+    let called = match BRANCHES.get(number.saturating_sub(1)) {
+        Some(called) => *called,
+        None => "a branch",
+    };
+    Part {
+        called,
+        is_prefix: false,
+        is_branch: true,
+        place,
+        branch: Some(number),
+        commands: trees_in(form),
+    }
+}
+
+/// The head of a part with the word `word`.
+fn part_head(word: &str) -> Option<Head> {
+    for head in &HEADS {
+        if head.word == word {
+            return Some(*head);
+        }
+    }
+    None
+}
+
+/// Adds the branches of a `(branches ..)` tree.
+fn add_branches<'a>(
+    parts: &mut Vec<Part<'a>>,
+    forms: &'a [Form],
+    place: usize,
+) -> Result<(), AllocError> {
+    for (index, form) in forms.iter().enumerate() {
+        parts.extend_from_slice(&[branch_part(form, place, index.saturating_add(1))])?;
+    }
+    Ok(())
+}
+
+/// Adds the parts of a case that `tree` holds.
+fn add_parts<'a>(
+    parts: &mut Vec<Part<'a>>,
+    tree: &'a Form,
+    place: usize,
+) -> Result<(), AllocError> {
+    if has_head(tree, "branches") {
+        return add_branches(parts, after_head(tree), place);
+    }
+    match part_head(head_word(tree)) {
+        Some(head) => parts.extend_from_slice(&[headed_part(head, tree, place)]),
+        None => Ok(()),
+    }
+}
+
+/// The parts of a case, in the order of the numbers of their commands.
+pub fn parts_of_case<'a>(alloc: Global, form: &'a Form) -> Result<Vec<Part<'a>>, AllocError> {
+    let mut parts = Vec::new(alloc);
+    for (place, tree) in trees_in(form).iter().enumerate() {
+        add_parts(&mut parts, tree, place)?;
+    }
+    Ok(parts)
+}
+
+/// The part of command `command`, counted from 1, and the number of the command in it. Both results count from 0.
+pub fn find_part_of_command(parts: &[Part<'_>], command: usize) -> Option<(usize, usize)> {
+    let mut left = command.saturating_sub(1);
+    for (number, part) in parts.iter().enumerate() {
+        let length = part.commands.len();
+        if left < length {
+            return Some((number, left));
+        }
+        left = left.saturating_sub(length);
+    }
+    None
+}
+
+/// Command `command`, counted from 1.
+pub fn command_at<'a>(parts: &[Part<'a>], command: usize) -> Option<Command<'a>> {
+    let mut offset = command.saturating_sub(1);
+    for part in parts {
+        if let Some(form) = part.commands.get(offset) {
+            return Some(Command {
+                part: *part,
+                offset,
+                form,
+            });
+        }
+        offset = offset.saturating_sub(part.commands.len());
+    }
+    None
+}
+
+/// The path to a command within its item.
+fn path_to(alloc: Global, command: &Command<'_>) -> Result<Vec<usize>, AllocError> {
+    let place = command.part.place;
+    match command.part.branch {
+        Some(branch) => Vec::from_slice(alloc, &[place, branch, command.offset]),
+        None => Vec::from_slice(alloc, &[place, command.offset.saturating_add(1)]),
+    }
+}
+
+/// Command `command`, counted from 1, with the path to it within its item.
+pub fn command_with_path<'a>(
+    alloc: Global,
+    parts: &[Part<'a>],
+    command: usize,
+) -> Result<Option<(Vec<usize>, &'a Form)>, AllocError> {
+    match command_at(parts, command) {
+        Some(command) => Ok(Some((path_to(alloc, &command)?, command.form))),
+        None => Ok(None),
+    }
+}
+
+/// The number of the command that the variable `word` names.
+pub fn variable_number(word: &str) -> Option<usize> {
+    match word.strip_prefix("$") {
+        Some(digits) => digits.parse::<usize>().ok(),
+        None => None,
+    }
+}
+
+/// The type of the result of command `command`, counted from 1.
+pub fn result_type_of_command<'a>(
+    source: &'a Source,
+    parts: &[Part<'_>],
+    command: usize,
+) -> Option<&'a Ty> {
+    let Some(command) = command_at(parts, command) else {
+        return None;
+    };
+    match operation_named(source.items.as_slice(), head_word(command.form)) {
+        Some(op) => Some(&op.result),
+        None => None,
+    }
+}

@@ -1,0 +1,323 @@
+//! The first fault in the form of a case or a run, and its place.
+ghost use Rattle.std.specs.Prelude.{◌≡◌, ◌+◌, ◌<◌, ◌^◌, option_copied, length};
+ghost use Rattle.std.specs.List.{list_all};
+ghost use Rattle.pst_run_problems.specs.ItemForm as spec;
+ghost use Rattle.pst_runs.specs.Forms.{section, are_two_to_four};
+
+use pst_sexpr::{Form, node_of, word_of};
+
+/// A part of an item that begins with a word.
+#[derive(Clone, Copy, Drop)]
+pub enum Section {
+    /// The commands before the branches.
+    Prefix,
+    /// The first branch of two.
+    Left,
+    /// The second branch of two.
+    Right,
+    /// The commands after the branches.
+    Suffix,
+    /// The lists of replies.
+    Replies,
+}
+
+impl Section {
+    /// The word that the part begins with.
+    pub fn word(self) -> &'static str
+        ensures { result.now ≡ spec.word self }
+    {
+        match self {
+            Section::Prefix => "prefix",
+            Section::Left => "left",
+            Section::Right => "right",
+            Section::Suffix => "suffix",
+            Section::Replies => "replies",
+        }
+    }
+}
+
+/// The parts of a run that have a list of replies each: the prefix, the branches, and the suffix if it is written.
+#[derive(Clone, Copy, Drop)]
+pub struct ListedParts {
+    /// The number of branches.
+    pub branches: usize,
+    /// Whether the suffix is written.
+    pub has_suffix: bool,
+}
+
+impl ListedParts {
+    /// The number of the parts.
+    pub fn count(self) -> usize
+        ensures { self.branches + 2 < 2 ^ 64 → result ≡ spec.count self }
+    {
+        let others = if self.has_suffix { 2 } else { 1 };
+        self.branches.saturating_add(others)
+    }
+}
+
+/// What is wrong with the form of an item. Numbers of trees count from 0, which is the head of a tree that has one.
+#[derive(Clone, Copy, Drop)]
+pub enum FormFault {
+    /// The item does not begin with `case` or `run`.
+    OtherHead,
+    /// This part is missing.
+    Missing(Section),
+    /// The tree with the number has to be this part, and begins otherwise.
+    OtherPart(Section, usize),
+    /// In the tree with the number, the tree with this number is no call.
+    NoCall(usize, usize),
+    /// The number of the branches in a `(branches ..)` tree is not 2 to 4.
+    BranchCount(usize),
+    /// The branch with the number, from 1, is no list.
+    NoBranch(usize),
+    /// In the branch with the number, the tree with this number is no call.
+    NoBranchCall(usize, usize),
+    /// The tree with the number is after the last part.
+    Misplaced(usize),
+    /// A run has this number of lists of replies, and these parts.
+    ListCount(usize, ListedParts),
+    /// One of the lists of replies is no list.
+    NoList,
+}
+
+/// The parts of `form` after the word `word`, if it is a node that begins with this word.
+pub fn after_word<'a>(word: &str, form: &'a Form) -> Option<&'a [Form]>
+    ensures { option_copied result ≡ section word.now form.now }
+{
+    let (first, parts) = node_of(form)?.split_first()?;
+    if word_of(first)?.as_str() == word {
+        Some(parts)
+    } else {
+        None
+    }
+}
+
+/// Whether a tree is a node that begins with a word.
+fn is_node_with_head_word(form: &Form) -> bool
+    ensures { result ≡ spec.is_call form.now }
+{
+    match node_of(form) {
+        Some([first, ..]) => word_of(first).is_some(),
+        _ => false,
+    }
+}
+
+/// The number of the first tree that is no call, if there is one.
+fn find_first_non_call(forms: &[Form]) -> Option<usize>
+    ensures { result ≡ spec.no_call forms.now }
+{
+    forms.iter().position(|form| !is_node_with_head_word(form))
+}
+
+/// The fault of the commands of the tree `place`, if they have one.
+fn calls_fault(place: usize, commands: &[Form]) -> Option<FormFault>
+    ensures { result ≡ spec.calls_fault place commands.now }
+{
+    let offset = find_first_non_call(commands)?;
+    Some(FormFault::NoCall(place, offset + 1))
+}
+
+/// The fault of the tree `place`, which has to be the part `wanted`.
+fn section_fault(wanted: Section, place: usize, form: &Form) -> Option<FormFault>
+    ensures { result ≡ spec.section_fault wanted place form.now }
+{
+    match after_word(wanted.word(), form) {
+        Some(commands) => calls_fault(place, commands),
+        None => Some(FormFault::OtherPart(wanted, place)),
+    }
+}
+
+/// The fault of branch `number` of a `(branches ..)` tree.
+fn branch_fault(number: usize, form: &Form) -> Option<FormFault>
+    ensures { result ≡ spec.branch_fault number form.now }
+{
+    let Some(commands) = node_of(form) else {
+        return Some(FormFault::NoBranch(number));
+    };
+    let offset = find_first_non_call(commands)?;
+    Some(FormFault::NoBranchCall(number, offset))
+}
+
+/// The first fault of branches, which are numbered from `number` on.
+fn first_branch_fault_from(number: usize, forms: &[Form]) -> Option<FormFault>
+    requires { number + length forms.now < 2 ^ 32 }
+    ensures { result ≡ spec.branches_from number forms.now }
+{
+    let (form, forms) = forms.split_first()?;
+    branch_fault(number, form).or(first_branch_fault_from(number + 1, forms))
+}
+
+/// Whether the number of some branches is allowed.
+fn is_allowed_branch_count(branches: &[Form]) -> bool
+    ensures { result ≡ are_two_to_four branches.now }
+{
+    2 <= branches.len() && branches.len() <= 4
+}
+
+/// The fault of the branches of a `(branches ..)` tree.
+fn branches_fault(branches: &[Form]) -> Option<FormFault>
+    ensures { result ≡ spec.branches_fault branches.now }
+{
+    if is_allowed_branch_count(branches) {
+        first_branch_fault_from(1, branches)
+    } else {
+        Some(FormFault::BranchCount(branches.len()))
+    }
+}
+
+/// The fault of the first tree, whose number is `place`, after the last part.
+fn extra_tree_fault(place: usize, forms: &[Form]) -> Option<FormFault>
+    ensures { result ≡ spec.after_all place forms.now }
+{
+    if forms.is_empty() {
+        None
+    } else {
+        Some(FormFault::Misplaced(place))
+    }
+}
+
+/// Whether a tree is a list.
+fn is_list(form: &Form) -> bool
+    ensures { result ≡ spec.is_list form.now }
+{
+    node_of(form).is_some()
+}
+
+/// Whether each of some trees is a list.
+fn are_lists(forms: &[Form]) -> bool
+    ensures { result ≡ list_all spec.is_list forms.now }
+{
+    forms.iter().all(|form| is_list(form))
+}
+
+/// The fault of the lists of replies of a run with these parts.
+fn lists_fault(parts: ListedParts, lists: &[Form]) -> Option<FormFault>
+    requires { parts.branches + 2 < 2 ^ 64 }
+    ensures { result ≡ spec.lists_fault parts lists.now }
+{
+    if lists.len() != parts.count() {
+        return Some(FormFault::ListCount(lists.len(), parts));
+    }
+    if are_lists(lists) {
+        None
+    } else {
+        Some(FormFault::NoList)
+    }
+}
+
+/// The fault of the tree `place`, which has to be the replies of a run, or of the trees after it.
+fn replies_fault(parts: ListedParts, place: usize, form: &Form, more: &[Form]) -> Option<FormFault>
+    requires room { parts.branches + 2 < 2 ^ 64 }
+    requires small { place < 2 ^ 32 }
+    ensures { result ≡ spec.replies_fault parts place form.now more.now }
+{
+    match after_word(Section::Replies.word(), form) {
+        Some(lists) => extra_tree_fault(place + 1, more).or(lists_fault(parts, lists)),
+        None => Some(FormFault::OtherPart(Section::Replies, place)),
+    }
+}
+
+/// The fault of the trees after the suffix. The first of them is tree `place`.
+fn fault_after_suffix(
+    is_run: bool,
+    parts: ListedParts,
+    place: usize,
+    forms: &[Form],
+) -> Option<FormFault>
+    requires room { parts.branches + 2 < 2 ^ 64 }
+    requires small { place < 2 ^ 32 }
+    ensures { result ≡ spec.end_fault is_run parts place forms.now }
+{
+    if !is_run {
+        return extra_tree_fault(place, forms);
+    }
+    match forms.split_first() {
+        Some((form, more)) => replies_fault(parts, place, form, more),
+        None => Some(FormFault::Missing(Section::Replies)),
+    }
+}
+
+/// The fault of the trees after the branches. The first of them is tree `place`.
+fn fault_after_branches(
+    is_run: bool,
+    branches: usize,
+    place: usize,
+    forms: &[Form],
+) -> Option<FormFault>
+    requires room { branches + 2 < 2 ^ 64 }
+    requires small { place < 2 ^ 31 }
+    ensures { result ≡ spec.rest_fault is_run branches place forms.now }
+{
+    if let Some((form, more)) = forms.split_first() {
+        if let Some(commands) = after_word(Section::Suffix.word(), form) {
+            let parts = ListedParts {
+                branches,
+                has_suffix: true,
+            };
+            return calls_fault(place, commands).or(fault_after_suffix(
+                is_run,
+                parts,
+                place + 1,
+                more,
+            ));
+        }
+    }
+    let parts = ListedParts {
+        branches,
+        has_suffix: false,
+    };
+    fault_after_suffix(is_run, parts, place, forms)
+}
+
+/// The fault of the trees after `(left ..)`.
+fn fault_after_left(is_run: bool, forms: &[Form]) -> Option<FormFault>
+    ensures { result ≡ spec.right_fault is_run forms.now }
+{
+    match forms.split_first() {
+        Some((form, more)) => {
+            section_fault(Section::Right, 3, form).or(fault_after_branches(is_run, 2, 4, more))
+        }
+        None => Some(FormFault::Missing(Section::Right)),
+    }
+}
+
+/// The fault of the trees after the prefix.
+fn fault_after_prefix(is_run: bool, forms: &[Form]) -> Option<FormFault>
+    ensures { result ≡ spec.after_prefix is_run forms.now }
+{
+    let Some((form, more)) = forms.split_first() else {
+        return Some(FormFault::Missing(Section::Left));
+    };
+    match after_word("branches", form) {
+        Some(branches) => {
+            branches_fault(branches).or(fault_after_branches(is_run, branches.len(), 3, more))
+        }
+        None => section_fault(Section::Left, 2, form).or(fault_after_left(is_run, more)),
+    }
+}
+
+/// The fault of the trees after the head of an item.
+fn parts_fault(is_run: bool, forms: &[Form]) -> Option<FormFault>
+    ensures { result ≡ spec.parts_fault is_run forms.now }
+{
+    match forms.split_first() {
+        Some((form, more)) => {
+            section_fault(Section::Prefix, 1, form).or(fault_after_prefix(is_run, more))
+        }
+        None => Some(FormFault::Missing(Section::Prefix)),
+    }
+}
+
+/// The first fault in the form of an item. `None` if the tree has the form of a case or a run.
+#[tactic(auto, unfolding(crate::specs::ItemForm::form_fault))]
+pub fn form_fault(form: &Form) -> Option<FormFault>
+    ensures { result ≡ spec.form_fault form.now }
+{
+    if let Some(parts) = after_word("case", form) {
+        return parts_fault(false, parts);
+    }
+    match after_word("run", form) {
+        Some(parts) => parts_fault(true, parts),
+        None => Some(FormFault::OtherHead),
+    }
+}

@@ -1,0 +1,30 @@
+//! What is wrong with a refused case or run, and in which of its parts.
+//!
+//! `pst_runs` proves which refusal an item gets. For the form of an item, `laws` proves that a fault is found if and only
+//! if `pst_runs` refuses the form, and that the place of the fault is a part which it refuses. `first_reply_fault` and
+//! `first_argument_fault` prove the same for the values in replies and arguments, and `laws` the first half for the
+//! numbers of replies. The rest is tested: its proofs only say that the code terminates and does nothing unsafe.
+//! `AllocError` means that an allocation failed.
+#![tactic(auto)]
+
+mod argument_fault;
+mod arguments;
+mod command;
+mod entries;
+mod form_fault;
+mod ill;
+pub mod laws;
+mod places;
+mod replies;
+mod reply_fault;
+mod results;
+mod runs;
+mod shape;
+mod shown;
+mod value_fault;
+mod values;
+mod variables;
+
+pub use command::{Part, command_with_path, find_part_of_command, parts_of_case, trees_in};
+pub use runs::run_problem;
+pub use shape::JSON_ITEM;

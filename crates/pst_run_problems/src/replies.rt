@@ -1,0 +1,198 @@
+//! The replies of a run.
+ghost use Rattle.std.specs.Prelude.{◌≡◌, ◌+◌, ◌<◌, ◌^◌, length};
+ghost use Rattle.pst_run_problems.specs.ItemReplies as spec;
+ghost use Rattle.pst_runs.specs.Replies.{listed_at};
+
+use crate::command::{CaseSearch, Part, after_head, find_part_of_command, trees_in};
+use crate::ill::{ValueFault, value_fault_problem};
+use crate::reply_fault::first_reply_fault;
+use crate::values::fault_problem;
+use pst_sexpr::{Form, node_of};
+use pst_syntax_problems::{
+    FoundProblem, Problem, counted, has_head, problem_at, problem_with_note, with_note,
+};
+use std::alloc::Global;
+
+/// A reply: the numbers that lead to it from its item, and its tree.
+#[derive(Clone, Copy, Drop)]
+struct Reply<'a> {
+    place: usize,
+    list: usize,
+    offset: usize,
+    form: &'a Form,
+}
+
+/// The number of the `(replies ..)` tree among the trees of a run, and its lists.
+fn find_reply_lists(form: &Form) -> Option<(usize, &[Form])> {
+    for (place, part) in trees_in(form).iter().enumerate() {
+        if has_head(part, "replies") {
+            return Some((place, after_head(part)));
+        }
+    }
+    None
+}
+
+/// The replies of list `number`, counted from 0.
+fn replies_in(lists: &[Form], number: usize) -> &[Form]
+    ensures { result.now ≡ listed_at lists.now number }
+{
+    match lists.get(number) {
+        Some(list) => trees_in(list),
+        None => &[],
+    }
+}
+
+/// The problem of a part with `replies` replies, which has another number of commands.
+fn reply_count_problem(
+    alloc: Global,
+    path: &[usize],
+    part: &Part<'_>,
+    replies: usize,
+) -> FoundProblem {
+    let called = part.called;
+    let has = counted(part.commands.len(), "command");
+    if replies == 1 {
+        return problem_at(alloc, path, format_args!("{called}: 1 reply for {has}"));
+    }
+    problem_at(
+        alloc,
+        path,
+        format_args!("{called}: {replies} replies for {has}"),
+    )
+}
+
+/// The problem of a run with `lists` lists of replies for `parts` parts, which differ in number.
+fn list_count_problem(alloc: Global, path: &[usize], lists: usize, parts: usize) -> FoundProblem {
+    let found = counted(lists, "list");
+    let wanted = counted(parts, "part");
+    problem_with_note(
+        alloc,
+        path,
+        format_args!("{found} of replies for {wanted}"),
+        "the replies of the prefix come first, then those of each branch, then those of the suffix",
+    )
+}
+
+/// The number of the first of `parts` with another number of replies than of commands. The first part has list `number`.
+fn first_part_with_wrong_reply_count(
+    lists: &[Form],
+    number: usize,
+    parts: &[Part<'_>],
+) -> Option<usize>
+    requires { number + length parts.now < 2 ^ 64 }
+    ensures { result ≡ spec.first_other lists.now number parts.now }
+{
+    let (part, others) = parts.split_first()?;
+    if replies_in(lists, number).len() == part.commands.len() {
+        first_part_with_wrong_reply_count(lists, number + 1, others)
+    } else {
+        Some(number)
+    }
+}
+
+/// The problem of the first part with another number of replies than of commands. Each part has a list of replies.
+/// `place` is the number of the `(replies ..)` tree.
+fn list_problem(
+    alloc: Global,
+    item: usize,
+    place: usize,
+    lists: &[Form],
+    parts: &[Part<'_>],
+) -> FoundProblem {
+    let Some(number) = first_part_with_wrong_reply_count(lists, 0, parts) else {
+        return Ok(None);
+    };
+    let path = [item, place, number.saturating_add(1)];
+    match parts.get(number) {
+        Some(part) => reply_count_problem(alloc, &path, part, replies_in(lists, number).len()),
+        None => Ok(None),
+    }
+}
+
+/// The problem of a run whose replies do not fit its parts and commands.
+pub fn misfitting_replies_problem(
+    alloc: Global,
+    item: usize,
+    form: &Form,
+    parts: &[Part<'_>],
+) -> FoundProblem {
+    match find_reply_lists(form) {
+        Some((place, lists)) if lists.len() == parts.len() => {
+            list_problem(alloc, item, place, lists, parts)
+        }
+        Some((place, lists)) => list_count_problem(alloc, &[item, place], lists.len(), parts.len()),
+        None => Ok(None),
+    }
+}
+
+/// The reply to command `command`, counted from 1.
+fn reply_of<'a>(form: &'a Form, parts: &[Part<'_>], command: usize) -> Option<Reply<'a>> {
+    let Some((number, offset)) = find_part_of_command(parts, command) else {
+        return None;
+    };
+    let Some((place, lists)) = find_reply_lists(form) else {
+        return None;
+    };
+    match replies_in(lists, number).get(offset) {
+        Some(form) => Some(Reply {
+            place,
+            list: number.saturating_add(1),
+            offset,
+            form,
+        }),
+        None => None,
+    }
+}
+
+/// The problem of a tree at `path` that is not a reply.
+fn reply_problem(
+    alloc: Global,
+    search: &CaseSearch<'_>,
+    path: &[usize],
+    form: &Form,
+) -> FoundProblem {
+    let other = ValueFault::Tree {
+        before: "",
+        form,
+        after: " is not a reply",
+    };
+    if node_of(form).is_none() {
+        return value_fault_problem(alloc, path, Some(other));
+    }
+    let found = first_reply_fault(alloc, search, form)?;
+    fault_problem(alloc, search, path, found, other)
+}
+
+/// The problem `found`, if there is one, with a note on how replies are written.
+fn with_reply_syntax_note(alloc: Global, found: Option<Problem>, has_maps: bool) -> FoundProblem {
+    let maps = if has_maps {
+        ", (map (k v) ..) with rising keys"
+    } else {
+        ""
+    };
+    with_note(
+        alloc,
+        found,
+        format_args!(
+            "a reply is an integer, true, false, a text, (tuple v ..), (list v ..){maps}, misfit, failed or not-run"
+        ),
+    )
+}
+
+/// The problem of a run in which the reply to command `command`, counted from 1, is not a reply.
+pub fn bad_reply_problem(
+    alloc: Global,
+    search: &CaseSearch<'_>,
+    item: usize,
+    form: &Form,
+    command: usize,
+) -> FoundProblem {
+    match reply_of(form, search.parts, command) {
+        Some(reply) => {
+            let path = [item, reply.place, reply.list, reply.offset];
+            let found = reply_problem(alloc, search, &path, reply.form)?;
+            with_reply_syntax_note(alloc, found, search.source.has_maps)
+        }
+        None => Ok(None),
+    }
+}

@@ -1,0 +1,100 @@
+//! The types of the results of commands.
+
+ghost use Rattle.std.specs.Prelude.{◌≡◌, ◌++◌, IfOk, map, option_copied};
+ghost use Rattle.pst_run_problems.specs.ResultTypes as spec;
+
+use crate::command::{Part, trees_in};
+use pst_model::{Op, Source, operation_number, operation_of};
+use pst_sexpr::{Form, word_of};
+use pst_value::{Boxed, Items, Ty};
+use std::alloc::{AllocError, Global};
+
+/// An equal type.
+#[cycle(copy_type)]
+fn copy_type(alloc: Global, ty: &Ty) -> Result<Ty, AllocError>
+    ensures { IfOk result (λ copy. copy ≡ ty.now) }
+{
+    match ty {
+        Ty::Int => Ok(Ty::Int),
+        Ty::Bool => Ok(Ty::Bool),
+        Ty::Text => Ok(Ty::Text),
+        Ty::Tuple(parts) => Ok(Ty::Tuple(copy_types(alloc, parts.as_slice())?)),
+        Ty::List(item) => Ok(Ty::List(Boxed::new(alloc, copy_type(alloc, item.get())?)?)),
+        Ty::Map(keys, value) => {
+            Ok(Ty::Map(*keys, Boxed::new(alloc, copy_type(alloc, value.get())?)?))
+        }
+        Ty::Ref(named) => Ok(Ty::Ref(Boxed::new(alloc, copy_type(alloc, named.get())?)?)),
+        Ty::Call => Ok(Ty::Call),
+    }
+}
+
+#[cycle(copy_type)]
+fn copy_types(alloc: Global, types: &[Ty]) -> Result<Items<Ty>, AllocError>
+    ensures { IfOk result (λ copies. copies ≡ types.now) }
+{
+    let mut copies = Items::new(alloc);
+    for ty in types {
+        copies.push(copy_type(alloc, ty)?)?;
+    }
+    Ok(copies)
+}
+
+/// The operation that a command calls.
+fn operation_in<'a>(source: &'a Source, form: &Form) -> Option<&'a Op>
+    ensures { option_copied result ≡ spec.operation_in source.now form.now }
+{
+    let items = source.items.as_slice();
+    let (first, _) = trees_in(form).split_first()?;
+    let name = word_of(first)?;
+    let number = operation_number(items, name.as_bytes())?;
+    operation_of(items, number)
+}
+
+fn result_type(alloc: Global, source: &Source, form: &Form) -> Result<Ty, AllocError>
+    ensures { IfOk result (λ ty. ty ≡ spec.result_type source.now form.now) }
+{
+    match operation_in(source, form) {
+        Some(op) => copy_type(alloc, &op.result),
+        None => Ok(Ty::Call),
+    }
+}
+
+fn add_result_types_of_commands(
+    alloc: Global,
+    mut types: Items<Ty>,
+    source: &Source,
+    commands: &[Form],
+) -> Result<Items<Ty>, AllocError>
+    ensures { IfOk result (λ all. all ≡ types ++ map (spec.result_type source.now) commands.now) }
+{
+    for command in commands {
+        types.push(result_type(alloc, source, command)?)?;
+    }
+    Ok(types)
+}
+
+fn add_result_types_of_parts(
+    alloc: Global,
+    types: Items<Ty>,
+    source: &Source,
+    parts: &[Part<'_>],
+) -> Result<Items<Ty>, AllocError>
+    ensures { IfOk result (λ all. all ≡ types ++ spec.result_types source.now parts.now) }
+{
+    let Some((part, parts)) = parts.split_first() else {
+        return Ok(types);
+    };
+    let types = add_result_types_of_commands(alloc, types, source, part.commands)?;
+    add_result_types_of_parts(alloc, types, source, parts)
+}
+
+/// The types of the results of all commands, in the order of their numbers, from 1.
+pub fn result_types(
+    alloc: Global,
+    source: &Source,
+    parts: &[Part<'_>],
+) -> Result<Items<Ty>, AllocError>
+    ensures { IfOk result (λ types. types ≡ spec.result_types source.now parts.now) }
+{
+    add_result_types_of_parts(alloc, Items::new(alloc), source, parts)
+}

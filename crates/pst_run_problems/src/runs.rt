@@ -1,0 +1,153 @@
+//! Refused cases and runs.
+
+use crate::arguments::bad_argument_problem;
+use crate::command::{CaseSearch, Command, Part, command_at, parts_of_case};
+use crate::replies::{bad_reply_problem, misfitting_replies_problem};
+use crate::shape::bad_form_problem;
+use crate::variables::{Sought, variable_problem};
+use pst_case::CaseFaultKind;
+use pst_model::Source;
+use pst_runs::{RunFault, RunFaultKind};
+use pst_sexpr::Form;
+use pst_syntax_problems::{FoundProblem, Problem, below, head_word, problem_at, unknown_among};
+use std::alloc::{AllocError, Global};
+
+/// The problem of the part at `path`, which has more than `most` commands.
+fn too_many_commands_problem(
+    alloc: Global,
+    path: &[usize],
+    part: &Part<'_>,
+    most: usize,
+) -> FoundProblem {
+    let called = part.called;
+    let number = part.commands.len();
+    problem_at(
+        alloc,
+        path,
+        format_args!("{called} has {number} commands, at most {most}"),
+    )
+}
+
+/// The problem of a part of item `item`, which has more than `most` commands.
+fn part_problem(alloc: Global, item: usize, part: &Part<'_>, most: usize) -> FoundProblem {
+    match part.branch {
+        Some(branch) => too_many_commands_problem(alloc, &[item, part.place, branch], part, most),
+        None => too_many_commands_problem(alloc, &[item, part.place], part, most),
+    }
+}
+
+/// The problem of an item in which a part, or all branches together, have too many commands.
+fn over_limit_problem(alloc: Global, item: usize, parts: &[Part<'_>]) -> FoundProblem {
+    let mut together: usize = 0;
+    for part in parts {
+        let number = part.commands.len();
+        let most = if part.is_prefix { 64 } else { 8 };
+        if number > most {
+            return part_problem(alloc, item, part, most);
+        }
+        if part.is_branch {
+            together = together.saturating_add(number);
+        }
+    }
+    problem_at(
+        alloc,
+        &[item],
+        format_args!("the branches have {together} commands together, at most 16"),
+    )
+}
+
+/// The problem of command `number` at `path`, which has a fault of `kind`.
+fn command_problem(
+    alloc: Global,
+    search: &CaseSearch<'_>,
+    path: &[usize],
+    form: &Form,
+    kind: CaseFaultKind,
+    number: usize,
+) -> FoundProblem {
+    match kind {
+        CaseFaultKind::UnknownOp => {
+            let path = below(path, alloc, 0)?;
+            let items = search.source.items.as_slice();
+            unknown_among(alloc, items, path.as_slice(), head_word(form), true)
+        }
+        CaseFaultKind::BadArgument => bad_argument_problem(alloc, search, path, form),
+        CaseFaultKind::ForwardVar => {
+            variable_problem(alloc, search.parts, Sought::Later(number), path, form)
+        }
+        _ => variable_problem(alloc, search.parts, Sought::OtherBranch(number), path, form),
+    }
+}
+
+/// The problem of command `number`, counted from 1, of item `item`.
+fn bad_command_problem(
+    alloc: Global,
+    search: &CaseSearch<'_>,
+    item: usize,
+    kind: CaseFaultKind,
+    number: usize,
+) -> FoundProblem {
+    let Some(Command { part, offset, form }) = command_at(search.parts, number) else {
+        return Ok(None);
+    };
+    match part.branch {
+        Some(branch) => {
+            let path = [item, part.place, branch, offset];
+            command_problem(alloc, search, &path, form, kind, number)
+        }
+        None => {
+            let path = [item, part.place, offset.saturating_add(1)];
+            command_problem(alloc, search, &path, form, kind, number)
+        }
+    }
+}
+
+/// The problem of an item with the fault `fault`, if it is found.
+fn fault_problem(
+    alloc: Global,
+    search: &CaseSearch<'_>,
+    form: &Form,
+    fault: RunFault,
+) -> FoundProblem {
+    let RunFault { run, command, kind } = fault;
+    let command = command as usize;
+    match kind {
+        RunFaultKind::BadForm => bad_form_problem(alloc, run, form),
+        RunFaultKind::NotAFit => misfitting_replies_problem(alloc, run, form, search.parts),
+        RunFaultKind::BadReply => bad_reply_problem(alloc, search, run, form, command),
+        RunFaultKind::Case(CaseFaultKind::OverLimit) => over_limit_problem(
+            alloc,
+            run,
+            search.parts,
+        ),
+        RunFaultKind::Case(kind) => bad_command_problem(alloc, search, run, kind, command),
+    }
+}
+
+/// The problem of an item about which only the fault is known.
+fn unlocated_problem(alloc: Global, fault: RunFault) -> FoundProblem {
+    let kind = fault.kind.name();
+    problem_at(
+        alloc,
+        &[fault.run],
+        format_args!("the item is refused: {kind}"),
+    )
+}
+
+/// The problem of a case or a run that is refused with `fault`.
+pub fn run_problem(
+    alloc: Global,
+    source: &Source,
+    form: &Form,
+    fault: RunFault,
+) -> Result<Option<Problem>, AllocError> {
+    let parts = parts_of_case(alloc, form)?;
+    let search = CaseSearch {
+        source,
+        parts: parts.as_slice(),
+    };
+    match fault_problem(alloc, &search, form, fault)? {
+        Some(found) => Ok(Some(found)),
+        None => unlocated_problem(alloc, fault),
+    }
+}

@@ -1,0 +1,236 @@
+//! The form of cases and runs.
+
+use crate::command::trees_in;
+use crate::form_fault::{FormFault, ListedParts, form_fault};
+use crate::places::path_to_form_fault;
+use crate::shown::problem_showing_tree;
+use pst_sexpr::{Form, tree_in};
+use pst_syntax_problems::{
+    DidYouMean, FoundProblem, NearestName, counted, has_head, head_word, problem_at,
+    problem_at_part, problem_with_note, problem_with_note_at_part, with_note,
+};
+use std::alloc::{AllocError, Global};
+use std::fmt;
+
+/// How an item is written.
+#[derive(Clone, Copy, Drop)]
+struct Written {
+    /// It is a run and not a case.
+    is_run: bool,
+    /// Its branches are in one part.
+    has_branches: bool,
+    /// It has a suffix.
+    has_suffix: bool,
+}
+
+impl Written {
+    /// How an item with the parts of `form` is written.
+    fn of(form: &Form, is_run: bool) -> Written {
+        Written {
+            is_run,
+            has_branches: has_part(form, "branches"),
+            has_suffix: has_part(form, "suffix"),
+        }
+    }
+
+    /// How the branches are written.
+    fn branches(&self) -> &'static str {
+        if self.has_branches {
+            "(branches (CALL ..) (CALL ..) ..)"
+        } else {
+            "(left CALL ..) (right CALL ..)"
+        }
+    }
+
+    /// How the replies are written, if it has some.
+    fn replies(&self) -> &'static str {
+        match (self.is_run, self.has_branches, self.has_suffix) {
+            (false, _, _) => "",
+            (true, true, _) => " (replies (R ..) (R ..) ..)",
+            (true, false, false) => " (replies (R ..) (R ..) (R ..))",
+            (true, false, true) => " (replies (R ..) (R ..) (R ..) (R ..))",
+        }
+    }
+}
+
+impl fmt::Display for Written {
+    fn fmt<W: fmt::Write>(&self, f: &mut fmt::Formatter<W>) -> fmt::Result {
+        let head = if self.is_run { "run" } else { "case" };
+        let branches = self.branches();
+        let suffix = if self.has_suffix {
+            " (suffix CALL ..)"
+        } else {
+            ""
+        };
+        let replies = self.replies();
+        write!(
+            f,
+            "it is written `({head} (prefix CALL ..) {branches}{suffix}{replies})`"
+        )
+    }
+}
+
+/// Whether one of the trees in `form` has the head `word`.
+fn has_part(form: &Form, word: &str) -> bool {
+    trees_in(form).iter().any(|part| has_head(part, word))
+}
+
+/// The problem of the tree `tree` of the item `form`, which may not be where it is.
+fn misplaced_problem(alloc: Global, path: &[usize], form: &Form, tree: &Form) -> FoundProblem {
+    match head_word(tree) {
+        "replies" if !has_head(form, "run") => {
+            problem_at(
+                alloc,
+                path,
+                "a case has no replies: with replies it is a run",
+            )
+        }
+        "suffix" => problem_at(
+            alloc,
+            path,
+            "an item has one suffix, after the branches and before the replies",
+        ),
+        _ => problem_at(alloc, path, "an item has no such part here"),
+    }
+}
+
+impl fmt::Display for ListedParts {
+    fn fmt<W: fmt::Write>(&self, f: &mut fmt::Formatter<W>) -> fmt::Result {
+        let branches = self.branches;
+        let suffix = if self.has_suffix { ", suffix" } else { "" };
+        write!(f, "prefix, {branches} branches{suffix}")
+    }
+}
+
+/// The problem of a run with `lists` lists of replies for the parts `parts`.
+fn list_count_problem(
+    alloc: Global,
+    path: &[usize],
+    lists: usize,
+    parts: ListedParts,
+) -> FoundProblem {
+    let has = counted(lists, "list");
+    let count = parts.count();
+    let what = format_args!(
+        "the replies are lists, one for each part: {count} parts ({parts}), {has}"
+    );
+    if lists.saturating_add(1) == count {
+        return problem_with_note(
+            alloc,
+            path,
+            what,
+            "hint: the prefix has a list too, which may be empty",
+        );
+    }
+    problem_at(alloc, path, what)
+}
+
+/// The problem of a tree that is not written as a call.
+fn call_problem(alloc: Global, path: &[usize], tree: &Form) -> FoundProblem {
+    let found = problem_showing_tree(alloc, path, "", tree, " is not a call")?;
+    with_note(alloc, found, "a call is `(OPERATION VALUE ..)`")
+}
+
+/// The problem of the fault `fault` of item `item`. `path` leads to its place in the item.
+fn fault_problem(
+    alloc: Global,
+    item: usize,
+    form: &Form,
+    fault: FormFault,
+    place: &[usize],
+) -> FoundProblem {
+    let mut path = Vec::from_slice(alloc, &[item])?;
+    path.extend_from_slice(place)?;
+    let path = path.as_slice();
+    let tree = tree_in(form, place).unwrap_or(form);
+    match fault {
+        FormFault::OtherHead => other_head_problem(alloc, item, form),
+        FormFault::Missing(part) => {
+            let word = part.word();
+            problem_at(alloc, path, format_args!("`({word} ..)` is missing"))
+        }
+        FormFault::OtherPart(part, _) => {
+            let word = part.word();
+            let before = format_args!("expected `({word} ..)` here, found ");
+            problem_showing_tree(alloc, path, before, tree, "")
+        }
+        FormFault::NoCall(_, _) | FormFault::NoBranchCall(_, _) => call_problem(alloc, path, tree),
+        FormFault::BranchCount(count) => problem_at(
+            alloc,
+            path,
+            format_args!("an item has 2 to 4 branches, this one has {count}"),
+        ),
+        FormFault::NoBranch(_) => {
+            problem_at(alloc, path, "a branch is a list of calls: `(CALL ..)`")
+        }
+        FormFault::Misplaced(_) => misplaced_problem(alloc, path, form, tree),
+        FormFault::ListCount(lists, parts) => list_count_problem(alloc, path, lists, parts),
+        FormFault::NoList => { problem_at(alloc, path, "the replies are lists, one for each part") }
+    }
+}
+
+/// The head of items that is probably meant by `head`, as a hint.
+fn head_meant(alloc: Global, head: &str) -> Result<Option<DidYouMean<'static>>, AllocError> {
+    let near = NearestName::to(head).or(alloc, "case", head)?;
+    Ok(near.or(alloc, "run", head)?.hint())
+}
+
+/// The problem of a tree that is neither a case nor a run.
+fn other_head_problem(alloc: Global, item: usize, form: &Form) -> FoundProblem {
+    let head = head_word(form);
+    if head.is_empty() {
+        return problem_showing_tree(alloc, &[item], "", form, " is neither a case nor a run");
+    }
+    if matches!(head, "model" | "model2") {
+        return problem_at(
+            alloc,
+            &[item],
+            "a second model: the first tree of an input is its model",
+        );
+    }
+    let what = format_args!("neither a case nor a run begins with `{head}`");
+    match head_meant(alloc, head)? {
+        Some(hint) => problem_with_note_at_part(alloc, &[item], 0, what, hint),
+        None => problem_at_part(alloc, &[item], 0, what),
+    }
+}
+
+/// The problem of the form of an item.
+fn form_problem(alloc: Global, item: usize, form: &Form) -> FoundProblem {
+    match form_fault(form) {
+        Some(fault) => {
+            let place = path_to_form_fault(alloc, fault)?;
+            fault_problem(alloc, item, form, fault, place.as_slice())
+        }
+        None => Ok(None),
+    }
+}
+
+/// The note on items as JSON.
+pub const JSON_ITEM: &str = "an item as JSON is one object on one line, which begins with `{`";
+
+/// Whether a tree is probably a piece of JSON.
+fn looks_like_json(form: &Form) -> bool {
+    match form {
+        Form::Word(word) => matches!(word.as_bytes().first(), Some(b'[' | b'{' | b']' | b'}')),
+        Form::Text(_) | Form::Node(_) => false,
+    }
+}
+
+/// The problem of item `item`, which has another form than a case or a run. A note shows the form that is probably
+/// meant.
+pub fn bad_form_problem(alloc: Global, item: usize, form: &Form) -> FoundProblem {
+    let found = form_problem(alloc, item, form)?;
+    if looks_like_json(form) {
+        return with_note(alloc, found, JSON_ITEM);
+    }
+    let is_run = match head_meant(alloc, head_word(form))? {
+        Some(DidYouMean(head)) => head == "run",
+        None => false,
+    };
+    with_note(
+        alloc,
+        found,
+        Written::of(form, is_run || has_part(form, "replies")),
+    )
+}

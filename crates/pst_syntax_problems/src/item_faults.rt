@@ -1,0 +1,171 @@
+//! The faults of items, with their places.
+
+ghost use Rattle.std.specs.Prelude.{◌≡◌, ◌++◌, not, OnOk, map};
+ghost use Rattle.pst_syntax_problems.specs.Kept.{keep};
+ghost use Rattle.pst_syntax_problems.specs.Placed.{below, known_at, placed, unless_at};
+ghost use Rattle.pst_syntax_problems.specs.PlacedModel as spec;
+ghost use Rattle.pst_syntax_problems.specs.SeenShapes.{items_in, shown_fun, shown_op};
+ghost use Rattle.pst_syntax_problems.specs.declared.fault.Role.TheVariants as role;
+ghost use Rattle.pst_syntax.specs.Faults.{name_faults};
+ghost use Rattle.pst_syntax.specs.ShownItems.{shown_item_option};
+ghost use Rattle.pst_syntax.specs.declared.fault.FaultKind.TheVariants.{DoubleName, OverLimit};
+
+use crate::callback_faults::add_callbacks_faults;
+use crate::fault::Role;
+use crate::param_faults::add_params_faults;
+use crate::seen_items::{
+    has_command, has_fun, has_init, has_op, has_room_for_function, has_room_for_operation,
+    has_state,
+};
+use crate::telling::{
+    Added, DeclaredName, Faults, Walk, push_fault, push_fault_unless, push_name_faults_at_part,
+};
+use crate::whole_faults::{
+    add_single_expression_faults, add_whole_expr_faults, add_whole_ty_faults,
+};
+use pst_sexpr::Form;
+use pst_syntax::{FaultKind, FunShape, ItemShape, OpShape, is_name, is_unreserved_name};
+
+/// Adds the faults of the state at `path`. `has_one` is true if there was a state before it.
+fn add_state_faults(
+    walk: Walk,
+    faults: &mut Faults,
+    path: &[usize],
+    has_one: bool,
+    form: &Form,
+) -> Added
+    ensures { OnOk result (faults.new ≡ keep walk.limit faults.old
+        (unless_at path.now role.Item (not has_one) DoubleName
+        (spec.whole_ty_at walk.has_maps (below path.now 1) form.now))) }
+{
+    let role = Role::Item;
+    push_fault_unless(walk, faults, path, role, !has_one, FaultKind::DoubleName)?;
+    add_whole_ty_faults(walk, faults, path, 1, form)?;
+    Ok(())
+}
+
+/// Adds the faults of a function or an operation at `path`, apart from its body or its callbacks. `has_room`
+/// says whether the model may have one more.
+fn add_declaration_faults(
+    walk: Walk,
+    faults: &mut Faults,
+    path: &[usize],
+    has_room: bool,
+    name: DeclaredName<'_>,
+    forms: &[Form],
+    ty: &Form,
+) -> Added
+    ensures { OnOk result (faults.new ≡ keep walk.limit faults.old
+        (unless_at path.now role.Item has_room OverLimit
+        (map (placed (below path.now 1) role.ItemName) (name_faults name.entry.is_lawful name.entry.is_taken name.entry.word.now)
+        ++ (spec.params_faults_at walk.has_maps (below path.now 2) forms.now
+        ++ spec.whole_ty_at walk.has_maps (below path.now 3) ty.now)))) }
+{
+    let role = Role::Item;
+    push_fault_unless(walk, faults, path, role, has_room, FaultKind::OverLimit)?;
+    push_name_faults_at_part(walk, faults, path, 1, Role::ItemName, name)?;
+    add_params_faults(walk, faults, path, forms)?;
+    add_whole_ty_faults(walk, faults, path, 3, ty)?;
+    Ok(())
+}
+
+/// Adds the faults of a function at `path`, after the items `seen`.
+#[tactic(auto, using(crate::proofs::Keeping::keeping))]
+fn add_fun_faults(
+    walk: Walk,
+    faults: &mut Faults,
+    seen: &[Option<ItemShape<'_>>],
+    path: &[usize],
+    shape: &FunShape<'_>,
+) -> Added
+    ensures { OnOk result (faults.new ≡ keep walk.limit faults.old
+        (spec.item_faults_at walk.has_maps (items_in seen.now) path.now (shown_fun shape.now))) }
+{
+    let name = DeclaredName {
+        word: shape.name,
+        is_lawful: is_unreserved_name(walk.has_maps, shape.name),
+        is_taken: has_fun(seen, shape.name),
+    };
+    let has_room = has_room_for_function(seen);
+    add_declaration_faults(
+        walk,
+        faults,
+        path,
+        has_room,
+        name,
+        shape.params,
+        shape.result,
+    )?;
+    add_whole_expr_faults(walk, faults, path, 4, shape.body)?;
+    Ok(())
+}
+
+/// Adds the faults of an operation at `path`, after the items `seen`.
+#[tactic(auto, using(crate::proofs::Keeping::keeping))]
+fn add_op_faults(
+    walk: Walk,
+    faults: &mut Faults,
+    seen: &[Option<ItemShape<'_>>],
+    path: &[usize],
+    shape: &OpShape<'_>,
+) -> Added
+    ensures { OnOk result (faults.new ≡ keep walk.limit faults.old
+        (spec.item_faults_at walk.has_maps (items_in seen.now) path.now (shown_op shape.now))) }
+{
+    let name = DeclaredName {
+        word: shape.name,
+        is_lawful: is_name(shape.name),
+        is_taken: has_op(seen, shape.name),
+    };
+    let has_room = has_room_for_operation(seen);
+    add_declaration_faults(
+        walk,
+        faults,
+        path,
+        has_room,
+        name,
+        shape.params,
+        shape.result,
+    )?;
+    add_callbacks_faults(walk, faults, path, shape.callbacks)?;
+    Ok(())
+}
+
+/// Adds the faults of the item at `path`, after the items `seen`.
+#[tactic(auto, using(crate::proofs::Keeping::keeping, crate::proofs::Seen::seen))]
+pub fn add_item_faults(
+    walk: Walk,
+    faults: &mut Faults,
+    seen: &[Option<ItemShape<'_>>],
+    path: &[usize],
+    shape: &Option<ItemShape<'_>>,
+) -> Added
+    ensures { OnOk result (faults.new ≡ keep walk.limit faults.old
+        (known_at path.now role.Item (shown_item_option shape.now)
+        (spec.item_faults_at walk.has_maps (items_in seen.now) path.now))) }
+{
+    let role = Role::Item;
+    match shape {
+        Some(ItemShape::State(ty)) => add_state_faults(walk, faults, path, has_state(seen), ty)?,
+        Some(ItemShape::Init(value)) => add_single_expression_faults(
+            walk,
+            faults,
+            role,
+            path,
+            has_init(seen),
+            value,
+        )?,
+        Some(ItemShape::Command(calls)) => add_single_expression_faults(
+            walk,
+            faults,
+            role,
+            path,
+            has_command(seen),
+            calls,
+        )?,
+        Some(ItemShape::Fun(shape)) => add_fun_faults(walk, faults, seen, path, shape)?,
+        Some(ItemShape::Op(shape)) => add_op_faults(walk, faults, seen, path, shape)?,
+        None => push_fault(walk, faults, path, role, FaultKind::UnknownForm)?,
+    }
+    Ok(())
+}

@@ -1,0 +1,54 @@
+//! Problems of a refused input, as messages report them: where they are, what is wrong, and notes.
+//!
+//! `faults_of` finds the faults of a model text, each with the path to the refused part and with what that
+//! part has to be. Its contract says that it returns the faults of the definition, in their order, and `laws`
+//! says that the reader refuses the text for the first of them. `form_problems` words them. The words are
+//! tested, not proved: the proofs only say that the code terminates and does nothing unsafe.
+//!
+//! `AllocError` means that an allocation failed.
+#![tactic(auto)]
+
+mod callback_faults;
+mod expression_faults;
+mod expressions;
+mod fault;
+mod forms;
+mod found_problem;
+mod item_faults;
+mod item_forms;
+mod items;
+pub mod laws;
+mod model_faults;
+mod names;
+mod operations;
+mod param_faults;
+mod part_faults;
+mod problem;
+mod seen_items;
+mod slips;
+mod syntax;
+mod telling;
+mod tree;
+mod type_faults;
+mod types;
+mod whole_faults;
+mod writing;
+
+pub use fault::{FormFault, Role};
+pub use forms::{
+    HeadedForm, expression_form, hint_for_foreign_word, is_head, is_of_maps, nearest_head,
+    type_form,
+};
+pub use found_problem::{
+    CAPITAL, FoundProblem, foreign_word_problem, in_single_quotes, is_capitalized, problem_at,
+    problem_at_part, problem_with_note, problem_with_note_at_part, push_problem, with_note,
+};
+pub use model_faults::faults_of;
+pub use names::{DidYouMean, NearestName, nearest, push_name};
+pub use operations::{operation_named, unknown_among};
+pub use problem::{MOST_PROBLEMS, Problem, below};
+pub use syntax::form_problems;
+pub use tree::{has_head, head_word};
+pub use writing::{
+    Count, FormText, Listed, Signature, TypeText, counted, key_type_word, short_text,
+};

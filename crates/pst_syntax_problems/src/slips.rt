@@ -1,0 +1,215 @@
+//! Hints on what other languages write: operators between their operands, commas, fields and the like.
+
+use crate::forms::{expression_form, hint_for_foreign_word};
+use crate::found_problem::{FoundProblem, with_note};
+use crate::problem::Problem;
+use crate::tree::head_of;
+use crate::writing::short_text;
+use pst_sexpr::{Form, is_integer, node_of, tree_in, word_of};
+use pst_value::Text;
+use std::alloc::{AllocError, Global};
+
+/// The operator of this language that `operator` means.
+fn operator_meant(operator: &str) -> Option<&str> {
+    match operator {
+        "+" | "-" | "*" | "++" | "<" | "<=" | "=" | "and" | "or" | "div" | "rem" => Some(operator),
+        "==" => Some("="),
+        "&&" => Some("and"),
+        "||" => Some("or"),
+        "/" => Some("div"),
+        "%" => Some("rem"),
+        _ => None,
+    }
+}
+
+/// How `operator` is applied to `left` and `right`, if it is an operator of this or of another language.
+pub fn operator_application_text(
+    alloc: Global,
+    operator: &str,
+    left: &Form,
+    right: &Form,
+) -> Result<Option<String>, AllocError> {
+    let left = short_text(alloc, left)?;
+    let right = short_text(alloc, right)?;
+    let left = left.as_str();
+    let right = right.as_str();
+    match operator {
+        ">" => Ok(Some(format!(in alloc; "(< {right} {left})")?)),
+        ">=" => Ok(Some(format!(in alloc; "(<= {right} {left})")?)),
+        "!=" => Ok(Some(format!(in alloc; "(not (= {left} {right}))")?)),
+        _ => match operator_meant(operator) {
+            Some(head) => Ok(Some(format!(in alloc; "({head} {left} {right})")?)),
+            None => Ok(None),
+        },
+    }
+}
+
+/// Whether a tree is a word that heads a form of expressions.
+fn heads_form(has_maps: bool, form: &Form) -> bool {
+    match word_of(form) {
+        Some(word) => expression_form(has_maps, word.as_str()).is_some(),
+        None => false,
+    }
+}
+
+/// What to write in the place of a node with the trees `parts`, if the second of them is an operator and the
+/// first is none.
+fn rewrite_with_operator_first(
+    alloc: Global,
+    has_maps: bool,
+    parts: &[Form],
+) -> Result<Option<String>, AllocError> {
+    let [left, Form::Word(operator), right, ..] = parts else {
+        return Ok(None);
+    };
+    if heads_form(has_maps, left) {
+        return Ok(None);
+    }
+    operator_application_text(alloc, operator.as_str(), left, right)
+}
+
+/// The trees of the node `form`, or of the node that has the word `form` as its second tree. `path` leads to
+/// `form`.
+fn trees_around<'a>(model: &'a Form, path: &[usize], form: &'a Form) -> Option<&'a [Form]> {
+    if let Form::Node(parts) = form {
+        return Some(parts.as_slice());
+    }
+    let (last, before) = path.split_last()?;
+    if *last == 1 {
+        node_of(tree_in(model, before.get(1..)?)?)
+    } else {
+        None
+    }
+}
+
+/// Whether a word is `sign` and then a name.
+fn is_signed_name(word: &str, sign: &str) -> bool {
+    match word.strip_prefix(sign) {
+        Some(name) => name
+            .as_bytes()
+            .first()
+            .is_some_and(|byte| byte.is_ascii_lowercase()),
+        None => false,
+    }
+}
+
+/// What to write in the place of a word that is neither an integer nor a name.
+fn hint_for_malformed_word(word: &Text) -> Option<&'static str> {
+    let name = word.as_str();
+    let is_number = word
+        .as_bytes()
+        .first()
+        .is_some_and(|byte| byte.is_ascii_digit());
+    if is_integer(word) || hint_for_foreign_word(name).is_some() {
+        None
+    } else if name.ends_with(",") {
+        Some("there are no commas: spaces separate the parts")
+    } else if name.starts_with("[") {
+        Some("a list begins with the type of its items: `(list int 1 2)`")
+    } else if name.contains("[") {
+        Some("an item of a list is `(nth LIST PLACE)`, counted from 0")
+    } else if is_number {
+        Some("an integer is decimal digits, after a `-` if it is negative")
+    } else if name.contains(".") {
+        Some("there are no fields or methods: item 1 of a tuple `t` is `(at t 1)`")
+    } else if is_signed_name(name, "!") {
+        Some("write `(not a)`")
+    } else if is_signed_name(name, "-") {
+        Some("write `(- 0 a)`")
+    } else {
+        None
+    }
+}
+
+/// What to write in the place of a part of a refused tree, if it is a word of another language.
+fn hint_for_malformed_part(form: &Form) -> Option<&'static str> {
+    let word = word_of(form)?;
+    if word.as_str().starts_with("'") {
+        return Some("a text is in double quotes");
+    }
+    hint_for_malformed_word(word)
+}
+
+/// What to write in the place of the first word of another language among `forms`.
+fn hint_for_first_malformed_part(forms: &[Form]) -> Option<&'static str> {
+    for form in forms {
+        if let Some(hint) = hint_for_malformed_part(form) {
+            return Some(hint);
+        }
+    }
+    None
+}
+
+/// The problem `found` of the tree `form`, with a hint if it is a word of another language or has one among
+/// its parts.
+pub fn with_word_hint(alloc: Global, form: &Form, found: Option<Problem>) -> FoundProblem {
+    let meant = match form {
+        Form::Node(parts) => hint_for_first_malformed_part(parts.as_slice()),
+        Form::Word(word) => hint_for_malformed_word(word),
+        Form::Text(_) => None,
+    };
+    match meant {
+        Some(hint) => with_note(alloc, found, format_args!("hint: {hint}")),
+        None => Ok(found),
+    }
+}
+
+/// The problem `found` without its notes.
+fn without_notes(found: Option<Problem>) -> Option<Problem> {
+    match found {
+        Some(mut problem) => {
+            problem.notes.clear();
+            Some(problem)
+        }
+        None => None,
+    }
+}
+
+/// The problem `found` of the expression at `path`, with a hint if the expression is a clause of a form that another
+/// language chooses with.
+fn with_choice_hint(
+    alloc: Global,
+    model: &Form,
+    path: &[usize],
+    found: Option<Problem>,
+) -> FoundProblem {
+    let Some((_, before)) = path.split_last() else {
+        return Ok(found);
+    };
+    let around = tree_in(model, before.get(1..).unwrap_or(&[])).and_then(head_of);
+    match around.map(Text::as_str) {
+        Some(word @ ("cond" | "case" | "match" | "switch")) => match hint_for_foreign_word(word) {
+            Some(hint) => with_note(
+                alloc,
+                found,
+                format_args!("hint: there is no `{word}`: {hint}"),
+            ),
+            None => Ok(found),
+        },
+        _ => Ok(found),
+    }
+}
+
+/// The problem `found` of the expression `form`, which `path` leads to, with a hint if it is written as in
+/// another language. A hint on an operator between its operands is the only note.
+pub fn with_expression_hint(
+    alloc: Global,
+    has_maps: bool,
+    model: &Form,
+    path: &[usize],
+    form: &Form,
+    found: Option<Problem>,
+) -> FoundProblem {
+    let found = with_choice_hint(alloc, model, path, found)?;
+    let Some(parts) = trees_around(model, path, form) else {
+        return with_word_hint(alloc, form, found);
+    };
+    match rewrite_with_operator_first(alloc, has_maps, parts)? {
+        Some(written) => {
+            let written = written.as_str();
+            let hint = format_args!("hint: write `{written}`: the operator comes first");
+            with_note(alloc, without_notes(found), hint)
+        }
+        None => with_word_hint(alloc, form, found),
+    }
+}

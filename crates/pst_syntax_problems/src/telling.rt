@@ -1,0 +1,114 @@
+//! Faults with their places, up to a limit.
+
+ghost use Rattle.std.specs.Prelude.{◌≡◌, ◌∷◌, [], OnOk, map};
+ghost use Rattle.pst_syntax_problems.specs.Kept.{keep};
+ghost use Rattle.pst_syntax_problems.specs.Placed.{below, placed, unless_at};
+ghost use Rattle.pst_syntax.specs.Faults.{name_faults};
+
+use crate::fault::{FormFault, Role};
+use crate::problem::below;
+use pst_syntax::{FaultKind, is_short};
+use pst_value::{Items, Text};
+use std::alloc::{AllocError, Global};
+
+/// What a walk over a model carries along.
+#[derive(Clone, Copy)]
+pub struct Walk {
+    /// The allocator.
+    pub alloc: Global,
+    /// Whether the language of the model has maps.
+    pub has_maps: bool,
+    /// The maximum number of faults.
+    pub limit: usize,
+}
+
+/// The faults that a walk has found.
+pub type Faults = Items<FormFault>;
+
+/// The result of adding faults.
+pub type Added = Result<(), AllocError>;
+
+/// A name where it is declared.
+#[derive(Clone, Copy)]
+pub struct DeclaredName<'a> {
+    /// The name.
+    pub word: &'a Text,
+    /// Whether it is valid there.
+    pub is_lawful: bool,
+    /// Whether it is taken.
+    pub is_taken: bool,
+}
+
+/// Adds the fault of the part at `path`.
+#[tactic(auto, using(crate::proofs::Keeping::keeping))]
+pub fn push_fault(
+    walk: Walk,
+    faults: &mut Faults,
+    path: &[usize],
+    role: Role,
+    kind: FaultKind,
+) -> Added
+    ensures { OnOk result (faults.new ≡ keep walk.limit faults.old (placed path.now role kind ∷ [])) }
+{
+    if faults.len() >= walk.limit {
+        return Ok(());
+    }
+    let path = Items::from_slice(walk.alloc, path)?;
+    faults.push(FormFault { kind, path, role })?;
+    Ok(())
+}
+
+/// Adds the fault of the part at `path` unless `holds`.
+#[tactic(auto, using(crate::proofs::Keeping::keeping))]
+pub fn push_fault_unless(
+    walk: Walk,
+    faults: &mut Faults,
+    path: &[usize],
+    role: Role,
+    holds: bool,
+    kind: FaultKind,
+) -> Added
+    ensures { OnOk result (faults.new ≡ keep walk.limit faults.old (unless_at path.now role holds kind [])) }
+{
+    if holds {
+        Ok(())
+    } else {
+        push_fault(walk, faults, path, role, kind)
+    }
+}
+
+/// Adds the faults of the name at `path`.
+#[tactic(auto, using(crate::proofs::Keeping::keeping, crate::proofs::Levels::name_steps))]
+fn push_name_faults(
+    walk: Walk,
+    faults: &mut Faults,
+    path: &[usize],
+    role: Role,
+    name: DeclaredName<'_>,
+) -> Added
+    ensures { OnOk result (faults.new ≡ keep walk.limit faults.old
+        (map (placed path.now role) (name_faults name.entry.is_lawful name.entry.is_taken name.entry.word.now))) }
+{
+    let is_taken = name.is_taken;
+    let is_short = is_short(name.word);
+    push_fault_unless(walk, faults, path, role, name.is_lawful, FaultKind::BadName)?;
+    push_fault_unless(walk, faults, path, role, !is_taken, FaultKind::DoubleName)?;
+    push_fault_unless(walk, faults, path, role, is_short, FaultKind::OverLimit)?;
+    Ok(())
+}
+
+/// Adds the faults of the name that is part `number` of the tree at `path`.
+pub fn push_name_faults_at_part(
+    walk: Walk,
+    faults: &mut Faults,
+    path: &[usize],
+    number: usize,
+    role: Role,
+    name: DeclaredName<'_>,
+) -> Added
+    ensures { OnOk result (faults.new ≡ keep walk.limit faults.old
+        (map (placed (below path.now number) role) (name_faults name.entry.is_lawful name.entry.is_taken name.entry.word.now))) }
+{
+    let path = below(path, walk.alloc, number)?;
+    push_name_faults(walk, faults, path.as_slice(), role, name)
+}
