@@ -11,11 +11,11 @@ use pst_cli::{
     judge_file_with_progress, judge_json, judge_json_with_progress, judge_text,
     judge_text_keep_going,
 };
-use pst_sexpr::{Out, Sink, put_all};
 use pst_messages::{
     ItemInput, explain_first_broken_result, explain_first_broken_run, warnings_on_answers,
     warnings_on_runs,
 };
+use pst_sexpr::{Out, Sink, put_all};
 use std::alloc::{AllocError, Global};
 use std::mem::forget;
 use std::sync::Wait;

@@ -4,8 +4,8 @@ ghost use Rattle.pst_trial.specs.Settings.{AreInRange};
 
 use crate::beginning;
 use pst_cli::CampaignNotes;
-use pst_trial::Settings;
 use pst_messages::explain_generation_fault;
+use pst_trial::Settings;
 use std::alloc::Global;
 
 /// Writes why trial `number` has no case.

@@ -2,11 +2,10 @@
 
 use crate::words::is_json;
 use clap::ArgMatches;
-use pst_messages::{Asked, errors_of};
+use pst_messages::{Asked, errors_of, warnings_in};
 use pst_rejudge::{Field, Name, add_number_field, add_text_field, object_line};
 use pst_sources::{Input, Notice, Notices, place_in};
 use pst_value::Text;
-use pst_messages::warnings_in;
 use std::alloc::{AllocError, Global};
 
 /// Returns the strings as texts.

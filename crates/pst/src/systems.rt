@@ -6,8 +6,8 @@ use crate::input;
 use clap::ArgMatches;
 use pst_cli::{Absence, KnownSystem, Status, refuse_text};
 use pst_clients::Folder;
-use pst_syntax_problems::NearestName;
 use pst_sexpr::Sink;
+use pst_syntax_problems::NearestName;
 use std::alloc::AllocError;
 use std::rt::Files;
 

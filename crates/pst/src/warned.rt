@@ -1,7 +1,7 @@
 //! The warnings on an accepted model, on standard error.
 
-use pst_sources::SourceFile;
 use pst_messages::warnings_of;
+use pst_sources::SourceFile;
 use std::alloc::Global;
 
 /// Writes the warnings on an input to standard error. If an allocation fails or they cannot be written, the line and

@@ -13,9 +13,8 @@ use pst_json::{
 };
 use pst_judge::{Judged, judge_one};
 use pst_ledger::Entry;
-use pst_shrink::FailingCase;
 use pst_sources::SourceFile;
-use pst_trial::{JudgedRun, Plan, Record, TrialOutcome};
+use pst_trial::{FailingCase, JudgedRun, Plan, Record, TrialOutcome};
 use std::alloc::{AllocError, Global};
 
 /// The most failures that a page has.

@@ -4,9 +4,8 @@ ghost use Rattle.std.specs.Thread.{IsSync};
 ghost use Rattle.pst_compile.specs.contracts.compiled.Compiled.{the_row as compiled_row};
 ghost use Rattle.pst_judge.specs.contracts.judgement.Judged.{the_row as judged_row};
 
-use pst_compile::Compiled;
+use pst_compile::{Code, Compiled};
 use pst_judge::Judged;
-use pst_machine::Code;
 use pst_model::Typed;
 
 /// Threads may share a `Sync` type.

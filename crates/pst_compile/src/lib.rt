@@ -18,3 +18,4 @@ mod overwriting;
 mod target;
 
 pub use compiled::{Compiled, compile, listing};
+pub use pst_machine::Code;

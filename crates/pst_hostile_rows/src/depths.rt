@@ -3,11 +3,10 @@
 
 use crate::commands::{COMMANDS, Command, answer_of, spoken};
 use crate::deep::{Deep, LIMITS, text_of};
-use pst_print::print_model;
+use pst_messages::warnings_of;
 use pst_sexpr::{Out, read, write};
 use pst_sources::SourceFile;
-use pst_syntax::{Model, read_model};
-use pst_messages::warnings_of;
+use pst_tests::{Model, print_model, read_model};
 use std::alloc::Global;
 use std::sync::Wait;
 use std::thread::Threads;

@@ -2,9 +2,9 @@
 
 use crate::requests::Request;
 use pst_cli::{Shown, judge_file, judge_file_keep_going};
+use pst_messages::{ItemInput, warnings_on_answers, warnings_on_runs};
 use pst_sexpr::Out;
 use pst_sources::{Input, joined};
-use pst_messages::{ItemInput, warnings_on_answers, warnings_on_runs};
 use std::alloc::{AllocError, Global};
 use std::thread::Threads;
 

@@ -1,9 +1,8 @@
 //! The messages beside the refusals of files, and the warnings on models.
 
 use crate::requests::Request;
-use pst_messages::{Asked, input_error_messages_text};
+use pst_messages::{Asked, input_error_messages_text, warnings_of};
 use pst_sources::{SourceFile, joined};
-use pst_messages::warnings_of;
 use std::alloc::{AllocError, Global};
 use std::slice;
 

@@ -4,10 +4,9 @@ use pst_cli::{Status, check_text, list_text};
 use pst_compile::compile;
 use pst_eval::{Callbacks, Plain};
 use pst_model::Typed;
-use pst_print::print_model;
 use pst_sexpr::{Out, Tree, read, write};
-use pst_syntax::{Model, read_model};
 use pst_tests::support::typed_of;
+use pst_tests::{Model, print_model, read_model};
 use pst_value::Value;
 use std::alloc::{AllocError, Global};
 

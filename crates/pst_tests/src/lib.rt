@@ -1,6 +1,7 @@
 //! Tests of the libraries by values that no text spells: copies, collections, interleavings, calls, trees,
 //! writers that fail, code of the machine, and cases to shrink. Tests by texts are in the tables of `pst_rows`,
-//! and those by malformed texts in `pst_hostile_rows`.
+//! and those by malformed texts in `pst_hostile_rows`. Also what these programs share: systems, short values, and the
+//! reader and the printer of models.
 #![tactic(auto)]
 
 #[cfg(test)]
@@ -26,3 +27,7 @@ mod trees;
 mod values;
 #[cfg(test)]
 mod written;
+
+pub use pst_eval::Plain;
+pub use pst_print::print_model;
+pub use pst_syntax::{FaultKind as ModelFaultKind, Model, read_model};

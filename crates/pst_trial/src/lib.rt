@@ -26,6 +26,7 @@ pub use driver::Driver;
 pub use outcome::TrialOutcome;
 pub use plan::Plan;
 pub use pst_driver::DriveFault as TrialFault;
+pub use pst_shrink::FailingCase;
 pub use record::Record;
 pub use run::JudgedRun;
 pub use settings::{

@@ -4,9 +4,8 @@ use crate::memory::refused::Refused;
 use crate::models::COUNTER_AND_ITEMS;
 use pst_compile::{Compiled, compile, listing};
 use pst_model::Typed;
-use pst_print::print_model;
 use pst_sexpr::{FaultKind, Out, Tree, read, write};
-use pst_syntax::{FaultKind as ModelFaultKind, Model, read_model};
+use pst_tests::{Model, ModelFaultKind, print_model, read_model};
 use pst_typing::{TypeFault, check, model_name};
 use std::alloc::Global;
 
