@@ -37,12 +37,14 @@ right() {
   check "$command passes" passes "$trials"
 }
 
-# Tests a client that has a race: its model, its command, and further options. One of sixteen campaigns has to find and shrink it, since a race is a matter of time.
+# Tests a client that has a race: its model, its command, and further options. One of sixteen campaigns has to find and shrink it, since a race is a matter of
+# time. The last eight of them repeat each case 20 times.
 racy() {
-  local model="$top/examples/$1" command="$2" seed
+  local model="$top/examples/$1" command="$2" seed repeats=()
   shift 2
   for seed in {1..16}; do
-    pst campaign --client "$command" "$model" --seed "$seed" --trials 20 --limit 200 "$@"
+    [ "$seed" -le 8 ] || [[ " $* " == *" --repeats "* ]] || repeats=(--repeats 20)
+    pst campaign --client "$command" "$model" --seed "$seed" --trials 20 --limit 200 "$@" "${repeats[@]}"
     ! is_found || break
   done
   check "$command is found" is_found

@@ -8,7 +8,7 @@ std::atomic<int> number;
 int inc(bool is_racy) {
   if (!is_racy) return ++number;
   int next = number + 1;
-  std::this_thread::yield();
+  std::this_thread::sleep_for(std::chrono::milliseconds(1));
   return number = next;
 }
 

@@ -11,7 +11,7 @@ std::string take(bool is_racy) {
   std::unique_lock<std::mutex> held(lock);
   if (items.empty()) return "[]";
   int oldest = items.front();
-  if (is_racy) { held.unlock(); std::this_thread::yield(); held.lock(); }
+  if (is_racy) { held.unlock(); std::this_thread::sleep_for(std::chrono::milliseconds(1)); held.lock(); }
   if (!items.empty()) items.pop_front();
   return "[" + std::to_string(oldest) + "]";
 }
