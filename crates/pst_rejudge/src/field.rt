@@ -100,7 +100,7 @@ pub enum Name {
 }
 
 impl Name {
-    /// Returns the name as it is written.
+    /// Returns the name as it is written. The function is long because it has a row for each name.
     pub fn text(&self) -> &'static str
         ensures { result.now ≡ name_text self.now }
     {
