@@ -1,32 +1,19 @@
 //! Items that files spell as JSON.
 
-use pst_json_runs::{has_json, trees_text};
-use pst_model::Source;
+use pst_messages::{files_with_json_as_trees, find_first_json_item};
 use pst_sexpr::MAX_BYTES;
 use pst_sources::{SourceFile, joined};
 use pst_typing::{ModelFile, load};
 use std::alloc::{AllocError, Global};
 
-/// Returns the place of the first line with a JSON item.
-fn find_first_json_item_line(text: &[u8]) -> Option<usize> {
-    let mut place: usize = 0;
-    for line in text.split(|byte: &u8| -> bool { *byte == b'\n' }) {
-        if has_json(line) {
-            return Some(place);
-        }
-        place = place.saturating_add(line.len()).saturating_add(1);
-    }
-    None
-}
-
 /// Returns whether a text has an item as JSON.
 pub fn has_json_items(text: &[u8]) -> bool {
-    find_first_json_item_line(text).is_some()
+    find_first_json_item(text).is_some()
 }
 
 /// Returns what is before the first JSON item of a text.
 pub fn text_before_json_items(text: &[u8]) -> &[u8] {
-    match find_first_json_item_line(text) {
+    match find_first_json_item(text) {
         Some(place) => text.get(..place).unwrap_or(text),
         None => text,
     }
@@ -45,21 +32,6 @@ pub fn blank_json_items(alloc: Global, text: &[u8]) -> Result<Vec<u8>, AllocErro
         blanked.push(if is_item && !is_begin { b' ' } else { *byte })?;
     }
     Ok(blanked)
-}
-
-/// Returns the files with each JSON item as its tree.
-fn replace_json_items_with_trees<'a>(
-    alloc: Global,
-    model: &Source,
-    files: &[SourceFile<'a>],
-) -> Result<Vec<SourceFile<'a>>, AllocError> {
-    let mut all = Vec::new(alloc);
-    for file in files {
-        let name = file.name;
-        let bytes = trees_text(alloc, model, file.bytes.as_slice())?;
-        all.push(SourceFile { name, bytes })?;
-    }
-    Ok(all)
 }
 
 /// Returns the files with the first `count` bytes of their text.
@@ -88,7 +60,7 @@ pub fn convert_json_items_to_trees<'a>(
     files: &[SourceFile<'a>],
 ) -> Result<Option<Vec<SourceFile<'a>>>, AllocError> {
     let text = joined(alloc, files)?;
-    let Some(place) = find_first_json_item_line(text.as_slice()) else {
+    let Some(place) = find_first_json_item(text.as_slice()) else {
         return Ok(None);
     };
     if text.len() > MAX_BYTES {
@@ -96,7 +68,7 @@ pub fn convert_json_items_to_trees<'a>(
     }
     let head = text.as_slice().get(..place).unwrap_or(&[]);
     match load(alloc, head)? {
-        Ok(ModelFile { typed, trees: _ }) => Ok(Some(replace_json_items_with_trees(
+        Ok(ModelFile { typed, trees: _ }) => Ok(Some(files_with_json_as_trees(
             alloc,
             typed.source(),
             files,

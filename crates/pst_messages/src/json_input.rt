@@ -21,7 +21,7 @@ fn line_at(text: &[u8], place: usize) -> &[u8] {
 }
 
 /// The place of the first line with a JSON item.
-pub fn first_json(text: &[u8]) -> Option<usize> {
+pub fn find_first_json_item(text: &[u8]) -> Option<usize> {
     let mut is_begin = true;
     for (place, byte) in text.iter().enumerate() {
         if is_begin && *byte == b'{' {
@@ -128,7 +128,7 @@ fn json_notice(
 }
 
 /// The files with a tree in place of each JSON item.
-fn files_with_json_as_trees<'a>(
+pub fn files_with_json_as_trees<'a>(
     alloc: Global,
     model: &Source,
     files: &[SourceFile<'a>],

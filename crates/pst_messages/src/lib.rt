@@ -29,6 +29,7 @@ mod warning;
 pub use broken::{explain_first_broken_result, explain_first_broken_run};
 pub use faults::explain_generation_fault;
 pub use item_input::ItemInput;
+pub use json_input::{files_with_json_as_trees, find_first_json_item};
 pub use message::{Asked, errors_of, input_error_messages_text};
 pub use preconditions::{warnings_on_answers, warnings_on_runs};
 pub use warning::{warnings_in, warnings_of};

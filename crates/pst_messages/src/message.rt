@@ -1,7 +1,7 @@
 //! The messages on refused inputs.
 
 use crate::bytes::{ByteFault, byte_fault};
-use crate::json_input::{first_json, json_errors};
+use crate::json_input::{find_first_json_item, json_errors};
 use pst_model::Typed;
 use pst_run_problems::run_problem;
 use pst_runs::{RunFault, read_runs};
@@ -301,7 +301,7 @@ pub fn tree_errors(alloc: Global, input: &Input<'_>, asked: Asked) -> Result<Not
 /// The errors of an input: for each the bytes that are wrong, what was expected and found, and hints. There are none if
 /// no part that `asked` selects is refused. Lines that begin with `{` are items as JSON.
 pub fn errors_of(alloc: Global, input: &Input<'_>, asked: Asked) -> Result<Notices, AllocError> {
-    match first_json(input.bytes) {
+    match find_first_json_item(input.bytes) {
         Some(place) => json_errors(alloc, input, asked, place),
         None => tree_errors(alloc, input, asked),
     }
