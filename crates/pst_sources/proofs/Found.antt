@@ -9,7 +9,7 @@ use Rattle.std.proofs.lemmas.Option.{none-some, same_Some}
 use Rattle.pst_sexpr.specs.declared.form.Form.{Form}
 use Rattle.pst_sexpr.specs.Bytes.{is_word_byte}
 use Rattle.pst_sexpr.specs.Grammar.{Begins}
-use Rattle.pst_sexpr.specs.Parts.{node_of, and_then}
+use Rattle.pst_sexpr.specs.Parts.{node_of, and_then, tree_in}
 use Rattle.pst_sexpr.specs.Reading.{max_levels, Spells}
 use Rattle.pst_sources.specs.declared.scan.State.TheVariants.{Between}
 use Rattle.pst_sources.specs.declared.span.Span.{Span}
