@@ -149,7 +149,7 @@ class Text:
         for answer in core:
             call, why, allowed = self.calls[answer["call"]], answer.get("why"), answer.get("allowed")
             self.add(self.call(call) + " answered " + call["reply"]["text"], "postcondition " + self.posts[call["op"]],
-                     why and why["text"] + (f", as by {why['by']}" if "by" in why else ""),
+                     why and why["text"] + (f", in the order {why['by']}" if "by" in why else ""),
                      allowed and "allowed: " + ", ".join(each["text"] for each in allowed["values"]) + ("" if allowed["all"] else " .."))
         if self.item.get("prefix"):
             self.add("The prefix alone shows it: no race is needed.")

@@ -100,7 +100,7 @@ fn wrong_text(
 ) -> Result<Vec<u8>, AllocError> {
     let mut text = falsity_text(alloc, model, &wrong.falsity)?;
     if !wrong.word.is_empty() {
-        add_str(&mut text, ", as by ")?;
+        add_str(&mut text, ", in the order ")?;
         add_interleaving_letters(&mut text, wrong.word.as_slice())?;
     }
     Ok(text)
