@@ -9,9 +9,9 @@ ghost use Rattle.pst_system.specs.Kept.{AreKept};
 ghost use Rattle.std.specs.Coded.{codes};
 
 use crate::ending::StopCondition;
-use crate::plans::{Watched, cause_of};
+use crate::plans::{Watched, loss_cause_of_trial_fault};
 use crate::runner::TrialRunner;
-use crate::working::work_alone;
+use crate::working::work_with_own_seat_and_system;
 use pst_driver::{Crew, KeptSystem, Relations, Subject, start_crew};
 use pst_ledger::{Cause, Ledger, Seat};
 use pst_system::{BoxedSystem, System};
@@ -42,7 +42,7 @@ fn run_trial<J: Relations, S: Subject, H: Wait>(
 {
     match run_trial_with_crew(rt, alloc, plan, number, crew, shrinking) {
         Ok(record) => Ok(record),
-        Err(fault) => Err(cause_of(fault)),
+        Err(fault) => Err(loss_cause_of_trial_fault(fault)),
     }
 }
 
@@ -114,7 +114,7 @@ fn work_with_threads<K: StopCondition, J: Relations, S: Subject, H: Threads + Wa
         (MayGive J.answering J.failing J.resetting (arc_value plan.now)) ledger.now.table result }
 {
     may_share_records();
-    work_alone(
+    work_with_own_seat_and_system(
         rt,
         alloc,
         &CrewRunner { plan, watch, crew },
@@ -278,7 +278,7 @@ pub(crate) fn work_on_boxed_system<K: StopCondition, H: Threads + Wait>(
         Ok(seat) => seat,
         Err((seat, system)) => {
             may_share_records();
-            work_alone(rt, alloc, &Watched { plan, watch }, ledger, seat, system)
+            work_with_own_seat_and_system(rt, alloc, &Watched { plan, watch }, ledger, seat, system)
         }
     }
 }

@@ -16,7 +16,7 @@ use std::sync::{Arc, Wait};
 use std::thread::Threads;
 
 /// The cause that has the name of a trial's fault.
-pub(crate) fn cause_of(fault: TrialFault) -> Cause
+pub(crate) fn loss_cause_of_trial_fault(fault: TrialFault) -> Cause
     ensures { result ≡ cause_of fault }
 {
     match fault {
@@ -47,7 +47,7 @@ fn run_trial<H: Threads + Wait>(
 {
     match trial_with_progress(rt, alloc, plan, number, system, shrinking) {
         Ok(record) => Ok(record),
-        Err(fault) => Err(cause_of(fault)),
+        Err(fault) => Err(loss_cause_of_trial_fault(fault)),
     }
 }
 

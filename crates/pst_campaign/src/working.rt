@@ -56,14 +56,12 @@ pub(crate) fn run_trials_until_over<R: Numbered, S: Drop, P: TrialRunner<R, S>, 
 }
 
 /// Does what `run_trials_until_over` does, with a fresh seat and a system of its own for a thread, and returns the seat.
-pub(crate) fn work_alone<R: Numbered, S: Drop, P: TrialRunner<R, S>, H: Threads + Wait>(
-    rt: &H,
-    alloc: Global,
-    plan: &P,
-    ledger: &Ledger<R>,
-    mut seat: Seat<R>,
-    mut system: S,
-) -> Seat<R>
+pub(crate) fn work_with_own_seat_and_system<
+    R: Numbered,
+    S: Drop,
+    P: TrialRunner<R, S>,
+    H: Threads + Wait,
+>(rt: &H, alloc: Global, plan: &P, ledger: &Ledger<R>, mut seat: Seat<R>, mut system: S) -> Seat<R>
     requires fresh { IsFresh ledger.now.table seat }
     requires trials { ledger.now.table.slots ≡ P.trials plan.now }
     ensures { IsWorked (P.may_end plan.now) (P.may_give plan.now system) ledger.now.table result }

@@ -20,7 +20,7 @@ pub enum Absence<'a> {
 }
 
 /// Writes the parts of a refusal, and returns its status, or `Lost` if the writer failed.
-fn send_parts<W: Sink>(parts: &[&[u8]], sink: &mut W) -> Status
+fn write_refusal_parts<W: Sink>(parts: &[&[u8]], sink: &mut W) -> Status
     requires { W.broken sink.old ≡ false }
     ensures { Sends (W.taken sink.old) (W.taken sink.new) (W.broken sink.new) result (joined parts.now)
         Status.Refused }
@@ -45,7 +45,7 @@ pub fn refuse_text<W: Sink>(why: Absence<'_>, sink: &mut W) -> Status
                 name.as_bytes(),
                 b"\n".as_slice(),
             ];
-            send_parts(&parts, sink)
+            write_refusal_parts(&parts, sink)
         }
         Absence::NoMemory => send(b"refused memory\n", Status::Lost, sink),
     }

@@ -30,7 +30,7 @@ use std::sync::{Arc, Wait};
 use std::thread::Threads;
 
 /// `refused campaign KIND`.
-fn campaign_line(alloc: Global, fault: CampaignFault) -> Result<String, AllocError>
+fn refused_campaign_line(alloc: Global, fault: CampaignFault) -> Result<String, AllocError>
     ensures { IfOk result (λ line. string_bytes line ≡ spec.campaign_line fault) }
 {
     let name = fault.name();
@@ -46,13 +46,13 @@ fn output_of_refused_campaign(alloc: Global, fault: CampaignFault) -> Result<Out
     match fault {
         CampaignFault::NoMemory => Err(AllocError),
         CampaignFault::NoSystem | CampaignFault::TooMany => {
-            Ok(Output::new(campaign_line(alloc, fault)?, Status::Lost))
+            Ok(Output::new(refused_campaign_line(alloc, fault)?, Status::Lost))
         }
     }
 }
 
 /// The status after a campaign.
-fn status_after(ended: CampaignStatus) -> Status
+fn exit_status_after_campaign(ended: CampaignStatus) -> Status
     ensures { result ≡ spec.status_after ended }
 {
     match ended {
@@ -63,7 +63,7 @@ fn status_after(ended: CampaignStatus) -> Status
 }
 
 /// The report of a campaign, and the status. Adds the records to `notes` first.
-fn report_output(
+fn output_of_campaign_report(
     alloc: Global,
     plan: &Plan,
     closed: &Closed<Record>,
@@ -79,14 +79,18 @@ fn report_output(
     match report(alloc, plan, closed, &mut out) {
         Ok(()) => Ok(Output {
             text: out.into_inner(),
-            status: status_after(status_of_early_ended_campaign(closed)),
+            status: exit_status_after_campaign(status_of_early_ended_campaign(closed)),
         }),
         Err(_) => Err(AllocError),
     }
 }
 
 /// The plan for a model and settings.
-fn plan_of(alloc: Global, typed: Typed, settings: Settings) -> Result<Arc<Plan>, AllocError>
+fn plan_of_model_and_settings(
+    alloc: Global,
+    typed: Typed,
+    settings: Settings,
+) -> Result<Arc<Plan>, AllocError>
     requires { AreInRange settings }
     ensures { IfOk result (λ plan. arc_value plan ≡ plan_of typed settings) }
 {
@@ -112,9 +116,9 @@ fn run_campaign_on_model<K: StopCondition + Sync, R: Threads + Wait + Sync>(
         ((System-box s).reset_fails s.value))
         settings systems.items typed output.text.items output.status) }
 {
-    let plan = plan_of(alloc, typed, settings)?;
+    let plan = plan_of_model_and_settings(alloc, typed, settings)?;
     match campaign_until(rt, alloc, plan.clone()?, systems, watch) {
-        Ok(closed) => report_output(alloc, &plan, &closed, notes),
+        Ok(closed) => output_of_campaign_report(alloc, &plan, &closed, notes),
         Err(fault) => output_of_refused_campaign(alloc, fault),
     }
 }

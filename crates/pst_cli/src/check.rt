@@ -12,7 +12,7 @@ use pst_typing::{load, model_name};
 use std::alloc::{AllocError, Global};
 
 /// `ok NAME`.
-fn ok_line(alloc: Global, typed: &Typed) -> Result<String, AllocError>
+fn accepted_model_line(alloc: Global, typed: &Typed) -> Result<String, AllocError>
     ensures { IfOk result (λ line. string_bytes line ≡ ok_line typed.now) }
 {
     let name = model_name(typed).as_str();
@@ -24,7 +24,7 @@ fn check_output(alloc: Global, input: &[u8]) -> Result<Output, AllocError>
     ensures { IfOk result (λ output. IsCheckOutput input.now (output.text.items) output.status) }
 {
     match load(alloc, input)? {
-        Ok(file) => Ok(Output::new(ok_line(alloc, &file.typed)?, Status::Accepted)),
+        Ok(file) => Ok(Output::new(accepted_model_line(alloc, &file.typed)?, Status::Accepted)),
         Err(refusal) => refusal_output(alloc, &refusal),
     }
 }

@@ -4,7 +4,7 @@ ghost use Rattle.pst_cli.specs.ConvertOutput.{IsConvertOutput, line_in, lines_in
 ghost use Rattle.pst_cli.specs.Sending.{Prints};
 ghost use Rattle.pst_runs.specs.Lawful.{AreLawful, IsLawful};
 
-use crate::items::{ModelAndRuns, read_in_order};
+use crate::items::{ModelAndRuns, read_model_and_runs_of_input};
 use crate::output::{Output, send};
 use crate::run::tree_line;
 use crate::status::Status;
@@ -40,7 +40,7 @@ pub(crate) fn item_line_in_form(
 }
 
 /// Items, one on each line.
-fn lines_in(
+fn item_lines_in_form(
     alloc: Global,
     form: ItemForm,
     typed: &Typed,
@@ -62,11 +62,11 @@ fn lines_in(
 fn convert_output(alloc: Global, input: &[u8], form: ItemForm) -> Result<Output, AllocError>
     ensures { IfOk result (λ output. IsConvertOutput form input.now output.text.items output.status) }
 {
-    let ModelAndRuns { compiled, runs } = match read_in_order(alloc, input)? {
+    let ModelAndRuns { compiled, runs } = match read_model_and_runs_of_input(alloc, input)? {
         Ok(read) => read,
         Err(output) => return Ok(output),
     };
-    let text = lines_in(alloc, form, compiled.typed(), runs.as_slice())?;
+    let text = item_lines_in_form(alloc, form, compiled.typed(), runs.as_slice())?;
     Ok(Output {
         text,
         status: Status::Accepted,

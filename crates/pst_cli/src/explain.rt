@@ -8,7 +8,7 @@ ghost use Rattle.pst_runs.specs.Lawful.{AreLawful, IsLawful};
 
 use crate::chosen::{Chosen, has_item, refused_item};
 use crate::form::ExplanationForm;
-use crate::judge::status_of;
+use crate::judge::status_of_judgements;
 use crate::judged::{JudgedFile, concatenate_run_lists, judged_file};
 use crate::kept::Keep;
 use crate::output::{Output, send};
@@ -72,7 +72,7 @@ fn chosen_count(asked: ExplainOptions<'_>, all: &[Judged]) -> usize {
 }
 
 /// The explanations of the chosen items, numbered from 1. `places` says where the items begin.
-fn explanations(
+fn explanations_of_chosen_items(
     alloc: Global,
     compiled: &Compiled,
     asked: ExplainOptions<'_>,
@@ -114,7 +114,7 @@ fn explanations(
 }
 
 /// The output for the chosen items: their explanations, or the refusal of an item that does not exist.
-fn chosen_output(
+fn output_of_chosen_explanations(
     alloc: Global,
     compiled: &Compiled,
     asked: ExplainOptions<'_>,
@@ -133,8 +133,8 @@ fn chosen_output(
         }
     }
     Ok(Output {
-        text: explanations(alloc, compiled, asked, places, runs, all, steps)?,
-        status: status_of(all),
+        text: explanations_of_chosen_items(alloc, compiled, asked, places, runs, all, steps)?,
+        status: status_of_judgements(all),
     })
 }
 
@@ -158,7 +158,7 @@ fn explain_output<R: Threads + Sync>(
     };
     let runs = concatenate_run_lists(alloc, runs)?;
     let places = tree_places_in_input(alloc, asked.files, input)?;
-    chosen_output(
+    output_of_chosen_explanations(
         alloc,
         &compiled,
         asked,

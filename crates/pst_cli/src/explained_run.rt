@@ -5,7 +5,7 @@ ghost use Rattle.pst_runs.specs.Lawful.{IsLawful};
 use crate::compiled::load_compiled;
 use crate::judge::is_explained_or_valid;
 use pst_case::{Case, CaseFaultKind, History, Run, Shaped, shape};
-use pst_explain::{explain_item, reason_text};
+use pst_explain::{explain_item, explanation_text_without_heading};
 use pst_judge::judge_one;
 use pst_model::Typed;
 use std::alloc::{AllocError, Global};
@@ -25,7 +25,7 @@ fn matching_run(typed: &Typed, shaped: Shaped, history: History) -> Option<Run>
 }
 
 /// The run of a case with its history, if it is a run of the model.
-pub(crate) fn run_of(
+pub(crate) fn run_of_case_and_history(
     alloc: Global,
     typed: &Typed,
     case: Case,
@@ -56,7 +56,7 @@ pub fn explain_run(
     };
     let compiled = &file.compiled;
     let typed = compiled.typed();
-    let Some(run) = run_of(alloc, typed, case, history)? else {
+    let Some(run) = run_of_case_and_history(alloc, typed, case, history)? else {
         return Ok(None);
     };
     let judged = judge_one(compiled, alloc, &run)?;
@@ -64,5 +64,5 @@ pub fn explain_run(
         return Ok(None);
     }
     let explanation = explain_item(compiled, alloc, typed, &run, &judged, 1, None)?;
-    Ok(Some(reason_text(alloc, &explanation, width)?))
+    Ok(Some(explanation_text_without_heading(alloc, &explanation, width)?))
 }

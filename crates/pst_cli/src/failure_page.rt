@@ -3,7 +3,7 @@ ghost use Rattle.pst_judge.specs.Judgement.{IsJudgement};
 ghost use Rattle.pst_runs.specs.Lawful.{IsLawful};
 
 use crate::compiled::load_compiled;
-use crate::explained_run::run_of;
+use crate::explained_run::run_of_case_and_history;
 use pst_case::{Case, History, Run};
 use pst_compile::Compiled;
 use pst_explain::explain_item;
@@ -39,7 +39,7 @@ pub struct CampaignFailures {
 }
 
 /// Whether one of the failures was shrunk to this run.
-fn has_run(failures: &[TrialFailure], taken: &FailingCase<JudgedRun>) -> bool {
+fn has_failure_with_run(failures: &[TrialFailure], taken: &FailingCase<JudgedRun>) -> bool {
     for failure in failures {
         if failure.case == taken.case && failure.history == taken.history.history {
             return true;
@@ -73,7 +73,7 @@ impl CampaignFailures {
                 continue;
             };
             failed = failed.saturating_add(1);
-            if each.len() < MOST && !has_run(each.as_slice(), taken) {
+            if each.len() < MOST && !has_failure_with_run(each.as_slice(), taken) {
                 each.push(TrialFailure {
                     trial,
                     case: taken.case.copy(alloc)?,
@@ -120,7 +120,7 @@ fn failure_json(
         case,
         history,
     } = failure;
-    let Some(run) = run_of(alloc, compiled.typed(), case, history)? else {
+    let Some(run) = run_of_case_and_history(alloc, compiled.typed(), case, history)? else {
         return Ok(None);
     };
     let judged = judge_one(compiled, alloc, &run)?;

@@ -1,6 +1,6 @@
 //! The forms of explanations.
 
-use pst_explain::{Explanation, append_colored_explanation_text, explanation_text};
+use pst_explain::{Explanation, append_colored_explanation_text, append_explanation_text};
 use pst_json::{
     AFTER_DATA, AFTER_ITEMS, AFTER_NO_ITEM, BEFORE_DATA, BETWEEN_ITEMS, item_json,
     json_document_start,
@@ -61,7 +61,12 @@ impl ExplanationForm {
         explanation: &Explanation<'_>,
     ) -> Result<Vec<u8>, AllocError> {
         match self {
-            ExplanationForm::Text(width) => explanation_text(text, alloc, explanation, width),
+            ExplanationForm::Text(width) => append_explanation_text(
+                text,
+                alloc,
+                explanation,
+                width,
+            ),
             ExplanationForm::Colored(width) => append_colored_explanation_text(
                 text,
                 alloc,

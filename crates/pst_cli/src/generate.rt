@@ -187,7 +187,11 @@ fn write_cases<W: Sink, R: Threads + Sync>(
 }
 
 /// The refusal of a model, and the status.
-fn refusal_in(alloc: Global, form: ItemForm, refusal: &Refusal) -> Result<Output, AllocError>
+fn refusal_output_in_form(
+    alloc: Global,
+    form: ItemForm,
+    refusal: &Refusal,
+) -> Result<Output, AllocError>
     ensures text { IfOk result (λ output. output.text.items ≡ refusal_in form refusal.now) }
     ensures status { IfOk result (λ output. output.status ≡ Refused) }
 {
@@ -238,7 +242,7 @@ pub fn generate_text<W: Sink, R: Threads + Sync>(
             typed
         }
         Ok(Err(refusal)) => {
-            return match refusal_in(alloc, form, &refusal) {
+            return match refusal_output_in_form(alloc, form, &refusal) {
                 Ok(output) => send(output.text.as_slice(), output.status, sink),
                 Err(AllocError) => send_out_of_memory(form, sink),
             };

@@ -7,7 +7,7 @@ ghost use Rattle.pst_cli.specs.Sending.{Prints};
 ghost use Rattle.pst_runs.specs.Lawful.{AreLawful};
 
 use crate::chosen::refused_item;
-use crate::judge::{is_explained_or_valid, status_of};
+use crate::judge::{is_explained_or_valid, status_of_judgements};
 use crate::judged::{JudgedFile, concatenate_run_lists, judged_file};
 use crate::kept::Keep;
 use crate::output::{Output, send};
@@ -22,7 +22,7 @@ use std::alloc::{AllocError, Global};
 use std::thread::Threads;
 
 /// The number, from 1, of the first item that is neither explained nor valid; 1 if all are.
-fn first_failed(all: &[Judged]) -> usize
+fn number_of_first_failed_item(all: &[Judged]) -> usize
     ensures { result ≡ first_failed 1 all.now }
 {
     for (index, judged) in all.iter().enumerate() {
@@ -39,7 +39,7 @@ fn drawn_number(item: Option<usize>, all: &[Judged]) -> usize
 {
     match item {
         Some(number) => number,
-        None => first_failed(all),
+        None => number_of_first_failed_item(all),
     }
 }
 
@@ -95,7 +95,7 @@ fn chosen_graph(
     match item_graph(alloc, compiled, number, whole, runs, all)? {
         Some(text) => Ok(Output {
             text,
-            status: status_of(all),
+            status: status_of_judgements(all),
         }),
         None => refused_item(alloc, number, all.len()),
     }

@@ -9,7 +9,7 @@ ghost use Rattle.pst_system.specs.Kept.{AreKept};
 use crate::counts::Counts;
 use crate::lines::item_line;
 use crate::output::Output;
-use crate::run::{status_of_one, tree_line};
+use crate::run::{status_of_judgement, tree_line};
 use crate::status::Status;
 use pst_case::{History, Run, Shaped};
 use pst_compile::Compiled;
@@ -85,7 +85,7 @@ pub(crate) fn drive_item<R: Threads + Wait>(
 }
 
 /// `NUMBER lost KIND`.
-fn lost_line(alloc: Global, number: usize, fault: DriveFault) -> Result<String, AllocError>
+fn lost_item_line(alloc: Global, number: usize, fault: DriveFault) -> Result<String, AllocError>
     ensures { IfOk result (λ line. string_bytes line ≡ lost_line number fault) }
 {
     let mut line = format!(in alloc; "{number} lost ")?;
@@ -99,7 +99,7 @@ pub(crate) fn report_status(report: &ItemReport) -> Status
     ensures { result ≡ report_status report.now }
 {
     match report {
-        ItemReport::Driven { line: _, judged } => status_of_one(judged),
+        ItemReport::Driven { line: _, judged } => status_of_judgement(judged),
         ItemReport::Invalid(_) => Status::Failed,
         ItemReport::Lost(_) => Status::Lost,
     }
@@ -121,7 +121,7 @@ fn driven_text(
 }
 
 /// What is written of a report: the run and the line of its verdict; or the reason why the case is not valid, or was lost.
-pub(crate) fn report_output(
+pub(crate) fn output_of_item_report(
     alloc: Global,
     number: usize,
     report: ItemReport,
@@ -139,6 +139,6 @@ pub(crate) fn report_output(
             let line = item_line(alloc, number, &Judged::Invalid(why))?;
             Ok(Output::new(line, status))
         }
-        ItemReport::Lost(fault) => Ok(Output::new(lost_line(alloc, number, fault)?, status)),
+        ItemReport::Lost(fault) => Ok(Output::new(lost_item_line(alloc, number, fault)?, status)),
     }
 }

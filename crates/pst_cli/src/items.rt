@@ -29,7 +29,7 @@ pub fn item_count(alloc: Global, input: &[u8]) -> Result<usize, AllocError> {
 
 /// Reads the input from its first byte to its last, and returns the model and the runs, or the output for the first
 /// refusal.
-pub fn read_in_order(
+pub fn read_model_and_runs_of_input(
     alloc: Global,
     input: &[u8],
 ) -> Result<Result<ModelAndRuns, Output>, AllocError>

@@ -56,17 +56,17 @@ pub fn is_explained_or_valid(judged: &Judged) -> bool
     }
 }
 
-fn are_good(all: &[Judged]) -> bool
+fn are_all_explained_or_valid(all: &[Judged]) -> bool
     ensures { result ≡ list_all is_good all.now }
 {
     all.iter().all(|judged| is_explained_or_valid(judged))
 }
 
 /// `Accepted` if all items are explained or valid, else `Failed`.
-pub fn status_of(all: &[Judged]) -> Status
+pub fn status_of_judgements(all: &[Judged]) -> Status
     ensures { result ≡ status_of all.now }
 {
-    if are_good(all) {
+    if are_all_explained_or_valid(all) {
         Status::Accepted
     } else {
         Status::Failed
@@ -108,12 +108,12 @@ fn output_of_judge_command<R: Threads + Sync>(
         Err(output) => return Ok((output, None)),
     };
     let text = shown_lines(rt, alloc, shown, file.judged.as_slice())?;
-    let output = Output::new(text, status_of(file.judged.as_slice()));
+    let output = Output::new(text, status_of_judgements(file.judged.as_slice()));
     Ok((output, Some(file)))
 }
 
 /// Does what [`judge_file_with_progress`] does, and keeps the items as `keep` says.
-fn judge_keeping<W: Sink, R: Threads + Sync>(
+fn judge_file_and_keep_items<W: Sink, R: Threads + Sync>(
     rt: &R,
     alloc: Global,
     input: &[u8],
@@ -175,7 +175,7 @@ pub fn judge_file_with_progress<W: Sink, R: Threads + Sync>(
     ensures lawful { IfSome result.1
         (λ judged. All (λ runs. AreLawful judged.compiled runs.items) judged.runs.items) }
 {
-    judge_keeping(rt, alloc, input, shown, Keep::ForWarnings, steps, sink)
+    judge_file_and_keep_items(rt, alloc, input, shown, Keep::ForWarnings, steps, sink)
 }
 
 /// Judges the items after the model at the start of the input, several at once, and returns the status. Writes a line
@@ -192,6 +192,14 @@ pub fn judge_text<W: Sink, R: Threads + Sync>(
         (W.taken sink.old) (W.taken sink.new) (W.broken sink.new) result }
 {
     let steps = ProgressCounter::new();
-    let (status, _) = judge_keeping(rt, alloc, input, Shown::All, Keep::Nothing, &steps, sink);
+    let (status, _) = judge_file_and_keep_items(
+        rt,
+        alloc,
+        input,
+        Shown::All,
+        Keep::Nothing,
+        &steps,
+        sink,
+    );
     status
 }

@@ -5,7 +5,7 @@ ghost use Rattle.pst_cli.specs.Output.{IsFirstRefusal};
 ghost use Rattle.pst_rejudge.specs.Parts.{joined};
 
 use crate::compiled::{CompiledFile, load_compiled};
-use crate::items::{ModelAndRuns, read_in_order};
+use crate::items::{ModelAndRuns, read_model_and_runs_of_input};
 use crate::kept::Keep;
 use crate::output::Output;
 use crate::sharing::may_share_compiled;
@@ -101,7 +101,7 @@ fn read_in_order_then_judge<R: Threads + Sync>(
         (λ file. HoldsJudged true input.now file.compiled (joined file.runs.items) file.judged.items)
         (λ output. IsFirstRefusal input.now output.text.items output.status)) }
 {
-    let ModelAndRuns { compiled, runs } = match read_in_order(alloc, input)? {
+    let ModelAndRuns { compiled, runs } = match read_model_and_runs_of_input(alloc, input)? {
         Ok(read) => read,
         Err(output) => return Ok(Err(output)),
     };

@@ -21,7 +21,7 @@ use crate::judge::{is_explained_or_valid, refused_run_line};
 use crate::lines::add_item_line;
 use crate::output::{Output, send};
 use crate::refusal::refusal_output;
-use crate::run::status_of_one;
+use crate::run::status_of_judgement;
 use crate::sharing::may_share_compiled;
 use crate::shown::Shown;
 use crate::status::Status;
@@ -33,7 +33,7 @@ use std::alloc::{AllocError, Global};
 use std::thread::Threads;
 
 /// Adds the line `NUMBER VERDICT`, or `refused run NUMBER command C KIND`, to a text.
-pub(crate) fn add_answer_line(
+pub(crate) fn add_item_result_line(
     alloc: Global,
     text: &mut String,
     number: usize,
@@ -61,7 +61,7 @@ fn answer_lines(alloc: Global, answers: &[ItemResult]) -> Result<String, AllocEr
 {
     let mut text = String::new(alloc);
     for (index, answer) in answers.iter().enumerate() {
-        add_answer_line(alloc, &mut text, index + 1, answer)?;
+        add_item_result_line(alloc, &mut text, index + 1, answer)?;
     }
     Ok(text)
 }
@@ -89,7 +89,7 @@ fn add_failed_line(
     if is_result_explained_or_valid(answer) {
         return Ok(());
     }
-    add_answer_line(alloc, text, number, answer)
+    add_item_result_line(alloc, text, number, answer)
 }
 
 /// The lines of the items that are neither explained nor valid, each with its number among all of them, from 1.
@@ -118,7 +118,7 @@ pub(crate) fn answer_status(answer: &ItemResult) -> Status
     ensures { result ≡ answer_status answer.now }
 {
     match answer {
-        ItemResult::Judged(judged) => status_of_one(judged),
+        ItemResult::Judged(judged) => status_of_judgement(judged),
         ItemResult::Refused { .. } => Status::Refused,
     }
 }

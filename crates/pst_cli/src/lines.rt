@@ -38,7 +38,7 @@ fn items_before_row(row: usize, count: usize) -> usize
 }
 
 /// The lines of the items of a row, numbered from 1 over all rows.
-fn row_lines(alloc: Global, all: &[Judged], row: usize) -> Result<String, AllocError>
+fn verdict_lines_of_row(alloc: Global, all: &[Judged], row: usize) -> Result<String, AllocError>
     ensures { IfOk result (IsRow all.now row) }
 {
     let mut text = String::new(alloc);
@@ -65,7 +65,7 @@ fn item_lines<R: Threads + Sync>(
         .map(
             |row: usize| -> Result<String, AllocError>
                 ensures { IfOk result (IsRow all.entry.now row) }
-            { row_lines(alloc, all, row) },
+            { verdict_lines_of_row(alloc, all, row) },
         )
         .collect::<Result<Vec<String>, AllocError>>(rt, alloc)??;
     lines.as_slice().concat(alloc)

@@ -44,7 +44,7 @@ fn answer_object(alloc: Global, number: usize, answer: &ItemResult) -> Result<Ve
 }
 
 /// Adds the object of an item, if `shown` includes it.
-fn add_shown(
+fn add_shown_item_json_object(
     alloc: Global,
     text: &mut Vec<u8>,
     shown: Shown,
@@ -66,7 +66,7 @@ fn shown_objects(alloc: Global, shown: Shown, answers: &[ItemResult]) -> Result<
 {
     let mut text = Vec::new(alloc);
     for (index, answer) in answers.iter().enumerate() {
-        add_shown(alloc, &mut text, shown, index + 1, answer)?;
+        add_shown_item_json_object(alloc, &mut text, shown, index + 1, answer)?;
     }
     Ok(text)
 }

@@ -25,7 +25,7 @@ pub(crate) struct EndedLines<'a> {
 }
 
 /// Returns a copy of the beginning of a line that has not ended, if `lines` takes further lines.
-pub(crate) fn begun_line<L: RefusedLines>(
+pub(crate) fn copy_begun_line_if_wanted<L: RefusedLines>(
     alloc: Global,
     lines: &L,
     begun: &[u8],
@@ -72,7 +72,7 @@ fn hand_over_refused_lines<L: RefusedLines>(
 
 /// Hands over the refused lines among `ended`, if there are some. `begun` is the beginning of the first line, if
 /// `lines` takes further lines. Hands over none if an allocation fails.
-pub(crate) fn pass_refused<L: RefusedLines>(
+pub(crate) fn hand_over_refused_lines_if_wanted<L: RefusedLines>(
     lines: &mut L,
     begun: Result<Option<Vec<u8>>, AllocError>,
     ended: EndedLines<'_>,

@@ -129,7 +129,7 @@ fn drive_and_report_case_repeatedly<R: Threads + Wait>(
 }
 
 /// The report of an item.
-fn item_report<R: Threads + Wait>(
+fn drive_and_report_item_repeatedly<R: Threads + Wait>(
     rt: &R,
     alloc: Global,
     compiled: &Compiled,
@@ -184,7 +184,7 @@ fn item_reports<R: Threads + Wait>(
     let mut reports = Vec::new(alloc);
     steps.set_total(runs.len());
     for (index, run) in runs.iter().enumerate() {
-        let report = item_report(
+        let report = drive_and_report_item_repeatedly(
             rt,
             alloc,
             compiled,

@@ -14,7 +14,7 @@ ghost use Rattle.pst_system.specs.Kept.{AreKept};
 
 use crate::compiled::load_compiled;
 use crate::counts::Counts;
-use crate::item_report::{drive_item, report_output};
+use crate::item_report::{drive_item, output_of_item_report};
 use crate::judge::{is_explained_or_valid, read_runs_of_trees, refused_run};
 use crate::lines::item_line;
 use crate::output::{Output, send};
@@ -56,7 +56,7 @@ pub(crate) fn tree_line(alloc: Global, typed: &Typed, run: &Run) -> Result<Vec<u
 }
 
 /// `Accepted` if the item is explained or valid, else `Failed`.
-pub fn status_of_one(judged: &Judged) -> Status
+pub fn status_of_judgement(judged: &Judged) -> Status
     ensures { result ≡ status_of_one judged.now }
 {
     if is_explained_or_valid(judged) {
@@ -99,11 +99,11 @@ pub(crate) fn drive_and_report_valid_case<R: Threads + Wait>(
         (reset_fails system.new) (reset_fails system.old) }
 {
     let report = drive_item(rt, alloc, compiled, system, number, valid, counts)?;
-    report_output(alloc, number, report)
+    output_of_item_report(alloc, number, report)
 }
 
 /// The report of an item.
-fn item_report<R: Threads + Wait>(
+fn drive_and_report_item<R: Threads + Wait>(
     rt: &R,
     alloc: Global,
     compiled: &Compiled,
@@ -153,7 +153,15 @@ fn item_reports<R: Threads + Wait>(
     let mut status = Status::Accepted;
     steps.set_total(runs.len());
     for (index, run) in runs.iter().enumerate() {
-        let output = item_report(rt, alloc, compiled, system, index + 1, &run.shaped, counts)?;
+        let output = drive_and_report_item(
+            rt,
+            alloc,
+            compiled,
+            system,
+            index + 1,
+            &run.shaped,
+            counts,
+        )?;
         text.extend_from_slice(output.text.as_slice())?;
         status = status.or_worse(output.status);
         steps.add(1);

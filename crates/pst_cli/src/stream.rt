@@ -7,10 +7,12 @@ ghost use Rattle.pst_cli.specs.StreamOutput.{IsStreamOutput};
 
 use crate::compiled::load_compiled;
 use crate::counts::Counts;
-use crate::keep::{add_answer_line, answer_status};
+use crate::keep::{add_item_result_line, answer_status};
 use crate::output::send;
 use crate::refusal::refusal_output;
-use crate::refused_lines::{EndedLines, RefusedLines, begun_line, pass_refused};
+use crate::refused_lines::{
+    EndedLines, RefusedLines, copy_begun_line_if_wanted, hand_over_refused_lines_if_wanted,
+};
 use crate::sharing::may_share_compiled;
 use crate::status::Status;
 use pst_compile::Compiled;
@@ -56,7 +58,7 @@ fn numbered_item_result_lines(
             Some(number) => number,
             None => return Err(AllocError),
         };
-        add_answer_line(alloc, &mut text, number, answer)?;
+        add_item_result_line(alloc, &mut text, number, answer)?;
     }
     Ok(text)
 }
@@ -99,12 +101,12 @@ fn write_block<W: Sink>(
 }
 
 /// The bytes that the lines of a block end in: those that were read, or none if the stream has ended.
-fn lines_read(buffer: &[u8], is_last: bool) -> &[u8] {
+fn bytes_read_for_lines_of_block(buffer: &[u8], is_last: bool) -> &[u8] {
     if is_last { &[] } else { buffer }
 }
 
 /// Why the lines end if no block can be read.
-fn cut_by(fault: StreamFault) -> Cut
+fn end_of_lines_by_stream_fault(fault: StreamFault) -> Cut
     ensures { result ≡ cut_of fault }
 {
     match fault {
@@ -139,7 +141,7 @@ fn write_stream<I: Read, W: Sink, R: Threads + Sync, L: RefusedLines>(
         status: Status::Accepted,
     };
     for _turn in 0..u64::MAX {
-        let begun = begun_line(alloc, refused, kept.as_slice());
+        let begun = copy_begun_line_if_wanted(alloc, refused, kept.as_slice());
         let block = match read_and_judge_block(
             rt,
             compiled,
@@ -150,7 +152,7 @@ fn write_stream<I: Read, W: Sink, R: Threads + Sync, L: RefusedLines>(
             &mut kept,
         ) {
             Ok(block) => block,
-            Err(fault) => return Err(cut_by(fault)),
+            Err(fault) => return Err(end_of_lines_by_stream_fault(fault)),
         };
         let answers = block.answers.as_slice();
         let before = written.count;
@@ -162,10 +164,10 @@ fn write_stream<I: Read, W: Sink, R: Threads + Sync, L: RefusedLines>(
         };
         let ended = EndedLines {
             before,
-            read: lines_read(buffer.as_slice(), block.is_last),
+            read: bytes_read_for_lines_of_block(buffer.as_slice(), block.is_last),
             answers,
         };
-        pass_refused(refused, begun, ended);
+        hand_over_refused_lines_if_wanted(refused, begun, ended);
         if block.is_last {
             return Ok(written.status);
         }

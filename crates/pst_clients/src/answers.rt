@@ -3,7 +3,7 @@ ghost use Rattle.std.specs.Prelude.{◌≡◌, IfOk, option_copied};
 ghost use Rattle.pst_clients.specs.Answering.{IsAnswer};
 
 use json::{Error, Scratch, Value as Json};
-use pst_json_runs::value_in;
+use pst_json_runs::value_from_json;
 use pst_value::{Ty, Value};
 use std::alloc::{AllocError, Global};
 
@@ -18,7 +18,11 @@ pub enum ClientAnswer {
 }
 
 /// What a line means as the answer to a call whose result has type `ty`, if that is known.
-pub fn answer_of(alloc: Global, ty: Option<&Ty>, line: &str) -> Result<ClientAnswer, AllocError>
+pub fn client_answer_of_line(
+    alloc: Global,
+    ty: Option<&Ty>,
+    line: &str,
+) -> Result<ClientAnswer, AllocError>
     ensures { IfOk result (λ answer. IsAnswer (option_copied ty.entry) line.now answer) }
 {
     if line.as_bytes().starts_with(b"failed") {
@@ -26,7 +30,7 @@ pub fn answer_of(alloc: Global, ty: Option<&Ty>, line: &str) -> Result<ClientAns
     }
     let mut scratch = Scratch::new(alloc);
     match Json::parse_strict(alloc, line, &mut scratch) {
-        Ok(json) => match value_in(alloc, ty, &json)? {
+        Ok(json) => match value_from_json(alloc, ty, &json)? {
             Some(value) => Ok(ClientAnswer::Value(value)),
             None => Ok(ClientAnswer::NoValue),
         },

@@ -3,7 +3,7 @@ ghost use Rattle.std.specs.Prelude.{◌≡◌, ⊤, IfOk};
 ghost use Rattle.pst_clients.specs.Answering.{Answered};
 
 use crate::ahead::Ahead;
-use crate::answers::{ClientAnswer, answer_of};
+use crate::answers::{ClientAnswer, client_answer_of_line};
 use crate::calls::call_line;
 use crate::connection::{Connection, LostAnswer, State};
 use crate::notes::{BadLine, ClientId, NoteKind, Notes};
@@ -78,7 +78,7 @@ pub struct Clients<R: Wait, I: Read, O: Write> {
 }
 
 /// Whether some client is in a state.
-fn has_any<I: Read + Ahead, O: Write>(
+fn has_client_in_state<I: Read + Ahead, O: Write>(
     connections: &mut Vec<Mutex<Connection<I, O>>>,
     state: State,
 ) -> bool {
@@ -96,7 +96,9 @@ fn restart_ended_clients<I: Read + Ahead, O: Write>(
     connections: &mut Vec<Mutex<Connection<I, O>>>,
     is_shared: bool,
 ) {
-    if !has_any(connections, State::Ended) || is_shared && has_any(connections, State::Closed) {
+    if !has_client_in_state(connections, State::Ended)
+        || is_shared && has_client_in_state(connections, State::Closed)
+    {
         return;
     }
     for connection in &mut *connections {
@@ -209,7 +211,7 @@ impl<R: Wait + Files, I: Read + Ahead + Drop, O: Write + Drop> Clients<R, I, O> 
     }
 
     /// Notes a line that a branch's client printed and that answers nothing.
-    fn note_stray(&self, branch: u32, text: &str) {
+    fn note_stray_line_of_client(&self, branch: u32, text: &str) {
         let last = self
             .notes
             .waits()
@@ -223,7 +225,7 @@ impl<R: Wait + Files, I: Read + Ahead + Drop, O: Write + Drop> Clients<R, I, O> 
 
     /// Drops what a branch's client has printed that answers nothing, and notes it. Returns whether a line too
     /// many came after a call, so that answers since the last reset may be those of other calls.
-    fn drop_strays_of(&self, branch: u32) -> bool {
+    fn drop_stray_lines_of_client(&self, branch: u32) -> bool {
         let Some(connection) = self.connections.get(branch as usize) else {
             return false;
         };
@@ -234,18 +236,18 @@ impl<R: Wait + Files, I: Read + Ahead + Drop, O: Write + Drop> Clients<R, I, O> 
         let is_astray = connection.take_extra_line_flag();
         self.notes.waits().end(client);
         if let Some(text) = stray {
-            self.note_stray(branch, text.as_str());
+            self.note_stray_line_of_client(branch, text.as_str());
         }
         is_astray
     }
 
     /// Drops what clients have printed that answers nothing, and notes it. Returns whether a line too many came
     /// after a call.
-    fn drop_strays(&self) -> bool {
+    fn drop_stray_lines_of_all_clients(&self) -> bool {
         let mut is_astray = false;
         let mut branch = 0u32;
         for _ in 0..self.connections.len() {
-            if self.drop_strays_of(branch) {
+            if self.drop_stray_lines_of_client(branch) {
                 is_astray = true;
             }
             branch = branch.saturating_add(1);
@@ -266,7 +268,7 @@ impl<R: Wait + Files, I: Read + Ahead + Drop, O: Write + Drop> Clients<R, I, O> 
     fn end_reset(&self, branch: u32, answer: String) -> Result<(), CallFault> {
         if self.is_unusual(branch, answer.as_str()) {
             Parker::new().park_timeout(&self.rt, Duration::from_millis(LATE));
-            if self.drop_strays_of(branch) {
+            if self.drop_stray_lines_of_client(branch) {
                 return Err(CallFault::Refused);
             }
         }
@@ -283,7 +285,7 @@ impl<R: Wait + Files, I: Read + Ahead + Drop, O: Write + Drop> Clients<R, I, O> 
     {
         if let LostAnswer::MoreLines(_) = lost {
             self.note_lost(branch, RESET.as_bytes(), lost);
-            let _ = self.drop_strays_of(branch);
+            let _ = self.drop_stray_lines_of_client(branch);
             return Err(CallFault::Refused);
         }
         restart_ended_clients(&mut self.connections, self.is_shared);
@@ -325,7 +327,7 @@ impl<R: Wait + Files, I: Read + Ahead + Drop, O: Write + Drop> Clients<R, I, O> 
         let text = self.ask(branch, line.as_slice())?;
         let (line, text) = (line.as_slice(), text.as_str());
         let ty = self.results.get(call.op as usize);
-        match answer_of(self.alloc, ty, text) {
+        match client_answer_of_line(self.alloc, ty, text) {
             Ok(ClientAnswer::Value(value)) => {
                 self.note_misfit(branch, line, text, &value, ty);
                 Ok(value)
@@ -357,7 +359,7 @@ impl<
     /// Restarts clients that ended, and then resets through each client in turn. It fails if a client printed a
     /// line too many since the last reset: what it answered since may be wrong.
     fn reset(&mut self) -> Result<(), CallFault> {
-        if self.drop_strays() {
+        if self.drop_stray_lines_of_all_clients() {
             return Err(CallFault::Refused);
         }
         restart_ended_clients(&mut self.connections, self.is_shared);

@@ -82,7 +82,7 @@ fn next_byte<I: Read>(reader: &mut I) -> io::Result<u8>
 }
 
 /// The next line without its end, if it has at most `MAX_LINE` bytes.
-fn next_line<I: Read>(alloc: Global, reader: &mut I) -> Result<Vec<u8>, LostAnswer>
+fn read_line_of_client<I: Read>(alloc: Global, reader: &mut I) -> Result<Vec<u8>, LostAnswer>
     ensures consumed { IfOk result (λ line. Consumes (I.remaining reader.old)
         (I.remaining reader.new) (line.items ++ 10 ∷ [])) }
     ensures one { IfOk result (λ line. All (λ byte. byte ≢ 10) line.items) }
@@ -152,7 +152,7 @@ impl<I: Read + Ahead, O: Write> Connection<I, O> {
             (I.remaining self.new.answers) (string_bytes text ++ 10 ∷ [])) }
         ensures same { self.new.calls ≡ self.old.calls }
     {
-        let line = match next_line(self.alloc, &mut self.answers) {
+        let line = match read_line_of_client(self.alloc, &mut self.answers) {
             Ok(line) => line,
             Err(lost) => {
                 if lost != LostAnswer::NoMemory {
@@ -205,7 +205,7 @@ impl<I: Read + Ahead, O: Write> Connection<I, O> {
     }
 
     /// Writes a line after all that the client has printed. Returns whether this could be done.
-    fn write_last<R: Files>(&self, files: &R) -> bool {
+    fn write_end_mark_line<R: Files>(&self, files: &R) -> bool {
         let Some(name) = &self.pipe else {
             return false;
         };
@@ -216,10 +216,10 @@ impl<I: Read + Ahead, O: Write> Connection<I, O> {
     }
 
     /// Reads the lines up to the one that this program wrote.
-    fn read_to_last(&mut self) -> Result<Printed, LostAnswer> {
+    fn read_to_end_mark_line(&mut self) -> Result<Printed, LostAnswer> {
         let mut printed = Printed::new();
         for _ in 0..u64::MAX {
-            let line = next_line(self.alloc, &mut self.answers)?;
+            let line = read_line_of_client(self.alloc, &mut self.answers)?;
             let text = std::str::from_utf8(line.as_slice()).unwrap_or("no UTF-8");
             if printed.add(self.alloc, text).is_err() {
                 return Err(LostAnswer::NoMemory);
@@ -234,10 +234,10 @@ impl<I: Read + Ahead, O: Write> Connection<I, O> {
     /// Drops what the client has printed and nothing has read, without waiting for more. Returns the first line
     /// of it, if there is one. If its answers come from no pipe with a name, it drops nothing.
     pub fn drop_printed<R: Files>(&mut self, files: &R) -> Option<String> {
-        if self.state != State::Open || !self.write_last(files) {
+        if self.state != State::Open || !self.write_end_mark_line(files) {
             return None;
         }
-        let Ok(printed) = self.read_to_last() else {
+        let Ok(printed) = self.read_to_end_mark_line() else {
             self.state = State::Closed; // the last line may not be read
             return None;
         };

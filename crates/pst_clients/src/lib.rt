@@ -16,7 +16,7 @@ mod types;
 mod waits;
 
 pub use ahead::Ahead;
-pub use answers::{ClientAnswer, answer_of};
+pub use answers::{ClientAnswer, client_answer_of_line};
 pub use calls::call_line;
 pub use clients::Clients;
 pub use connection::{Connection, LostAnswer, MAX_LINE, State};

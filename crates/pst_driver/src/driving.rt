@@ -22,7 +22,7 @@ use std::sync::Wait;
 use std::thread::Threads;
 
 /// Whether each reply is a value.
-pub(crate) fn all_answers(replies: &[Reply]) -> bool
+pub(crate) fn are_all_replies_values(replies: &[Reply]) -> bool
     ensures { result ≡ all_answers replies.now }
 {
     for reply in replies {
@@ -47,17 +47,17 @@ fn branches_answer(branches: &[Items<Reply>]) -> bool
     let Some((branch, branches)) = split_first(branches) else {
         return true;
     };
-    all_answers(branch.as_slice()) && branches_answer(branches)
+    are_all_replies_values(branch.as_slice()) && branches_answer(branches)
 }
 
 /// Whether each reply of the history is a value.
 #[tactic(auto, using(crate::proofs::Answering::answering))]
-fn is_answered(history: &History) -> bool
+fn has_only_value_replies(history: &History) -> bool
     ensures { result ≡ all_answers (replies_of history.now) }
 {
-    all_answers(history.prefix.as_slice())
+    are_all_replies_values(history.prefix.as_slice())
         && branches_answer(history.branches.as_slice())
-        && all_answers(history.suffix.as_slice())
+        && are_all_replies_values(history.suffix.as_slice())
 }
 
 /// The replies of branches that are not run.
@@ -77,7 +77,7 @@ pub(crate) fn not_run_replies_of_branches(
 }
 
 /// The replies of the branches, which run at once if the whole prefix has values, and else not at all.
-fn run_branches<S: Subject + Sync, R: Threads + Wait>(
+fn run_branches_if_prefix_has_values<S: Subject + Sync, R: Threads + Wait>(
     rt: &R,
     alloc: Global,
     typed: &Typed,
@@ -92,7 +92,7 @@ fn run_branches<S: Subject + Sync, R: Threads + Wait>(
         (hs ≡ map none_run branches.now)) }
     ensures fault { IfErr result (λ e. IsBranchFault branches.now e) }
 {
-    if !all_answers(prefix) {
+    if !are_all_replies_values(prefix) {
         return Ok(not_run_replies_of_branches(alloc, branches)?);
     }
     let known = results_of(alloc, prefix)?;
@@ -113,7 +113,7 @@ pub(crate) fn run_suffix<S: Subject>(
         (recorded so_far.now) suffix.now rs)
         (rs ≡ none_run suffix.now)) }
 {
-    if !is_answered(so_far) {
+    if !has_only_value_replies(so_far) {
         let mut replies = Items::new(alloc);
         add_not_run_replies(&mut replies, suffix)?;
         return Ok(replies);
@@ -151,7 +151,14 @@ fn drive_shaped<S: Subject + Sync, R: Threads + Wait>(
         Vec::new(alloc),
     )?;
     let branches = case.branches.as_slice();
-    let branches = run_branches(rt, alloc, typed, system, branches, prefix.as_slice())?;
+    let branches = run_branches_if_prefix_has_values(
+        rt,
+        alloc,
+        typed,
+        system,
+        branches,
+        prefix.as_slice(),
+    )?;
     let so_far = History {
         prefix,
         branches,

@@ -10,7 +10,7 @@ ghost use Rattle.pst_driver.specs.Progress.{BranchesRun, IsBranchFault};
 use crate::branches::{add_unknown_results, copy_known, count_threads};
 use crate::crew::Crew;
 use crate::desk::Order;
-use crate::driving::{all_answers, not_run_replies_of_branches, run_suffix};
+use crate::driving::{are_all_replies_values, not_run_replies_of_branches, run_suffix};
 use crate::fault::DriveFault;
 use crate::part::call_commands_in_order;
 use crate::relations::Relations;
@@ -23,7 +23,7 @@ use std::alloc::{AllocError, Global};
 use std::sync::Wait;
 
 /// An order to run the commands with these known results.
-fn order_of(
+fn order_for_commands(
     alloc: Global,
     commands: &[Command],
     known: &[Option<Value>],
@@ -67,7 +67,7 @@ fn run_branches_with_crew<J: Relations, S: Subject, R: Wait>(
     let Some(desk) = crew.desk(number) else {
         return Err(DriveFault::NoThread);
     };
-    let order = order_of(alloc, first.as_slice(), before.as_slice())?;
+    let order = order_for_commands(alloc, first.as_slice(), before.as_slice())?;
     let seen = desk.give(rt, order);
     let more = run_branches_with_crew(rt, alloc, crew, next, others, known);
     if more.is_err() {
@@ -88,7 +88,7 @@ fn run_branches_with_crew<J: Relations, S: Subject, R: Wait>(
 }
 
 /// The replies of the branches, which run at once if the whole prefix has values, and else not at all.
-fn run_branches<J: Relations, S: Subject, R: Wait>(
+fn run_branches_with_crew_after_prefix<J: Relations, S: Subject, R: Wait>(
     rt: &R,
     alloc: Global,
     crew: &Crew<J, S>,
@@ -100,7 +100,7 @@ fn run_branches<J: Relations, S: Subject, R: Wait>(
         (hs ≡ map none_run branches.now)) }
     ensures fault { IfErr result (λ e. IsBranchFault branches.now e) }
 {
-    if !all_answers(prefix) {
+    if !are_all_replies_values(prefix) {
         return Ok(not_run_replies_of_branches(alloc, branches)?);
     }
     let known = results_of(alloc, prefix)?;
@@ -134,7 +134,13 @@ fn drive_with_crew<J: Relations, S: Subject, R: Wait>(
         case.prefix.as_slice(),
         Vec::new(alloc),
     )?;
-    let branches = run_branches(rt, alloc, crew, case.branches.as_slice(), prefix.as_slice())?;
+    let branches = run_branches_with_crew_after_prefix(
+        rt,
+        alloc,
+        crew,
+        case.branches.as_slice(),
+        prefix.as_slice(),
+    )?;
     let so_far = History {
         prefix,
         branches,
@@ -172,7 +178,7 @@ fn fault_of_unrun_branches(branches: &[Items<Command>]) -> DriveFault
 ///
 /// The faults are those of `run`. `NoThread`: the thread of a branch has not started. The history is compared
 /// with the model once more at the end, since no contract here says that the threads run by the same one.
-pub fn run_with<J: Relations, S: Subject, R: Wait>(
+pub fn drive_valid_case_with_crew<J: Relations, S: Subject, R: Wait>(
     rt: &R,
     alloc: Global,
     crew: &Crew<J, S>,

@@ -3,7 +3,9 @@
 use crate::misfits::{MOST_KEPT, Misfit, Misfits};
 use pst_model::{Source, operation_of};
 use pst_print::ty_form;
-use pst_scene::{add_form, add_str, add_value, copy_explanation_text, value_text};
+use pst_scene::{
+    add_str, add_tree_spelling, add_value_spelling, copy_explanation_text, value_text,
+};
 use pst_system::RealCall;
 use pst_value::Ty;
 use std::alloc::{AllocError, Global};
@@ -38,7 +40,7 @@ fn call_text(alloc: Global, model: &Source, call: &RealCall) -> Result<Vec<u8>, 
     add_str(&mut text, call.name.as_str())?;
     for arg in call.args.as_slice() {
         add_str(&mut text, " ")?;
-        add_value(&mut text, alloc, model, arg)?;
+        add_value_spelling(&mut text, alloc, model, arg)?;
     }
     add_str(&mut text, ")")?;
     Ok(text)
@@ -47,12 +49,12 @@ fn call_text(alloc: Global, model: &Source, call: &RealCall) -> Result<Vec<u8>, 
 /// The type as models spell it.
 fn type_text(alloc: Global, ty: &Ty) -> Result<Vec<u8>, AllocError> {
     let mut text = Vec::new(alloc);
-    add_form(&mut text, &ty_form(alloc, ty)?)?;
+    add_tree_spelling(&mut text, &ty_form(alloc, ty)?)?;
     Ok(text)
 }
 
 /// `misfit: (get) answered "x", wanted int`, and a line end.
-fn line_of(alloc: Global, model: &Source, misfit: &Misfit) -> Result<String, AllocError> {
+fn misfit_line(alloc: Global, model: &Source, misfit: &Misfit) -> Result<String, AllocError> {
     let call = shorten_spelling(alloc, call_text(alloc, model, &misfit.call)?.as_slice())?;
     let answer = shorten_spelling(alloc, value_text(alloc, model, &misfit.answer)?.as_slice())?;
     match operation_of(model.items.as_slice(), misfit.call.op as usize) {
@@ -74,7 +76,7 @@ pub fn misfits_text(alloc: Global, misfits: &Misfits) -> Result<String, AllocErr
     let mut others = misfits.count();
     for place in 0..MOST_KEPT {
         if let Some(misfit) = misfits.get(place) {
-            text.push_str(line_of(alloc, model, misfit)?.as_str())?;
+            text.push_str(misfit_line(alloc, model, misfit)?.as_str())?;
             others = others.saturating_sub(1);
         }
     }

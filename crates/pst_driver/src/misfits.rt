@@ -102,7 +102,7 @@ impl Misfits {
     }
 
     /// Keeps a copy of an answer and of its call, if a place is left and no allocation fails.
-    fn copy_if_room(&self, call: &RealCall, answer: &Value) {
+    fn count_misfit_and_keep_if_room(&self, call: &RealCall, answer: &Value) {
         let before = self.count.fetch_add(1, Ordering::SeqCst);
         let Ok(place) = usize::try_from(before) else {
             return;
@@ -119,7 +119,7 @@ impl Misfits {
     pub fn record_answer_if_misfit(&self, call: &RealCall, answer: &Value) {
         if let Some(typed) = self.typed.get() {
             if !is_of_result_type(self.alloc, typed, call, answer) {
-                self.copy_if_room(call, answer);
+                self.count_misfit_and_keep_if_room(call, answer);
             }
         }
     }

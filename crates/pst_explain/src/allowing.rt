@@ -8,11 +8,11 @@ use crate::bounded::Bounded;
 use pst_case::{History, Reply};
 use pst_eval::{Callbacks, Env};
 use pst_reasons::{
-    AllowedValues, Candidates, find_allowed_values, interleaving_beyond, push_without,
+    AllowedValues, Candidates, append_numbers_without, find_allowed_values, interleaving_beyond,
 };
 use pst_scene::{
-    Call, Falsity, Scene, falsity_of, operation_of_call, recorded_arguments, state_before,
-    wanted_reply,
+    Call, Falsity, Scene, falsity_of_postcondition, operation_of_call, recorded_arguments,
+    reply_wanted_by_postcondition, state_before_call_in_interleaving,
 };
 use pst_value::Value;
 use std::alloc::{AllocError, Global};
@@ -59,7 +59,7 @@ fn candidate_reply_on_state(
     let args = recorded_arguments(alloc, scene, call)?;
     let frame = Env::Frame(operation.params.as_slice(), args.as_slice());
     let env = Env::With(b"s", &*state, &frame);
-    match wanted_reply(alloc, scene.model, &operation.post, &env)? {
+    match reply_wanted_by_postcondition(alloc, scene.model, &operation.post, &env)? {
         Some(value) => Ok(Some(value)),
         None => Ok(opposite_bool_reply(call)),
     }
@@ -67,8 +67,8 @@ fn candidate_reply_on_state(
 
 impl<'s, 'a, C: Callbacks> Candidates for RequiredReply<'s, 'a, C> {
     fn candidate(&self, alloc: Global, word: &[usize]) -> Result<Option<Value>, AllocError> {
-        self.callbacks.take_calls(self.scene.all.len())?;
-        match state_before(alloc, self.scene, word, self.call)? {
+        self.callbacks.take_steps_of_calls(self.scene.all.len())?;
+        match state_before_call_in_interleaving(alloc, self.scene, word, self.call)? {
             Some(state) => candidate_reply_on_state(alloc, self.scene, self.call, &state),
             None => Ok(None),
         }
@@ -83,10 +83,10 @@ fn wrong_answer_in_interleaving<'a>(
     call: &Call<'_>,
     word: Vec<usize>,
 ) -> Result<Option<WrongAnswer<'a>>, AllocError> {
-    let Some(state) = state_before(alloc, scene, word.as_slice(), call)? else {
+    let Some(state) = state_before_call_in_interleaving(alloc, scene, word.as_slice(), call)? else {
         return Ok(None);
     };
-    let falsity = falsity_of(alloc, scene, call, &state)?;
+    let falsity = falsity_of_postcondition(alloc, scene, call, &state)?;
     Ok(Some(WrongAnswer {
         word,
         state,
@@ -112,7 +112,7 @@ pub fn wrong_answer_if_rest_is_right<'a, C: Callbacks>(
 {
     let number = call.number;
     let shaped = &scene.run.shaped;
-    let others = push_without(number, core, Vec::new(alloc))?;
+    let others = append_numbers_without(number, core, Vec::new(alloc))?;
     let others = others.as_slice();
     let merge = interleaving_beyond(
         callbacks,
@@ -124,7 +124,7 @@ pub fn wrong_answer_if_rest_is_right<'a, C: Callbacks>(
         number,
         &[],
     )?;
-    callbacks.take_calls(scene.all.len())?;
+    callbacks.take_steps_of_calls(scene.all.len())?;
     match merge {
         Some(word) => wrong_answer_in_interleaving(alloc, scene, call, word),
         None => Ok(None),
@@ -134,7 +134,7 @@ pub fn wrong_answer_if_rest_is_right<'a, C: Callbacks>(
 /// Returns what the model allows in place of the answer of a command of a core, in the interleavings in which the rest
 /// of the core is right. It evaluates the postcondition by recursion: the deepest valid model takes some tens of MiB of
 /// stack. `AllocError` too if `callbacks` have no steps left.
-pub fn allowed_answers<C: Callbacks>(
+pub fn allowed_answers_for_explanation<C: Callbacks>(
     callbacks: &Bounded<'_, C>,
     alloc: Global,
     scene: &Scene<'_>,
@@ -154,7 +154,7 @@ pub fn allowed_answers<C: Callbacks>(
         call,
     };
     let shaped = &scene.run.shaped;
-    callbacks.set_further_calls(1);
+    callbacks.set_further_calls_of_next(1);
     let found = find_allowed_values(
         callbacks,
         alloc,
@@ -166,6 +166,6 @@ pub fn allowed_answers<C: Callbacks>(
         &wanted,
         MOST,
     )?;
-    callbacks.set_further_calls(0);
+    callbacks.set_further_calls_of_next(0);
     Ok(found)
 }

@@ -32,7 +32,7 @@ pub struct Bounded<'a, C> {
 }
 
 /// The steps of a call that ended. Of the faults, only `Turns` says how many turns were taken.
-fn steps_of(ended: &Result<(Value, u32), Fault>) -> u64 {
+fn count_steps_of_ended_callback(ended: &Result<(Value, u32), Fault>) -> u64 {
     let turns = match ended {
         Ok((_, left)) => MAX_TURNS.saturating_sub(*left),
         Err(Fault::Turns) => MAX_TURNS,
@@ -45,9 +45,9 @@ fn steps_of(ended: &Result<(Value, u32), Fault>) -> u64 {
 #[cycle(size)]
 fn count_nested_values(value: &Value) -> u64 {
     let inner = match value {
-        Value::Tuple(parts) => sum_of_sizes(parts.as_slice()),
-        Value::List(parts) => sum_of_sizes(parts.as_slice()),
-        Value::Map(_, values) => sum_of_sizes(values.get().as_slice()),
+        Value::Tuple(parts) => count_nested_values_of_all(parts.as_slice()),
+        Value::List(parts) => count_nested_values_of_all(parts.as_slice()),
+        Value::Map(_, values) => count_nested_values_of_all(values.get().as_slice()),
         Value::Ref(_, value) => count_nested_values(value.get()),
         Value::Text(text) => (text.as_bytes().len() / 8) as u64,
         _ => 0,
@@ -57,7 +57,7 @@ fn count_nested_values(value: &Value) -> u64 {
 
 /// How many values are in `values`, themselves among them.
 #[cycle(size)]
-fn sum_of_sizes(values: &[Value]) -> u64 {
+fn count_nested_values_of_all(values: &[Value]) -> u64 {
     let mut sum: u64 = 0;
     for value in values {
         sum = sum.saturating_add(count_nested_values(value));
@@ -86,7 +86,7 @@ impl<'a, C: Callbacks> Bounded<'a, C> {
     }
 
     /// Whether a call had no steps left.
-    pub fn has_run_out(&self) -> bool {
+    pub fn has_run_out_of_steps(&self) -> bool {
         self.has_run_out.get()
     }
 
@@ -107,7 +107,7 @@ impl<'a, C: Callbacks> Bounded<'a, C> {
 
     /// Takes the steps of `calls` callbacks that something else evaluates. Each counts as the longest call so far.
     /// Returns `AllocError` if no steps are left.
-    pub fn take_calls(&self, calls: usize) -> Result<(), AllocError> {
+    pub fn take_steps_of_calls(&self, calls: usize) -> Result<(), AllocError> {
         self.fail_if_out_of_steps()?;
         let steps = self.most_of_a_call.get().saturating_mul(calls as u64);
         self.take_steps(steps);
@@ -115,13 +115,13 @@ impl<'a, C: Callbacks> Bounded<'a, C> {
     }
 
     /// From now on a call of `next` takes the steps of `calls` further callbacks, which something else evaluates.
-    pub fn set_further_calls(&self, calls: u64) {
+    pub fn set_further_calls_of_next(&self, calls: u64) {
         self.further_calls.set(calls);
     }
 
     /// Takes the steps of a call that ended.
     fn take_steps_of_ended_call(&self, ended: &Result<(Value, u32), Fault>) {
-        let steps = steps_of(ended).saturating_add(self.steps_of_state.get());
+        let steps = count_steps_of_ended_callback(ended).saturating_add(self.steps_of_state.get());
         if steps > self.most_of_a_call.get() {
             self.most_of_a_call.set(steps);
         }
@@ -147,7 +147,7 @@ impl<'a, C: Callbacks> Bounded<'a, C> {
         match found {
             Ok(found) => Ok(Some(found)),
             Err(AllocError) => {
-                if self.has_run_out() {
+                if self.has_run_out_of_steps() {
                     Ok(None)
                 } else {
                     Err(AllocError)

@@ -3,7 +3,9 @@
 use pst_case::{Reply, Run};
 use pst_model::{Source, Typed};
 use pst_print::ty_form;
-use pst_scene::{Call, Scene, add_form, add_str, call_numbered, operation_of_call, scene_of};
+use pst_scene::{
+    Call, Scene, add_str, add_tree_spelling, call_numbered, operation_of_call, scene_of_run,
+};
 use pst_value::Ty;
 use std::alloc::{AllocError, Global};
 
@@ -47,7 +49,7 @@ fn broken_reply_meaning(reply: &Reply) -> &'static str {
 }
 
 /// Returns a sentence on the reply of a command and the expected type. `None` if there is no reply.
-pub fn broken_sentence(
+pub fn broken_reply_sentence(
     alloc: Global,
     model: &Source,
     broken: &BrokenReply<'_>,
@@ -63,7 +65,7 @@ pub fn broken_sentence(
     add_str(&mut text, broken_reply_meaning(reply))?;
     if let Some(wanted) = broken.wanted {
         add_str(&mut text, " a value of type ")?;
-        add_form(&mut text, &ty_form(alloc, wanted)?)?;
+        add_tree_spelling(&mut text, &ty_form(alloc, wanted)?)?;
     }
     Ok(Some(text))
 }
@@ -79,6 +81,6 @@ pub fn explain_broken_run(
     run: &Run,
     number: u32,
 ) -> Result<Option<Vec<u8>>, AllocError> {
-    let scene = scene_of(alloc, typed, run)?;
-    broken_sentence(alloc, scene.model, &broken_reply(&scene, number))
+    let scene = scene_of_run(alloc, typed, run)?;
+    broken_reply_sentence(alloc, scene.model, &broken_reply(&scene, number))
 }

@@ -6,18 +6,22 @@ use crate::parts::add_marked_run_text;
 use pst_model::Source;
 use pst_reasons::AllowedValues;
 use pst_scene::{
-    Call, Cell, Page, Scene, Style, Table, add_interleaving_letters, add_reply, add_str, add_value,
-    copy_explanation_text, expression_text, falsity_text, join_explanation_parts,
-    operation_of_call, value_text,
+    Call, Cell, Page, Scene, Style, Table, add_interleaving_letters, add_reply_spelling, add_str,
+    add_value_spelling, copy_explanation_text, expression_text, false_postcondition_text,
+    join_explanation_parts, operation_of_call, value_text,
 };
 use std::alloc::{AllocError, Global};
 
 /// The place and the spelling of a command, and what it answered.
-fn answer_text(alloc: Global, model: &Source, call: &Call<'_>) -> Result<Vec<u8>, AllocError> {
+fn call_and_answer_text(
+    alloc: Global,
+    model: &Source,
+    call: &Call<'_>,
+) -> Result<Vec<u8>, AllocError> {
     let mut text = call.text(alloc, model)?;
     if let Some(reply) = call.reply {
         add_str(&mut text, " answered ")?;
-        add_reply(&mut text, alloc, model, reply)?;
+        add_reply_spelling(&mut text, alloc, model, reply)?;
     }
     Ok(text)
 }
@@ -37,7 +41,7 @@ fn postcondition_text(
 }
 
 /// Returns the allowed values in one text, and `..` if there may be others.
-fn values_text(
+fn allowed_values_text(
     alloc: Global,
     model: &Source,
     found: &AllowedValues,
@@ -47,7 +51,7 @@ fn values_text(
         if index > 0 {
             add_str(&mut text, ", ")?;
         }
-        add_value(&mut text, alloc, model, value)?;
+        add_value_spelling(&mut text, alloc, model, value)?;
     }
     if !found.all {
         add_str(&mut text, " ..")?;
@@ -56,7 +60,7 @@ fn values_text(
 }
 
 /// Adds a cell for each allowed value, and one of `..` if there may be others.
-fn add_each_value(
+fn add_cell_for_each_allowed_value(
     row: &mut Vec<Cell>,
     alloc: Global,
     model: &Source,
@@ -74,7 +78,7 @@ fn add_each_value(
 }
 
 /// Adds a cell of the allowed values, if there are some, or a cell for each if one has more bytes than a line.
-fn add_values(
+fn add_cells_of_allowed_values(
     row: &mut Vec<Cell>,
     alloc: Global,
     model: &Source,
@@ -84,21 +88,21 @@ fn add_values(
     if found.values.is_empty() {
         return Ok(());
     }
-    let text = values_text(alloc, model, found)?;
+    let text = allowed_values_text(alloc, model, found)?;
     if text.len() > line {
-        return add_each_value(row, alloc, model, found);
+        return add_cell_for_each_allowed_value(row, alloc, model, found);
     }
     row.push(Cell::styled(Style::Right, text))?;
     Ok(())
 }
 
 /// Returns why an answer is wrong in an interleaving, and names the interleaving.
-fn wrong_text(
+fn why_answer_is_wrong_text(
     alloc: Global,
     model: &Source,
     wrong: &WrongAnswer<'_>,
 ) -> Result<Vec<u8>, AllocError> {
-    let mut text = falsity_text(alloc, model, &wrong.falsity)?;
+    let mut text = false_postcondition_text(alloc, model, &wrong.falsity)?;
     if !wrong.word.is_empty() {
         add_str(&mut text, ", in the order ")?;
         add_interleaving_letters(&mut text, wrong.word.as_slice())?;
@@ -108,25 +112,25 @@ fn wrong_text(
 
 /// Returns the row of an answer: the answer, the postcondition, why it is wrong if that is needed, and what the model
 /// allows in its place. A line has room for `line` bytes.
-fn answer_row(
+fn core_answer_row(
     alloc: Global,
     scene: &Scene<'_>,
     answer: &CoreAnswer<'_>,
     line: usize,
 ) -> Result<Vec<Cell>, AllocError> {
     let model = scene.model;
-    let left = answer_text(alloc, model, &answer.call)?;
+    let left = call_and_answer_text(alloc, model, &answer.call)?;
     let post = postcondition_text(alloc, scene, &answer.call)?;
     let mut row = Vec::new(alloc);
     row.push(Cell::styled(Style::Wrong, left))?;
     row.push(Cell::plain(post))?;
-    if answer.asks_why() {
+    if answer.needs_reason_why_wrong() {
         row.push(Cell::plain(match &answer.wrong {
-            Some(wrong) => wrong_text(alloc, model, wrong)?,
+            Some(wrong) => why_answer_is_wrong_text(alloc, model, wrong)?,
             None => Vec::new(alloc),
         }))?;
     }
-    add_values(&mut row, alloc, model, &answer.allowed, line)?;
+    add_cells_of_allowed_values(&mut row, alloc, model, &answer.allowed, line)?;
     Ok(row)
 }
 
@@ -138,7 +142,7 @@ const NO_CORE: &str =
 const CUT: &str = "Some allowed answers are left out: their search takes too many steps.";
 
 /// The sentence before the commands of a core.
-fn opening_sentence(count: usize) -> &'static str {
+fn core_introduction_sentence(count: usize) -> &'static str {
     match count {
         0 => "No answer is to blame: the model faults in every interleaving, whatever is answered.",
         1 => "This answer cannot be right, whatever the others are:",
@@ -147,17 +151,21 @@ fn opening_sentence(count: usize) -> &'static str {
 }
 
 /// Adds a core, and the run with the commands of the core marked.
-fn add_found_core(
+fn add_core_and_marked_run_text(
     page: &mut Page,
     alloc: Global,
     scene: &Scene<'_>,
     core: &Core<'_>,
 ) -> Result<(), AllocError> {
-    page.add_sentence(alloc, 2, opening_sentence(core.answers.len()).as_bytes())?;
+    page.add_sentence(
+        alloc,
+        2,
+        core_introduction_sentence(core.answers.len()).as_bytes(),
+    )?;
     let mut table = Table::new(alloc)?;
     let line = page.width.saturating_sub(6);
     for answer in &core.answers {
-        table.add_row(answer_row(alloc, scene, answer, line)?)?;
+        table.add_row(core_answer_row(alloc, scene, answer, line)?)?;
     }
     table.write_or_stack(page, alloc, 4)?;
     if core.is_cut {
@@ -176,14 +184,14 @@ fn add_found_core(
 }
 
 /// Adds a core, and the run with the commands of the core marked. `None` if the search of the core takes too many steps.
-pub fn add_core(
+pub fn add_core_explanation_text(
     page: &mut Page,
     alloc: Global,
     scene: &Scene<'_>,
     core: Option<&Core<'_>>,
 ) -> Result<(), AllocError> {
     match core {
-        Some(core) => add_found_core(page, alloc, scene, core),
+        Some(core) => add_core_and_marked_run_text(page, alloc, scene, core),
         None => {
             page.add_sentence(alloc, 2, NO_CORE.as_bytes())?;
             page.add_sentence(alloc, 2, b"The run:")?;

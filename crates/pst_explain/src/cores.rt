@@ -5,12 +5,16 @@ ghost use Rattle.pst_case.specs.Recorded.{recorded};
 ghost use Rattle.pst_judge.specs.Verdict.{first_broken};
 ghost use Rattle.pst_reasons.specs.Reasons.{IsUnexplained};
 
-use crate::allowing::{WrongAnswer, allowed_answers, wrong_answer_if_rest_is_right};
+use crate::allowing::{
+    WrongAnswer, allowed_answers_for_explanation, wrong_answer_if_rest_is_right,
+};
 use crate::bounded::Bounded;
 use pst_case::History;
 use pst_eval::Callbacks;
 use pst_reasons::{AllowedValues, minimal_core};
-use pst_scene::{Call, CasePart, Scene, call_numbered, operation_of_call, wants_one_reply};
+use pst_scene::{
+    Call, CasePart, Scene, call_numbered, operation_of_call, postcondition_wants_one_reply,
+};
 use pst_value::Items;
 use std::alloc::{AllocError, Global};
 
@@ -40,7 +44,7 @@ pub struct Core<'a> {
 
 impl<'a> CoreAnswer<'a> {
     /// Returns whether the explanation has to say why the answer is wrong.
-    pub fn asks_why(&self) -> bool {
+    pub fn needs_reason_why_wrong(&self) -> bool {
         self.allowed.values.is_empty() || !self.has_one_reply
     }
 
@@ -72,16 +76,20 @@ impl<'a> Core<'a> {
 }
 
 /// Returns whether the postcondition of a command requires one single reply.
-fn has_one_reply(alloc: Global, scene: &Scene<'_>, call: &Call<'_>) -> Result<bool, AllocError> {
+fn postcondition_requires_single_reply(
+    alloc: Global,
+    scene: &Scene<'_>,
+    call: &Call<'_>,
+) -> Result<bool, AllocError> {
     match operation_of_call(scene, call) {
-        Some(operation) => wants_one_reply(alloc, &operation.post),
+        Some(operation) => postcondition_wants_one_reply(alloc, &operation.post),
         None => Ok(false),
     }
 }
 
 /// Searches what the model allows in place of an answer of a core, and why it is wrong if the explanation has to say so.
 /// `AllocError` too if `callbacks` have no steps left.
-fn search_answer<'a, C: Callbacks>(
+fn complete_core_answer<'a, C: Callbacks>(
     callbacks: &Bounded<'_, C>,
     alloc: Global,
     scene: &Scene<'a>,
@@ -96,9 +104,9 @@ fn search_answer<'a, C: Callbacks>(
     requires answered { first_broken 1 (recorded history.now) ≡ None }
 {
     let call = answer.call;
-    let allowed = allowed_answers(callbacks, alloc, scene, history, core, &call)?;
+    let allowed = allowed_answers_for_explanation(callbacks, alloc, scene, history, core, &call)?;
     answer.allowed = allowed;
-    if answer.asks_why() {
+    if answer.needs_reason_why_wrong() {
         let wrong = wrong_answer_if_rest_is_right(callbacks, alloc, scene, history, core, &call)?;
         answer.wrong = wrong;
     }
@@ -106,7 +114,7 @@ fn search_answer<'a, C: Callbacks>(
 }
 
 /// Returns the answer of a command of a core, before its allowed values are known.
-fn unknown_answer<'a>(
+fn core_answer_without_allowed_values<'a>(
     alloc: Global,
     scene: &Scene<'a>,
     call: Call<'a>,
@@ -117,7 +125,7 @@ fn unknown_answer<'a>(
             values: Items::new(alloc),
             all: false,
         },
-        has_one_reply: has_one_reply(alloc, scene, &call)?,
+        has_one_reply: postcondition_requires_single_reply(alloc, scene, &call)?,
         wrong: None,
     })
 }
@@ -137,9 +145,9 @@ fn core_answer_of_call<'a, C: Callbacks>(
         ≡ true }
     requires answered { first_broken 1 (recorded history.now) ≡ None }
 {
-    let mut answer = unknown_answer(alloc, scene, call)?;
-    if !callbacks.has_run_out() {
-        let searched = search_answer(callbacks, alloc, scene, history, core, &mut answer);
+    let mut answer = core_answer_without_allowed_values(alloc, scene, call)?;
+    if !callbacks.has_run_out_of_steps() {
+        let searched = complete_core_answer(callbacks, alloc, scene, history, core, &mut answer);
         let _found = callbacks.none_if_out_of_steps(searched)?;
     }
     Ok(answer)
@@ -147,7 +155,7 @@ fn core_answer_of_call<'a, C: Callbacks>(
 
 /// Returns a core of the item, with what the model allows in place of each answer as far as the steps of `callbacks` last.
 /// `AllocError` too if they do not last for the core.
-pub fn find_core<'a, C: Callbacks>(
+pub fn find_core_for_explanation<'a, C: Callbacks>(
     callbacks: &Bounded<'_, C>,
     alloc: Global,
     scene: &Scene<'a>,
@@ -171,6 +179,6 @@ pub fn find_core<'a, C: Callbacks>(
     }
     Ok(Core {
         answers,
-        is_cut: callbacks.has_run_out(),
+        is_cut: callbacks.has_run_out_of_steps(),
     })
 }

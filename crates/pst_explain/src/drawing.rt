@@ -1,6 +1,6 @@
 //! Writes a search in the language of Graphviz.
 
-use crate::labels::{add_graphviz_label, add_graphviz_node_name, add_quoted};
+use crate::labels::{add_graphviz_label, add_graphviz_node_name, add_graphviz_quoted_text};
 use crate::position::Position;
 use crate::search::{Move, Search, Target};
 use pst_scene::{Scene, add_str, copy_explanation_text, dead_end_text, value_text};
@@ -11,7 +11,7 @@ const STYLE: &str =
     "  node [shape=box, fontname=monospace];\n  edge [fontname=monospace];\n  fontname=monospace;\n";
 
 /// Whether a command may come next at position `number`, and the search has not expanded it.
-fn is_unexpanded(
+fn is_search_position_unexpanded(
     scene: &Scene<'_>,
     search: &Search<'_>,
     number: usize,
@@ -21,9 +21,9 @@ fn is_unexpanded(
 }
 
 /// Whether the search stopped before its end.
-fn is_cut_short(scene: &Scene<'_>, search: &Search<'_>) -> bool {
+fn is_search_cut_short(scene: &Scene<'_>, search: &Search<'_>) -> bool {
     for (number, position) in search.positions.iter().enumerate() {
-        if is_unexpanded(scene, search, number, position) {
+        if is_search_position_unexpanded(scene, search, number, position) {
             return true;
         }
     }
@@ -39,14 +39,14 @@ fn add_graph_title(
     title: &str,
 ) -> Result<(), AllocError> {
     let mut text = copy_explanation_text(alloc, title)?;
-    if is_cut_short(scene, search) {
+    if is_search_cut_short(scene, search) {
         add_str(
             &mut text,
             "\nnot all: what follows the dashed positions is left out",
         )?;
     }
     add_str(out, "  labelloc=t;\n  label=")?;
-    add_quoted(out, text.as_slice())?;
+    add_graphviz_quoted_text(out, text.as_slice())?;
     add_str(out, ";\n")
 }
 
@@ -64,7 +64,7 @@ fn add_position_node(
     add_graphviz_node_name(out, "p", number)?;
     add_str(out, " [")?;
     add_graphviz_label(out, alloc, state.as_slice())?;
-    if is_unexpanded(scene, search, number, position) {
+    if is_search_position_unexpanded(scene, search, number, position) {
         add_str(out, ", style=dashed")?;
     }
     add_str(out, "];\n")
@@ -98,7 +98,7 @@ fn count_search_levels(search: &Search<'_>) -> usize {
 }
 
 /// Adds an edge with the command of a move.
-fn add_edge(
+fn add_graphviz_edge(
     out: &mut Vec<u8>,
     alloc: Global,
     scene: &Scene<'_>,
@@ -107,7 +107,7 @@ fn add_edge(
     to: usize,
     style: &str,
 ) -> Result<(), AllocError> {
-    let text = step.call.with_reply(alloc, scene.model)?;
+    let text = step.call.text_with_reply(alloc, scene.model)?;
     add_str(out, "  ")?;
     add_graphviz_node_name(out, "p", step.from)?;
     add_str(out, " -> ")?;
@@ -119,7 +119,7 @@ fn add_edge(
 }
 
 /// Adds a dead end, with the reason.
-fn add_dead_end(
+fn add_graphviz_dead_end(
     out: &mut Vec<u8>,
     alloc: Global,
     number: usize,
@@ -147,7 +147,7 @@ fn edge_style_of_move(search: &Search<'_>, number: usize) -> &'static str {
 }
 
 /// Adds a move, and the dead end that it leads to.
-fn add_move_edge(
+fn add_graphviz_move(
     out: &mut Vec<u8>,
     alloc: Global,
     scene: &Scene<'_>,
@@ -157,7 +157,7 @@ fn add_move_edge(
 ) -> Result<(), AllocError> {
     match &step.target {
         Target::Position(to) => {
-            add_edge(
+            add_graphviz_edge(
                 out,
                 alloc,
                 scene,
@@ -169,14 +169,14 @@ fn add_move_edge(
         }
         Target::DeadEnd(dead_end) => {
             let why = dead_end_text(alloc, scene.model, dead_end)?;
-            add_dead_end(out, alloc, number, why.as_slice(), RED)?;
-            add_edge(out, alloc, scene, step, "d", number, RED)
+            add_graphviz_dead_end(out, alloc, number, why.as_slice(), RED)?;
+            add_graphviz_edge(out, alloc, scene, step, "d", number, RED)
         }
     }
 }
 
 /// Adds the positions, and puts those after equally many commands side by side.
-fn add_positions(
+fn add_graphviz_positions(
     out: &mut Vec<u8>,
     alloc: Global,
     scene: &Scene<'_>,
@@ -192,7 +192,7 @@ fn add_positions(
 }
 
 /// The search as Graphviz text, under a title.
-pub fn graph_text(
+pub fn search_as_graphviz_text(
     alloc: Global,
     scene: &Scene<'_>,
     search: &Search<'_>,
@@ -202,11 +202,11 @@ pub fn graph_text(
     add_str(&mut out, STYLE)?;
     add_graph_title(&mut out, alloc, scene, search, title)?;
     if search.positions.is_empty() {
-        add_dead_end(&mut out, alloc, 0, b"the initial state faults", RED)?;
+        add_graphviz_dead_end(&mut out, alloc, 0, b"the initial state faults", RED)?;
     }
-    add_positions(&mut out, alloc, scene, search)?;
+    add_graphviz_positions(&mut out, alloc, scene, search)?;
     for (number, step) in search.moves.iter().enumerate() {
-        add_move_edge(&mut out, alloc, scene, search, number, step)?;
+        add_graphviz_move(&mut out, alloc, scene, search, number, step)?;
     }
     add_str(&mut out, "}\n")?;
     Ok(out)

@@ -9,7 +9,7 @@ ghost use Rattle.pst_reasons.specs.Reasons.{IsUnexplained};
 
 use crate::bounded::Bounded;
 use crate::breaking::{BrokenReply, broken_reply};
-use crate::cores::{Core, find_core};
+use crate::cores::{Core, find_core_for_explanation};
 use crate::failures::{
     Failure, failure_at_fault_place, failure_in_unknown_interleaving,
     failure_of_call_in_interleaving,
@@ -20,7 +20,7 @@ use pst_case::{History, Run};
 use pst_eval::{Callback, Callbacks, FaultPlace};
 use pst_judge::{Judged, Verdict, Why, verdict_with_interleaving};
 use pst_model::Typed;
-use pst_scene::{CasePart, Scene, call_numbered, scene_of};
+use pst_scene::{CasePart, Scene, call_numbered, scene_of_run};
 use std::alloc::{AllocError, Global};
 
 /// The steps that the searches for the explanation of an item may take, as `Bounded` counts them.
@@ -64,7 +64,7 @@ impl<'a> Reason<'a> {
     }
 
     /// Whether a part of the explanation is left out, because its search takes too many steps.
-    pub fn is_cut(&self) -> bool {
+    pub fn has_part_left_out(&self) -> bool {
         match self {
             Reason::Unexplained { core, .. } | Reason::Faulted { core, .. } => match core {
                 Some(core) => core.is_cut || self.walk().is_none(),
@@ -107,7 +107,7 @@ pub struct Explanation<'a> {
 }
 
 /// Returns a core, unless the steps of `callbacks` do not last for it.
-fn core_within<'a, C: Callbacks>(
+fn core_within_step_limit<'a, C: Callbacks>(
     callbacks: &Bounded<'_, C>,
     alloc: Global,
     scene: &Scene<'a>,
@@ -121,15 +121,15 @@ fn core_within<'a, C: Callbacks>(
     requires unexplained { IsUnexplained (C.model callbacks.now.callbacks.now) scene.now.run.now.shaped.case
         history.now }
 {
-    if callbacks.has_run_out() {
+    if callbacks.has_run_out_of_steps() {
         return Ok(None);
     }
-    callbacks.none_if_out_of_steps(find_core(callbacks, alloc, scene, history))
+    callbacks.none_if_out_of_steps(find_core_for_explanation(callbacks, alloc, scene, history))
 }
 
 /// Returns the fault at `place` in the lexicographically first interleaving that has it. `AllocError` too if
 /// `callbacks` have no steps left.
-fn first_fault<'a, C: Callbacks>(
+fn failure_in_first_faulting_interleaving<'a, C: Callbacks>(
     callbacks: &Bounded<'_, C>,
     alloc: Global,
     scene: &Scene<'a>,
@@ -153,7 +153,7 @@ fn first_fault<'a, C: Callbacks>(
 }
 
 /// Returns the first fault of an item that no interleaving explains, and a core.
-fn fault_reason<'a, C: Callbacks>(
+fn explain_fault_verdict<'a, C: Callbacks>(
     callbacks: &Bounded<'_, C>,
     alloc: Global,
     scene: &Scene<'a>,
@@ -167,17 +167,17 @@ fn fault_reason<'a, C: Callbacks>(
     requires verdict { IsVerdict (C.model callbacks.now.callbacks.now) scene.now.run.now.shaped.case history.now
         (verdict.Faulted place) }
 {
-    let found = first_fault(callbacks, alloc, scene, history, place);
+    let found = failure_in_first_faulting_interleaving(callbacks, alloc, scene, history, place);
     let failure = match callbacks.none_if_out_of_steps(found)? {
         Some(failure) => failure,
         None => failure_in_unknown_interleaving(alloc, scene, place)?,
     };
-    let core = core_within(callbacks, alloc, scene, history)?;
+    let core = core_within_step_limit(callbacks, alloc, scene, history)?;
     Ok(Reason::Faulted { failure, core })
 }
 
 /// Returns a core of an item that no interleaving explains, and the interleaving that gets furthest.
-fn unexplained_reason<'a, C: Callbacks>(
+fn explain_unexplained_verdict<'a, C: Callbacks>(
     callbacks: &Bounded<'_, C>,
     alloc: Global,
     scene: &Scene<'a>,
@@ -194,7 +194,7 @@ fn unexplained_reason<'a, C: Callbacks>(
     let furthest = callbacks.none_if_out_of_steps(furthest_walk(
         callbacks, alloc, scene, history, far,
     ))?;
-    let core = core_within(callbacks, alloc, scene, history)?;
+    let core = core_within_step_limit(callbacks, alloc, scene, history)?;
     Ok(Reason::Unexplained {
         far,
         core,
@@ -203,7 +203,7 @@ fn unexplained_reason<'a, C: Callbacks>(
 }
 
 /// Returns the reason of the verdict on a history.
-fn verdict_reason<'a, C: Callbacks>(
+fn explain_verdict<'a, C: Callbacks>(
     callbacks: &C,
     alloc: Global,
     scene: &Scene<'a>,
@@ -222,14 +222,16 @@ fn verdict_reason<'a, C: Callbacks>(
             let walk = explaining_walk(callbacks, alloc, scene, history, word.as_slice())?;
             Ok(Reason::Explained(walk))
         }
-        Verdict::Faulted(place) => fault_reason(&bounded, alloc, scene, history, *place),
-        Verdict::Unexplained(far) => unexplained_reason(&bounded, alloc, scene, history, *far),
+        Verdict::Faulted(place) => explain_fault_verdict(&bounded, alloc, scene, history, *place),
+        Verdict::Unexplained(far) => explain_unexplained_verdict(
+            &bounded, alloc, scene, history, *far,
+        ),
         Verdict::Broken(number) => Ok(Reason::Broken(broken_reply(scene, *number))),
     }
 }
 
 /// Returns the reason why a case is not valid.
-fn invalid_reason<'a>(
+fn explain_invalid_case<'a>(
     alloc: Global,
     scene: &Scene<'a>,
     why: &Why,
@@ -274,14 +276,14 @@ pub fn explain_item<'a, C: Callbacks>(
     requires matches { HistoryMatches (C.model callbacks.now) run.now }
     requires judged { IsJudgement (C.model callbacks.now) run.now judged.now }
 {
-    let scene = scene_of(alloc, typed, run)?;
+    let scene = scene_of_run(alloc, typed, run)?;
     let reason = match judged {
         Judged::Verdict(verdict) => match &run.history {
-            Some(history) => verdict_reason(callbacks, alloc, &scene, history, verdict)?,
+            Some(history) => explain_verdict(callbacks, alloc, &scene, history, verdict)?,
             None => Reason::Nothing,
         },
         Judged::Valid => Reason::Nothing,
-        Judged::Invalid(why) => invalid_reason(alloc, &scene, why)?,
+        Judged::Invalid(why) => explain_invalid_case(alloc, &scene, why)?,
     };
     Ok(Explanation {
         number,

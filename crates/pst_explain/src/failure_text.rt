@@ -1,12 +1,12 @@
 //! The text of callbacks that fault, and of preconditions that are false.
 
 use crate::failures::{Evaluated, Expression, FailingPart, Failure};
-use crate::walk_text::add_states;
+use crate::walk_text::add_states_along_walk_text;
 use pst_eval::Callback;
 use pst_model::Source;
 use pst_scene::{
     Call, CasePart, Page, Scene, Table, add_interleaving_letters, add_str, copy_explanation_text,
-    expression_text, join_explanation_parts, two_cells, value_text,
+    expression_text, join_explanation_parts, row_of_two_plain_cells, value_text,
 };
 use pst_value::Fault;
 use std::alloc::{AllocError, Global};
@@ -15,7 +15,7 @@ use std::alloc::{AllocError, Global};
 const NO_WALK: &str = "The states before it are left out: their search takes too many steps.";
 
 /// Adds an expression, and the names in it with their values.
-fn add_evaluated(
+fn add_expression_and_values_of_names(
     page: &mut Page,
     alloc: Global,
     model: &Source,
@@ -26,7 +26,11 @@ fn add_evaluated(
     let mut table = Table::new(alloc)?;
     for binding in &evaluated.names {
         let name = Vec::from_slice(alloc, binding.name.as_slice())?;
-        table.add_row(two_cells(alloc, name, value_text(alloc, model, &binding.value)?)?)?;
+        table.add_row(row_of_two_plain_cells(
+            alloc,
+            name,
+            value_text(alloc, model, &binding.value)?,
+        )?)?;
     }
     table.write(page, alloc, 6)
 }
@@ -50,17 +54,17 @@ fn add_failing_part_text(
             page.add_sentence(alloc, 2, sentence.as_slice())?;
         }
     }
-    add_evaluated(page, alloc, model, &part.evaluated)
+    add_expression_and_values_of_names(page, alloc, model, &part.evaluated)
 }
 
 /// Adds an expression, and the part of it that faults.
-fn add_expression(
+fn add_expression_and_failing_part(
     page: &mut Page,
     alloc: Global,
     model: &Source,
     expression: &Expression<'_>,
 ) -> Result<(), AllocError> {
-    add_evaluated(page, alloc, model, &expression.whole)?;
+    add_expression_and_values_of_names(page, alloc, model, &expression.whole)?;
     match &expression.part {
         Some(part) => add_failing_part_text(page, alloc, model, part),
         None => Ok(()),
@@ -68,14 +72,14 @@ fn add_expression(
 }
 
 /// The place and the spelling of a command, and its reply if there is one.
-fn add_call(
+fn add_call_with_reply(
     out: &mut Vec<u8>,
     alloc: Global,
     model: &Source,
     call: &Call<'_>,
 ) -> Result<(), AllocError> {
     let text = match call.reply {
-        Some(_) => call.with_reply(alloc, model)?,
+        Some(_) => call.text_with_reply(alloc, model)?,
         None => call.text(alloc, model)?,
     };
     out.extend_from_slice(text.as_slice())
@@ -122,7 +126,7 @@ fn fault_sentence_of_call(
     let mut text = copy_explanation_text(alloc, "The callback ")?;
     add_str(&mut text, failure.callback.name())?;
     add_str(&mut text, " of ")?;
-    add_call(&mut text, alloc, scene.model, call)?;
+    add_call_with_reply(&mut text, alloc, scene.model, call)?;
     add_str(&mut text, " faults with ")?;
     add_str(&mut text, fault.name())?;
     if call.part != CasePart::Prefix {
@@ -183,7 +187,7 @@ fn failure_sentence(
 }
 
 /// Adds what fails: the callback's expression, the part of it that faults, and the states before.
-pub fn add_failure(
+pub fn add_failure_explanation_text(
     page: &mut Page,
     alloc: Global,
     scene: &Scene<'_>,
@@ -192,7 +196,7 @@ pub fn add_failure(
     let sentence = failure_sentence(alloc, scene, failure)?;
     page.add_sentence(alloc, 2, sentence.as_slice())?;
     if let Some(expression) = &failure.expression {
-        add_expression(page, alloc, scene.model, expression)?;
+        add_expression_and_failing_part(page, alloc, scene.model, expression)?;
     }
     if failure.callback == Callback::Init {
         return Ok(());
@@ -201,5 +205,5 @@ pub fn add_failure(
         return page.add_sentence(alloc, 2, NO_WALK.as_bytes());
     };
     page.add_sentence(alloc, 2, b"The states before it:")?;
-    add_states(page, alloc, scene.model, walk)
+    add_states_along_walk_text(page, alloc, scene.model, walk)
 }

@@ -1,12 +1,13 @@
 //! Callbacks that fault, and preconditions that are false.
 
-use crate::walks::{Walk, blocked_after, empty_walk, walk_along};
+use crate::walks::{Walk, blocked_calls_after, walk_along_calls, walk_without_states};
 use pst_case::Reply;
 use pst_eval::{Callback, Env, FaultPlace};
 use pst_model::{Expr, calls_of, initial_state_of};
 use pst_scene::{
-    Binding, Call, FaultyPart, Scene, bindings_of, call_numbered, calls_before, faulty_part,
-    operation_of_call, recorded_arguments, reference_to_result, states_along, words_of,
+    Binding, Call, FaultyPart, Scene, bindings_of_environment, call_numbered,
+    calls_before_call_in_interleaving, faulty_part_of_expression, operation_of_call,
+    recorded_arguments, reference_to_result, states_along_calls, words_of_expression,
 };
 use pst_value::{Fault, Items, Value};
 use std::alloc::{AllocError, Global};
@@ -65,7 +66,7 @@ fn expression_with_bound_values<'a>(
     bindings: &[Binding],
 ) -> Result<Evaluated<'a>, AllocError> {
     let mut names = Vec::new(alloc);
-    let words = words_of(alloc, expr)?;
+    let words = words_of_expression(alloc, expr)?;
     for word in &words {
         if let Some(value) = bound_value(bindings, word.as_slice()) {
             names.push(Binding {
@@ -99,9 +100,9 @@ fn expression_with_failing_part<'a>(
     expr: &'a Expr,
     env: &Env<'_>,
 ) -> Result<Option<Expression<'a>>, AllocError> {
-    let names = bindings_of(alloc, env)?;
+    let names = bindings_of_environment(alloc, env)?;
     let whole = expression_with_bound_values(alloc, expr, names.as_slice())?;
-    let part = match faulty_part(alloc, scene.model, expr, env)? {
+    let part = match faulty_part_of_expression(alloc, scene.model, expr, env)? {
         Some(found) => failing_part(alloc, expr, &found)?,
         None => None,
     };
@@ -176,15 +177,15 @@ pub fn failure_of_call_in_interleaving<'a>(
     call: Call<'a>,
     fault: Option<Fault>,
 ) -> Result<Failure<'a>, AllocError> {
-    let before = calls_before(alloc, scene, word, &call)?;
+    let before = calls_before_call_in_interleaving(alloc, scene, word, &call)?;
     let before = before.as_slice();
-    let states = states_along(alloc, scene, before)?;
+    let states = states_along_calls(alloc, scene, before)?;
     let states = states.as_slice();
-    let mut walk = walk_along(alloc, scene, word, before, states)?;
+    let mut walk = walk_along_calls(alloc, scene, word, before, states)?;
     let mut expression = None;
     if let Some(state) = states.get(before.len()) {
         expression = callback_expression(alloc, scene, callback, &call, state)?;
-        walk.stopped = blocked_after(alloc, scene, before, state)?;
+        walk.stopped = blocked_calls_after(alloc, scene, before, state)?;
     }
     Ok(Failure {
         callback,
@@ -211,7 +212,7 @@ pub fn failure_at_fault_place<'a>(
         call: None,
         fault,
         expression: init_expression(alloc, scene)?,
-        walk: Some(empty_walk(alloc, word)?),
+        walk: Some(walk_without_states(alloc, word)?),
     })
 }
 
@@ -259,7 +260,7 @@ pub fn script_failure<'a>(
     fault: Fault,
 ) -> Result<Failure<'a>, AllocError> {
     let calls = scene.all.as_slice();
-    let states = states_along(alloc, scene, calls)?;
+    let states = states_along_calls(alloc, scene, calls)?;
     let states = states.as_slice();
     let expression = match states.get(calls.len()) {
         Some(state) => command_expression(alloc, scene, state)?,
@@ -270,6 +271,6 @@ pub fn script_failure<'a>(
         call: None,
         fault: Some(fault),
         expression,
-        walk: Some(walk_along(alloc, scene, &[], calls, states)?),
+        walk: Some(walk_along_calls(alloc, scene, &[], calls, states)?),
     })
 }

@@ -3,15 +3,15 @@ ghost use Rattle.std.specs.Prelude.{◌≡◌};
 ghost use Rattle.pst_judge.specs.Judgement.{HistoryMatches, IsJudgement};
 
 use crate::bounded::Bounded;
-use crate::drawing::graph_text;
+use crate::drawing::search_as_graphviz_text;
 use crate::explanation::MOST_STEPS;
 use crate::path::calls_of_highlighted_interleaving;
-use crate::search::{build_search_of_interleaving, build_truncated_search};
+use crate::search::{build_search_graph_of_interleaving, build_truncated_search_graph};
 use pst_case::Run;
 use pst_eval::Callbacks;
 use pst_judge::{Judged, Verdict};
 use pst_model::Typed;
-use pst_scene::scene_of;
+use pst_scene::scene_of_run;
 use std::alloc::{AllocError, Global};
 
 /// The addition to the title if the graph shows only the interleaving of the verdict.
@@ -56,7 +56,7 @@ pub fn draw_search_as_graphviz<C: Callbacks>(
     requires matches { HistoryMatches (C.model callbacks.now) run.now }
     requires judged { IsJudgement (C.model callbacks.now) run.now judged.now }
 {
-    let scene = scene_of(alloc, typed, run)?;
+    let scene = scene_of_run(alloc, typed, run)?;
     let bounded = Bounded::new(callbacks, MOST_STEPS);
     let shown = bounded.none_if_out_of_steps(calls_of_highlighted_interleaving(
         &bounded, alloc, &scene, judged,
@@ -65,13 +65,13 @@ pub fn draw_search_as_graphviz<C: Callbacks>(
     let shown = shown.unwrap_or(Vec::new(alloc));
     let is_path = is_explained(judged) && !all;
     let search = if is_path {
-        build_search_of_interleaving(alloc, &scene, shown.as_slice())?
+        build_search_graph_of_interleaving(alloc, &scene, shown.as_slice())?
     } else {
-        build_truncated_search(alloc, &scene, shown.as_slice())?
+        build_truncated_search_graph(alloc, &scene, shown.as_slice())?
     };
     let verdict = judged.text(alloc)?;
     let verdict = verdict.as_str();
     let rest = graph_title_addition(is_path, is_shown);
     let title = format!(in alloc; "{number} {verdict}{rest}")?;
-    graph_text(alloc, &scene, &search, title.as_str())
+    search_as_graphviz_text(alloc, &scene, &search, title.as_str())
 }

@@ -17,7 +17,7 @@ pub fn add_graphviz_node_name(
 }
 
 /// Adds a text in quotes, escaped so that Graphviz shows each byte.
-pub fn add_quoted(out: &mut Vec<u8>, text: &[u8]) -> Result<(), AllocError> {
+pub fn add_graphviz_quoted_text(out: &mut Vec<u8>, text: &[u8]) -> Result<(), AllocError> {
     add_str(out, "\"")?;
     for byte in text {
         match *byte {
@@ -34,5 +34,5 @@ pub fn add_quoted(out: &mut Vec<u8>, text: &[u8]) -> Result<(), AllocError> {
 pub fn add_graphviz_label(out: &mut Vec<u8>, alloc: Global, text: &[u8]) -> Result<(), AllocError> {
     let text = cut_in_middle(alloc, text, MOST_BYTES)?;
     add_str(out, "label=")?;
-    add_quoted(out, text.as_slice())
+    add_graphviz_quoted_text(out, text.as_slice())
 }

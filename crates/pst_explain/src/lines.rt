@@ -16,7 +16,7 @@ enum Mode {
 }
 
 /// Returns the mode after `byte` of a text or a comment.
-fn mode_after(mode: Mode, byte: u8) -> Mode {
+fn text_or_comment_mode_after_byte(mode: Mode, byte: u8) -> Mode {
     match mode {
         Mode::Plain => Mode::Plain,
         Mode::Quoted => match byte {
@@ -56,7 +56,7 @@ pub fn tree_start_lines(alloc: Global, bytes: &[u8]) -> Result<Vec<usize>, Alloc
                 b';' => mode = Mode::Comment,
                 _ => {}
             },
-            other => mode = mode_after(other, byte),
+            other => mode = text_or_comment_mode_after_byte(other, byte),
         }
     }
     Ok(lines)

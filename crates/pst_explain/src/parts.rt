@@ -7,7 +7,7 @@ use std::alloc::{AllocError, Global};
 const LEAST_COLUMN: usize = 16;
 
 /// Returns whether `number` is one of the marked numbers.
-fn is_marked(marked: &[u32], number: u32) -> bool {
+fn is_command_marked(marked: &[u32], number: u32) -> bool {
     for other in marked {
         if *other == number {
             return true;
@@ -17,20 +17,20 @@ fn is_marked(marked: &[u32], number: u32) -> bool {
 }
 
 /// The cell of a command: a mark or a space, its place, its spelling and its reply.
-fn command_cell(
+fn marked_command_cell(
     alloc: Global,
     scene: &Scene<'_>,
     marked: &[u32],
     call: &Call<'_>,
 ) -> Result<Cell, AllocError> {
-    let (mark, style) = if is_marked(marked, call.number) {
+    let (mark, style) = if is_command_marked(marked, call.number) {
         (b'*', Style::Wrong)
     } else {
         (b' ', Style::Plain)
     };
     let mut text = Vec::new(alloc);
     text.push(mark)?;
-    let call = call.with_reply(alloc, scene.model)?;
+    let call = call.text_with_reply(alloc, scene.model)?;
     text.extend_from_slice(call.as_slice())?;
     Ok(Cell::styled(style, text))
 }
@@ -44,14 +44,14 @@ fn add_case_part_text(
     calls: &[Call<'_>],
 ) -> Result<(), AllocError> {
     for call in calls {
-        let cell = command_cell(alloc, scene, marked, call)?;
+        let cell = marked_command_cell(alloc, scene, marked, call)?;
         page.add_styled_line(alloc, 3, cell.style, cell.text.as_slice())?;
     }
     Ok(())
 }
 
 /// Returns the row of command `index`, from 0, of each branch, with an empty cell for a branch without this command.
-fn branch_row(
+fn row_of_branch_commands(
     alloc: Global,
     scene: &Scene<'_>,
     marked: &[u32],
@@ -60,7 +60,7 @@ fn branch_row(
     let mut row = Vec::new(alloc);
     for branch in &scene.calls.branches {
         match branch.get(index) {
-            Some(call) => row.push(command_cell(alloc, scene, marked, call)?)?,
+            Some(call) => row.push(marked_command_cell(alloc, scene, marked, call)?)?,
             None => row.push(Cell::plain(Vec::new(alloc)))?,
         }
     }
@@ -68,7 +68,7 @@ fn branch_row(
 }
 
 /// Returns how many commands the longest branch has.
-fn longest_branch(scene: &Scene<'_>) -> usize {
+fn longest_branch_length(scene: &Scene<'_>) -> usize {
     let mut most = 0usize;
     for branch in &scene.calls.branches {
         most = most.max(branch.len());
@@ -77,17 +77,17 @@ fn longest_branch(scene: &Scene<'_>) -> usize {
 }
 
 /// Adds the branches side by side, or one below another if columns would be too narrow.
-fn add_branches(
+fn add_branches_in_columns(
     page: &mut Page,
     alloc: Global,
     scene: &Scene<'_>,
     marked: &[u32],
 ) -> Result<(), AllocError> {
     let mut table = Table::new(alloc)?;
-    for index in 0..longest_branch(scene) {
-        table.add_row(branch_row(alloc, scene, marked, index)?)?;
+    for index in 0..longest_branch_length(scene) {
+        table.add_row(row_of_branch_commands(alloc, scene, marked, index)?)?;
     }
-    if table.is_wide_enough(page, 3, LEAST_COLUMN) {
+    if table.has_wide_enough_columns(page, 3, LEAST_COLUMN) {
         return table.write(page, alloc, 3);
     }
     for branch in &scene.calls.branches {
@@ -104,6 +104,6 @@ pub fn add_marked_run_text(
     marked: &[u32],
 ) -> Result<(), AllocError> {
     add_case_part_text(page, alloc, scene, marked, scene.calls.prefix.as_slice())?;
-    add_branches(page, alloc, scene, marked)?;
+    add_branches_in_columns(page, alloc, scene, marked)?;
     add_case_part_text(page, alloc, scene, marked, scene.calls.suffix.as_slice())
 }

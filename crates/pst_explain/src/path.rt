@@ -6,7 +6,10 @@ ghost use Rattle.pst_judge.specs.Judgement.{HistoryMatches};
 use pst_case::History;
 use pst_eval::Callbacks;
 use pst_judge::{Judged, Verdict, Why, verdict_with_interleaving};
-use pst_scene::{Call, CasePart, Scene, call_numbered, calls_before, calls_in_order, first_calls};
+use pst_scene::{
+    Call, CasePart, Scene, call_numbered, calls_before_call_in_interleaving,
+    calls_in_interleaving_order, first_calls,
+};
 use std::alloc::{AllocError, Global};
 
 /// The commands before command `number` in an interleaving that begins with `word`.
@@ -17,7 +20,7 @@ fn calls_before_numbered_call<'a>(
     number: u32,
 ) -> Result<Vec<Call<'a>>, AllocError> {
     match call_numbered(scene.all.as_slice(), number) {
-        Some(call) => calls_before(alloc, scene, word, &call),
+        Some(call) => calls_before_call_in_interleaving(alloc, scene, word, &call),
         None => Ok(Vec::new(alloc)),
     }
 }
@@ -40,7 +43,7 @@ fn calls_before_fault<'a>(
 
 /// The commands of a verdict's interleaving: of the one that explains or, as far as their postconditions are true, of
 /// the first that faults or of the one that gets furthest.
-fn verdict_calls<'a, C: Callbacks>(
+fn calls_of_verdict_interleaving<'a, C: Callbacks>(
     callbacks: &C,
     alloc: Global,
     scene: &Scene<'a>,
@@ -52,14 +55,18 @@ fn verdict_calls<'a, C: Callbacks>(
 {
     let shaped = &scene.run.shaped;
     match verdict {
-        Verdict::Explained(word) => calls_in_order(alloc, &scene.calls, word.as_slice()),
+        Verdict::Explained(word) => calls_in_interleaving_order(
+            alloc,
+            &scene.calls,
+            word.as_slice(),
+        ),
         Verdict::Faulted(place) => {
             let (_, word) = verdict_with_interleaving(callbacks, alloc, shaped, history)?;
             calls_before_fault(alloc, scene, word.as_slice(), place.command)
         }
         Verdict::Unexplained(far) => {
             let (_, word) = verdict_with_interleaving(callbacks, alloc, shaped, history)?;
-            let order = calls_in_order(alloc, &scene.calls, word.as_slice())?;
+            let order = calls_in_interleaving_order(alloc, &scene.calls, word.as_slice())?;
             first_calls(alloc, order.as_slice(), *far)
         }
         Verdict::Broken(_) => Ok(Vec::new(alloc)),
@@ -95,7 +102,9 @@ pub fn calls_of_highlighted_interleaving<'a, C: Callbacks>(
 {
     match judged {
         Judged::Verdict(verdict) => match &scene.run.history {
-            Some(history) => verdict_calls(callbacks, alloc, scene, history, verdict),
+            Some(history) => calls_of_verdict_interleaving(
+                callbacks, alloc, scene, history, verdict,
+            ),
             None => Ok(Vec::new(alloc)),
         },
         Judged::Valid => Ok(Vec::new(alloc)),

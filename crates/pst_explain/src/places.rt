@@ -34,7 +34,7 @@ impl<'a> TreePlace<'a> {
 }
 
 /// Returns how many lines of the text of an input are lines of the file.
-fn line_count(file: &SourceFile<'_>) -> usize {
+fn count_input_lines_of_file(file: &SourceFile<'_>) -> usize {
     let mut count = 1usize;
     for byte in &file.bytes {
         if *byte == b'\n' {
@@ -45,13 +45,16 @@ fn line_count(file: &SourceFile<'_>) -> usize {
 }
 
 /// Returns how many lines of the text of an input are lines of each file. One file has all lines.
-fn line_counts(alloc: Global, files: &[SourceFile<'_>]) -> Result<Vec<usize>, AllocError> {
+fn count_input_lines_of_each_file(
+    alloc: Global,
+    files: &[SourceFile<'_>],
+) -> Result<Vec<usize>, AllocError> {
     let mut counts = Vec::new(alloc);
     for file in files {
         let count = if files.len() == 1 {
             usize::MAX
         } else {
-            line_count(file)
+            count_input_lines_of_file(file)
         };
         counts.push(count)?;
     }
@@ -59,7 +62,11 @@ fn line_counts(alloc: Global, files: &[SourceFile<'_>]) -> Result<Vec<usize>, Al
 }
 
 /// Returns the place of line `line` of the text of an input.
-fn place_of<'a>(files: &[SourceFile<'a>], counts: &[usize], line: usize) -> TreePlace<'a> {
+fn place_of_input_line<'a>(
+    files: &[SourceFile<'a>],
+    counts: &[usize],
+    line: usize,
+) -> TreePlace<'a> {
     let has_others = files.len() > 1;
     let mut rest = line;
     for (file, count) in files.iter().zip(counts) {
@@ -86,11 +93,11 @@ pub fn tree_places_in_input<'a>(
     files: &[SourceFile<'a>],
     text: &[u8],
 ) -> Result<Vec<TreePlace<'a>>, AllocError> {
-    let counts = line_counts(alloc, files)?;
+    let counts = count_input_lines_of_each_file(alloc, files)?;
     let lines = tree_start_lines(alloc, text)?;
     let mut places = Vec::new(alloc);
     for line in &lines {
-        places.push(place_of(files, counts.as_slice(), *line))?;
+        places.push(place_of_input_line(files, counts.as_slice(), *line))?;
     }
     Ok(places)
 }

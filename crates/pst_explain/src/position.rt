@@ -14,7 +14,7 @@ pub struct Position {
 }
 
 /// The index of a part in the counts of a position.
-fn part_number(scene: &Scene<'_>, part: CasePart) -> usize {
+fn index_of_case_part(scene: &Scene<'_>, part: CasePart) -> usize {
     match part {
         CasePart::Prefix => 0,
         CasePart::Branch(branch) => branch.saturating_add(1),
@@ -69,7 +69,7 @@ impl Position {
         part: CasePart,
         state: Value,
     ) -> Result<Position, AllocError> {
-        let wanted = part_number(scene, part);
+        let wanted = index_of_case_part(scene, part);
         let mut counts = Vec::new(alloc);
         for (number, count) in self.counts.iter().enumerate() {
             let more = usize::from(number == wanted);
@@ -85,7 +85,7 @@ impl Position {
         part: CasePart,
         calls: &[Call<'a>],
     ) -> Option<Call<'a>> {
-        let count = self.counts.get(part_number(scene, part))?;
+        let count = self.counts.get(index_of_case_part(scene, part))?;
         calls.get(*count).copied()
     }
 

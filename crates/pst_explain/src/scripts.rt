@@ -1,16 +1,16 @@
 //! Scripts in which a callback faults.
 
-use crate::failure_text::add_failure;
+use crate::failure_text::add_failure_explanation_text;
 use crate::failures::{failure_at_fault_place, script_failure};
 use pst_case::{Case, CaseFaultKind, Command, Run, shape};
 use pst_eval::{Callback, FaultPlace};
 use pst_model::Typed;
-use pst_scene::{Page, scene_of};
+use pst_scene::{Page, scene_of_run};
 use pst_value::Items;
 use std::alloc::{AllocError, Global};
 
 /// The case whose prefix are the commands, with two empty branches, if it has the shape of the model.
-fn run_of(
+fn run_with_script_as_prefix(
     alloc: Global,
     typed: &Typed,
     commands: Items<Command>,
@@ -39,22 +39,22 @@ fn run_of(
 /// faults, its expression with the values of its names, the part of it that faults, and the states before. `commands`
 /// are those of the script so far; if `pre` or `next` faults, the last of them is its command. `None` if they are no
 /// script of the model.
-pub fn explain_script(
+pub fn explain_why_script_has_no_case(
     alloc: Global,
     typed: &Typed,
     commands: Items<Command>,
     place: FaultPlace,
     width: usize,
 ) -> Result<Option<Vec<u8>>, AllocError> {
-    let Some(run) = run_of(alloc, typed, commands)? else {
+    let Some(run) = run_with_script_as_prefix(alloc, typed, commands)? else {
         return Ok(None);
     };
-    let scene = scene_of(alloc, typed, &run)?;
+    let scene = scene_of_run(alloc, typed, &run)?;
     let failure = match place.callback {
         Callback::Command => script_failure(alloc, &scene, place.fault)?,
         _ => failure_at_fault_place(alloc, &scene, &[], place)?,
     };
     let mut page = Page::new(alloc, width);
-    add_failure(&mut page, alloc, &scene, &failure)?;
+    add_failure_explanation_text(&mut page, alloc, &scene, &failure)?;
     Ok(Some(page.into_text()))
 }

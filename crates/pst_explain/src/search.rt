@@ -1,7 +1,7 @@
 //! The search of an item: positions, and the commands that it tries there.
 
 use crate::position::Position;
-use pst_scene::{Call, DeadEnd, Outcome, Scene, initial_state, outcome_of};
+use pst_scene::{Call, DeadEnd, Outcome, Scene, initial_state, outcome_of_call_on_state};
 use std::alloc::{AllocError, Global};
 
 /// The search expands the first positions, up to this number, and those along the displayed interleaving.
@@ -74,7 +74,7 @@ impl<'a> Search<'a> {
     }
 
     /// Tries a command at position `from`.
-    fn try_call(
+    fn expand_call_at_position(
         &mut self,
         alloc: Global,
         scene: &Scene<'a>,
@@ -82,7 +82,7 @@ impl<'a> Search<'a> {
         position: &Position,
         call: Call<'a>,
     ) -> Result<(), AllocError> {
-        let target = match outcome_of(alloc, scene, &position.state, &call)? {
+        let target = match outcome_of_call_on_state(alloc, scene, &position.state, &call)? {
             Outcome::Leads(state) => {
                 let next = position.after_call(alloc, scene, call.part, state)?;
                 Target::Position(self.find_or_add_position(next)?)
@@ -94,27 +94,32 @@ impl<'a> Search<'a> {
     }
 
     /// Expands position `from`: tries each command that may come next there.
-    fn expand(&mut self, alloc: Global, scene: &Scene<'a>, from: usize) -> Result<(), AllocError> {
+    fn expand_position(
+        &mut self,
+        alloc: Global,
+        scene: &Scene<'a>,
+        from: usize,
+    ) -> Result<(), AllocError> {
         let Some(position) = self.positions.get(from) else {
             return Ok(());
         };
         let position = position.copied(alloc)?;
         let next = position.next_calls(alloc, scene)?;
         for call in &next {
-            self.try_call(alloc, scene, from, &position, *call)?;
+            self.expand_call_at_position(alloc, scene, from, &position, *call)?;
         }
         Ok(())
     }
 
     /// Expands the positions along the commands, and notes their moves.
-    fn expand_along(
+    fn expand_positions_along_calls(
         &mut self,
         alloc: Global,
         scene: &Scene<'a>,
         calls: &[Call<'_>],
     ) -> Result<(), AllocError> {
         let mut at = 0usize;
-        self.expand(alloc, scene, at)?;
+        self.expand_position(alloc, scene, at)?;
         for call in calls {
             let Some((number, next)) = find_move_of_call(self.moves.as_slice(), at, call.number)
             else {
@@ -122,7 +127,7 @@ impl<'a> Search<'a> {
             };
             self.shown.push(number)?;
             at = next;
-            self.expand(alloc, scene, at)?;
+            self.expand_position(alloc, scene, at)?;
         }
         Ok(())
     }
@@ -144,17 +149,21 @@ impl<'a> Search<'a> {
                 return Ok(false);
             }
             if !self.has_moves_from_position(number) {
-                self.expand(alloc, scene, number)?;
+                self.expand_position(alloc, scene, number)?;
             }
         }
         Ok(self.positions.len() <= most)
     }
 
     /// Expands those of the first `MOST_POSITIONS` positions that have no moves yet.
-    fn expand_rest(&mut self, alloc: Global, scene: &Scene<'a>) -> Result<(), AllocError> {
+    fn expand_remaining_positions(
+        &mut self,
+        alloc: Global,
+        scene: &Scene<'a>,
+    ) -> Result<(), AllocError> {
         for number in 0..MOST_POSITIONS {
             if !self.has_moves_from_position(number) {
-                self.expand(alloc, scene, number)?;
+                self.expand_position(alloc, scene, number)?;
             }
         }
         Ok(())
@@ -177,7 +186,7 @@ fn build_search_along_calls<'a>(
     };
     let first = Position::first(alloc, scene, state)?;
     search.positions.push(first)?;
-    search.expand_along(alloc, scene, shown)?;
+    search.expand_positions_along_calls(alloc, scene, shown)?;
     Ok(search)
 }
 
@@ -187,7 +196,10 @@ fn number_among_kept_positions(kept: &[usize], number: usize) -> usize {
 }
 
 /// The numbers of the positions along the displayed interleaving.
-fn shown_positions(alloc: Global, search: &Search<'_>) -> Result<Vec<usize>, AllocError> {
+fn positions_along_shown_interleaving(
+    alloc: Global,
+    search: &Search<'_>,
+) -> Result<Vec<usize>, AllocError> {
     let mut numbers = Vec::new(alloc);
     if !search.positions.is_empty() {
         numbers.push(0)?;
@@ -205,7 +217,7 @@ fn shown_positions(alloc: Global, search: &Search<'_>) -> Result<Vec<usize>, All
 impl<'a> Search<'a> {
     /// Adds a move of a larger search, of which the positions `kept` stay, if the move is along the displayed
     /// interleaving or leads to a dead end.
-    fn keep_move(
+    fn keep_shown_or_dead_end_move(
         &mut self,
         step: Move<'a>,
         is_shown: bool,
@@ -232,13 +244,13 @@ impl<'a> Search<'a> {
 }
 
 /// The displayed interleaving, with the dead ends beside it, and nothing else of its search.
-pub fn build_search_of_interleaving<'a>(
+pub fn build_search_graph_of_interleaving<'a>(
     alloc: Global,
     scene: &Scene<'a>,
     shown: &[Call<'_>],
 ) -> Result<Search<'a>, AllocError> {
     let search = build_search_along_calls(alloc, scene, shown)?;
-    let kept = shown_positions(alloc, &search)?;
+    let kept = positions_along_shown_interleaving(alloc, &search)?;
     let mut path = Search {
         positions: Vec::new(alloc),
         moves: Vec::new(alloc),
@@ -255,26 +267,26 @@ pub fn build_search_of_interleaving<'a>(
         }
     }
     for (number, step) in moves.into_iter().enumerate() {
-        path.keep_move(step, shown.contains(&number), kept.as_slice())?;
+        path.keep_shown_or_dead_end_move(step, shown.contains(&number), kept.as_slice())?;
     }
     Ok(path)
 }
 
 /// The search of an item from its initial state on. It first expands the positions along the displayed interleaving,
 /// and then the others in the order in which it met them, up to the limit.
-pub fn build_truncated_search<'a>(
+pub fn build_truncated_search_graph<'a>(
     alloc: Global,
     scene: &Scene<'a>,
     shown: &[Call<'_>],
 ) -> Result<Search<'a>, AllocError> {
     let mut search = build_search_along_calls(alloc, scene, shown)?;
-    search.expand_rest(alloc, scene)?;
+    search.expand_remaining_positions(alloc, scene)?;
     Ok(search)
 }
 
 /// The whole search of an item, if it has at most `most` positions. It first expands the positions along the displayed
 /// interleaving. It has no positions if the initial state faults.
-pub fn build_search_if_small<'a>(
+pub fn build_search_graph_if_small<'a>(
     alloc: Global,
     scene: &Scene<'a>,
     shown: &[Call<'_>],

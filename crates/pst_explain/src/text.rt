@@ -1,11 +1,13 @@
 //! The text of explanations.
 
-use crate::breaking::{BrokenReply, broken_sentence};
-use crate::core_text::add_core;
+use crate::breaking::{BrokenReply, broken_reply_sentence};
+use crate::core_text::add_core_explanation_text;
 use crate::explanation::{Explanation, Reason};
-use crate::failure_text::add_failure;
+use crate::failure_text::add_failure_explanation_text;
 use crate::parts::add_marked_run_text;
-use crate::walk_text::{add_blocked, add_explained, add_states};
+use crate::walk_text::{
+    add_blocked_calls_text, add_explaining_interleaving_text, add_states_along_walk_text,
+};
 use crate::walks::Walk;
 use pst_judge::{Judged, Verdict};
 use pst_model::Source;
@@ -23,7 +25,7 @@ fn judgement_style(judged: &Judged) -> Style {
 }
 
 /// Adds the first line of an item: its number, its judgement as `pst judge` prints it, and the place where it begins.
-fn add_heading(
+fn add_explanation_heading(
     page: &mut Page,
     alloc: Global,
     explanation: &Explanation<'_>,
@@ -79,7 +81,7 @@ const NO_FURTHEST: &str =
     "The interleaving that gets furthest is left out: its search takes too many steps.";
 
 /// Adds the interleaving that gets furthest, and why no command can come next. `None` if its search takes too many steps.
-fn add_furthest(
+fn add_furthest_interleaving_text(
     page: &mut Page,
     alloc: Global,
     model: &Source,
@@ -91,18 +93,18 @@ fn add_furthest(
     };
     let sentence = furthest_interleaving_sentence(alloc, far, walk.word.as_slice())?;
     page.add_sentence(alloc, 2, sentence.as_slice())?;
-    add_states(page, alloc, model, walk)?;
-    add_blocked(page, alloc, model, walk.stopped.as_slice())
+    add_states_along_walk_text(page, alloc, model, walk)?;
+    add_blocked_calls_text(page, alloc, model, walk.stopped.as_slice())
 }
 
 /// Adds which reply is not a value, and the run.
-fn add_broken(
+fn add_broken_reply_and_run_text(
     page: &mut Page,
     alloc: Global,
     scene: &Scene<'_>,
     broken: &BrokenReply<'_>,
 ) -> Result<(), AllocError> {
-    if let Some(mut sentence) = broken_sentence(alloc, scene.model, broken)? {
+    if let Some(mut sentence) = broken_reply_sentence(alloc, scene.model, broken)? {
         add_str(&mut sentence, ".")?;
         page.add_sentence(alloc, 2, sentence.as_slice())?;
     }
@@ -111,67 +113,67 @@ fn add_broken(
 }
 
 /// Adds the reason of the judgement.
-fn add_reason(
+fn add_judgement_reason_text(
     page: &mut Page,
     alloc: Global,
     scene: &Scene<'_>,
     reason: &Reason<'_>,
 ) -> Result<(), AllocError> {
     match reason {
-        Reason::Explained(walk) => add_explained(page, alloc, scene.model, walk),
+        Reason::Explained(walk) => add_explaining_interleaving_text(page, alloc, scene.model, walk),
         Reason::Unexplained {
             far,
             core,
             furthest,
         } => {
-            add_core(page, alloc, scene, core.as_ref())?;
-            add_furthest(page, alloc, scene.model, *far, furthest.as_ref())
+            add_core_explanation_text(page, alloc, scene, core.as_ref())?;
+            add_furthest_interleaving_text(page, alloc, scene.model, *far, furthest.as_ref())
         }
         Reason::Faulted { failure, core } => {
-            add_failure(page, alloc, scene, failure)?;
-            add_core(page, alloc, scene, core.as_ref())
+            add_failure_explanation_text(page, alloc, scene, failure)?;
+            add_core_explanation_text(page, alloc, scene, core.as_ref())
         }
-        Reason::Broken(broken) => add_broken(page, alloc, scene, broken),
-        Reason::Invalid(failure) => add_failure(page, alloc, scene, failure),
+        Reason::Broken(broken) => add_broken_reply_and_run_text(page, alloc, scene, broken),
+        Reason::Invalid(failure) => add_failure_explanation_text(page, alloc, scene, failure),
         Reason::Nothing => Ok(()),
     }
 }
 
-/// Returns the reason of the judgement, which `explanation_text` writes after the first line.
-pub fn reason_text(
+/// Returns the reason of the judgement, which `append_explanation_text` writes after the first line.
+pub fn explanation_text_without_heading(
     alloc: Global,
     explanation: &Explanation<'_>,
     width: usize,
 ) -> Result<Vec<u8>, AllocError> {
     let mut page = Page::new(alloc, width);
-    add_reason(&mut page, alloc, &explanation.scene, &explanation.reason)?;
+    add_judgement_reason_text(&mut page, alloc, &explanation.scene, &explanation.reason)?;
     Ok(page.into_text())
 }
 
 /// Adds an explanation to a page.
-fn add_explanation(
+fn add_explanation_to_page(
     page: &mut Page,
     alloc: Global,
     explanation: &Explanation<'_>,
 ) -> Result<(), AllocError> {
-    add_heading(page, alloc, explanation)?;
-    add_reason(page, alloc, &explanation.scene, &explanation.reason)
+    add_explanation_heading(page, alloc, explanation)?;
+    add_judgement_reason_text(page, alloc, &explanation.scene, &explanation.reason)
 }
 
 /// Returns `text` and after it the text of an explanation in lines of at most `width` bytes. Parts that are longer than a
 /// line are cut in the middle with `..`.
-pub fn explanation_text(
+pub fn append_explanation_text(
     text: Vec<u8>,
     alloc: Global,
     explanation: &Explanation<'_>,
     width: usize,
 ) -> Result<Vec<u8>, AllocError> {
     let mut page = Page::after(text, width);
-    add_explanation(&mut page, alloc, explanation)?;
+    add_explanation_to_page(&mut page, alloc, explanation)?;
     Ok(page.into_text())
 }
 
-/// An explanation after `text` as `explanation_text` gives it, in the colors of a terminal: the core is red, and the answers
+/// An explanation after `text` as `append_explanation_text` gives it, in the colors of a terminal: the core is red, and the answers
 /// that the model allows are green.
 pub fn append_colored_explanation_text(
     text: Vec<u8>,
@@ -180,6 +182,6 @@ pub fn append_colored_explanation_text(
     width: usize,
 ) -> Result<Vec<u8>, AllocError> {
     let mut page = Page::colored_after(text, width);
-    add_explanation(&mut page, alloc, explanation)?;
+    add_explanation_to_page(&mut page, alloc, explanation)?;
     Ok(page.into_text())
 }

@@ -3,14 +3,14 @@
 use crate::walks::{BlockedCall, Walk};
 use pst_model::Source;
 use pst_scene::{
-    Call, Page, PreAnswer, Style, Table, add_str, add_value, dead_end_text, join_explanation_parts,
-    two_cells,
+    Call, Page, PreAnswer, Style, Table, add_str, add_value_spelling, dead_end_text,
+    join_explanation_parts, row_of_two_plain_cells,
 };
 use pst_value::Value;
 use std::alloc::{AllocError, Global};
 
 /// Ends a row by the cell of a state.
-fn add_state(
+fn add_state_cell_and_end_row(
     table: &mut Table,
     alloc: Global,
     model: &Source,
@@ -18,14 +18,14 @@ fn add_state(
 ) -> Result<(), AllocError> {
     table.end_cell(Style::Plain)?;
     add_str(&mut table.text, "state ")?;
-    add_value(&mut table.text, alloc, model, state)?;
+    add_value_spelling(&mut table.text, alloc, model, state)?;
     table.end_cell(Style::Plain)?;
     table.end_row();
     Ok(())
 }
 
 /// Adds the initial state, and the commands as rows with the state after each.
-pub fn add_states(
+pub fn add_states_along_walk_text(
     page: &mut Page,
     alloc: Global,
     model: &Source,
@@ -36,16 +36,17 @@ pub fn add_states(
     };
     let mut table = Table::new(alloc)?;
     add_str(&mut table.text, "at first")?;
-    add_state(&mut table, alloc, model, start)?;
+    add_state_cell_and_end_row(&mut table, alloc, model, start)?;
     for step in &walk.steps {
-        step.call.add_with_reply(&mut table.text, alloc, model)?;
-        add_state(&mut table, alloc, model, &step.state)?;
+        step.call
+            .add_text_with_reply(&mut table.text, alloc, model)?;
+        add_state_cell_and_end_row(&mut table, alloc, model, &step.state)?;
     }
     table.write_or_stack(page, alloc, 4)
 }
 
 /// The sentence on a precondition that is not true.
-fn precondition_sentence(
+fn untrue_precondition_sentence(
     alloc: Global,
     model: &Source,
     call: &Call<'_>,
@@ -80,15 +81,15 @@ fn precondition_sentence(
 }
 
 /// Adds the interleaving that explains an item, and the preconditions that are not true along it.
-pub fn add_explained(
+pub fn add_explaining_interleaving_text(
     page: &mut Page,
     alloc: Global,
     model: &Source,
     walk: &Walk<'_>,
 ) -> Result<(), AllocError> {
-    add_states(page, alloc, model, walk)?;
+    add_states_along_walk_text(page, alloc, model, walk)?;
     for step in &walk.steps {
-        let sentence = precondition_sentence(alloc, model, &step.call, step.precondition)?;
+        let sentence = untrue_precondition_sentence(alloc, model, &step.call, step.precondition)?;
         if let Some(sentence) = sentence {
             page.add_sentence(alloc, 2, sentence.as_slice())?;
         }
@@ -97,7 +98,7 @@ pub fn add_explained(
 }
 
 /// Adds each command that cannot come next, with its reply and the reason.
-pub fn add_blocked(
+pub fn add_blocked_calls_text(
     page: &mut Page,
     alloc: Global,
     model: &Source,
@@ -114,9 +115,9 @@ pub fn add_blocked(
     )?;
     let mut table = Table::new(alloc)?;
     for stop in stopped {
-        let text = stop.call.with_reply(alloc, model)?;
+        let text = stop.call.text_with_reply(alloc, model)?;
         let why = dead_end_text(alloc, model, &stop.why)?;
-        table.add_row(two_cells(alloc, text, why)?)?;
+        table.add_row(row_of_two_plain_cells(alloc, text, why)?)?;
     }
     table.write_or_stack(page, alloc, 4)
 }

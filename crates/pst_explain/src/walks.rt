@@ -9,8 +9,9 @@ use pst_eval::Callbacks;
 use pst_judge::{Condition, Postconditions, verdict_with_interleaving};
 use pst_reasons::{SomePostconditions, states};
 use pst_scene::{
-    Call, CasePart, DeadEnd, Outcome, PreAnswer, Scene, calls_in_order, evaluate_precondition,
-    falsity_of, next_calls, outcome_of,
+    Call, CasePart, DeadEnd, Outcome, PreAnswer, Scene, calls_in_interleaving_order,
+    calls_that_may_come_next, evaluate_precondition, falsity_of_postcondition,
+    outcome_of_call_on_state,
 };
 use pst_value::Value;
 use std::alloc::{AllocError, Global};
@@ -59,7 +60,7 @@ impl<'a> Walk<'a> {
 }
 
 /// Returns the walk of the interleaving `word`, without any state.
-pub fn empty_walk<'a>(alloc: Global, word: &[usize]) -> Result<Walk<'a>, AllocError> {
+pub fn walk_without_states<'a>(alloc: Global, word: &[usize]) -> Result<Walk<'a>, AllocError> {
     Ok(Walk {
         word: Vec::from_slice(alloc, word)?,
         start: None,
@@ -69,14 +70,14 @@ pub fn empty_walk<'a>(alloc: Global, word: &[usize]) -> Result<Walk<'a>, AllocEr
 }
 
 /// Returns the walk along `calls`, as far as `states` has states: the initial one, and one after each command in turn.
-pub fn walk_along<'a>(
+pub fn walk_along_calls<'a>(
     alloc: Global,
     scene: &Scene<'_>,
     word: &[usize],
     calls: &[Call<'a>],
     states: &[Value],
 ) -> Result<Walk<'a>, AllocError> {
-    let mut walk = empty_walk(alloc, word)?;
+    let mut walk = walk_without_states(alloc, word)?;
     let Some((first, others)) = states.split_first() else {
         return Ok(walk);
     };
@@ -105,17 +106,17 @@ fn interleaving_of_calls(alloc: Global, calls: &[Call<'_>]) -> Result<Vec<usize>
 }
 
 /// Returns each command that comes next in its part after `calls` but cannot on `state`, the state after them.
-pub fn blocked_after<'a>(
+pub fn blocked_calls_after<'a>(
     alloc: Global,
     scene: &Scene<'a>,
     calls: &[Call<'_>],
     state: &Value,
 ) -> Result<Vec<BlockedCall<'a>>, AllocError> {
     let word = interleaving_of_calls(alloc, calls)?;
-    let next = next_calls(alloc, &scene.calls, word.as_slice(), calls.len())?;
+    let next = calls_that_may_come_next(alloc, &scene.calls, word.as_slice(), calls.len())?;
     let mut stopped = Vec::new(alloc);
     for call in &next {
-        if let Outcome::Refused(why) = outcome_of(alloc, scene, state, call)? {
+        if let Outcome::Refused(why) = outcome_of_call_on_state(alloc, scene, state, call)? {
             stopped.push(BlockedCall { call: *call, why })?;
         }
     }
@@ -135,10 +136,10 @@ fn walk_until_condition_fails<'a, C: Callbacks, A: Condition>(
     requires matches { matches (C.model callbacks.now) scene.now.run.now.shaped.case history.now ≡ true }
     requires answered { first_broken 1 (recorded history.now) ≡ None }
 {
-    let order = calls_in_order(alloc, &scene.calls, word)?;
+    let order = calls_in_interleaving_order(alloc, &scene.calls, word)?;
     let shaped = &scene.run.shaped;
     let states = states(callbacks, condition, alloc, shaped, history, word)?;
-    walk_along(alloc, scene, word, order.as_slice(), states.as_slice())
+    walk_along_calls(alloc, scene, word, order.as_slice(), states.as_slice())
 }
 
 /// Returns the walk of the interleaving `word`, which explains the item: since each postcondition is true along it, none
@@ -170,7 +171,7 @@ fn blocked_calls<'a>(
 ) -> Result<Vec<BlockedCall<'a>>, AllocError> {
     let mut stopped = Vec::new(alloc);
     for call in next {
-        let why = DeadEnd::PostFails(falsity_of(alloc, scene, call, state)?);
+        let why = DeadEnd::PostFails(falsity_of_postcondition(alloc, scene, call, state)?);
         stopped.push(BlockedCall { call: *call, why })?;
     }
     Ok(stopped)
@@ -198,7 +199,7 @@ pub fn furthest_walk<'a, C: Callbacks>(
         history,
         word.as_slice(),
     )?;
-    let next = next_calls(alloc, &scene.calls, word.as_slice(), far)?;
+    let next = calls_that_may_come_next(alloc, &scene.calls, word.as_slice(), far)?;
     let stopped = match walk.last_state() {
         Some(state) => blocked_calls(alloc, scene, next.as_slice(), state)?,
         None => Vec::new(alloc),

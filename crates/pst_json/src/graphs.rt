@@ -5,7 +5,9 @@ use crate::reasons::write_json_dead_end;
 use crate::values::write_json_state_member;
 use crate::writing::{write_json_bool_member, write_json_number_member};
 use json::Writer;
-use pst_explain::{Explanation, Move, Position, Reason, Search, Target, build_search_if_small};
+use pst_explain::{
+    Explanation, Move, Position, Reason, Search, Target, build_search_graph_if_small,
+};
 use pst_model::Source;
 use pst_scene::{Call, Scene};
 use std::alloc::{AllocError, Global};
@@ -67,7 +69,7 @@ fn search_for_json_graph<'a>(
     }
     let shown = calls_of_explanation_walk(alloc, explanation)?;
     let scene = &explanation.scene;
-    match build_search_if_small(alloc, scene, shown.as_slice(), MOST_POSITIONS)? {
+    match build_search_graph_if_small(alloc, scene, shown.as_slice(), MOST_POSITIONS)? {
         Some(search) if !search.positions.is_empty() => Ok(Some(search)),
         _ => Ok(None),
     }

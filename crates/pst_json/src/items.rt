@@ -14,7 +14,7 @@ use pst_judge::{Judged, Verdict, Why};
 use std::alloc::{AllocError, Global};
 
 /// Returns the first word of a judgement.
-fn verdict_word(judged: &Judged) -> &'static str {
+fn json_verdict_word(judged: &Judged) -> &'static str {
     match judged {
         Judged::Verdict(Verdict::Explained(_)) => "explained",
         Judged::Verdict(Verdict::Faulted(_)) => "fault",
@@ -51,7 +51,7 @@ fn write_json_item_head(
     let line = explanation.judged.text(alloc)?;
     write_json_number_member(writer, "item", explanation.number)?;
     write_json_text_member(writer, "kind", if is_run { "run" } else { "case" })?;
-    write_json_text_member(writer, "verdict", verdict_word(explanation.judged))?;
+    write_json_text_member(writer, "verdict", json_verdict_word(explanation.judged))?;
     write_json_text_member(writer, "line", line.as_str())?;
     if let Some(place) = &explanation.place {
         write_json_item_place(writer, place)?;
@@ -64,7 +64,7 @@ fn write_json_left_out_members(
     writer: &mut Writer<Global>,
     reason: &Reason<'_>,
 ) -> Result<(), AllocError> {
-    if !reason.is_cut() {
+    if !reason.has_part_left_out() {
         return Ok(());
     }
     writer.key("left_out")?;

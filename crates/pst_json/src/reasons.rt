@@ -6,7 +6,9 @@ use crate::writing::{
 };
 use json::Writer;
 use pst_model::Source;
-use pst_scene::{DeadEnd, Evidence, FalsePart, Falsity, dead_end_text, falsity_text, value_text};
+use pst_scene::{
+    DeadEnd, Evidence, FalsePart, Falsity, dead_end_text, false_postcondition_text, value_text,
+};
 use pst_value::Value;
 use std::alloc::{AllocError, Global};
 
@@ -49,7 +51,7 @@ pub fn write_json_false_postcondition(
     model: &Source,
     falsity: &Falsity<'_>,
 ) -> Result<(), AllocError> {
-    let text = falsity_text(alloc, model, falsity)?;
+    let text = false_postcondition_text(alloc, model, falsity)?;
     write_json_spelling_member(writer, alloc, "text", text.as_slice())?;
     match falsity {
         Falsity::Part { found, .. } => write_json_false_part(writer, alloc, model, found),

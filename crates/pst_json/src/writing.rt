@@ -6,7 +6,7 @@ use crate::ascii::escape_non_ascii;
 use json::Writer;
 use pst_model::Expr;
 use pst_print::ty_form;
-use pst_scene::{add_form, cut_in_middle, expression_text};
+use pst_scene::{add_tree_spelling, cut_in_middle, expression_text};
 use pst_value::Ty;
 use std::alloc::{AllocError, Global};
 
@@ -71,7 +71,7 @@ pub fn write_json_type(
     ty: &Ty,
 ) -> Result<(), AllocError> {
     let mut text = Vec::new(alloc);
-    add_form(&mut text, &ty_form(alloc, ty)?)?;
+    add_tree_spelling(&mut text, &ty_form(alloc, ty)?)?;
     write_json_spelling(writer, alloc, text.as_slice())
 }
 

@@ -3,8 +3,8 @@ ghost use Rattle.std.specs.Prelude.{◌≡◌, IfOk, option_copied, slice_get};
 ghost use Rattle.json.specs.Value.{items_view, value_view};
 ghost use Rattle.pst_json_runs.specs.Trees as spec;
 
-use crate::reading::value_in;
-use crate::spelled::if_spelled;
+use crate::reading::value_from_json;
+use crate::spelled::form_or_if_unspellable;
 use json::Value as Json;
 use pst_model::{Op, Param, Source, operation_number, operation_of};
 use pst_runs::value_form;
@@ -13,7 +13,7 @@ use pst_value::{Items, Text, Ty, Value};
 use std::alloc::{AllocError, Global};
 
 /// `()`, which spells nothing.
-pub fn nothing(alloc: Global) -> Form
+pub fn empty_node_form(alloc: Global) -> Form
     ensures { result ≡ spec.nothing }
 {
     Form::Node(Items::new(alloc))
@@ -31,12 +31,16 @@ pub fn items_in<'b, 'a>(json: &'b Json<'a>) -> &'b [Json<'a>]
 }
 
 /// The tree of a value, or `other` if it has no spelling. JSON that spells no value has the tree `()`.
-pub fn tree_or(alloc: Global, other: Form, value: Option<Value>) -> Result<Form, AllocError>
+pub fn value_form_or_if_unspellable(
+    alloc: Global,
+    other: Form,
+    value: Option<Value>,
+) -> Result<Form, AllocError>
     ensures { IfOk result (λ form. form ≡ spec.tree_or other value) }
 {
     match value {
-        Some(value) => Ok(if_spelled(value_form(alloc, &value)?, other)),
-        None => Ok(nothing(alloc)),
+        Some(value) => Ok(form_or_if_unspellable(value_form(alloc, &value)?, other)),
+        None => Ok(empty_node_form(alloc)),
     }
 }
 
@@ -51,12 +55,12 @@ pub fn operation_named<'a>(model: &'a Source, name: &str) -> Option<&'a Op>
 fn argument_form(alloc: Global, ty: Option<&Ty>, json: &Json<'_>) -> Result<Form, AllocError>
     ensures { IfOk result (λ form. form ≡ spec.argument_form (option_copied ty.entry) (value_view json.now)) }
 {
-    let value = value_in(alloc, ty, json)?;
-    tree_or(alloc, nothing(alloc), value)
+    let value = value_from_json(alloc, ty, json)?;
+    value_form_or_if_unspellable(alloc, empty_node_form(alloc), value)
 }
 
 /// The name of an operation, and arguments at the types of parameters.
-fn named_form(
+fn call_form_with_param_types(
     alloc: Global,
     name: &str,
     params: &[Param],
@@ -85,7 +89,7 @@ fn name_form(alloc: Global, name: &str) -> Result<Form, AllocError>
     ensures { IfOk result (λ form. form ≡ spec.name_form name.now) }
 {
     let other = word(alloc, "?")?;
-    Ok(if_spelled(word(alloc, name)?, other))
+    Ok(form_or_if_unspellable(word(alloc, name)?, other))
 }
 
 fn call_form(
@@ -97,8 +101,13 @@ fn call_form(
     ensures { IfOk result (λ form. form ≡ spec.call_form model.now name.now (items_view args.now)) }
 {
     match operation_named(model, name) {
-        Some(operation) => named_form(alloc, name, operation.params.as_slice(), args),
-        None => named_form(alloc, name, &[], args),
+        Some(operation) => call_form_with_param_types(
+            alloc,
+            name,
+            operation.params.as_slice(),
+            args,
+        ),
+        None => call_form_with_param_types(alloc, name, &[], args),
     }
 }
 
@@ -109,9 +118,9 @@ fn command_form(alloc: Global, model: &Source, json: &Json<'_>) -> Result<Form, 
     match items_in(json).split_first() {
         Some((first, args)) => match first {
             Json::String(name) => call_form(alloc, model, name, args),
-            _ => Ok(nothing(alloc)),
+            _ => Ok(empty_node_form(alloc)),
         },
-        None => Ok(nothing(alloc)),
+        None => Ok(empty_node_form(alloc)),
     }
 }
 

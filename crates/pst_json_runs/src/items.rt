@@ -5,9 +5,9 @@ ghost use Rattle.json.specs.Value.{items_view, value_view};
 ghost use Rattle.pst_json_runs.specs.Shown.{shown};
 ghost use Rattle.pst_json_runs.specs.Trees as spec;
 
-use crate::commands::{command_forms, items_in, nothing};
-use crate::replies::{list_forms, others};
-use crate::spelled::if_spelled;
+use crate::commands::{command_forms, empty_node_form, items_in};
+use crate::replies::{list_forms, rest_after_first_json};
+use crate::spelled::form_or_if_unspellable;
 use json::Value as Json;
 use pst_model::Source;
 use pst_sexpr::{Form, headed, list_of};
@@ -36,7 +36,7 @@ fn are_arrays(parts: &[Json<'_>]) -> bool
 }
 
 /// Whether it is an array of arrays.
-fn are_parts(json: &Json<'_>) -> bool
+fn is_json_array_of_arrays(json: &Json<'_>) -> bool
     ensures { result ≡ spec.are_parts (value_view json.now) }
 {
     is_array(json) && are_arrays(items_in(json))
@@ -56,7 +56,7 @@ fn are_branches(json: Option<&Json<'_>>) -> bool
     ensures { result ≡ spec.are_branches (shown json.entry) }
 {
     match json {
-        Some(json) => are_parts(json),
+        Some(json) => is_json_array_of_arrays(json),
         None => false,
     }
 }
@@ -65,7 +65,7 @@ fn are_lists(json: Option<&Json<'_>>) -> bool
     ensures { result ≡ spec.are_lists (shown json.entry) }
 {
     match json {
-        Some(json) => are_parts(json),
+        Some(json) => is_json_array_of_arrays(json),
         None => true,
     }
 }
@@ -140,7 +140,7 @@ fn branch_forms(
 }
 
 /// Two branches as `left` and `right`.
-fn two_forms(
+fn left_and_right_forms_from_json(
     alloc: Global,
     model: &Source,
     branches: &[Json<'_>],
@@ -148,14 +148,19 @@ fn two_forms(
     ensures { IfOk result (λ forms. forms ≡ spec.two_forms model.now (items_view branches.now)) }
 {
     let left = headed_commands_form(alloc, model, "left", branches.first())?;
-    let right = headed_commands_form(alloc, model, "right", others(branches).first())?;
+    let right = headed_commands_form(
+        alloc,
+        model,
+        "right",
+        rest_after_first_json(branches).first(),
+    )?;
     let mut forms = list_of(alloc, left)?;
     forms.push(right)?;
     Ok(forms)
 }
 
 /// Another number of branches.
-fn many_forms(
+fn headed_branches_form_from_json(
     alloc: Global,
     model: &Source,
     branches: &[Json<'_>],
@@ -176,9 +181,9 @@ fn branches_forms(
     ensures { IfOk result (λ forms. forms ≡ spec.branches_forms model.now (items_view branches.now)) }
 {
     if branches.len() == 2 {
-        two_forms(alloc, model, branches)
+        left_and_right_forms_from_json(alloc, model, branches)
     } else {
-        many_forms(alloc, model, branches)
+        headed_branches_form_from_json(alloc, model, branches)
     }
 }
 
@@ -261,7 +266,11 @@ fn item_branches(
 }
 
 /// The parts of an item, which is a case if it has no replies.
-fn whole_form(alloc: Global, model: &Source, json: &Json<'_>) -> Result<Form, AllocError>
+fn case_or_run_form_from_json(
+    alloc: Global,
+    model: &Source,
+    json: &Json<'_>,
+) -> Result<Form, AllocError>
     ensures { IfOk result (λ form. form ≡ spec.whole_form model.now (value_view json.now)) }
 {
     let prefix = headed_commands_form(alloc, model, "prefix", json.get("prefix"))?;
@@ -281,8 +290,11 @@ pub fn item_form(alloc: Global, model: &Source, json: &Json<'_>) -> Result<Form,
     ensures { IfOk result (λ form. form ≡ spec.item_form model.now (value_view json.now)) }
 {
     if is_item(json) {
-        Ok(if_spelled(whole_form(alloc, model, json)?, nothing(alloc)))
+        Ok(form_or_if_unspellable(
+            case_or_run_form_from_json(alloc, model, json)?,
+            empty_node_form(alloc),
+        ))
     } else {
-        Ok(nothing(alloc))
+        Ok(empty_node_form(alloc))
     }
 }

@@ -16,7 +16,7 @@ mod write;
 mod writing;
 
 pub use items::item_form;
-pub use lines::{has_json, json_tree, trees_text};
-pub use reading::value_in;
+pub use lines::{has_json, json_tree, replace_json_lines_by_trees};
+pub use reading::value_from_json;
 pub use write::{json_line, json_reads_back};
 pub use writing::{put_items, put_value};

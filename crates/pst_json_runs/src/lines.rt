@@ -3,7 +3,7 @@ ghost use Rattle.std.specs.Prelude.{◌≡◌, IfOk};
 ghost use Rattle.pst_json_runs.specs.Lines as spec;
 ghost use Rattle.pst_sexpr.specs.Lawful.{IsTree};
 
-use crate::commands::nothing;
+use crate::commands::empty_node_form;
 use crate::items::item_form;
 use json::{Error, Scratch, Value as Json};
 use pst_model::Source;
@@ -26,13 +26,13 @@ fn line_form(alloc: Global, model: &Source, line: &[u8]) -> Result<Form, AllocEr
     ensures { IfOk result (λ form. form ≡ spec.line_form model.now line.now) }
 {
     let Ok(text) = str::from_utf8(line) else {
-        return Ok(nothing(alloc));
+        return Ok(empty_node_form(alloc));
     };
     let mut scratch = Scratch::new(alloc);
     match Json::parse(alloc, text, &mut scratch) {
         Ok(json) => item_form(alloc, model, &json),
         Err(Error::OutOfMemory) => Err(AllocError),
-        Err(Error::Invalid) => Ok(nothing(alloc)),
+        Err(Error::Invalid) => Ok(empty_node_form(alloc)),
         Err(Error::DuplicateKey | Error::TooLong) => unreachable!(),
     }
 }
@@ -47,7 +47,11 @@ pub fn json_tree(alloc: Global, model: &Source, line: &[u8]) -> Result<Tree, All
 }
 
 /// A line with its JSON item as a tree, if it has one.
-fn tree_line(alloc: Global, model: &Source, line: Vec<u8>) -> Result<Vec<u8>, AllocError>
+fn json_line_as_tree_text(
+    alloc: Global,
+    model: &Source,
+    line: Vec<u8>,
+) -> Result<Vec<u8>, AllocError>
     ensures { IfOk result (λ text. text.items ≡ spec.tree_line model.now line.items) }
 {
     if !has_json(line.as_slice()) {
@@ -62,20 +66,24 @@ fn tree_line(alloc: Global, model: &Source, line: Vec<u8>) -> Result<Vec<u8>, Al
 }
 
 /// The text with a tree in place of each JSON item, that is, of each line that begins with `{`.
-pub fn trees_text(alloc: Global, model: &Source, text: &[u8]) -> Result<Vec<u8>, AllocError>
+pub fn replace_json_lines_by_trees(
+    alloc: Global,
+    model: &Source,
+    text: &[u8],
+) -> Result<Vec<u8>, AllocError>
     ensures { IfOk result (λ trees. trees.items ≡ spec.trees_text model.now text.now) }
 {
     let mut trees = Vec::new(alloc);
     let mut line = Vec::new(alloc);
     for byte in text {
         if *byte == b'\n' {
-            trees.append(&mut tree_line(alloc, model, line)?)?;
+            trees.append(&mut json_line_as_tree_text(alloc, model, line)?)?;
             trees.push(b'\n')?;
             line = Vec::new(alloc);
         } else {
             line.push(*byte)?;
         }
     }
-    trees.append(&mut tree_line(alloc, model, line)?)?;
+    trees.append(&mut json_line_as_tree_text(alloc, model, line)?)?;
     Ok(trees)
 }

@@ -11,7 +11,7 @@ use std::alloc::{AllocError, Global};
 /// Variables have smaller numbers.
 const MOST_COMMANDS: u32 = 10_000;
 
-fn text_of(alloc: Global, text: &str) -> Result<Text, AllocError>
+fn copy_to_text(alloc: Global, text: &str) -> Result<Text, AllocError>
     ensures { IfOk result (λ copy. copy ≡ text.now) }
 {
     Ok(Text::from_string(String::from_str(alloc, text)?))
@@ -21,7 +21,7 @@ fn text_of(alloc: Global, text: &str) -> Result<Text, AllocError>
 fn key_or_text(alloc: Global, kind: KeyTy, name: &str) -> Result<Key, AllocError>
     ensures { IfOk result (λ key. key ≡ spec.key_in kind name.now) }
 {
-    let name = text_of(alloc, name)?;
+    let name = copy_to_text(alloc, name)?;
     match kind {
         KeyTy::Int => match integer_of(&name) {
             Some(number) => Ok(Key::Int(number)),
@@ -39,7 +39,7 @@ fn key_or_text(alloc: Global, kind: KeyTy, name: &str) -> Result<Key, AllocError
 }
 
 /// How many keys from the front on come before a key.
-fn place_of(key: &Key, keys: &[Key]) -> usize
+fn sorted_place_of_map_key(key: &Key, keys: &[Key]) -> usize
     ensures { result ≡ spec.place_of key.now keys.now }
 {
     let mut place = 0;
@@ -86,7 +86,7 @@ fn map_types<'a>(ty: Option<&'a Ty>) -> (KeyTy, Option<&'a Ty>)
 fn number_in(alloc: Global, digits: &str) -> Result<Option<Value>, AllocError>
     ensures { IfOk result (λ value. value ≡ spec.number_in digits.now) }
 {
-    match integer_of(&text_of(alloc, digits)?) {
+    match integer_of(&copy_to_text(alloc, digits)?) {
         Some(number) => Ok(Some(Value::Int(number))),
         None => Ok(None),
     }
@@ -127,7 +127,7 @@ fn variable_in(alloc: Global, json: &Json<'_>) -> Result<Option<Value>, AllocErr
     ensures { IfOk result (λ value. value ≡ spec.variable_in (value_view json.now)) }
 {
     match json {
-        Json::Number(digits) => match integer_of(&text_of(alloc, digits)?) {
+        Json::Number(digits) => match integer_of(&copy_to_text(alloc, digits)?) {
             Some(number) => Ok(variable_of(number)),
             None => Ok(None),
         },
@@ -157,7 +157,7 @@ fn reference_in(alloc: Global, json: &Json<'_>) -> Result<Option<Value>, AllocEr
 /// The value that JSON spells if type `ty` is wanted, or `None`. The value may have another type.
 #[cycle(value)]
 #[tactic(auto, using(crate::proofs::Wanted::wanted))]
-pub fn value_in(
+pub fn value_from_json(
     alloc: Global,
     ty: Option<&Ty>,
     json: &Json<'_>,
@@ -169,7 +169,7 @@ pub fn value_in(
         Json::Null => Ok(None),
         Json::Bool(holds) => Ok(Some(Value::Bool(*holds))),
         Json::Number(digits) => number_in(alloc, digits),
-        Json::String(text) => Ok(Some(Value::Text(text_of(alloc, text)?))),
+        Json::String(text) => Ok(Some(Value::Text(copy_to_text(alloc, text)?))),
         Json::Array(parts) => {
             let types = tuple_types(ty, parts.len());
             let first = types.unwrap_or(&[]);
@@ -212,7 +212,7 @@ fn values_in(
             }
             None => ty,
         };
-        let Some(value) = value_in(alloc, wanted, part)? else {
+        let Some(value) = value_from_json(alloc, wanted, part)? else {
             return Ok(None);
         };
         values.push(value)?;
@@ -234,11 +234,11 @@ fn map_in(
     let mut keys = Items::new(alloc);
     let mut values = Items::new(alloc);
     for (name, json) in members {
-        let Some(value) = value_in(alloc, ty, json)? else {
+        let Some(value) = value_from_json(alloc, ty, json)? else {
             return Ok(None);
         };
         let key = key_or_text(alloc, kind, name)?;
-        let place = place_of(&key, keys.as_slice());
+        let place = sorted_place_of_map_key(&key, keys.as_slice());
         keys.insert(place, key)?;
         values.insert(place, value)?;
     }

@@ -5,8 +5,8 @@ ghost use Rattle.json.specs.Value.{items_view, members_view, value_view};
 ghost use Rattle.pst_json_runs.specs.Shown.{shown};
 ghost use Rattle.pst_json_runs.specs.Trees as spec;
 
-use crate::commands::{items_in, operation_named, tree_or};
-use crate::reading::value_in;
+use crate::commands::{items_in, operation_named, value_form_or_if_unspellable};
+use crate::reading::value_from_json;
 use json::Value as Json;
 use pst_model::Source;
 use pst_sexpr::{Form, word};
@@ -76,12 +76,12 @@ fn reply_form(alloc: Global, ty: Option<&Ty>, json: &Json<'_>) -> Result<Form, A
     if let Some(outcome) = outcome_of(json) {
         return word(alloc, outcome);
     }
-    let value = value_in(alloc, ty, json)?;
-    tree_or(alloc, word(alloc, "misfit")?, value)
+    let value = value_from_json(alloc, ty, json)?;
+    value_form_or_if_unspellable(alloc, word(alloc, "misfit")?, value)
 }
 
 /// The tree of a reply to a command, if there is one for it.
-fn reply_to(
+fn reply_form_for_json_command(
     alloc: Global,
     model: &Source,
     command: Option<&Json<'_>>,
@@ -97,7 +97,7 @@ fn reply_to(
 }
 
 /// All but the first of some parts.
-pub fn others<'b, 'a>(parts: &'b [Json<'a>]) -> &'b [Json<'a>]
+pub fn rest_after_first_json<'b, 'a>(parts: &'b [Json<'a>]) -> &'b [Json<'a>]
     ensures { items_view result.now ≡ spec.others (items_view parts.now) }
 {
     if parts.is_empty() {
@@ -119,13 +119,13 @@ fn reply_forms(
     let mut forms = Items::new(alloc);
     let mut rest = commands;
     for reply in replies {
-        forms.push(reply_to(alloc, model, rest.first(), reply)?)?;
-        rest = others(rest);
+        forms.push(reply_form_for_json_command(alloc, model, rest.first(), reply)?)?;
+        rest = rest_after_first_json(rest);
     }
     Ok(forms)
 }
 
-fn list_form(
+fn reply_list_form_from_json(
     alloc: Global,
     model: &Source,
     commands: Option<&Json<'_>>,
@@ -153,8 +153,8 @@ fn branch_or_suffix_reply_form(
         (spec.next_part (items_view branches.now) (shown suffix.entry)) (value_view list.now)) }
 {
     match branches.first() {
-        Some(branch) => list_form(alloc, model, Some(branch), list),
-        None => list_form(alloc, model, suffix, list),
+        Some(branch) => reply_list_form_from_json(alloc, model, Some(branch), list),
+        None => reply_list_form_from_json(alloc, model, suffix, list),
     }
 }
 
@@ -173,7 +173,7 @@ fn branch_and_suffix_reply_forms(
     let mut rest = branches;
     for list in lists {
         forms.push(branch_or_suffix_reply_form(alloc, model, rest, suffix, list)?)?;
-        rest = others(rest);
+        rest = rest_after_first_json(rest);
     }
     Ok(forms)
 }
@@ -192,7 +192,7 @@ pub fn list_forms(
 {
     let mut forms = Items::new(alloc);
     if let Some((first, others)) = lists.split_first() {
-        forms.push(list_form(alloc, model, prefix, first)?)?;
+        forms.push(reply_list_form_from_json(alloc, model, prefix, first)?)?;
         forms.append(branch_and_suffix_reply_forms(alloc, model, branches, suffix, others)?)?;
     }
     Ok(forms)

@@ -80,7 +80,7 @@ fn has_spelling(form: &Form) -> bool
 }
 
 /// The form, or the other one if it has no spelling.
-pub fn if_spelled(form: Form, other: Form) -> Form
+pub fn form_or_if_unspellable(form: Form, other: Form) -> Form
     ensures { result ≡ spec.if_spelled form other }
 {
     if has_spelling(&form) { form } else { other }

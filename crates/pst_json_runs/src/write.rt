@@ -57,7 +57,7 @@ fn put_commands(
 }
 
 /// Writes the commands of a part.
-fn put_part(
+fn write_json_part(
     writer: &mut Writer<Global>,
     model: &Source,
     commands: &[Command],
@@ -81,7 +81,7 @@ fn put_parts(
     ensures before { writer.new.before ≡ writer.old.before }
 {
     for branch in branches {
-        put_part(writer, model, branch.as_slice())?;
+        write_json_part(writer, model, branch.as_slice())?;
     }
     writer.end_array()
 }
@@ -137,7 +137,7 @@ fn put_each_reply(writer: &mut Writer<Global>, replies: &[Reply]) -> Result<(), 
 }
 
 /// Writes the replies of a part.
-fn put_list(writer: &mut Writer<Global>, replies: &[Reply]) -> Result<(), AllocError>
+fn write_json_reply_list(writer: &mut Writer<Global>, replies: &[Reply]) -> Result<(), AllocError>
     ensures ok { OnOk result (writer.new.tokens
         ≡ writer.old.tokens ++ json_tokens (spec.list_json replies.now)) }
     ensures before { writer.new.before ≡ writer.old.before }
@@ -157,10 +157,10 @@ fn write_json_later_reply_lists(
     ensures before { writer.new.before ≡ writer.old.before }
 {
     for branch in branches {
-        put_list(writer, branch.as_slice())?;
+        write_json_reply_list(writer, branch.as_slice())?;
     }
     if !suffix.is_empty() {
-        put_list(writer, suffix)?;
+        write_json_reply_list(writer, suffix)?;
     }
     writer.end_array()
 }
@@ -172,7 +172,7 @@ fn put_lists(writer: &mut Writer<Global>, history: &History) -> Result<(), Alloc
     ensures before { writer.new.before ≡ writer.old.before }
 {
     writer.begin_array()?;
-    put_list(writer, history.prefix.as_slice())?;
+    write_json_reply_list(writer, history.prefix.as_slice())?;
     write_json_later_reply_lists(
         writer,
         history.branches.as_slice(),
@@ -194,7 +194,7 @@ fn put_replies(writer: &mut Writer<Global>, history: &Option<History>) -> Result
 }
 
 /// Writes the suffix, if it has commands, and what comes after it.
-fn put_ending(
+fn write_json_suffix_and_replies(
     writer: &mut Writer<Global>,
     model: &Source,
     suffix: &[Command],
@@ -206,7 +206,7 @@ fn put_ending(
 {
     if !suffix.is_empty() {
         writer.key("suffix")?;
-        put_part(writer, model, suffix)?;
+        write_json_part(writer, model, suffix)?;
     }
     put_replies(writer, history)
 }
@@ -224,10 +224,10 @@ fn put_item(
 {
     writer.begin_object()?;
     writer.key("prefix")?;
-    put_part(writer, model, case.prefix.as_slice())?;
+    write_json_part(writer, model, case.prefix.as_slice())?;
     writer.key("branches")?;
     put_branches(writer, model, case.branches.as_slice())?;
-    put_ending(writer, model, case.suffix.as_slice(), history)
+    write_json_suffix_and_replies(writer, model, case.suffix.as_slice(), history)
 }
 
 /// The JSON of a run spells its tree, so it is read back as an equal run. This only learns what the types of the model and of

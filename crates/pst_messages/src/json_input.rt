@@ -3,7 +3,7 @@
 use crate::bytes::ByteFault;
 use crate::json_item::{item_fault, json_at};
 use crate::message::{Asked, tree_errors};
-use pst_json_runs::{has_json, trees_text};
+use pst_json_runs::{has_json, replace_json_lines_by_trees};
 use pst_model::{Source, Typed};
 use pst_sexpr::{Form, MAX_BYTES};
 use pst_sources::{Input, Notice, Notices, SourceFile, Span};
@@ -135,7 +135,7 @@ pub fn files_with_json_as_trees<'a>(
 ) -> Result<Vec<SourceFile<'a>>, AllocError> {
     let mut all = Vec::new(alloc);
     for file in files {
-        let bytes = trees_text(alloc, model, file.bytes.as_slice())?;
+        let bytes = replace_json_lines_by_trees(alloc, model, file.bytes.as_slice())?;
         let name = file.name;
         all.push(SourceFile { name, bytes })?;
     }
@@ -150,7 +150,7 @@ fn item_errors(
     asked: Asked,
 ) -> Result<Notices, AllocError> {
     let files = files_with_json_as_trees(alloc, typed.source(), input.files)?;
-    let text = trees_text(alloc, typed.source(), input.bytes)?;
+    let text = replace_json_lines_by_trees(alloc, typed.source(), input.bytes)?;
     let trees = Input {
         files: files.as_slice(),
         bytes: text.as_slice(),

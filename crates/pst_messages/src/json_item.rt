@@ -5,7 +5,7 @@ use crate::json_fault::{json_fault, shorten_json};
 use crate::json_places::{JsonParts, array_element_span, first_byte, value_at};
 use pst_json_runs::json_tree;
 use pst_model::Typed;
-use pst_run_problems::{run_problem, trees_in};
+use pst_run_problems::{node_parts_or_empty, run_problem};
 use pst_runs::read_runs;
 use pst_sexpr::{Form, tree_in};
 use pst_sources::Span;
@@ -46,7 +46,7 @@ pub fn json_at(line: &[u8], tree: &Form, path: &[usize]) -> Span {
     let Some((place, rest)) = path.split_first() else {
         return value_at(line, 0);
     };
-    let head = match trees_in(tree).get(*place) {
+    let head = match node_parts_or_empty(tree).get(*place) {
         Some(part) => head_word(part),
         None => "",
     };

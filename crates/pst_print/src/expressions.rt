@@ -6,7 +6,7 @@ ghost use Rattle.pst_print.specs.Words.{key_word, truth_word};
 ghost use Rattle.pst_sexpr.specs.Parts.{headed};
 ghost use Rattle.pst_sexpr.specs.declared.form.Form.TheVariants.{Word};
 
-use crate::nodes::{name, prepend, three_forms, two_forms};
+use crate::nodes::{prepend_form, print_name, three_forms, two_forms};
 use crate::types::{map_form, ty_form};
 use crate::words::{binary_word, unary_word};
 use pst_model::{Clause, Expr};
@@ -20,13 +20,13 @@ fn integer(alloc: Global, number: i64) -> Result<Form, AllocError>
     Ok(Form::Word(Text::from_string(format!(in alloc; "{number}")?)))
 }
 
-fn place(alloc: Global, number: u64) -> Result<Form, AllocError>
+fn print_tuple_place(alloc: Global, number: u64) -> Result<Form, AllocError>
     ensures { IfOk result (λ form. form ≡ Word (decimal number)) }
 {
     Ok(Form::Word(Text::from_string(format!(in alloc; "{number}")?)))
 }
 
-fn truth(alloc: Global, holds: bool) -> Result<Form, AllocError>
+fn print_bool(alloc: Global, holds: bool) -> Result<Form, AllocError>
     ensures { IfOk result (λ form. form ≡ Word (truth_word holds)) }
 {
     if holds {
@@ -66,14 +66,14 @@ fn ternary_form(
 fn let_form(alloc: Global, bound: &Text, value: Form, body: Form) -> Result<Form, AllocError>
     ensures { IfOk result (λ form. form ≡ headed (codes "let") (Word bound.now ∷ value ∷ body ∷ [])) }
 {
-    let bound = name(alloc, bound)?;
+    let bound = print_name(alloc, bound)?;
     headed(alloc, "let", three_forms(alloc, bound, value, body)?)
 }
 
 fn at_form(alloc: Global, tuple: Form, number: u64) -> Result<Form, AllocError>
     ensures { IfOk result (λ form. form ≡ headed (codes "at") (tuple ∷ Word (decimal number) ∷ [])) }
 {
-    let place = place(alloc, number)?;
+    let place = print_tuple_place(alloc, number)?;
     binary_form(alloc, "at", tuple, place)
 }
 
@@ -81,11 +81,11 @@ fn list_form(alloc: Global, ty: &Ty, items: Items<Form>) -> Result<Form, AllocEr
     ensures { IfOk result (λ form. form ≡ headed (codes "list") (ty_form ty.now ∷ items)) }
 {
     let ty = ty_form(alloc, ty)?;
-    headed(alloc, "list", prepend(alloc, ty, items)?)
+    headed(alloc, "list", prepend_form(alloc, ty, items)?)
 }
 
 /// The empty map of a type of keys and a type of values.
-fn empty_map(alloc: Global, kind: KeyTy, ty: &Ty) -> Result<Form, AllocError>
+fn print_empty_map(alloc: Global, kind: KeyTy, ty: &Ty) -> Result<Form, AllocError>
     ensures { IfOk result (λ form. form ≡ headed (codes "map") (Word (key_word kind) ∷ ty_form ty.now ∷ [])) }
 {
     map_form(alloc, kind, ty_form(alloc, ty)?)
@@ -102,18 +102,18 @@ fn fold_form(
     ensures { IfOk result (λ form. form ≡ headed (codes "fold")
         (Word names.entry.0.now ∷ items ∷ Word names.entry.1.now ∷ first ∷ body ∷ [])) }
 {
-    let bound = name(alloc, names.0)?;
-    let built = name(alloc, names.1)?;
+    let bound = print_name(alloc, names.0)?;
+    let built = print_name(alloc, names.1)?;
     let rest = three_forms(alloc, built, first, body)?;
-    let parts = prepend(alloc, bound, prepend(alloc, items, rest)?)?;
+    let parts = prepend_form(alloc, bound, prepend_form(alloc, items, rest)?)?;
     headed(alloc, "fold", parts)
 }
 
 fn call_form(alloc: Global, operation: &Text, args: Items<Form>) -> Result<Form, AllocError>
     ensures { IfOk result (λ form. form ≡ headed (codes "call") (Word operation.now ∷ args)) }
 {
-    let operation = name(alloc, operation)?;
-    headed(alloc, "call", prepend(alloc, operation, args)?)
+    let operation = print_name(alloc, operation)?;
+    headed(alloc, "call", prepend_form(alloc, operation, args)?)
 }
 
 /// An application of a function.
@@ -131,38 +131,83 @@ pub fn expr_form(alloc: Global, expr: &Expr) -> Result<Form, AllocError>
 {
     match expr {
         Expr::Int(number) => integer(alloc, *number),
-        Expr::Bool(holds) => truth(alloc, *holds),
+        Expr::Bool(holds) => print_bool(alloc, *holds),
         Expr::Text(text) => Ok(Form::Text(text.copy(alloc)?)),
-        Expr::Name(bound) => name(alloc, bound),
+        Expr::Name(bound) => print_name(alloc, bound),
         Expr::Let(bound, value, body) => {
-            let_form(alloc, bound, form_of(alloc, value)?, form_of(alloc, body)?)
+            let_form(
+                alloc,
+                bound,
+                print_boxed_expression(alloc, value)?,
+                print_boxed_expression(alloc, body)?,
+            )
         }
         Expr::If(test, yes, no) => {
-            let (test, yes) = (form_of(alloc, test)?, form_of(alloc, yes)?);
-            ternary_form(alloc, "if", test, yes, form_of(alloc, no)?)
+            let (test, yes) = (
+                print_boxed_expression(alloc, test)?,
+                print_boxed_expression(alloc, yes)?,
+            );
+            ternary_form(alloc, "if", test, yes, print_boxed_expression(alloc, no)?)
         }
-        Expr::And(a, b) => binary_form(alloc, "and", form_of(alloc, a)?, form_of(alloc, b)?),
-        Expr::Or(a, b) => binary_form(alloc, "or", form_of(alloc, a)?, form_of(alloc, b)?),
-        Expr::Unary(operator, a) => unary_form(alloc, unary_word(*operator), form_of(alloc, a)?),
+        Expr::And(a, b) => binary_form(
+            alloc,
+            "and",
+            print_boxed_expression(alloc, a)?,
+            print_boxed_expression(alloc, b)?,
+        ),
+        Expr::Or(a, b) => binary_form(
+            alloc,
+            "or",
+            print_boxed_expression(alloc, a)?,
+            print_boxed_expression(alloc, b)?,
+        ),
+        Expr::Unary(operator, a) => unary_form(
+            alloc,
+            unary_word(*operator),
+            print_boxed_expression(alloc, a)?,
+        ),
         Expr::Binary(operator, a, b) => {
             let word = binary_word(*operator);
-            binary_form(alloc, word, form_of(alloc, a)?, form_of(alloc, b)?)
+            binary_form(
+                alloc,
+                word,
+                print_boxed_expression(alloc, a)?,
+                print_boxed_expression(alloc, b)?,
+            )
         }
         Expr::Tuple(parts) => headed(alloc, "tuple", each_expr(alloc, parts.as_slice())?),
-        Expr::At(tuple, number) => at_form(alloc, form_of(alloc, tuple)?, *number),
+        Expr::At(tuple, number) => at_form(alloc, print_boxed_expression(alloc, tuple)?, *number),
         Expr::List(ty, items) => list_form(alloc, ty, each_expr(alloc, items.as_slice())?),
         Expr::For(clauses, body) => {
             let clauses = Form::Node(each_clause(alloc, clauses.as_slice())?);
-            binary_form(alloc, "for", clauses, form_of(alloc, body)?)
+            binary_form(alloc, "for", clauses, print_boxed_expression(alloc, body)?)
         }
         Expr::Fold(bound, items, built, first, body) => {
-            let (items, first) = (form_of(alloc, items)?, form_of(alloc, first)?);
-            fold_form(alloc, (bound, built), items, first, form_of(alloc, body)?)
+            let (items, first) = (
+                print_boxed_expression(alloc, items)?,
+                print_boxed_expression(alloc, first)?,
+            );
+            fold_form(
+                alloc,
+                (bound, built),
+                items,
+                first,
+                print_boxed_expression(alloc, body)?,
+            )
         }
-        Expr::Map(kind, ty) => empty_map(alloc, *kind, ty),
+        Expr::Map(kind, ty) => print_empty_map(alloc, *kind, ty),
         Expr::Put(map, key, value) => {
-            let (map, key) = (form_of(alloc, map)?, form_of(alloc, key)?);
-            ternary_form(alloc, "put", map, key, form_of(alloc, value)?)
+            let (map, key) = (
+                print_boxed_expression(alloc, map)?,
+                print_boxed_expression(alloc, key)?,
+            );
+            ternary_form(
+                alloc,
+                "put",
+                map,
+                key,
+                print_boxed_expression(alloc, value)?,
+            )
         }
         Expr::Call(called, args) => call_form(alloc, called, each_expr(alloc, args.as_slice())?),
         Expr::Apply(called, args) => apply_form(alloc, called, each_expr(alloc, args.as_slice())?),
@@ -171,7 +216,7 @@ pub fn expr_form(alloc: Global, expr: &Expr) -> Result<Form, AllocError>
 
 /// The tree of a part of an expression.
 #[cycle(expr_form)]
-fn form_of(alloc: Global, part: &Boxed<Expr>) -> Result<Form, AllocError>
+fn print_boxed_expression(alloc: Global, part: &Boxed<Expr>) -> Result<Form, AllocError>
     ensures { IfOk result (λ form. form ≡ expr_form part.now) }
 {
     expr_form(alloc, part.get())
@@ -206,7 +251,7 @@ fn clause_form(alloc: Global, clause: &Clause) -> Result<Form, AllocError>
 {
     match clause {
         Clause::In(bound, list) => {
-            let bound = name(alloc, bound)?;
+            let bound = print_name(alloc, bound)?;
             let list = expr_form(alloc, list)?;
             headed(alloc, "in", two_forms(alloc, bound, list)?)
         }

@@ -3,7 +3,7 @@ ghost use Rattle.std.specs.Prelude.{◌≡◌, IfOk, map};
 ghost use Rattle.pst_print.specs.Printed as spec;
 
 use crate::expressions::expr_form;
-use crate::nodes::{name, prepend, three_forms, two_forms};
+use crate::nodes::{prepend_form, print_name, three_forms, two_forms};
 use crate::types::ty_form;
 use crate::words::model_word;
 use pst_model::{Expr, Fun, Item, Op, Param, Source};
@@ -15,7 +15,7 @@ fn param_form(alloc: Global, param: &Param) -> Result<Form, AllocError>
     ensures { IfOk result (λ form. form ≡ spec.param_form param.now) }
 {
     let ty = ty_form(alloc, &param.ty)?;
-    Ok(Form::Node(two_forms(alloc, name(alloc, &param.name)?, ty)?))
+    Ok(Form::Node(two_forms(alloc, print_name(alloc, &param.name)?, ty)?))
 }
 
 fn params_form(alloc: Global, params: &[Param]) -> Result<Form, AllocError>
@@ -38,9 +38,9 @@ fn signature_forms(
 ) -> Result<Items<Form>, AllocError>
     ensures { IfOk result (λ forms. forms ≡ spec.signature declared.now params.now answer.now rest) }
 {
-    let rest = prepend(alloc, ty_form(alloc, answer)?, rest)?;
-    let rest = prepend(alloc, params_form(alloc, params)?, rest)?;
-    prepend(alloc, name(alloc, declared)?, rest)
+    let rest = prepend_form(alloc, ty_form(alloc, answer)?, rest)?;
+    let rest = prepend_form(alloc, params_form(alloc, params)?, rest)?;
+    prepend_form(alloc, print_name(alloc, declared)?, rest)
 }
 
 fn fun_form(alloc: Global, function: &Fun) -> Result<Form, AllocError>
@@ -91,7 +91,7 @@ fn item_form(alloc: Global, item: &Item) -> Result<Form, AllocError>
 pub fn source_form(alloc: Global, source: &Source) -> Result<Form, AllocError>
     ensures { IfOk result (λ form. form ≡ spec.source_form source.now) }
 {
-    let mut forms = list_of(alloc, name(alloc, &source.name)?)?;
+    let mut forms = list_of(alloc, print_name(alloc, &source.name)?)?;
     for item in source.items.as_slice() {
         forms.push(item_form(alloc, item)?)?;
     }

@@ -62,7 +62,7 @@ impl<'a> Layout<'a> {
     }
 
     /// Adds bytes to the line.
-    fn put(&mut self, bytes: &[u8]) -> Result<(), AllocError> {
+    fn add_bytes_to_line(&mut self, bytes: &[u8]) -> Result<(), AllocError> {
         self.text.extend_from_slice(bytes)?;
         self.column = self.column.saturating_add(bytes.len());
         Ok(())
@@ -86,7 +86,7 @@ impl<'a> Layout<'a> {
     }
 
     /// The column in which a new line begins in the innermost open node.
-    fn indent(&self) -> usize {
+    fn indent_in_innermost_node(&self) -> usize {
         match self.frames.last() {
             Some(frame) => frame.style.indent,
             None => 0,
@@ -94,7 +94,7 @@ impl<'a> Layout<'a> {
     }
 
     /// Whether the tree that begins with token `number` has no comment and fits on a line from `column` on.
-    fn fits(&self, number: usize, column: usize) -> bool {
+    fn tree_fits_on_line(&self, number: usize, column: usize) -> bool {
         match self.measures.get(number) {
             Some(measure) => {
                 !measure.has_comment && column.saturating_add(measure.width) <= WIDTH
@@ -104,7 +104,7 @@ impl<'a> Layout<'a> {
     }
 
     /// Whether token `number` begins a line in the file.
-    fn begins_line(&self, number: usize) -> bool {
+    fn token_begins_line(&self, number: usize) -> bool {
         match self.tokens.get(number) {
             Some(token) => token.lines > 0,
             None => false,
@@ -112,7 +112,7 @@ impl<'a> Layout<'a> {
     }
 
     /// Whether a part of the node that begins with token `number` begins a line in the file.
-    fn has_lines(&self, number: usize) -> bool {
+    fn node_has_part_on_new_line(&self, number: usize) -> bool {
         match self.measures.get(number) {
             Some(measure) => measure.has_lines,
             None => false,
@@ -157,10 +157,10 @@ impl<'a> Layout<'a> {
         if frame.is_flat {
             return true;
         }
-        let begins_line = frame.style.rule.keeps_lines() && self.begins_line(number);
+        let begins_line = frame.style.rule.keeps_lines() && self.token_begins_line(number);
         let fits = !begins_line
             && !frame.was_broken
-            && self.fits(number, self.column.saturating_add(1));
+            && self.tree_fits_on_line(number, self.column.saturating_add(1));
         match frame.style.rule {
             Rule::First(count) => frame.parts <= count,
             Rule::Filled | Rule::Operation => fits,
@@ -170,7 +170,7 @@ impl<'a> Layout<'a> {
     }
 
     /// What separates the tree that begins with token `number` from what is before it.
-    fn joint(&self, number: usize) -> Separator {
+    fn separator_before_tree(&self, number: usize) -> Separator {
         let Some(frame) = self.frames.last() else {
             return Separator::Line(0);
         };
@@ -188,15 +188,15 @@ impl<'a> Layout<'a> {
     /// Separates a token from the one before it. Keeps empty lines between trees and between items of a model.
     fn separate_token(&mut self, number: usize, token: &Token) -> Result<(), AllocError> {
         let has_blank = token.lines > 1 && self.frames.len() <= 1;
-        match self.joint(number) {
+        match self.separator_before_tree(number) {
             Separator::None => Ok(()),
-            Separator::Space => self.put(b" "),
+            Separator::Space => self.add_bytes_to_line(b" "),
             Separator::Line(indent) => self.begin_line(indent, has_blank),
         }
     }
 
     /// Notes that a part of the innermost node begins or, if `was_broken`, that a part ended on several lines.
-    fn note_part(&mut self, was_broken: bool) {
+    fn note_part_begun_or_ended(&mut self, was_broken: bool) {
         if let Some(frame) = self.frames.last_mut() {
             frame.was_broken = was_broken;
             if !was_broken {
@@ -206,16 +206,17 @@ impl<'a> Layout<'a> {
     }
 
     /// Opens the node that begins with token `number`.
-    fn open(&mut self, number: usize) -> Result<(), AllocError> {
+    fn open_node(&mut self, number: usize) -> Result<(), AllocError> {
         let column = self.column;
         let style = match self.head(number) {
             Some(head) => style_of(head, column),
             None => style_without_head(column),
         };
-        let is_kept = style.rule.keeps_lines() && self.has_lines(number);
-        let fits = self.fits(number, column) || self.is_uncommented_case_or_run(number);
+        let is_kept = style.rule.keeps_lines() && self.node_has_part_on_new_line(number);
+        let fits = self.tree_fits_on_line(number, column)
+            || self.is_uncommented_case_or_run(number);
         let is_flat = self.is_in_flat() || fits && !is_kept;
-        self.put(b"(")?;
+        self.add_bytes_to_line(b"(")?;
         self.frames.push(Frame {
             style,
             is_flat,
@@ -226,32 +227,32 @@ impl<'a> Layout<'a> {
     }
 
     /// Closes the innermost node.
-    fn close(&mut self) -> Result<(), AllocError> {
+    fn close_node(&mut self) -> Result<(), AllocError> {
         if self.after_comment {
-            let indent = self.indent();
+            let indent = self.indent_in_innermost_node();
             self.begin_line(indent, false)?;
         }
-        self.put(b")")?;
+        self.add_bytes_to_line(b")")?;
         if let Some(frame) = self.frames.pop() {
             if !frame.is_flat {
-                self.note_part(true);
+                self.note_part_begun_or_ended(true);
             }
         }
         Ok(())
     }
 
     /// Adds a comment: on the current line, or on a line of its own.
-    fn comment(&mut self, token: &Token) -> Result<(), AllocError> {
+    fn add_comment(&mut self, token: &Token) -> Result<(), AllocError> {
         if token.lines == 0 && !self.after_comment && !self.text.is_empty() {
-            self.put(b" ")?;
+            self.add_bytes_to_line(b" ")?;
         } else {
             let has_blank = token.lines > 1 && self.frames.len() <= 1;
-            let indent = self.indent();
+            let indent = self.indent_in_innermost_node();
             self.begin_line(indent, has_blank)?;
         }
         let input = self.input;
         let bytes = bytes_of(input, token);
-        self.put(bytes)?;
+        self.add_bytes_to_line(bytes)?;
         self.after_comment = true;
         Ok(())
     }
@@ -259,19 +260,19 @@ impl<'a> Layout<'a> {
     /// Adds `token`, which has the number `number`.
     pub fn add(&mut self, number: usize, token: &Token) -> Result<(), AllocError> {
         match token.kind {
-            Kind::Comment => self.comment(token),
-            Kind::Close => self.close(),
+            Kind::Comment => self.add_comment(token),
+            Kind::Close => self.close_node(),
             Kind::Open => {
                 self.separate_token(number, token)?;
-                self.note_part(false);
-                self.open(number)
+                self.note_part_begun_or_ended(false);
+                self.open_node(number)
             }
             Kind::Atom => {
                 self.separate_token(number, token)?;
-                self.note_part(false);
+                self.note_part_begun_or_ended(false);
                 let input = self.input;
                 let bytes = bytes_of(input, token);
-                self.put(bytes)
+                self.add_bytes_to_line(bytes)
             }
         }
     }

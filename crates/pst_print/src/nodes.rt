@@ -7,7 +7,7 @@ use pst_value::{Items, Text};
 use std::alloc::{AllocError, Global};
 
 /// A name as a word.
-pub fn name(alloc: Global, text: &Text) -> Result<Form, AllocError>
+pub fn print_name(alloc: Global, text: &Text) -> Result<Form, AllocError>
     ensures { IfOk result (λ form. form ≡ Word text.now) }
 {
     Ok(Form::Word(text.copy(alloc)?))
@@ -37,7 +37,11 @@ pub fn three_forms(
 }
 
 /// A tree, and then others.
-pub fn prepend(alloc: Global, first: Form, rest: Items<Form>) -> Result<Items<Form>, AllocError>
+pub fn prepend_form(
+    alloc: Global,
+    first: Form,
+    rest: Items<Form>,
+) -> Result<Items<Form>, AllocError>
     ensures { IfOk result (λ forms. forms ≡ first ∷ rest) }
 {
     let mut forms = list_of(alloc, first)?;

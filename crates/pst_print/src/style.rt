@@ -28,7 +28,7 @@ pub struct Style {
 const MOST_ALIGNED: usize = 40;
 
 /// Which parts stay on one line, and whether lines begin two columns within the node, not below its first part.
-fn rule_of(head: &[u8]) -> (Rule, bool) {
+fn line_rules_of_head(head: &[u8]) -> (Rule, bool) {
     match head {
         b"model" | b"model2" => (Rule::Model, true),
         b"op" => (Rule::Operation, true),
@@ -45,7 +45,7 @@ fn rule_of(head: &[u8]) -> (Rule, bool) {
 
 /// The style of a node with the head word `head` and its bracket in `column`.
 pub fn style_of(head: &[u8], column: usize) -> Style {
-    let (rule, is_within) = rule_of(head);
+    let (rule, is_within) = line_rules_of_head(head);
     let within = column.saturating_add(2);
     let aligned = within.saturating_add(head.len());
     let indent = if is_within || aligned > MOST_ALIGNED {

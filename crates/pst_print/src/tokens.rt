@@ -53,7 +53,12 @@ impl Lexer {
     }
 
     /// Reads the byte at `at`, outside of texts and comments. `next` is the state after it.
-    fn go_outside(&mut self, at: usize, byte: u8, next: State) -> Result<(), AllocError> {
+    fn read_byte_outside_tokens(
+        &mut self,
+        at: usize,
+        byte: u8,
+        next: State,
+    ) -> Result<(), AllocError> {
         match byte {
             b'(' => self.add_bracket(Kind::Open, at),
             b')' => self.add_bracket(Kind::Close, at),
@@ -71,14 +76,20 @@ impl Lexer {
     }
 
     /// Reads the byte at `at`, which leads from `state` to `next`.
-    fn go(&mut self, at: usize, byte: u8, state: State, next: State) -> Result<(), AllocError> {
+    fn read_byte_into_tokens(
+        &mut self,
+        at: usize,
+        byte: u8,
+        state: State,
+        next: State,
+    ) -> Result<(), AllocError> {
         match (state, next) {
             (State::Word, State::Word) => Ok(()),
             (State::Word, _) => {
                 self.add(Kind::Atom, at)?;
-                self.go_outside(at, byte, next)
+                self.read_byte_outside_tokens(at, byte, next)
             }
-            (State::Between, _) => self.go_outside(at, byte, next),
+            (State::Between, _) => self.read_byte_outside_tokens(at, byte, next),
             (State::Text, State::Between) => self.add(Kind::Atom, at.saturating_add(1)),
             (State::Comment, State::Between) => {
                 self.add(Kind::Comment, at)?;
@@ -100,7 +111,7 @@ pub fn tokens(alloc: Global, input: &[u8]) -> Result<Vec<Token>, AllocError> {
     let mut state = State::Between;
     for (at, byte) in input.iter().enumerate() {
         let next = state_after(state, *byte);
-        lexer.go(at, *byte, state, next)?;
+        lexer.read_byte_into_tokens(at, *byte, state, next)?;
         state = next;
     }
     match state {

@@ -6,7 +6,7 @@ ghost use Rattle.pst_sexpr.specs.Parts.{headed};
 ghost use Rattle.pst_sexpr.specs.declared.form.Form.TheVariants.{Word};
 
 use crate::nodes::two_forms;
-use crate::words::key_word;
+use crate::words::key_type_word;
 use pst_sexpr::{Form, headed, list_of, word};
 use pst_value::{Items, KeyTy, Ty};
 use std::alloc::{AllocError, Global};
@@ -15,7 +15,7 @@ use std::alloc::{AllocError, Global};
 pub fn map_form(alloc: Global, kind: KeyTy, ty: Form) -> Result<Form, AllocError>
     ensures { IfOk result (λ form. form ≡ headed (codes "map") (Word (key_word kind) ∷ ty ∷ [])) }
 {
-    let kind = word(alloc, key_word(kind))?;
+    let kind = word(alloc, key_type_word(kind))?;
     headed(alloc, "map", two_forms(alloc, kind, ty)?)
 }
 

@@ -41,7 +41,7 @@ pub fn binary_word(operator: Binary) -> &'static str
 }
 
 /// The word of a type of keys.
-pub fn key_word(kind: KeyTy) -> &'static str
+pub fn key_type_word(kind: KeyTy) -> &'static str
     ensures { result.now ≡ key_word kind }
 {
     match kind {

@@ -11,7 +11,7 @@ ghost use Rattle.pst_judge.specs.Verdict.{first_broken};
 ghost use Rattle.pst_reasons.specs.Reasons as reasons;
 
 use crate::answers::split_first;
-use crate::numbers::push_without;
+use crate::numbers::append_numbers_without;
 use crate::searching::{interleaving_beyond, is_allowed};
 use pst_case::{History, Shaped};
 use pst_eval::Callbacks;
@@ -79,7 +79,7 @@ fn new_allowed_candidate<C: Callbacks, P: Candidates>(
 }
 
 /// Returns `answers` and the recorded answer of command `number`.
-fn with_recorded(
+fn answers_and_recorded_answer(
     alloc: Global,
     history: &History,
     number: u32,
@@ -118,7 +118,7 @@ fn value_beyond_recorded<C: Callbacks, P: Candidates>(
         (IsAllowed (C.model callbacks.now) shaped.now.case history.now others.now number)) }
     ensures new { IfOk result (λ found. IfSome found (λ value. spec.is_one_of value known.now ≡ false)) }
 {
-    let wrong = with_recorded(alloc, history, number, known)?;
+    let wrong = answers_and_recorded_answer(alloc, history, number, known)?;
     let merge = interleaving_beyond(
         callbacks,
         alloc,
@@ -286,7 +286,7 @@ pub fn find_allowed_values<C: Callbacks, P: Candidates>(
     ensures distinct { IfOk result (λ found. AreDistinct found.values) }
     ensures few { IfOk result (λ found. length found.values ≤ at_most) }
 {
-    let others = push_without(number, core, Vec::new(alloc))?;
+    let others = append_numbers_without(number, core, Vec::new(alloc))?;
     let values = Items::new(alloc);
     add_allowed(
         callbacks,

@@ -62,7 +62,7 @@ fn post_truth(
 }
 
 /// Returns whether `answer` would be right for an event on `state`, the state before it.
-pub(crate) fn is_right(
+pub(crate) fn is_answer_right(
     model: &Source,
     alloc: Global,
     state: &Value,
@@ -98,7 +98,7 @@ pub(crate) fn is_any_answer_right(
     let Some((first, rest)) = split_first(answers) else {
         return Ok(Ok(false));
     };
-    match is_right(model, alloc, state, event, first)? {
+    match is_answer_right(model, alloc, state, event, first)? {
         Ok(true) => Ok(Ok(true)),
         Ok(false) => is_any_answer_right(model, alloc, state, event, rest),
         Err(fault) => Ok(Err(fault)),

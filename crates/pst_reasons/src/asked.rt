@@ -17,21 +17,21 @@ pub struct SomePostconditions<'a> {
     pub rest: &'a [u32],
 }
 
-fn is_among(number: u32, numbers: &[u32]) -> bool
+fn is_command_number_among(number: u32, numbers: &[u32]) -> bool
     ensures { result ≡ is_among number numbers.now }
 {
     let Some((first, rest)) = split_first(numbers) else {
         return false;
     };
-    *first == number || is_among(number, rest)
+    *first == number || is_command_number_among(number, rest)
 }
 
 /// Returns whether `number` is in `first` or in `rest`.
 #[tactic(auto, using(crate::proofs::Among::among_append))]
-fn is_asked(number: u32, first: &[u32], rest: &[u32]) -> bool
+fn is_postcondition_checked(number: u32, first: &[u32], rest: &[u32]) -> bool
     ensures { result ≡ is_among number (first.now ++ rest.now) }
 {
-    is_among(number, first) || is_among(number, rest)
+    is_command_number_among(number, first) || is_command_number_among(number, rest)
 }
 
 impl<'a> Condition for SomePostconditions<'a> {
@@ -47,7 +47,7 @@ impl<'a> Condition for SomePostconditions<'a> {
         state: &Value,
         event: &Event,
     ) -> Result<Result<bool, Fault>, AllocError> {
-        if is_asked(event.number, self.first, self.rest) {
+        if is_postcondition_checked(event.number, self.first, self.rest) {
             return Postconditions.ask(callbacks, alloc, state, event);
         }
         Ok(Ok(true))

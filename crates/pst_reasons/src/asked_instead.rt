@@ -1,7 +1,7 @@
 //! Conditions that check other answers of a command in place of its recorded one.
 ghost use Rattle.std.specs.Prelude.{◌≡◌, []};
 
-use crate::answers::{is_any_answer_right, is_right};
+use crate::answers::{is_answer_right, is_any_answer_right};
 use crate::asked::SomePostconditions;
 use pst_eval::Callbacks;
 use pst_judge::{Condition, Event};
@@ -45,7 +45,7 @@ impl<'a> Condition for AnswerReplaced<'a> {
         event: &Event,
     ) -> Result<Result<bool, Fault>, AllocError> {
         if event.number == self.number {
-            return is_right(self.model, alloc, state, event, self.answer);
+            return is_answer_right(self.model, alloc, state, event, self.answer);
         }
         let others = SomePostconditions {
             first: self.others,

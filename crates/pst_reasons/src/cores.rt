@@ -6,7 +6,9 @@ ghost use Rattle.pst_judge.specs.Verdict.{first_broken};
 ghost use Rattle.pst_reasons.specs.Reasons.{AreRising, IsCore, IsImpossible, IsLeastTrue, IsNeeded, IsUnexplained, is_among, number_of_commands, without};
 
 use crate::asked::SomePostconditions;
-use crate::numbers::{count_commands, no_numbers, numbers_to, push_without, split_last};
+use crate::numbers::{
+    append_numbers_without, command_numbers_up_to, count_commands, no_numbers, split_last,
+};
 use pst_case::{History, Shaped};
 use pst_eval::Callbacks;
 use pst_judge::{Verdict, verdict_with_condition};
@@ -39,7 +41,7 @@ fn interleaving_of_core<C: Callbacks>(
 }
 
 /// Leaves out `number` if the others stay impossible without it, or else inserts it before `core`.
-fn leave_out_one<C: Callbacks>(
+fn leave_command_out_of_core_if_possible<C: Callbacks>(
     callbacks: &C,
     alloc: Global,
     shaped: &Shaped,
@@ -73,7 +75,7 @@ fn leave_out_one<C: Callbacks>(
 }
 
 /// Leaves out each number of `first`, from the greatest down, if the others stay impossible without it.
-fn leave_out<C: Callbacks>(
+fn leave_commands_out_of_core_if_possible<C: Callbacks>(
     callbacks: &C,
     alloc: Global,
     shaped: &Shaped,
@@ -95,8 +97,10 @@ fn leave_out<C: Callbacks>(
     let Some((number, first)) = split_last(first) else {
         return Ok(core);
     };
-    let core = leave_out_one(callbacks, alloc, shaped, history, first, *number, core)?;
-    leave_out(callbacks, alloc, shaped, history, first, core)
+    let core = leave_command_out_of_core_if_possible(
+        callbacks, alloc, shaped, history, first, *number, core,
+    )?;
+    leave_commands_out_of_core_if_possible(callbacks, alloc, shaped, history, first, core)
 }
 
 /// Returns a core of a history that no interleaving explains: the numbers, in rising order, of commands whose
@@ -120,9 +124,16 @@ pub fn minimal_core<C: Callbacks>(
         (λ core. IsCore (C.model callbacks.now) shaped.now.case history.now core.items) }
     ensures rising { IfOk result (λ core. AreRising 0 (number_of_commands shaped.now.case) core.items) }
 {
-    let numbers = numbers_to(alloc, count_commands(shaped))?;
+    let numbers = command_numbers_up_to(alloc, count_commands(shaped))?;
     let core = no_numbers(alloc);
-    leave_out(callbacks, alloc, shaped, history, numbers.as_slice(), core)
+    leave_commands_out_of_core_if_possible(
+        callbacks,
+        alloc,
+        shaped,
+        history,
+        numbers.as_slice(),
+        core,
+    )
 }
 
 /// Returns the first interleaving that is true to its end if only the postconditions of `core` without `number` are
@@ -143,7 +154,7 @@ pub fn interleaving_without<C: Callbacks>(
     ensures { IfOk result (λ word. IsLeastTrue (C.model callbacks.now) shaped.now.case history.now
         (without number core.now) word.items) }
 {
-    let others = push_without(number, core, no_numbers(alloc))?;
+    let others = append_numbers_without(number, core, no_numbers(alloc))?;
     let others = others.as_slice();
     let Some(word) = interleaving_of_core(callbacks, alloc, shaped, history, others, &[])? else {
         unreachable!()

@@ -18,6 +18,6 @@ pub use allowing::{AllowedValues, Candidates, find_allowed_values};
 pub use asked::SomePostconditions;
 pub use cores::{interleaving_without, minimal_core};
 pub use laws::equality_has_one_answer;
-pub use numbers::{count_branch_commands, push_without};
+pub use numbers::{append_numbers_without, count_branch_commands};
 pub use searching::{interleaving_beyond, is_allowed};
 pub use state_list::states;

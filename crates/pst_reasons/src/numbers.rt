@@ -8,13 +8,13 @@ use pst_value::Items;
 use std::alloc::{AllocError, Global};
 
 /// Returns the numbers from 1 to `last`.
-pub(crate) fn numbers_to(alloc: Global, last: u32) -> Result<Vec<u32>, AllocError>
+pub(crate) fn command_numbers_up_to(alloc: Global, last: u32) -> Result<Vec<u32>, AllocError>
     ensures { IfOk result (λ numbers. numbers.items ≡ numbers_to last) }
 {
     if last == 0 {
         return Ok(Vec::new(alloc));
     }
-    let mut numbers = numbers_to(alloc, last - 1)?;
+    let mut numbers = command_numbers_up_to(alloc, last - 1)?;
     numbers.push(last)?;
     Ok(numbers)
 }
@@ -39,7 +39,7 @@ pub(crate) fn split_last(numbers: &[u32]) -> Option<(&u32, &[u32])>
 }
 
 /// Returns `others`, followed by `numbers` without `number`.
-pub fn push_without(
+pub fn append_numbers_without(
     number: u32,
     numbers: &[u32],
     mut others: Vec<u32>,
@@ -52,10 +52,10 @@ pub fn push_without(
     if *first != number {
         others.push(*first)?;
     }
-    push_without(number, rest, others)
+    append_numbers_without(number, rest, others)
 }
 
-fn split_parts(branches: &[Items<Command>]) -> Option<(&Items<Command>, &[Items<Command>])>
+fn split_first_branch(branches: &[Items<Command>]) -> Option<(&Items<Command>, &[Items<Command>])>
     ensures { MatchOption result (branches.now ≡ []) (λ p. (branches.now ≡ p.0.now ∷ p.1.now)
         × (length (joined branches.now) ≡ length p.0.now + length (joined p.1.now))) }
 {
@@ -67,7 +67,7 @@ pub fn count_branch_commands(branches: &[Items<Command>]) -> usize
     requires { length (joined branches.now) ≤ 16 }
     ensures { result ≡ length (joined branches.now) }
 {
-    let Some((branch, branches)) = split_parts(branches) else {
+    let Some((branch, branches)) = split_first_branch(branches) else {
         return 0;
     };
     branch.len() + count_branch_commands(branches)

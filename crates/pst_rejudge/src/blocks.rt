@@ -6,7 +6,7 @@ ghost use Rattle.pst_sexpr.specs.Reading.{max_bytes};
 use crate::each::ItemResult;
 use crate::keeping::{split_bytes_into_lines, take_last_unended_line};
 use crate::stream_judging::judge_items_on_lines;
-use crate::stream_reading::{Unread, read_some};
+use crate::stream_reading::{Unread, read_once_despite_interruptions};
 use pst_eval::Callbacks;
 use pst_model::Typed;
 use pst_sexpr::MAX_BYTES;
@@ -68,7 +68,7 @@ pub fn read_and_judge_block<I: Read, C: Callbacks + Sync, R: Threads + Sync>(
         → IsBlock (C.model callbacks.now) (I.remaining reader.old) (I.remaining reader.new) line kept.new.items
         block.is_last block.answers.items) }
 {
-    let count = read_some(reader, buffer)?;
+    let count = read_once_despite_interruptions(reader, buffer)?;
     if count == 0 {
         let lines = take_last_unended_line(alloc, kept)?;
         let answers = judge_items_on_lines(rt, callbacks, alloc, typed, lines.as_slice())?;

@@ -12,7 +12,11 @@ use pst_runs::RunFaultKind;
 use std::alloc::{AllocError, Global};
 
 /// Adds the place of a fault.
-fn add_place(alloc: Global, fields: &mut Vec<Field>, place: &FaultPlace) -> Result<(), AllocError>
+fn add_fault_place_field(
+    alloc: Global,
+    fields: &mut Vec<Field>,
+    place: &FaultPlace,
+) -> Result<(), AllocError>
     ensures { OnOk result (fields.new.items ≡ fields.old.items ++ place_fields place.now) }
 {
     add_number_field(fields, Name::Command, place.command as u64)?;
@@ -44,7 +48,7 @@ fn add_verdict(alloc: Global, fields: &mut Vec<Field>, verdict: &Verdict) -> Res
         }
         Verdict::Faulted(place) => {
             add_text_field(alloc, fields, Name::Verdict, "fault")?;
-            add_place(alloc, fields, place)
+            add_fault_place_field(alloc, fields, place)
         }
         Verdict::Unexplained(far) => {
             add_text_field(alloc, fields, Name::Verdict, "unexplained")?;
@@ -73,7 +77,7 @@ fn add_invalid_case_fields(
         }
         Why::CallbackFault { place, merge } => {
             add_text_field(alloc, fields, Name::Verdict, "casefault")?;
-            add_place(alloc, fields, place)?;
+            add_fault_place_field(alloc, fields, place)?;
             add_interleaving(alloc, fields, merge)
         }
         Why::NoMemory => {

@@ -5,7 +5,7 @@ ghost use Rattle.pst_rejudge.specs.Lines.{begun, ended, last_line};
 use std::alloc::{AllocError, Global};
 
 /// Adds a byte to `kept`, the beginning of a line, unless the limit is reached.
-fn keep_byte(limit: usize, kept: &mut Vec<u8>, byte: u8) -> Result<(), AllocError>
+fn keep_byte_of_line(limit: usize, kept: &mut Vec<u8>, byte: u8) -> Result<(), AllocError>
     ensures { OnOk result ((line : List ℕ) → kept.old.items ≡ take limit line
         → kept.new.items ≡ take limit (line ++ byte ∷ [])) }
 {
@@ -16,7 +16,11 @@ fn keep_byte(limit: usize, kept: &mut Vec<u8>, byte: u8) -> Result<(), AllocErro
 }
 
 /// Ends the current line: copies it to `lines`, and begins another, in the room of this one.
-fn end_line(alloc: Global, lines: &mut Vec<Vec<u8>>, kept: &mut Vec<u8>) -> Result<(), AllocError>
+fn end_kept_line(
+    alloc: Global,
+    lines: &mut Vec<Vec<u8>>,
+    kept: &mut Vec<u8>,
+) -> Result<(), AllocError>
     ensures kept { kept.new.items ≡ [] }
     ensures lines { OnOk result (map (λ line. line.items) lines.new.items
         ≡ map (λ line. line.items) lines.old.items ++ kept.old.items ∷ []) }
@@ -44,9 +48,9 @@ fn add_byte(
         ≡ map (λ l. l.items) lines.old.items ++ map (take limit) (ended line (byte ∷ []))) }
 {
     if byte == b'\n' {
-        end_line(alloc, lines, kept)
+        end_kept_line(alloc, lines, kept)
     } else {
-        keep_byte(limit, kept, byte)
+        keep_byte_of_line(limit, kept, byte)
     }
 }
 
@@ -81,7 +85,7 @@ pub(crate) fn take_last_unended_line(
 {
     let mut lines = Vec::new(alloc);
     if !kept.is_empty() {
-        end_line(alloc, &mut lines, kept)?;
+        end_kept_line(alloc, &mut lines, kept)?;
     }
     Ok(lines)
 }

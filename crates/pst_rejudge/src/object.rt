@@ -11,7 +11,7 @@ use pst_value::Text;
 use std::alloc::{AllocError, Global};
 
 /// Writes texts, and the end of their array.
-fn put_texts(writer: &mut Writer<Global>, texts: &[Text]) -> Result<(), AllocError>
+fn write_json_texts(writer: &mut Writer<Global>, texts: &[Text]) -> Result<(), AllocError>
     ensures ok { OnOk result (writer.new.tokens ≡ writer.old.tokens ++ items_tokens (texts_of texts.now)) }
     ensures before { writer.new.before ≡ writer.old.before }
 {
@@ -22,7 +22,7 @@ fn put_texts(writer: &mut Writer<Global>, texts: &[Text]) -> Result<(), AllocErr
 }
 
 /// Writes a member.
-fn put_field(writer: &mut Writer<Global>, field: &Field) -> Result<(), AllocError>
+fn write_json_field(writer: &mut Writer<Global>, field: &Field) -> Result<(), AllocError>
     ensures ok { OnOk result (writer.new.tokens
         ≡ writer.old.tokens ++ key (field_name field.now) ∷ json_tokens (field_json field.now)) }
     ensures before { writer.new.before ≡ writer.old.before }
@@ -39,19 +39,19 @@ fn put_field(writer: &mut Writer<Global>, field: &Field) -> Result<(), AllocErro
         Field::Lines(name, lines) => {
             writer.key(name.text())?;
             writer.begin_array()?;
-            put_texts(writer, lines.as_slice())
+            write_json_texts(writer, lines.as_slice())
         }
     }
 }
 
 /// Writes members, and the end of their object.
-fn put_fields(writer: &mut Writer<Global>, fields: &[Field]) -> Result<(), AllocError>
+fn write_json_fields(writer: &mut Writer<Global>, fields: &[Field]) -> Result<(), AllocError>
     ensures ok { OnOk result (writer.new.tokens
         ≡ writer.old.tokens ++ members_tokens (members_of fields.now)) }
     ensures before { writer.new.before ≡ writer.old.before }
 {
     for field in fields {
-        put_field(writer, field)?;
+        write_json_field(writer, field)?;
     }
     writer.end_object()
 }
@@ -63,7 +63,7 @@ pub fn object_line(alloc: Global, fields: &[Field]) -> Result<Vec<u8>, AllocErro
 {
     let mut writer = Writer::new(Vec::new(alloc));
     writer.begin_object()?;
-    put_fields(&mut writer, fields)?;
+    write_json_fields(&mut writer, fields)?;
     let mut line = writer.into_inner();
     line.push(b'\n')?;
     Ok(line)

@@ -10,7 +10,10 @@ pub(crate) struct Unread;
 
 /// Reads once, and again if a signal interrupts the read. Returns how many bytes are at the front of `buffer`;
 /// 0 is the end.
-pub(crate) fn read_some<R: Read>(reader: &mut R, buffer: &mut [u8]) -> Result<usize, Unread>
+pub(crate) fn read_once_despite_interruptions<R: Read>(
+    reader: &mut R,
+    buffer: &mut [u8],
+) -> Result<usize, Unread>
     ensures within { IfOk result (λ count. count ≤ length buffer.new) }
     ensures read { IfOk result (λ count.
         Consumes (R.remaining reader.old) (R.remaining reader.new) (take count buffer.new)) }

@@ -61,7 +61,7 @@ fn least_line(
 }
 
 /// `minimal` or `stopped`.
-pub(crate) fn ending_name(ending: ShrinkEnd) -> &'static str
+pub(crate) fn shrink_end_name(ending: ShrinkEnd) -> &'static str
     ensures { result.now ≡ spec.ending_name ending }
 {
     match ending {
@@ -71,11 +71,11 @@ pub(crate) fn ending_name(ending: ShrinkEnd) -> &'static str
 }
 
 /// `steps N minimal` or `steps N stopped`.
-fn steps_line(alloc: Global, shrunk: &Shrunk<JudgedRun>) -> Result<String, AllocError>
+fn shrink_steps_report_line(alloc: Global, shrunk: &Shrunk<JudgedRun>) -> Result<String, AllocError>
     ensures { IfOk result (λ line. string_bytes line ≡ spec.steps_line shrunk.now) }
 {
     let steps = shrunk.before.len();
-    let ending = ending_name(shrunk.ending);
+    let ending = shrink_end_name(shrunk.ending);
     format!(in alloc; "steps {steps} {ending}\n")
 }
 
@@ -137,7 +137,7 @@ pub fn failure_lines(
         number,
         failing_run_before_shrinking(shrunk),
     )?;
-    lines.extend_from_slice(steps_line(alloc, shrunk)?.as_bytes())?;
+    lines.extend_from_slice(shrink_steps_report_line(alloc, shrunk)?.as_bytes())?;
     lines.extend_from_slice(report_shrunk_run_lines(alloc, typed, &shrunk.last)?.as_slice())?;
     Ok(lines)
 }

@@ -3,7 +3,7 @@ ghost use Rattle.std.specs.Prelude.{◌≡◌, IfOk, string_bytes};
 ghost use Rattle.pst_report.specs.Least.{least_fault};
 ghost use Rattle.pst_report.specs.Text as spec;
 
-use crate::kind::{EntryKind, count_of};
+use crate::kind::{EntryKind, count_entries_of_kind};
 use crate::least::least_fault;
 use crate::losses::lost_trials_text;
 use pst_ledger::Entry;
@@ -11,7 +11,7 @@ use pst_trial::Record;
 use std::alloc::{AllocError, Global};
 
 /// The word of a kind, how many numbers ended so, and a line end.
-fn count_line(
+fn entry_count_report_line(
     alloc: Global,
     word: &str,
     kind: EntryKind,
@@ -19,7 +19,7 @@ fn count_line(
 ) -> Result<String, AllocError>
     ensures { IfOk result (λ line. string_bytes line ≡ spec.count_line word.now kind entries.now) }
 {
-    let count = count_of(kind, entries);
+    let count = count_entries_of_kind(kind, entries);
     format!(in alloc; "{word} {count}\n")
 }
 
@@ -39,10 +39,10 @@ fn first_fault_line(alloc: Global, entries: &[Entry<Record>]) -> Result<String, 
 }
 
 /// How many numbers were lost, and each of them with its cause.
-fn lost_line(alloc: Global, entries: &[Entry<Record>]) -> Result<String, AllocError>
+fn lost_trials_report_line(alloc: Global, entries: &[Entry<Record>]) -> Result<String, AllocError>
     ensures { IfOk result (λ line. string_bytes line ≡ spec.lost_line entries.now) }
 {
-    let count = count_of(EntryKind::Lost, entries);
+    let count = count_entries_of_kind(EntryKind::Lost, entries);
     let losses = lost_trials_text(alloc, entries)?;
     let losses = losses.as_str();
     format!(in alloc; "lost {count}{losses}\n")
@@ -55,10 +55,20 @@ fn failed_and_passed_count_lines(
 ) -> Result<String, AllocError>
     ensures { IfOk result (λ lines. string_bytes lines ≡ spec.judged_lines entries.now) }
 {
-    let mut lines = count_line(alloc, "passed", EntryKind::Passed, entries)?;
-    lines.push_str(count_line(alloc, "unexplained", EntryKind::Unexplained, entries)?.as_str())?;
-    lines.push_str(count_line(alloc, "faulted", EntryKind::Faulted, entries)?.as_str())?;
-    lines.push_str(count_line(alloc, "broken", EntryKind::Broken, entries)?.as_str())?;
+    let mut lines = entry_count_report_line(alloc, "passed", EntryKind::Passed, entries)?;
+    lines.push_str(entry_count_report_line(
+        alloc,
+        "unexplained",
+        EntryKind::Unexplained,
+        entries,
+    )?.as_str())?;
+    lines.push_str(entry_count_report_line(
+        alloc,
+        "faulted",
+        EntryKind::Faulted,
+        entries,
+    )?.as_str())?;
+    lines.push_str(entry_count_report_line(alloc, "broken", EntryKind::Broken, entries)?.as_str())?;
     Ok(lines)
 }
 
@@ -66,15 +76,23 @@ fn failed_and_passed_count_lines(
 fn missing_run_count_lines(alloc: Global, entries: &[Entry<Record>]) -> Result<String, AllocError>
     ensures { IfOk result (λ lines. string_bytes lines ≡ spec.missing_lines entries.now) }
 {
-    let mut lines = count_line(alloc, "genfault", EntryKind::GenFaulted, entries)?;
+    let mut lines = entry_count_report_line(alloc, "genfault", EntryKind::GenFaulted, entries)?;
     lines.push_str(first_fault_line(alloc, entries)?.as_str())?;
-    lines.push_str(lost_line(alloc, entries)?.as_str())?;
-    lines.push_str(count_line(alloc, "undrawn", EntryKind::Undrawn, entries)?.as_str())?;
+    lines.push_str(lost_trials_report_line(alloc, entries)?.as_str())?;
+    lines.push_str(entry_count_report_line(
+        alloc,
+        "undrawn",
+        EntryKind::Undrawn,
+        entries,
+    )?.as_str())?;
     Ok(lines)
 }
 
 /// The lines that count the numbers.
-pub fn count_lines(alloc: Global, entries: &[Entry<Record>]) -> Result<String, AllocError>
+pub fn entry_count_report_lines(
+    alloc: Global,
+    entries: &[Entry<Record>],
+) -> Result<String, AllocError>
     ensures { IfOk result (λ lines. string_bytes lines ≡ spec.count_lines entries.now) }
 {
     let mut lines = failed_and_passed_count_lines(alloc, entries)?;

@@ -18,7 +18,7 @@ pub struct NumberedFailure {
 }
 
 /// Whether there is a failure with the case.
-fn has_case(failures: &[NumberedFailure], case: &[u8]) -> bool
+fn has_failure_with_case(failures: &[NumberedFailure], case: &[u8]) -> bool
     ensures { MatchBool result (Any (HasCase case.now) failures.now)
         (All (λ f. HasCase case.now f → ⊥) failures.now) }
 {
@@ -31,7 +31,7 @@ fn has_case(failures: &[NumberedFailure], case: &[u8]) -> bool
 }
 
 /// Adds the failure that the case of a trial was shrunk to, if the trial failed and no failure in the list has the same case.
-fn push_if_distinct(
+fn push_failure_with_new_case(
     alloc: Global,
     failures: &mut Vec<NumberedFailure>,
     number: usize,
@@ -42,7 +42,7 @@ fn push_if_distinct(
     let Some(failure) = shrunk_failure(alloc, done)? else {
         return Ok(());
     };
-    if has_case(failures.as_slice(), failure.case.as_slice()) {
+    if has_failure_with_case(failures.as_slice(), failure.case.as_slice()) {
         return Ok(());
     }
     failures.push(NumberedFailure { number, failure })?;
@@ -61,7 +61,7 @@ pub fn distinct_failures(
     let mut failures = Vec::new(alloc);
     for (number, entry) in entries.iter().enumerate() {
         if let Entry::Done(record) = entry {
-            push_if_distinct(alloc, &mut failures, number, record)?;
+            push_failure_with_new_case(alloc, &mut failures, number, record)?;
         }
     }
     Ok(failures)

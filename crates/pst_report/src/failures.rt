@@ -25,7 +25,7 @@ pub struct ShrunkFailure {
 }
 
 /// The case as a tree, and a line end.
-fn case_line(
+fn failing_case_line(
     alloc: Global,
     typed: &Typed,
     taken: &FailingCase<JudgedRun>,
@@ -45,7 +45,7 @@ fn case_line(
 }
 
 /// A case with the history that it broke with, as text.
-fn failure_text(
+fn shrunk_failure_of_failing_case(
     alloc: Global,
     typed: &Typed,
     taken: &FailingCase<JudgedRun>,
@@ -55,7 +55,7 @@ fn failure_text(
 {
     let verdict = &taken.history.verdict;
     Ok(ShrunkFailure {
-        case: case_line(alloc, typed, taken)?,
+        case: failing_case_line(alloc, typed, taken)?,
         run: report_run_line(alloc, typed, taken)?,
         verdict: format!(in alloc; "{verdict}")?,
     })
@@ -67,7 +67,11 @@ pub fn shrunk_failure(alloc: Global, record: &Record) -> Result<Option<ShrunkFai
 {
     match shrinking_of_failed_trial(record) {
         Some(shrunk) => {
-            let failure = failure_text(alloc, record.plan().typed(), &shrunk.last)?;
+            let failure = shrunk_failure_of_failing_case(
+                alloc,
+                record.plan().typed(),
+                &shrunk.last,
+            )?;
             Ok(Some(failure))
         }
         None => Ok(None),

@@ -7,7 +7,7 @@ use pst_trial::{Plan, Settings};
 use std::alloc::{AllocError, Global};
 
 /// `campaign NAME`.
-fn name_line(alloc: Global, typed: &Typed) -> Result<String, AllocError>
+fn campaign_name_report_line(alloc: Global, typed: &Typed) -> Result<String, AllocError>
     ensures { IfOk result (λ line. string_bytes line ≡ spec.name_line typed.now) }
 {
     let name = typed.source().name.as_str();
@@ -65,7 +65,7 @@ fn settings_line(alloc: Global, settings: &Settings) -> Result<String, AllocErro
 pub fn plan_lines(alloc: Global, plan: &Plan) -> Result<String, AllocError>
     ensures { IfOk result (λ lines. string_bytes lines ≡ spec.plan_lines plan.now) }
 {
-    let mut lines = name_line(alloc, plan.typed())?;
+    let mut lines = campaign_name_report_line(alloc, plan.typed())?;
     lines.push_str(settings_line(alloc, plan.settings())?.as_str())?;
     Ok(lines)
 }

@@ -73,7 +73,7 @@ fn kind_of_outcome(outcome: &TrialOutcome) -> EntryKind
 }
 
 /// Returns how a trial ended, by its entry.
-pub fn kind_of(entry: &Entry<Record>) -> EntryKind
+pub fn entry_kind(entry: &Entry<Record>) -> EntryKind
     ensures { result ≡ spec.kind_of entry.now }
 {
     match entry {
@@ -84,11 +84,11 @@ pub fn kind_of(entry: &Entry<Record>) -> EntryKind
 }
 
 /// How many numbers ended in a way.
-pub fn count_of(kind: EntryKind, entries: &[Entry<Record>]) -> usize
+pub fn count_entries_of_kind(kind: EntryKind, entries: &[Entry<Record>]) -> usize
     ensures { result ≡ spec.count_of kind entries.now }
 {
     entries
         .iter()
-        .filter(|entry| kind_of(entry).is_same(kind))
+        .filter(|entry| entry_kind(entry).is_same(kind))
         .count()
 }

@@ -10,7 +10,7 @@ use pst_shrink::Shrunk;
 use pst_trial::{JudgedRun, Plan, Record, TrialOutcome};
 
 /// The place of the fault in generating the case of a trial, if there was one.
-fn fault_of(done: &Record) -> Option<FaultPlace>
+fn generation_fault_of_record(done: &Record) -> Option<FaultPlace>
     ensures { result ≡ spec.fault_in done.now.outcome }
 {
     match done.outcome() {
@@ -37,7 +37,7 @@ pub fn least_fault(entries: &[Entry<Record>]) -> Option<(usize, FaultPlace)>
 {
     for (number, entry) in entries.iter().enumerate() {
         if let Entry::Done(record) = entry
-            && let Some(place) = fault_of(record)
+            && let Some(place) = generation_fault_of_record(record)
         {
             return Some((number, place));
         }

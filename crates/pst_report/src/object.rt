@@ -4,8 +4,8 @@ ghost use Rattle.pst_report.specs.InOrder.{AreOf};
 ghost use Rattle.pst_report.specs.Matching.{AreMatching, IsMatching};
 ghost use Rattle.pst_report.specs.Object as spec;
 
-use crate::counterexample::{ending_name, report_run_line};
-use crate::kind::{EntryKind, count_of, failing_run_before_shrinking};
+use crate::counterexample::{report_run_line, shrink_end_name};
+use crate::kind::{EntryKind, count_entries_of_kind, failing_run_before_shrinking};
 use crate::least::least_failure;
 use crate::status::CampaignStatus;
 use pst_ledger::{Closed, Entry};
@@ -62,7 +62,7 @@ fn add_trial_count_field(
     ensures { OnOk result
         (fields.new.items ≡ fields.old.items ++ spec.count_field name kind entries.now ∷ []) }
 {
-    add_number_field(fields, name, count_of(kind, entries) as u64)
+    add_number_field(fields, name, count_entries_of_kind(kind, entries) as u64)
 }
 
 /// Adds the counts of the trials that passed or failed.
@@ -119,7 +119,7 @@ pub fn report_fields(
 }
 
 /// A case with its replies as a tree, without a line end.
-fn tree_text(
+fn run_tree_text(
     alloc: Global,
     typed: &Typed,
     taken: &FailingCase<JudgedRun>,
@@ -145,7 +145,7 @@ fn add_failing_run_fields(
     requires { IsMatching typed.now taken.now }
 {
     let (run, verdict) = names;
-    fields.push(Field::Words(run, tree_text(alloc, typed, taken)?))?;
+    fields.push(Field::Words(run, run_tree_text(alloc, typed, taken)?))?;
     let words = &taken.history.verdict;
     let words = Text::from_string(format!(in alloc; "{words}")?);
     fields.push(Field::Words(verdict, words))?;
@@ -170,7 +170,7 @@ fn add_shrinking_fields(
         failing_run_before_shrinking(shrunk),
     )?;
     add_number_field(fields, Name::Steps, shrunk.before.len() as u64)?;
-    add_text_field(alloc, fields, Name::Ending, ending_name(shrunk.ending))?;
+    add_text_field(alloc, fields, Name::Ending, shrink_end_name(shrunk.ending))?;
     add_failing_run_fields(
         alloc,
         fields,

@@ -3,7 +3,7 @@ ghost use Rattle.std.specs.Prelude.{◌≡◌};
 ghost use Rattle.std.specs.List.{list_any};
 ghost use Rattle.pst_report.specs.Status as spec;
 
-use crate::kind::{EntryKind, kind_of};
+use crate::kind::{EntryKind, entry_kind};
 use pst_ledger::{Closed, Entry};
 use pst_trial::Record;
 
@@ -18,29 +18,31 @@ pub enum CampaignStatus {
     Incomplete,
 }
 
-fn is_missing(entry: &Entry<Record>) -> bool
+fn is_lost_or_undrawn_entry(entry: &Entry<Record>) -> bool
     ensures { result ≡ spec.is_missing entry.now }
 {
-    let kind = kind_of(entry);
+    let kind = entry_kind(entry);
     kind.is_same(EntryKind::Lost) || kind.is_same(EntryKind::Undrawn)
 }
 
-fn is_failed(entry: &Entry<Record>) -> bool
+fn is_entry_other_than_passed(entry: &Entry<Record>) -> bool
     ensures { result ≡ spec.is_failed entry.now }
 {
-    !kind_of(entry).is_same(EntryKind::Passed)
+    !entry_kind(entry).is_same(EntryKind::Passed)
 }
 
-fn any_missing(entries: &[Entry<Record>]) -> bool
+fn any_lost_or_undrawn_entry(entries: &[Entry<Record>]) -> bool
     ensures { result ≡ list_any spec.is_missing entries.now }
 {
-    entries.iter().any(|entry| is_missing(entry))
+    entries.iter().any(|entry| is_lost_or_undrawn_entry(entry))
 }
 
-fn any_failed(entries: &[Entry<Record>]) -> bool
+fn any_entry_other_than_passed(entries: &[Entry<Record>]) -> bool
     ensures { result ≡ list_any spec.is_failed entries.now }
 {
-    entries.iter().any(|entry| is_failed(entry))
+    entries
+        .iter()
+        .any(|entry| is_entry_other_than_passed(entry))
 }
 
 /// How a campaign ended: `Incomplete` goes before `Failed`, and that before `Passed`.
@@ -48,9 +50,9 @@ pub fn campaign_status(closed: &Closed<Record>) -> CampaignStatus
     ensures { result ≡ spec.campaign_status closed.now }
 {
     let entries = closed.entries();
-    if any_missing(entries) {
+    if any_lost_or_undrawn_entry(entries) {
         CampaignStatus::Incomplete
-    } else if any_failed(entries) {
+    } else if any_entry_other_than_passed(entries) {
         CampaignStatus::Failed
     } else {
         CampaignStatus::Passed
@@ -60,13 +62,13 @@ pub fn campaign_status(closed: &Closed<Record>) -> CampaignStatus
 fn is_lost(entry: &Entry<Record>) -> bool
     ensures { result ≡ spec.is_lost entry.now }
 {
-    kind_of(entry).is_same(EntryKind::Lost)
+    entry_kind(entry).is_same(EntryKind::Lost)
 }
 
-fn did_not_pass(entry: &Entry<Record>) -> bool
+fn is_drawn_entry_other_than_passed(entry: &Entry<Record>) -> bool
     ensures { result ≡ spec.did_not_pass entry.now }
 {
-    is_failed(entry) && !kind_of(entry).is_same(EntryKind::Undrawn)
+    is_entry_other_than_passed(entry) && !entry_kind(entry).is_same(EntryKind::Undrawn)
 }
 
 fn any_lost(entries: &[Entry<Record>]) -> bool
@@ -75,10 +77,12 @@ fn any_lost(entries: &[Entry<Record>]) -> bool
     entries.iter().any(|entry| is_lost(entry))
 }
 
-fn any_did_not_pass(entries: &[Entry<Record>]) -> bool
+fn any_drawn_entry_other_than_passed(entries: &[Entry<Record>]) -> bool
     ensures { result ≡ list_any spec.did_not_pass entries.now }
 {
-    entries.iter().any(|entry| did_not_pass(entry))
+    entries
+        .iter()
+        .any(|entry| is_drawn_entry_other_than_passed(entry))
 }
 
 /// How a campaign that may end early ended: `Incomplete` if a number is lost; else `Failed` if a trial did not pass, though
@@ -89,9 +93,9 @@ pub fn status_of_early_ended_campaign(closed: &Closed<Record>) -> CampaignStatus
     let entries = closed.entries();
     if any_lost(entries) {
         CampaignStatus::Incomplete
-    } else if any_did_not_pass(entries) {
+    } else if any_drawn_entry_other_than_passed(entries) {
         CampaignStatus::Failed
-    } else if any_missing(entries) {
+    } else if any_lost_or_undrawn_entry(entries) {
         CampaignStatus::Incomplete
     } else {
         CampaignStatus::Passed

@@ -6,7 +6,7 @@ ghost use Rattle.pst_report.specs.Text as spec;
 ghost use Rattle.pst_report.specs.Written.{WritesReport};
 
 use crate::counterexample::failure_lines;
-use crate::counts::count_lines;
+use crate::counts::entry_count_report_lines;
 use crate::fault::ReportFault;
 use crate::head::plan_lines;
 use crate::least::least_failure;
@@ -34,7 +34,7 @@ fn report_text(alloc: Global, plan: &Plan, entries: &[Entry<Record>]) -> Result<
     ensures { IfOk result (λ text. text.items ≡ spec.report_text plan.now entries.now) }
 {
     let mut text = plan_lines(alloc, plan)?.into_bytes();
-    text.extend_from_slice(count_lines(alloc, entries)?.as_bytes())?;
+    text.extend_from_slice(entry_count_report_lines(alloc, entries)?.as_bytes())?;
     text.extend_from_slice(least_lines(alloc, plan, entries)?.as_slice())?;
     Ok(text)
 }

@@ -9,7 +9,9 @@ ghost use Rattle.pst_model.specs.Parts.{types_of};
 use crate::command::CaseSearch;
 use crate::ill::ValueFault;
 use crate::results::result_types;
-use crate::value_fault::{Found, Types, ValueSearch, Wanted, after_head, fault_among, is_accepted};
+use crate::value_fault::{
+    Found, Types, ValueSearch, Wanted, after_head, first_value_fault_among_trees, is_accepted,
+};
 use pst_model::Param;
 use pst_sexpr::Form;
 use pst_value::Items;
@@ -63,7 +65,12 @@ pub fn first_argument_fault<'a>(
     if are_accepted(alloc, &search, after_head(trees), params)? {
         return Ok(None);
     }
-    if let Some(found) = fault_among(alloc, &search, trees, Types::Params(params))? {
+    if let Some(found) = first_value_fault_among_trees(
+        alloc,
+        &search,
+        trees,
+        Types::Params(params),
+    )? {
         return Ok(Some(found));
     }
     let path = Items::new(alloc);

@@ -1,9 +1,9 @@
 //! Problems of the arguments of commands.
 
 use crate::argument_fault::first_argument_fault;
-use crate::command::{CaseSearch, after_head, trees_in};
+use crate::command::{CaseSearch, after_head, node_parts_or_empty};
 use crate::ill::ValueFault;
-use crate::values::fault_problem;
+use crate::values::found_value_fault_problem;
 use pst_model::Op;
 use pst_sexpr::Form;
 use pst_syntax_problems::{
@@ -34,8 +34,13 @@ fn argument_problem(
     if found != op.params.len() {
         return argument_count_problem(alloc, path, op, found);
     }
-    let found = first_argument_fault(alloc, search, trees_in(form), op.params.as_slice())?;
-    fault_problem(alloc, search, path, found, ValueFault::Argument)
+    let found = first_argument_fault(
+        alloc,
+        search,
+        node_parts_or_empty(form),
+        op.params.as_slice(),
+    )?;
+    found_value_fault_problem(alloc, search, path, found, ValueFault::Argument)
 }
 
 /// The problem `found`, if there is one, with the declaration of `op`.

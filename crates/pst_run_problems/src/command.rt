@@ -86,7 +86,7 @@ const BRANCHES: [&str; 4] = [
 ];
 
 /// The trees in a tree.
-pub fn trees_in(form: &Form) -> &[Form]
+pub fn node_parts_or_empty(form: &Form) -> &[Form]
     ensures { result.now ≡ listed form.now }
 {
     match node_of(form) {
@@ -97,7 +97,7 @@ pub fn trees_in(form: &Form) -> &[Form]
 
 /// The trees after the head of a tree.
 pub fn after_head(form: &Form) -> &[Form] {
-    match trees_in(form).split_first() {
+    match node_parts_or_empty(form).split_first() {
         Some((_, trees)) => trees,
         None => &[],
     }
@@ -127,7 +127,7 @@ fn branch_part(form: &Form, place: usize, number: usize) -> Part<'_> {
         is_branch: true,
         place,
         branch: Some(number),
-        commands: trees_in(form),
+        commands: node_parts_or_empty(form),
     }
 }
 
@@ -171,7 +171,7 @@ fn add_parts<'a>(
 /// The parts of a case, in the order of the numbers of their commands.
 pub fn parts_of_case<'a>(alloc: Global, form: &'a Form) -> Result<Vec<Part<'a>>, AllocError> {
     let mut parts = Vec::new(alloc);
-    for (place, tree) in trees_in(form).iter().enumerate() {
+    for (place, tree) in node_parts_or_empty(form).iter().enumerate() {
         add_parts(&mut parts, tree, place)?;
     }
     Ok(parts)
@@ -207,7 +207,7 @@ pub fn command_at<'a>(parts: &[Part<'a>], command: usize) -> Option<Command<'a>>
 }
 
 /// The path to a command within its item.
-fn path_to(alloc: Global, command: &Command<'_>) -> Result<Vec<usize>, AllocError> {
+fn path_to_command(alloc: Global, command: &Command<'_>) -> Result<Vec<usize>, AllocError> {
     let place = command.part.place;
     match command.part.branch {
         Some(branch) => Vec::from_slice(alloc, &[place, branch, command.offset]),
@@ -222,7 +222,7 @@ pub fn command_with_path<'a>(
     command: usize,
 ) -> Result<Option<(Vec<usize>, &'a Form)>, AllocError> {
     match command_at(parts, command) {
-        Some(command) => Ok(Some((path_to(alloc, &command)?, command.form))),
+        Some(command) => Ok(Some((path_to_command(alloc, &command)?, command.form))),
         None => Ok(None),
     }
 }

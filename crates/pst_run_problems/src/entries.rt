@@ -7,18 +7,18 @@ ghost use Rattle.pst_value.specs.declared.ty.Ty.{Ty};
 
 use crate::ill::ValueFault;
 use crate::value_fault::Found;
-use pst_runs::{key_of, pair_of};
+use pst_runs::{key_of, map_entry_key_and_value};
 use pst_sexpr::Form;
 use pst_value::{Items, Key, KeyTy};
 use std::alloc::{AllocError, Global};
 
 /// Whether a word is `true` or `false`.
-pub fn is_truth(word: &str) -> bool {
+pub fn is_bool_word(word: &str) -> bool {
     matches!(word, "true" | "false")
 }
 
 /// The type of a key.
-fn kind_of(key: &Key) -> KeyTy
+fn type_of_map_key(key: &Key) -> KeyTy
     ensures { result ≡ spec.kind_of key.now }
 {
     match key {
@@ -29,7 +29,7 @@ fn kind_of(key: &Key) -> KeyTy
 }
 
 /// Whether two types of keys are the same.
-fn is_same(kind: KeyTy, other: KeyTy) -> bool
+fn are_same_key_types(kind: KeyTy, other: KeyTy) -> bool
     ensures { result ≡ spec.is_same kind other }
 {
     match (kind, other) {
@@ -46,7 +46,7 @@ fn is_allowed_next_map_key(wanted: Option<KeyTy>, before: &Option<Key>, key: &Op
         return false;
     };
     let is_of = match wanted {
-        Some(wanted) => is_same(kind_of(key), wanted),
+        Some(wanted) => are_same_key_types(type_of_map_key(key), wanted),
         None => true,
     };
     let is_after = match before {
@@ -73,7 +73,7 @@ fn key_before(alloc: Global, trees: &[Form], number: usize) -> Result<Option<Key
     let Some(entry) = entry_before(trees, number) else {
         return Ok(None);
     };
-    match pair_of(entry) {
+    match map_entry_key_and_value(entry) {
         Some((key, _)) => key_of(alloc, key),
         None => Ok(None),
     }
@@ -82,7 +82,7 @@ fn key_before(alloc: Global, trees: &[Form], number: usize) -> Result<Option<Key
 /// The fault of `key`, which is not greater than the key of the entry `before`, or spells no key.
 fn order_fault<'a>(key: &'a Form, before: Option<&'a Form>) -> ValueFault<'a> {
     match before {
-        Some(entry) => match pair_of(entry) {
+        Some(entry) => match map_entry_key_and_value(entry) {
             Some((before, _)) => ValueFault::Falls(key, before),
             None => ValueFault::Unnamed,
         },
@@ -91,7 +91,7 @@ fn order_fault<'a>(key: &'a Form, before: Option<&'a Form>) -> ValueFault<'a> {
 }
 
 /// The fault of the tree `key`, which spells the key `spelled` and may not come after the key `before`.
-fn key_fault<'a>(
+fn map_key_fault<'a>(
     key: &'a Form,
     wanted: Option<KeyTy>,
     before: &Option<Key>,
@@ -106,11 +106,11 @@ fn key_fault<'a>(
         };
     };
     let wanted = match before {
-        Some(before) => Some(kind_of(before)),
+        Some(before) => Some(type_of_map_key(before)),
         None => wanted,
     };
     match wanted {
-        Some(wanted) if kind_of(spelled) != wanted => ValueFault::OtherKey(key, wanted),
+        Some(wanted) if type_of_map_key(spelled) != wanted => ValueFault::OtherKey(key, wanted),
         _ => order_fault(key, entry_before),
     }
 }
@@ -138,7 +138,7 @@ fn entry_fault<'a>(
     let Some(entry) = trees.get(number) else {
         return Ok(None);
     };
-    let Some((key, _)) = pair_of(entry) else {
+    let Some((key, _)) = map_entry_key_and_value(entry) else {
         let path = Items::from_slice(alloc, &[number])?;
         let fault = not_an_entry_fault(entry);
         return Ok(Some(Found { path, fault }));
@@ -149,7 +149,7 @@ fn entry_fault<'a>(
         return Ok(None);
     }
     let path = Items::from_slice(alloc, &[number, 0])?;
-    let fault = key_fault(key, wanted, &before, &spelled, entry_before(trees, number));
+    let fault = map_key_fault(key, wanted, &before, &spelled, entry_before(trees, number));
     Ok(Some(Found { path, fault }))
 }
 

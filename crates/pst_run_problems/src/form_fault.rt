@@ -81,7 +81,7 @@ pub enum FormFault {
 }
 
 /// The parts of `form` after the word `word`, if it is a node that begins with this word.
-pub fn after_word<'a>(word: &str, form: &'a Form) -> Option<&'a [Form]>
+pub fn parts_after_head_word<'a>(word: &str, form: &'a Form) -> Option<&'a [Form]>
     ensures { option_copied result ≡ section word.now form.now }
 {
     let (first, parts) = node_of(form)?.split_first()?;
@@ -121,7 +121,7 @@ fn calls_fault(place: usize, commands: &[Form]) -> Option<FormFault>
 fn section_fault(wanted: Section, place: usize, form: &Form) -> Option<FormFault>
     ensures { result ≡ spec.section_fault wanted place form.now }
 {
-    match after_word(wanted.word(), form) {
+    match parts_after_head_word(wanted.word(), form) {
         Some(commands) => calls_fault(place, commands),
         None => Some(FormFault::OtherPart(wanted, place)),
     }
@@ -191,7 +191,7 @@ fn are_lists(forms: &[Form]) -> bool
 }
 
 /// The fault of the lists of replies of a run with these parts.
-fn lists_fault(parts: ListedParts, lists: &[Form]) -> Option<FormFault>
+fn reply_lists_fault(parts: ListedParts, lists: &[Form]) -> Option<FormFault>
     requires { parts.branches + 2 < 2 ^ 64 }
     ensures { result ≡ spec.lists_fault parts lists.now }
 {
@@ -211,8 +211,8 @@ fn replies_fault(parts: ListedParts, place: usize, form: &Form, more: &[Form]) -
     requires small { place < 2 ^ 32 }
     ensures { result ≡ spec.replies_fault parts place form.now more.now }
 {
-    match after_word(Section::Replies.word(), form) {
-        Some(lists) => extra_tree_fault(place + 1, more).or(lists_fault(parts, lists)),
+    match parts_after_head_word(Section::Replies.word(), form) {
+        Some(lists) => extra_tree_fault(place + 1, more).or(reply_lists_fault(parts, lists)),
         None => Some(FormFault::OtherPart(Section::Replies, place)),
     }
 }
@@ -249,7 +249,7 @@ fn fault_after_branches(
     ensures { result ≡ spec.rest_fault is_run branches place forms.now }
 {
     if let Some((form, more)) = forms.split_first() {
-        if let Some(commands) = after_word(Section::Suffix.word(), form) {
+        if let Some(commands) = parts_after_head_word(Section::Suffix.word(), form) {
             let parts = ListedParts {
                 branches,
                 has_suffix: true,
@@ -288,7 +288,7 @@ fn fault_after_prefix(is_run: bool, forms: &[Form]) -> Option<FormFault>
     let Some((form, more)) = forms.split_first() else {
         return Some(FormFault::Missing(Section::Left));
     };
-    match after_word("branches", form) {
+    match parts_after_head_word("branches", form) {
         Some(branches) => {
             branches_fault(branches).or(fault_after_branches(is_run, branches.len(), 3, more))
         }
@@ -313,10 +313,10 @@ fn parts_fault(is_run: bool, forms: &[Form]) -> Option<FormFault>
 pub fn form_fault(form: &Form) -> Option<FormFault>
     ensures { result ≡ spec.form_fault form.now }
 {
-    if let Some(parts) = after_word("case", form) {
+    if let Some(parts) = parts_after_head_word("case", form) {
         return parts_fault(false, parts);
     }
-    match after_word("run", form) {
+    match parts_after_head_word("run", form) {
         Some(parts) => parts_fault(true, parts),
         None => Some(FormFault::OtherHead),
     }

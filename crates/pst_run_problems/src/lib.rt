@@ -25,6 +25,8 @@ mod value_fault;
 mod values;
 mod variables;
 
-pub use command::{Part, command_with_path, find_part_of_command, parts_of_case, trees_in};
+pub use command::{
+    Part, command_with_path, find_part_of_command, node_parts_or_empty, parts_of_case,
+};
 pub use runs::run_problem;
 pub use shape::JSON_ITEM;

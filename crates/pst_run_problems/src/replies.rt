@@ -3,10 +3,10 @@ ghost use Rattle.std.specs.Prelude.{◌≡◌, ◌+◌, ◌<◌, ◌^◌, length
 ghost use Rattle.pst_run_problems.specs.ItemReplies as spec;
 ghost use Rattle.pst_runs.specs.Replies.{listed_at};
 
-use crate::command::{CaseSearch, Part, after_head, find_part_of_command, trees_in};
+use crate::command::{CaseSearch, Part, after_head, find_part_of_command, node_parts_or_empty};
 use crate::ill::{ValueFault, value_fault_problem};
 use crate::reply_fault::first_reply_fault;
-use crate::values::fault_problem;
+use crate::values::found_value_fault_problem;
 use pst_sexpr::{Form, node_of};
 use pst_syntax_problems::{
     FoundProblem, Problem, counted, has_head, problem_at, problem_with_note, with_note,
@@ -24,7 +24,7 @@ struct Reply<'a> {
 
 /// The number of the `(replies ..)` tree among the trees of a run, and its lists.
 fn find_reply_lists(form: &Form) -> Option<(usize, &[Form])> {
-    for (place, part) in trees_in(form).iter().enumerate() {
+    for (place, part) in node_parts_or_empty(form).iter().enumerate() {
         if has_head(part, "replies") {
             return Some((place, after_head(part)));
         }
@@ -37,7 +37,7 @@ fn replies_in(lists: &[Form], number: usize) -> &[Form]
     ensures { result.now ≡ listed_at lists.now number }
 {
     match lists.get(number) {
-        Some(list) => trees_in(list),
+        Some(list) => node_parts_or_empty(list),
         None => &[],
     }
 }
@@ -62,7 +62,12 @@ fn reply_count_problem(
 }
 
 /// The problem of a run with `lists` lists of replies for `parts` parts, which differ in number.
-fn list_count_problem(alloc: Global, path: &[usize], lists: usize, parts: usize) -> FoundProblem {
+fn reply_list_count_problem(
+    alloc: Global,
+    path: &[usize],
+    lists: usize,
+    parts: usize,
+) -> FoundProblem {
     let found = counted(lists, "list");
     let wanted = counted(parts, "part");
     problem_with_note(
@@ -92,7 +97,7 @@ fn first_part_with_wrong_reply_count(
 
 /// The problem of the first part with another number of replies than of commands. Each part has a list of replies.
 /// `place` is the number of the `(replies ..)` tree.
-fn list_problem(
+fn first_wrong_reply_count_problem(
     alloc: Global,
     item: usize,
     place: usize,
@@ -118,15 +123,24 @@ pub fn misfitting_replies_problem(
 ) -> FoundProblem {
     match find_reply_lists(form) {
         Some((place, lists)) if lists.len() == parts.len() => {
-            list_problem(alloc, item, place, lists, parts)
+            first_wrong_reply_count_problem(alloc, item, place, lists, parts)
         }
-        Some((place, lists)) => list_count_problem(alloc, &[item, place], lists.len(), parts.len()),
+        Some((place, lists)) => reply_list_count_problem(
+            alloc,
+            &[item, place],
+            lists.len(),
+            parts.len(),
+        ),
         None => Ok(None),
     }
 }
 
 /// The reply to command `command`, counted from 1.
-fn reply_of<'a>(form: &'a Form, parts: &[Part<'_>], command: usize) -> Option<Reply<'a>> {
+fn find_reply_to_command<'a>(
+    form: &'a Form,
+    parts: &[Part<'_>],
+    command: usize,
+) -> Option<Reply<'a>> {
     let Some((number, offset)) = find_part_of_command(parts, command) else {
         return None;
     };
@@ -160,7 +174,7 @@ fn reply_problem(
         return value_fault_problem(alloc, path, Some(other));
     }
     let found = first_reply_fault(alloc, search, form)?;
-    fault_problem(alloc, search, path, found, other)
+    found_value_fault_problem(alloc, search, path, found, other)
 }
 
 /// The problem `found`, if there is one, with a note on how replies are written.
@@ -187,7 +201,7 @@ pub fn bad_reply_problem(
     form: &Form,
     command: usize,
 ) -> FoundProblem {
-    match reply_of(form, search.parts, command) {
+    match find_reply_to_command(form, search.parts, command) {
         Some(reply) => {
             let path = [item, reply.place, reply.list, reply.offset];
             let found = reply_problem(alloc, search, &path, reply.form)?;

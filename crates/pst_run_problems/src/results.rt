@@ -3,7 +3,7 @@
 ghost use Rattle.std.specs.Prelude.{◌≡◌, ◌++◌, IfOk, map, option_copied};
 ghost use Rattle.pst_run_problems.specs.ResultTypes as spec;
 
-use crate::command::{Part, trees_in};
+use crate::command::{Part, node_parts_or_empty};
 use pst_model::{Op, Source, operation_number, operation_of};
 use pst_sexpr::{Form, word_of};
 use pst_value::{Boxed, Items, Ty};
@@ -44,7 +44,7 @@ fn operation_in<'a>(source: &'a Source, form: &Form) -> Option<&'a Op>
     ensures { option_copied result ≡ spec.operation_in source.now form.now }
 {
     let items = source.items.as_slice();
-    let (first, _) = trees_in(form).split_first()?;
+    let (first, _) = node_parts_or_empty(form).split_first()?;
     let name = word_of(first)?;
     let number = operation_number(items, name.as_bytes())?;
     operation_of(items, number)

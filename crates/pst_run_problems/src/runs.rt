@@ -29,7 +29,12 @@ fn too_many_commands_problem(
 }
 
 /// The problem of a part of item `item`, which has more than `most` commands.
-fn part_problem(alloc: Global, item: usize, part: &Part<'_>, most: usize) -> FoundProblem {
+fn too_many_commands_in_part_problem(
+    alloc: Global,
+    item: usize,
+    part: &Part<'_>,
+    most: usize,
+) -> FoundProblem {
     match part.branch {
         Some(branch) => too_many_commands_problem(alloc, &[item, part.place, branch], part, most),
         None => too_many_commands_problem(alloc, &[item, part.place], part, most),
@@ -43,7 +48,7 @@ fn over_limit_problem(alloc: Global, item: usize, parts: &[Part<'_>]) -> FoundPr
         let number = part.commands.len();
         let most = if part.is_prefix { 64 } else { 8 };
         if number > most {
-            return part_problem(alloc, item, part, most);
+            return too_many_commands_in_part_problem(alloc, item, part, most);
         }
         if part.is_branch {
             together = together.saturating_add(number);
@@ -103,7 +108,7 @@ fn bad_command_problem(
 }
 
 /// The problem of an item with the fault `fault`, if it is found.
-fn fault_problem(
+fn run_fault_problem(
     alloc: Global,
     search: &CaseSearch<'_>,
     form: &Form,
@@ -146,7 +151,7 @@ pub fn run_problem(
         source,
         parts: parts.as_slice(),
     };
-    match fault_problem(alloc, &search, form, fault)? {
+    match run_fault_problem(alloc, &search, form, fault)? {
         Some(found) => Ok(Some(found)),
         None => unlocated_problem(alloc, fault),
     }

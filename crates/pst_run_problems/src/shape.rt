@@ -1,6 +1,6 @@
 //! The form of cases and runs.
 
-use crate::command::trees_in;
+use crate::command::node_parts_or_empty;
 use crate::form_fault::{FormFault, ListedParts, form_fault};
 use crate::places::path_to_form_fault;
 use crate::shown::problem_showing_tree;
@@ -72,7 +72,9 @@ impl fmt::Display for Written {
 
 /// Whether one of the trees in `form` has the head `word`.
 fn has_part(form: &Form, word: &str) -> bool {
-    trees_in(form).iter().any(|part| has_head(part, word))
+    node_parts_or_empty(form)
+        .iter()
+        .any(|part| has_head(part, word))
 }
 
 /// The problem of the tree `tree` of the item `form`, which may not be where it is.
@@ -103,7 +105,7 @@ impl fmt::Display for ListedParts {
 }
 
 /// The problem of a run with `lists` lists of replies for the parts `parts`.
-fn list_count_problem(
+fn wrong_reply_list_count_problem(
     alloc: Global,
     path: &[usize],
     lists: usize,
@@ -126,13 +128,13 @@ fn list_count_problem(
 }
 
 /// The problem of a tree that is not written as a call.
-fn call_problem(alloc: Global, path: &[usize], tree: &Form) -> FoundProblem {
+fn not_a_call_problem(alloc: Global, path: &[usize], tree: &Form) -> FoundProblem {
     let found = problem_showing_tree(alloc, path, "", tree, " is not a call")?;
     with_note(alloc, found, "a call is `(OPERATION VALUE ..)`")
 }
 
 /// The problem of the fault `fault` of item `item`. `path` leads to its place in the item.
-fn fault_problem(
+fn item_form_fault_problem(
     alloc: Global,
     item: usize,
     form: &Form,
@@ -154,7 +156,9 @@ fn fault_problem(
             let before = format_args!("expected `({word} ..)` here, found ");
             problem_showing_tree(alloc, path, before, tree, "")
         }
-        FormFault::NoCall(_, _) | FormFault::NoBranchCall(_, _) => call_problem(alloc, path, tree),
+        FormFault::NoCall(_, _) | FormFault::NoBranchCall(_, _) => not_a_call_problem(
+            alloc, path, tree,
+        ),
         FormFault::BranchCount(count) => problem_at(
             alloc,
             path,
@@ -164,13 +168,18 @@ fn fault_problem(
             problem_at(alloc, path, "a branch is a list of calls: `(CALL ..)`")
         }
         FormFault::Misplaced(_) => misplaced_problem(alloc, path, form, tree),
-        FormFault::ListCount(lists, parts) => list_count_problem(alloc, path, lists, parts),
+        FormFault::ListCount(lists, parts) => wrong_reply_list_count_problem(
+            alloc, path, lists, parts,
+        ),
         FormFault::NoList => { problem_at(alloc, path, "the replies are lists, one for each part") }
     }
 }
 
 /// The head of items that is probably meant by `head`, as a hint.
-fn head_meant(alloc: Global, head: &str) -> Result<Option<DidYouMean<'static>>, AllocError> {
+fn nearest_item_head_hint(
+    alloc: Global,
+    head: &str,
+) -> Result<Option<DidYouMean<'static>>, AllocError> {
     let near = NearestName::to(head).or(alloc, "case", head)?;
     Ok(near.or(alloc, "run", head)?.hint())
 }
@@ -189,7 +198,7 @@ fn other_head_problem(alloc: Global, item: usize, form: &Form) -> FoundProblem {
         );
     }
     let what = format_args!("neither a case nor a run begins with `{head}`");
-    match head_meant(alloc, head)? {
+    match nearest_item_head_hint(alloc, head)? {
         Some(hint) => problem_with_note_at_part(alloc, &[item], 0, what, hint),
         None => problem_at_part(alloc, &[item], 0, what),
     }
@@ -200,7 +209,7 @@ fn form_problem(alloc: Global, item: usize, form: &Form) -> FoundProblem {
     match form_fault(form) {
         Some(fault) => {
             let place = path_to_form_fault(alloc, fault)?;
-            fault_problem(alloc, item, form, fault, place.as_slice())
+            item_form_fault_problem(alloc, item, form, fault, place.as_slice())
         }
         None => Ok(None),
     }
@@ -224,7 +233,7 @@ pub fn bad_form_problem(alloc: Global, item: usize, form: &Form) -> FoundProblem
     if looks_like_json(form) {
         return with_note(alloc, found, JSON_ITEM);
     }
-    let is_run = match head_meant(alloc, head_word(form))? {
+    let is_run = match nearest_item_head_hint(alloc, head_word(form))? {
         Some(DidYouMean(head)) => head == "run",
         None => false,
     };

@@ -7,10 +7,10 @@ ghost use Rattle.pst_value.specs.declared.key.Key.{Key};
 ghost use Rattle.pst_value.specs.declared.key.KeyTy.{KeyTy};
 
 use crate::command::{Part, result_type_of_command, variable_number};
-use crate::entries::{first_entry_fault, is_truth};
+use crate::entries::{first_entry_fault, is_bool_word};
 use crate::ill::ValueFault;
 use pst_model::{Param, Source};
-use pst_runs::{Spelling, value_of};
+use pst_runs::{Spelling, read_value};
 use pst_sexpr::{Form, is_integer, word_of};
 use pst_value::{Items, KeyTy, Ty};
 use std::alloc::{AllocError, Global};
@@ -66,12 +66,12 @@ pub fn is_accepted(
     match wanted {
         Wanted::Any => {
             let symbolic = false;
-            let value = value_of(alloc, form, Spelling { has_maps, symbolic })?;
+            let value = read_value(alloc, form, Spelling { has_maps, symbolic })?;
             Ok(value.is_some())
         }
         Wanted::Type(ty) => {
             let symbolic = true;
-            match value_of(alloc, form, Spelling { has_maps, symbolic })? {
+            match read_value(alloc, form, Spelling { has_maps, symbolic })? {
                 Some(value) => Ok(value.has_type(ty, search.results, &[])),
                 None => Ok(false),
             }
@@ -80,7 +80,7 @@ pub fn is_accepted(
 }
 
 /// Whether `word` heads the trees.
-fn heads(word: &str, trees: &[Form]) -> bool
+fn begins_with_head_word(word: &str, trees: &[Form]) -> bool
     ensures { result ≡ spec.heads word.now trees.now }
 {
     let Some((first, _)) = trees.split_first() else {
@@ -106,9 +106,9 @@ pub fn after_head(trees: &[Form]) -> &[Form]
 fn types_of_any<'a>(source: &Source, trees: &[Form]) -> Option<Types<'a>>
     ensures { option_map spec.parts_in result ≡ spec.parts_of_any source.now trees.now }
 {
-    if heads("tuple", trees) || heads("list", trees) {
+    if begins_with_head_word("tuple", trees) || begins_with_head_word("list", trees) {
         Some(Types::Same(Wanted::Any))
-    } else if source.has_maps && heads("map", trees) {
+    } else if source.has_maps && begins_with_head_word("map", trees) {
         Some(Types::Entries(None, Wanted::Any))
     } else {
         None
@@ -116,26 +116,26 @@ fn types_of_any<'a>(source: &Source, trees: &[Form]) -> Option<Types<'a>>
 }
 
 /// What the trees in a value of the type `ty` have to spell. `None` if the head or their number is wrong.
-fn types_of<'a>(ty: &'a Ty, trees: &[Form]) -> Option<Types<'a>>
+fn types_wanted_in_value_of_type<'a>(ty: &'a Ty, trees: &[Form]) -> Option<Types<'a>>
     ensures { option_map spec.parts_in result ≡ spec.parts_of_type ty.now trees.now }
 {
     match ty {
         Ty::Tuple(items) => {
-            if items.len() == after_head(trees).len() && heads("tuple", trees) {
+            if items.len() == after_head(trees).len() && begins_with_head_word("tuple", trees) {
                 Some(Types::Items(items.as_slice()))
             } else {
                 None
             }
         }
         Ty::List(item) => {
-            if heads("list", trees) {
+            if begins_with_head_word("list", trees) {
                 Some(Types::Same(Wanted::Type(item.get())))
             } else {
                 None
             }
         }
         Ty::Map(kind, value) => {
-            if heads("map", trees) {
+            if begins_with_head_word("map", trees) {
                 Some(Types::Entries(Some(*kind), Wanted::Type(value.get())))
             } else {
                 None
@@ -156,7 +156,7 @@ fn types_wanted_in_value<'a>(
 {
     match wanted {
         Wanted::Any => types_of_any(source, trees),
-        Wanted::Type(ty) => types_of(ty, trees),
+        Wanted::Type(ty) => types_wanted_in_value_of_type(ty, trees),
     }
 }
 
@@ -172,10 +172,10 @@ fn names_result(search: &ValueSearch<'_>, word: &str, wanted: &Ty) -> bool {
 }
 
 /// Whether a refused word or text is of the kind that the type `wanted` has.
-fn is_of_kind(search: &ValueSearch<'_>, form: &Form, wanted: &Ty) -> bool {
+fn looks_like_value_of_type(search: &ValueSearch<'_>, form: &Form, wanted: &Ty) -> bool {
     match (form, wanted) {
         (Form::Word(word), Ty::Int) => is_integer(word),
-        (Form::Word(word), Ty::Bool) => is_truth(word.as_str()),
+        (Form::Word(word), Ty::Bool) => is_bool_word(word.as_str()),
         (Form::Word(word), Ty::Ref(named)) => names_result(search, word.as_str(), named.get()),
         (Form::Text(_), Ty::Text) => true,
         _ => false,
@@ -191,13 +191,17 @@ fn looks_like_wanted_value(search: &ValueSearch<'_>, form: &Form, wanted: Wanted
             wanted,
         ).is_some(),
         (Form::Word(word), Wanted::Any) => is_integer(word),
-        (_, Wanted::Type(ty)) => is_of_kind(search, form, ty),
+        (_, Wanted::Type(ty)) => looks_like_value_of_type(search, form, ty),
         _ => false,
     }
 }
 
 /// The fault of a tree that is refused where `wanted` is wanted, and in which no tree is refused.
-fn fault_of<'a>(search: &ValueSearch<'_>, form: &'a Form, wanted: Wanted<'a>) -> ValueFault<'a> {
+fn value_fault_of_tree<'a>(
+    search: &ValueSearch<'_>,
+    form: &'a Form,
+    wanted: Wanted<'a>,
+) -> ValueFault<'a> {
     if looks_like_wanted_value(search, form, wanted) {
         return ValueFault::Unnamed;
     }
@@ -239,19 +243,24 @@ pub fn first_fault<'a>(
     }
     if let Form::Node(trees) = form {
         if let Some(types) = types_wanted_in_value(search.source, trees.as_slice(), wanted) {
-            if let Some(found) = fault_among(alloc, search, trees.as_slice(), types)? {
+            if let Some(found) = first_value_fault_among_trees(
+                alloc,
+                search,
+                trees.as_slice(),
+                types,
+            )? {
                 return Ok(Some(found));
             }
         }
     }
-    let fault = fault_of(search, form, wanted);
+    let fault = value_fault_of_tree(search, form, wanted);
     let path = Items::new(alloc);
     Ok(Some(Found { path, fault }))
 }
 
 /// The first fault in the trees of a value, or in those of a command. The entries and keys of a map come before its values.
 #[cycle(first_fault)]
-pub fn fault_among<'a>(
+pub fn first_value_fault_among_trees<'a>(
     alloc: Global,
     search: &ValueSearch<'_>,
     trees: &'a [Form],
@@ -267,7 +276,7 @@ pub fn fault_among<'a>(
     }
     let mut unnamed = None;
     for number in 1..trees.len() {
-        if let Some(found) = fault_at(alloc, search, trees, types, number)? {
+        if let Some(found) = value_fault_at_tree_number(alloc, search, trees, types, number)? {
             if !matches!(found.fault, ValueFault::Unnamed) {
                 return Ok(Some(found));
             }
@@ -281,7 +290,7 @@ pub fn fault_among<'a>(
 
 /// The first fault in tree `number` of a value. In an entry of a map, it checks the value only.
 #[cycle(first_fault)]
-fn fault_at<'a>(
+fn value_fault_at_tree_number<'a>(
     alloc: Global,
     search: &ValueSearch<'_>,
     trees: &'a [Form],

@@ -68,7 +68,7 @@ fn with_type_note(
 
 /// The problem of the fault `found` in the tree that `path` leads to. If the fault has no name, `other` is the fault, and
 /// it is in that tree.
-pub fn fault_problem(
+pub fn found_value_fault_problem(
     alloc: Global,
     search: &CaseSearch<'_>,
     path: &[usize],

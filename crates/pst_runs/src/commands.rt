@@ -3,8 +3,8 @@ ghost use Rattle.std.specs.Prelude.{◌≡◌, ◌++◌, IfOk, map, option_copie
 ghost use Rattle.pst_model.specs.Parts.{operation_number};
 ghost use Rattle.pst_runs.specs.Commands as spec;
 
-use crate::room::with_room;
-use crate::values::{Spelling, value_of};
+use crate::room::items_with_capacity;
+use crate::values::{Spelling, read_value};
 use pst_case::Command;
 use pst_model::{Typed, operation_number};
 use pst_sexpr::{Form, node_of, word_of};
@@ -53,10 +53,10 @@ fn arguments_of(alloc: Global, typed: &Typed, forms: &[Form]) -> Result<Argument
         args.are_all ≡ spec.are_present (spec.arguments_of typed.now forms.now)) }
 {
     let spelling = Spelling::of_arguments(typed);
-    let mut values = with_room(alloc, forms.len())?;
+    let mut values = items_with_capacity(alloc, forms.len())?;
     let mut are_all = true;
     for form in forms {
-        match value_of(alloc, form, spelling)? {
+        match read_value(alloc, form, spelling)? {
             Some(value) => values.push(value)?,
             None => are_all = false,
         }
@@ -64,7 +64,7 @@ fn arguments_of(alloc: Global, typed: &Typed, forms: &[Form]) -> Result<Argument
     Ok(Arguments { values, are_all })
 }
 
-fn command_of(
+fn read_command(
     alloc: Global,
     typed: &Typed,
     form: &Form,
@@ -100,9 +100,9 @@ pub fn commands_of(
 ) -> Result<Option<Items<SpelledCommand>>, AllocError>
     ensures { IfOk result (λ commands. commands ≡ spec.commands_of typed.now forms.now) }
 {
-    let mut commands = with_room(alloc, forms.len())?;
+    let mut commands = items_with_capacity(alloc, forms.len())?;
     for form in forms {
-        let Some(command) = command_of(alloc, typed, form)? else {
+        let Some(command) = read_command(alloc, typed, form)? else {
             return Ok(None);
         };
         commands.push(command)?;

@@ -2,13 +2,13 @@
 ghost use Rattle.std.specs.Prelude.{◌≡◌, IfOk, MatchOption, None, Some};
 ghost use Rattle.pst_runs.specs.Values as spec;
 
-use crate::room::with_room;
+use crate::room::items_with_capacity;
 use pst_sexpr::{Form, integer_of, node_of};
 use pst_value::{Items, Key, Text};
 use std::alloc::{AllocError, Global};
 
 /// Returns the key and the value of an entry `(k v)`, as trees.
-pub fn pair_of(entry: &Form) -> Option<(&Form, &Form)>
+pub fn map_entry_key_and_value(entry: &Form) -> Option<(&Form, &Form)>
     ensures { MatchOption result (spec.pair_of entry.now ≡ None)
         (λ pair. spec.pair_of entry.now ≡ Some (pair.0.now, pair.1.now)) }
 {
@@ -19,7 +19,7 @@ pub fn pair_of(entry: &Form) -> Option<(&Form, &Form)>
 }
 
 #[tactic(auto, unfolding(crate::specs::Values::key_word))]
-fn key_word(word: &Text) -> Option<Key>
+fn map_key_from_word(word: &Text) -> Option<Key>
     ensures { result ≡ spec.key_word word.now }
 {
     if word.as_str() == "true" {
@@ -37,7 +37,7 @@ pub fn key_of(alloc: Global, form: &Form) -> Result<Option<Key>, AllocError>
     ensures { IfOk result (λ key. key ≡ spec.key_of form.now) }
 {
     match form {
-        Form::Word(word) => Ok(key_word(word)),
+        Form::Word(word) => Ok(map_key_from_word(word)),
         Form::Text(text) => Ok(Some(Key::Text(text.copy(alloc)?))),
         Form::Node(_) => Ok(None),
     }
@@ -47,9 +47,9 @@ pub fn key_of(alloc: Global, form: &Form) -> Result<Option<Key>, AllocError>
 pub fn keys_of(alloc: Global, entries: &[Form]) -> Result<Option<Items<Key>>, AllocError>
     ensures { IfOk result (λ keys. keys ≡ spec.each spec.entry_key entries.now) }
 {
-    let mut keys = with_room(alloc, entries.len())?;
+    let mut keys = items_with_capacity(alloc, entries.len())?;
     for entry in entries {
-        let Some((key, _)) = pair_of(entry) else {
+        let Some((key, _)) = map_entry_key_and_value(entry) else {
             return Ok(None);
         };
         let Some(key) = key_of(alloc, key)? else {

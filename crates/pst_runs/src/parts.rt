@@ -6,7 +6,7 @@ ghost use Rattle.pst_runs.specs.Shown.{shown_option, shown_sections};
 ghost use Rattle.pst_sexpr.specs.Parts.{node_of};
 
 use crate::commands::{SpelledCase, SpelledCommand, commands_of};
-use crate::room::with_room;
+use crate::room::items_with_capacity;
 use pst_model::Typed;
 use pst_sexpr::{Form, node_of, word_of};
 use pst_value::Items;
@@ -67,7 +67,7 @@ fn branch_of(
 }
 
 /// The branches `(left ..)` and `(right ..)`.
-fn two_branches(
+fn read_left_and_right_branches(
     alloc: Global,
     typed: &Typed,
     left: &Form,
@@ -81,7 +81,7 @@ fn two_branches(
     let Some(right) = section_commands(alloc, typed, "right", right)? else {
         return Ok(None);
     };
-    let mut branches = with_room(alloc, 2)?;
+    let mut branches = items_with_capacity(alloc, 2)?;
     branches.push(left)?;
     branches.push(right)?;
     Ok(Some(branches))
@@ -93,7 +93,7 @@ fn are_two_to_four(forms: &[Form]) -> bool
     2 <= forms.len() && forms.len() <= 4
 }
 
-fn each_branch(
+fn read_two_to_four_branches(
     alloc: Global,
     typed: &Typed,
     forms: &[Form],
@@ -103,7 +103,7 @@ fn each_branch(
     if !are_two_to_four(forms) {
         return Ok(None);
     }
-    let mut branches = with_room(alloc, forms.len())?;
+    let mut branches = items_with_capacity(alloc, forms.len())?;
     for form in forms {
         let Some(branch) = branch_of(alloc, typed, form)? else {
             return Ok(None);
@@ -121,9 +121,9 @@ fn branches_of(
     ensures { IfOk result (λ branches. branches ≡ spec.branches_of typed.now forms.now) }
 {
     match forms {
-        [left, right] => two_branches(alloc, typed, left, right),
+        [left, right] => read_left_and_right_branches(alloc, typed, left, right),
         [branches] => match parts_of_headed_node("branches", branches) {
-            Some(forms) => each_branch(alloc, typed, forms),
+            Some(forms) => read_two_to_four_branches(alloc, typed, forms),
             None => Ok(None),
         },
         _ => Ok(None),
@@ -132,7 +132,7 @@ fn branches_of(
 
 /// Returns the trees before the last one, and the last one.
 #[tactic(auto, using(crate::proofs::Last::last))]
-fn front_and_last(parts: &[Form]) -> Option<(&[Form], &Form)>
+fn split_last_tree(parts: &[Form]) -> Option<(&[Form], &Form)>
     ensures { MatchOption result (spec.front_and_last parts.now ≡ None)
         (λ p. spec.front_and_last parts.now ≡ Some (p.0.now, p.1.now)) }
 {
@@ -144,7 +144,7 @@ fn front_and_last(parts: &[Form]) -> Option<(&[Form], &Form)>
 fn sections_of(parts: &[Form]) -> Sections<'_>
     ensures { shown_sections result ≡ spec.sections_of parts.now }
 {
-    if let Some((front, last)) = front_and_last(parts) {
+    if let Some((front, last)) = split_last_tree(parts) {
         if let Some(suffix) = parts_of_headed_node("suffix", last) {
             return Sections {
                 front,
@@ -171,7 +171,7 @@ fn suffix_of(
     }
 }
 
-fn case_of(
+fn read_spelled_case(
     alloc: Global,
     typed: &Typed,
     sections: &Sections<'_>,
@@ -204,7 +204,7 @@ fn is_node(form: &Form) -> bool
 }
 
 /// Returns whether there is a list for each part: the prefix, each branch, and the suffix if it is written.
-fn is_number_of_parts(lists: usize, sections: &Sections<'_>, case: &SpelledCase) -> bool
+fn has_reply_list_for_each_part(lists: usize, sections: &Sections<'_>, case: &SpelledCase) -> bool
     ensures { result ≡ spec.is_number_of_parts lists (shown_sections sections.now) case.now }
 {
     match sections.suffix {
@@ -227,7 +227,7 @@ fn with_replies<'a>(
     ensures { shown_option result ≡ spec.with_replies form.now (shown_sections sections.now) read }
 {
     let lists = parts_of_headed_node("replies", form)?;
-    if is_number_of_parts(lists.len(), sections, &read) && are_nodes(lists) {
+    if has_reply_list_for_each_part(lists.len(), sections, &read) && are_nodes(lists) {
         Some(ItemParts {
             read,
             replies: Some(lists),
@@ -244,7 +244,7 @@ fn case_parts<'a>(
 ) -> Result<Option<ItemParts<'a>>, AllocError>
     ensures { IfOk result (λ item. shown_option item ≡ spec.case_parts typed.now parts.now) }
 {
-    let Some(read) = case_of(alloc, typed, &sections_of(parts))? else {
+    let Some(read) = read_spelled_case(alloc, typed, &sections_of(parts))? else {
         return Ok(None);
     };
     Ok(Some(ItemParts {
@@ -253,18 +253,18 @@ fn case_parts<'a>(
     }))
 }
 
-fn run_parts<'a>(
+fn read_run_item_parts<'a>(
     alloc: Global,
     typed: &Typed,
     parts: &'a [Form],
 ) -> Result<Option<ItemParts<'a>>, AllocError>
     ensures { IfOk result (λ item. shown_option item ≡ spec.run_parts typed.now parts.now) }
 {
-    let Some((front, replies)) = front_and_last(parts) else {
+    let Some((front, replies)) = split_last_tree(parts) else {
         return Ok(None);
     };
     let sections = sections_of(front);
-    let Some(read) = case_of(alloc, typed, &sections)? else {
+    let Some(read) = read_spelled_case(alloc, typed, &sections)? else {
         return Ok(None);
     };
     Ok(with_replies(replies, &sections, read))
@@ -272,7 +272,7 @@ fn run_parts<'a>(
 
 /// Returns the case of an item with its lists of replies. `None` if the tree does not have the form of an item.
 #[tactic(auto, unfolding(crate::specs::Forms::parts_of))]
-pub fn parts_of<'a>(
+pub fn read_item_parts<'a>(
     alloc: Global,
     typed: &Typed,
     form: &'a Form,
@@ -292,7 +292,7 @@ pub fn parts_of<'a>(
         return case_parts(alloc, typed, parts);
     }
     if head.as_str() == "run" {
-        return run_parts(alloc, typed, parts);
+        return read_run_item_parts(alloc, typed, parts);
     }
     Ok(None)
 }

@@ -4,8 +4,8 @@ ghost use Rattle.pst_runs.specs.Items as spec;
 ghost use Rattle.pst_runs.specs.Lawful.{AreLawful};
 
 use crate::fault::{ItemFault, RunFault, RunFaultKind};
-use crate::parts::{ItemParts, parts_of};
-use crate::reading::shaped_of;
+use crate::parts::{ItemParts, read_item_parts};
+use crate::reading::shape_spelled_case;
 use crate::replies::{history_of, reply_counts_match};
 use pst_case::{Run, Shaped};
 use pst_model::Typed;
@@ -14,7 +14,7 @@ use std::alloc::{AllocError, Global};
 
 /// Returns the run of a shaped case and its lists of replies, or its first fault.
 #[tactic(auto, using(crate::proofs::Limits::limits))]
-fn run_of(
+fn run_of_shaped_case_and_replies(
     alloc: Global,
     typed: &Typed,
     shaped: Shaped,
@@ -50,15 +50,15 @@ fn run_of(
 fn read_run(alloc: Global, typed: &Typed, form: &Form) -> Result<Result<Run, ItemFault>, AllocError>
     ensures { IfOk result (λ run. run ≡ spec.item_of typed.now form.now) }
 {
-    let Some(parts) = parts_of(alloc, typed, form)? else {
+    let Some(parts) = read_item_parts(alloc, typed, form)? else {
         return Ok(Err(ItemFault {
             kind: RunFaultKind::BadForm,
             command: 0,
         }));
     };
     let ItemParts { read, replies } = parts;
-    match shaped_of(alloc, typed, read)? {
-        Ok(shaped) => run_of(alloc, typed, shaped, replies),
+    match shape_spelled_case(alloc, typed, read)? {
+        Ok(shaped) => run_of_shaped_case_and_replies(alloc, typed, shaped, replies),
         Err(fault) => Ok(Err(ItemFault {
             kind: RunFaultKind::Case(fault.kind),
             command: fault.command,

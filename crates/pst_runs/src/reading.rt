@@ -4,7 +4,7 @@ ghost use Rattle.pst_case.specs.Shape.{joined};
 ghost use Rattle.pst_runs.specs.Reading as spec;
 
 use crate::commands::{SpelledCase, SpelledCommand};
-use crate::room::with_room;
+use crate::room::items_with_capacity;
 use pst_case::{
     Case, CaseFault, CaseFaultKind, Command, Shaped, are_over_limit, joined_len, shape,
 };
@@ -19,7 +19,7 @@ fn readable_part(
 ) -> Result<Items<Command>, AllocError>
     ensures { IfOk result (λ readable. readable ≡ spec.readable_part commands) }
 {
-    let mut readable = with_room(alloc, commands.len())?;
+    let mut readable = items_with_capacity(alloc, commands.len())?;
     for command in commands.into_vec() {
         match command {
             SpelledCommand::Whole(command) => readable.push(command)?,
@@ -36,7 +36,7 @@ fn readable_branches(
 ) -> Result<Items<Items<Command>>, AllocError>
     ensures { IfOk result (λ readable. readable ≡ map spec.readable_part branches) }
 {
-    let mut readable = with_room(alloc, branches.len())?;
+    let mut readable = items_with_capacity(alloc, branches.len())?;
     for branch in branches.into_vec() {
         readable.push(readable_part(alloc, branch)?)?;
     }
@@ -71,7 +71,7 @@ fn fault_of_unreadable_command(command: &SpelledCommand) -> Option<CaseFaultKind
 }
 
 /// Returns the fault of the first command that cannot be read whole. The commands are numbered from `number` on.
-fn part_unread(number: u32, commands: &[SpelledCommand]) -> Option<CaseFault>
+fn unreadable_part_fault(number: u32, commands: &[SpelledCommand]) -> Option<CaseFault>
     requires { number + length commands.now < 2 ^ 32 }
     ensures { result ≡ spec.part_unread number commands.now }
 {
@@ -81,7 +81,7 @@ fn part_unread(number: u32, commands: &[SpelledCommand]) -> Option<CaseFault>
             kind,
             command: number,
         }),
-        None => part_unread(number + 1, commands),
+        None => unreadable_part_fault(number + 1, commands),
     }
 }
 
@@ -91,7 +91,7 @@ fn branches_unread(before: u32, branches: &[Items<SpelledCommand>]) -> Option<Ca
     ensures { result ≡ spec.branches_unread before branches.now }
 {
     let (branch, branches) = branches.split_first()?;
-    match part_unread(before + 1, branch.as_slice()) {
+    match unreadable_part_fault(before + 1, branch.as_slice()) {
         Some(fault) => Some(fault),
         None => branches_unread(before + branch.len() as u32, branches),
     }
@@ -105,13 +105,13 @@ fn case_unread(case: &SpelledCase) -> Option<CaseFault>
 {
     let branches = case.branches.as_slice();
     let prefix = case.prefix.len() as u32;
-    if let Some(fault) = part_unread(1, case.prefix.as_slice()) {
+    if let Some(fault) = unreadable_part_fault(1, case.prefix.as_slice()) {
         return Some(fault);
     }
     if let Some(fault) = branches_unread(prefix, branches) {
         return Some(fault);
     }
-    part_unread(prefix + joined_len(branches) + 1, case.suffix.as_slice())
+    unreadable_part_fault(prefix + joined_len(branches) + 1, case.suffix.as_slice())
 }
 
 fn is_over_limit(case: &SpelledCase) -> bool
@@ -125,7 +125,7 @@ fn is_over_limit(case: &SpelledCase) -> bool
 }
 
 /// Returns whether the fault `fault_of_unreadable_command` comes before the fault `shape`.
-fn comes_before(unread: &CaseFault, shape: &CaseFault) -> bool
+fn unreadable_fault_comes_first(unread: &CaseFault, shape: &CaseFault) -> bool
     ensures { result ≡ spec.comes_before unread.now shape.now }
 {
     unread.command < shape.command || (unread.command == shape.command && is_unknown(unread.kind))
@@ -150,7 +150,7 @@ fn earlier_case_fault(unread: Option<CaseFault>, shape: CaseFault) -> CaseFault
     ensures { Some result ≡ spec.first_of unread (Some shape) }
 {
     match unread {
-        Some(unread) => if comes_before(&unread, &shape) {
+        Some(unread) => if unreadable_fault_comes_first(&unread, &shape) {
             unread
         } else {
             shape
@@ -160,7 +160,7 @@ fn earlier_case_fault(unread: Option<CaseFault>, shape: CaseFault) -> CaseFault
 }
 
 /// Returns the shaped case that `case` spells, or its first fault.
-pub fn shaped_of(
+pub fn shape_spelled_case(
     alloc: Global,
     typed: &Typed,
     case: SpelledCase,

@@ -4,8 +4,8 @@ ghost use Rattle.pst_case.specs.Shape.{before_suffix, joined};
 ghost use Rattle.pst_runs.specs.Replies as spec;
 ghost use Rattle.pst_sexpr.specs.Parts.{word_of};
 
-use crate::room::with_room;
-use crate::values::{Spelling, value_of};
+use crate::room::items_with_capacity;
+use crate::values::{Spelling, read_value};
 use pst_case::{Case, Command, History, Reply, joined_len};
 use pst_model::Typed;
 use pst_sexpr::{Form, node_of, word_of};
@@ -13,7 +13,7 @@ use pst_value::{Items, Value};
 use std::alloc::{AllocError, Global};
 
 /// Returns the trees of a list, or no trees if `form` is no list.
-fn listed(form: &Form) -> &[Form]
+fn trees_of_list(form: &Form) -> &[Form]
     ensures { result.now ≡ spec.listed form.now }
 {
     match node_of(form) {
@@ -27,7 +27,7 @@ fn listed_at(lists: &[Form], number: usize) -> &[Form]
     ensures { result.now ≡ spec.listed_at lists.now number }
 {
     match lists.get(number) {
-        Some(list) => listed(list),
+        Some(list) => trees_of_list(list),
         None => &[],
     }
 }
@@ -47,7 +47,7 @@ fn reply_word(form: &Form) -> Option<Reply>
     }
 }
 
-fn answered(typed: &Typed, command: &Command, value: Value) -> Reply
+fn value_or_misfit_reply(typed: &Typed, command: &Command, value: Value) -> Reply
     ensures { result ≡ spec.answered typed.now command.now value }
 {
     if command.admits(typed, &value) {
@@ -59,7 +59,7 @@ fn answered(typed: &Typed, command: &Command, value: Value) -> Reply
 
 /// The reply to a command that a tree spells.
 #[tactic(auto, unfolding(crate::specs::Replies::reply_of))]
-fn reply_of(
+fn read_reply(
     alloc: Global,
     typed: &Typed,
     command: &Command,
@@ -70,8 +70,8 @@ fn reply_of(
     if let Some(reply) = reply_word(form) {
         return Ok(Some(reply));
     }
-    match value_of(alloc, form, Spelling::of_replies(typed))? {
-        Some(value) => Ok(Some(answered(typed, command, value))),
+    match read_value(alloc, form, Spelling::of_replies(typed))? {
+        Some(value) => Ok(Some(value_or_misfit_reply(typed, command, value))),
         None => Ok(None),
     }
 }
@@ -96,7 +96,7 @@ fn read_remaining_replies(
     let Some((form, forms)) = forms.split_first() else {
         return Ok(Ok(read));
     };
-    let Some(reply) = reply_of(alloc, typed, command, form)? else {
+    let Some(reply) = read_reply(alloc, typed, command, form)? else {
         return Ok(Err(number));
     };
     read.push(reply)?;
@@ -117,7 +117,7 @@ fn part_replies(
     ensures { IfOk result (λ replies.
         replies ≡ spec.part_replies typed.now number commands.now forms.now) }
 {
-    let read = with_room(alloc, commands.len())?;
+    let read = items_with_capacity(alloc, commands.len())?;
     read_remaining_replies(alloc, typed, number, read, commands, forms)
 }
 
@@ -142,7 +142,13 @@ fn read_remaining_branch_replies(
     let Some((list, lists)) = lists.split_first() else {
         return Ok(Ok(read));
     };
-    match part_replies(alloc, typed, before + 1, branch.as_slice(), listed(list))? {
+    match part_replies(
+        alloc,
+        typed,
+        before + 1,
+        branch.as_slice(),
+        trees_of_list(list),
+    )? {
         Ok(replies) => {
             read.push(replies)?;
             let before = before + branch.len() as u32;
@@ -171,12 +177,12 @@ pub fn history_of(
     };
     let branches = case.branches.as_slice();
     let commands = case.prefix.as_slice();
-    let prefix = match part_replies(alloc, typed, 1, commands, listed(list))? {
+    let prefix = match part_replies(alloc, typed, 1, commands, trees_of_list(list))? {
         Ok(replies) => replies,
         Err(number) => return Ok(Err(number)),
     };
     let before = commands.len() as u32;
-    let read = with_room(alloc, branches.len())?;
+    let read = items_with_capacity(alloc, branches.len())?;
     let branch_replies = match read_remaining_branch_replies(
         alloc, typed, before, read, branches, lists,
     )? {
@@ -203,7 +209,7 @@ fn branch_reply_counts_match(branches: &[Items<Command>], lists: &[Form]) -> boo
     };
     match lists.split_first() {
         Some((list, lists)) => {
-            listed(list).len() == branch.len() && branch_reply_counts_match(branches, lists)
+            trees_of_list(list).len() == branch.len() && branch_reply_counts_match(branches, lists)
         }
         None => false,
     }
@@ -215,7 +221,7 @@ pub fn reply_counts_match(case: &Case, lists: &[Form]) -> bool
 {
     match lists.split_first() {
         Some((list, lists)) => {
-            listed(list).len() == case.prefix.len()
+            trees_of_list(list).len() == case.prefix.len()
                 && branch_reply_counts_match(case.branches.as_slice(), lists)
                 && listed_at(lists, case.branches.len()).len() == case.suffix.len()
         }

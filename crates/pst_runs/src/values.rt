@@ -2,8 +2,8 @@
 ghost use Rattle.std.specs.Prelude.{◌≡◌, IfOk};
 ghost use Rattle.pst_runs.specs.Values as spec;
 
-use crate::keys::{keys_of, pair_of};
-use crate::room::with_room;
+use crate::keys::{keys_of, map_entry_key_and_value};
+use crate::room::items_with_capacity;
 use pst_model::Typed;
 use pst_sexpr::{Form, MAX_LEVELS, are_digits, integer_of, magnitude_of, word_of};
 use pst_value::{Boxed, Items, Text, Value, rising};
@@ -147,7 +147,7 @@ fn values_in(
 ) -> Result<Option<Items<Value>>, AllocError>
     ensures { IfOk result (λ values. values ≡ spec.each (spec.value_in spelling room) forms.now) }
 {
-    let mut values = with_room(alloc, forms.len())?;
+    let mut values = items_with_capacity(alloc, forms.len())?;
     for form in forms {
         let Some(value) = value_in(alloc, form, spelling, room)? else {
             return Ok(None);
@@ -190,9 +190,9 @@ fn entry_values(
     ensures { IfOk result (λ values.
         values ≡ spec.each (spec.entry_value (spec.value_in spelling room)) entries.now) }
 {
-    let mut values = with_room(alloc, entries.len())?;
+    let mut values = items_with_capacity(alloc, entries.len())?;
     for entry in entries {
-        let Some((_, form)) = pair_of(entry) else {
+        let Some((_, form)) = map_entry_key_and_value(entry) else {
             return Ok(None);
         };
         let Some(value) = value_in(alloc, form, spelling, room)? else {
@@ -204,7 +204,11 @@ fn entry_values(
 }
 
 /// Returns the value that a tree spells, with at most `MAX_LEVELS` levels. It contains only what `spelling` allows.
-pub fn value_of(alloc: Global, form: &Form, spelling: Spelling) -> Result<Option<Value>, AllocError>
+pub fn read_value(
+    alloc: Global,
+    form: &Form,
+    spelling: Spelling,
+) -> Result<Option<Value>, AllocError>
     ensures { IfOk result (λ value. value ≡ spec.value_of spelling form.now) }
 {
     value_in(alloc, form, spelling, MAX_LEVELS)

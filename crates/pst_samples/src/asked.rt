@@ -7,7 +7,7 @@ use pst_system::RealCall;
 use pst_value::Value;
 
 /// Whether the call has that name and no arguments.
-pub fn is_bare(call: &RealCall, name: &str) -> bool
+pub fn is_call_without_arguments(call: &RealCall, name: &str) -> bool
     ensures { IsTrue result ↔ IsBare name.now call.now }
 {
     call.name.as_str() == name && call.args.is_empty()
@@ -27,7 +27,7 @@ pub fn integer_argument_of(call: &RealCall, name: &str) -> Option<i64>
 }
 
 /// The side that `meet 1` or `meet 2` names.
-pub fn side_of(call: &RealCall) -> Option<Side>
+pub fn side_of_meet_call(call: &RealCall) -> Option<Side>
     ensures { MatchOption result (IsMeet call.now → ⊥) (λ _. IsMeet call.now) }
 {
     match integer_argument_of(call, "meet") {

@@ -3,7 +3,7 @@ ghost use Rattle.std.specs.Prelude.{◌≡◌, MatchResult};
 ghost use Rattle.pst_samples.specs.Calls.{IsInt};
 ghost use Rattle.pst_system.specs.declared.call.CallFault.TheVariants.{Refused};
 
-use crate::asked::is_bare;
+use crate::asked::is_call_without_arguments;
 use pst_system::{CallFault, RealCall, System};
 use pst_value::Value;
 use std::sync::{Mutex, Wait};
@@ -53,11 +53,11 @@ impl<R: Wait + Drop + Send + Sync> System for Counter<R> {
     }
 
     fn call(&self, call: &RealCall) -> Result<Value, CallFault> {
-        if is_bare(call, "get") {
+        if is_call_without_arguments(call, "get") {
             let number = *self.number.lock(&self.rt);
             return Ok(Value::Int(number));
         }
-        if is_bare(call, "inc") {
+        if is_call_without_arguments(call, "inc") {
             return self.increment();
         }
         Err(CallFault::Refused)

@@ -1,5 +1,5 @@
 //! The system `meet`.
-use crate::asked::side_of;
+use crate::asked::side_of_meet_call;
 use crate::flags::Flags;
 use pst_system::{CallFault, RealCall, System};
 use pst_value::Value;
@@ -36,7 +36,7 @@ impl System for Meet {
     }
 
     fn call(&self, call: &RealCall) -> Result<Value, CallFault> {
-        match side_of(call) {
+        match side_of_meet_call(call) {
             Some(side) => Ok(Value::Bool(self.flags.meet(side))),
             None => Err(CallFault::Refused),
         }

@@ -1,5 +1,5 @@
 //! A system that meets another.
-use crate::asked::side_of;
+use crate::asked::side_of_meet_call;
 use crate::flags::{Flags, Side};
 use pst_system::{CallFault, RealCall, System};
 use pst_value::Value;
@@ -38,7 +38,7 @@ impl System for Pair {
     }
 
     fn call(&self, call: &RealCall) -> Result<Value, CallFault> {
-        match side_of(call) {
+        match side_of_meet_call(call) {
             Some(_) => Ok(Value::Bool(self.flags.meet(self.side))),
             None => Err(CallFault::Refused),
         }

@@ -2,7 +2,7 @@
 ghost use Rattle.std.specs.Prelude.{◌≡◌, MatchResult, IfOk};
 ghost use Rattle.pst_samples.specs.Calls.{AreAtMostOneInt};
 
-use crate::asked::{integer_argument_of, is_bare};
+use crate::asked::{integer_argument_of, is_call_without_arguments};
 use pst_system::{CallFault, RealCall, System};
 use pst_value::{Items, Value};
 use std::alloc::{AllocError, Global};
@@ -72,7 +72,7 @@ impl<R: Wait + Drop + Send + Sync> System for Queue<R> {
     }
 
     fn call(&self, call: &RealCall) -> Result<Value, CallFault> {
-        if is_bare(call, "take") {
+        if is_call_without_arguments(call, "take") {
             return match self.take_oldest() {
                 Ok(items) => Ok(Value::List(items)),
                 Err(AllocError) => Err(CallFault::NoMemory),

@@ -3,7 +3,7 @@ ghost use Rattle.std.specs.Prelude.{◌≡◌, MatchResult};
 ghost use Rattle.pst_samples.specs.Calls.{IsInt};
 ghost use Rattle.pst_system.specs.declared.call.CallFault.TheVariants.{Refused};
 
-use crate::asked::is_bare;
+use crate::asked::is_call_without_arguments;
 use pst_system::{CallFault, RealCall, System};
 use pst_value::Value;
 use std::sync::atomic::{AtomicI64, Ordering};
@@ -53,10 +53,10 @@ impl System for Racy {
     }
 
     fn call(&self, call: &RealCall) -> Result<Value, CallFault> {
-        if is_bare(call, "get") {
+        if is_call_without_arguments(call, "get") {
             return Ok(Value::Int(self.number.load(Ordering::SeqCst)));
         }
-        if is_bare(call, "inc") {
+        if is_call_without_arguments(call, "inc") {
             return self.increment();
         }
         Err(CallFault::Refused)

@@ -3,7 +3,7 @@ ghost use Rattle.std.specs.Prelude.{◌≡◌, MatchResult};
 ghost use Rattle.pst_samples.specs.Calls.{IsInt};
 ghost use Rattle.pst_system.specs.declared.call.CallFault.TheVariants.{NoMemory};
 
-use crate::asked::{integer_argument_of, is_bare};
+use crate::asked::{integer_argument_of, is_call_without_arguments};
 use pst_system::{CallFault, RealCall, System};
 use pst_value::Value;
 use std::alloc::Global;
@@ -81,7 +81,7 @@ impl<R: Wait + Drop + Send + Sync> System for Registry<R> {
     }
 
     fn call(&self, call: &RealCall) -> Result<Value, CallFault> {
-        if is_bare(call, "new") {
+        if is_call_without_arguments(call, "new") {
             return self.open_number();
         }
         if let Some(number) = integer_argument_of(call, "close") {

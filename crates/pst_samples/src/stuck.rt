@@ -1,5 +1,5 @@
 //! The system `stuck`.
-use crate::asked::is_bare;
+use crate::asked::is_call_without_arguments;
 use pst_system::{CallFault, RealCall, System};
 use pst_value::Value;
 
@@ -21,7 +21,7 @@ impl System for Stuck {
     }
 
     fn call(&self, call: &RealCall) -> Result<Value, CallFault> {
-        if is_bare(call, "inc") || is_bare(call, "get") {
+        if is_call_without_arguments(call, "inc") || is_call_without_arguments(call, "get") {
             Ok(Value::Int(0))
         } else {
             Err(CallFault::Refused)

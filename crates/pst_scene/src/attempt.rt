@@ -6,7 +6,7 @@ ghost use Rattle.pst_eval.specs.Meaning as spec;
 ghost use Rattle.pst_scene.specs.Outcomes.{outcome_at};
 ghost use Rattle.pst_scene.specs.Parts.{Attempts, AttemptsAll, NamedIn};
 
-use crate::binding::bindings_of;
+use crate::binding::bindings_of_environment;
 use crate::faulty::FaultyPart;
 use pst_eval::{Context, Env, eval};
 use pst_model::{Clause, Expr, Fun, Item};
@@ -64,7 +64,7 @@ pub fn try_evaluate(
 }
 
 /// Evaluates expressions from left to right.
-pub fn attempt_all<'a>(
+pub fn try_evaluate_all<'a>(
     exprs: &'a [Expr],
     context: &Context<'_>,
     env: &Env<'_>,
@@ -87,7 +87,7 @@ pub fn attempt_all<'a>(
     Ok(TriedAll::Give(values, left))
 }
 
-fn split_last(items: &[Item]) -> Option<(&Item, &[Item])>
+fn split_last_item(items: &[Item]) -> Option<(&Item, &[Item])>
     ensures { MatchOption result (reverse items.now ≡ [])
         (λ p. reverse items.now ≡ p.0.now ∷ reverse p.1.now) }
 {
@@ -95,30 +95,30 @@ fn split_last(items: &[Item]) -> Option<(&Item, &[Item])>
 }
 
 /// The first clause, and the others.
-pub fn split_first(clauses: &[Clause]) -> Option<(&Clause, &[Clause])>
+pub fn split_first_clause(clauses: &[Clause]) -> Option<(&Clause, &[Clause])>
     ensures { MatchOption result (clauses.now ≡ []) (λ p. clauses.now ≡ p.0.now ∷ p.1.now) }
 {
     clauses.split_first()
 }
 
 /// The last function called `name`, and the items before it.
-pub fn function_named<'a>(items: &'a [Item], name: &[u8]) -> Option<(&'a Fun, &'a [Item])>
+pub fn last_function_named<'a>(items: &'a [Item], name: &[u8]) -> Option<(&'a Fun, &'a [Item])>
     ensures { MatchOption result (Unit {0}) (λ p. NamedIn items.now name.now p.0.now p.1.now) }
 {
-    let (last, earlier) = split_last(items)?;
+    let (last, earlier) = split_last_item(items)?;
     match last {
         Item::Fun(fun) => {
             if fun.name.as_bytes() == name {
                 return Some((fun, earlier));
             }
-            function_named(earlier, name)
+            last_function_named(earlier, name)
         }
-        _ => function_named(earlier, name),
+        _ => last_function_named(earlier, name),
     }
 }
 
 /// The expression itself, with its names.
-pub fn faulty_part_here<'a>(
+pub fn whole_expression_as_faulty_part<'a>(
     expr: &'a Expr,
     site: &Site<'a>,
     env: &Env<'_>,
@@ -132,6 +132,6 @@ pub fn faulty_part_here<'a>(
         function: site.function,
         earlier: site.context.earlier,
         turns,
-        names: bindings_of(site.context.alloc, env)?,
+        names: bindings_of_environment(site.context.alloc, env)?,
     })
 }

@@ -18,7 +18,7 @@ pub struct Binding {
 }
 
 /// Copies `name` and its value.
-fn binding_of(alloc: Global, name: &[u8], value: &Value) -> Result<Binding, AllocError>
+fn copy_as_binding(alloc: Global, name: &[u8], value: &Value) -> Result<Binding, AllocError>
     ensures name { IfOk result (λ b. b.name ≡ name.now) }
     ensures value { IfOk result (λ b. b.value ≡ value.now) }
 {
@@ -29,7 +29,7 @@ fn binding_of(alloc: Global, name: &[u8], value: &Value) -> Result<Binding, Allo
 }
 
 /// Adds parameters with their arguments.
-fn add_frame(
+fn add_parameter_bindings(
     bindings: &mut Items<Binding>,
     alloc: Global,
     params: &[Param],
@@ -43,28 +43,32 @@ fn add_frame(
     ) else {
         return Ok(());
     };
-    bindings.push(binding_of(alloc, param.name.as_bytes(), value)?)?;
-    add_frame(bindings, alloc, params, values)
+    bindings.push(copy_as_binding(alloc, param.name.as_bytes(), value)?)?;
+    add_parameter_bindings(bindings, alloc, params, values)
 }
 
 /// Adds the names of an environment, the inner ones first.
-fn add_names(bindings: &mut Items<Binding>, alloc: Global, env: &Env<'_>) -> Result<(), AllocError>
+fn add_environment_bindings(
+    bindings: &mut Items<Binding>,
+    alloc: Global,
+    env: &Env<'_>,
+) -> Result<(), AllocError>
     ensures { OnOk result (named bindings.new ≡ named bindings.old ++ env_of env.now) }
 {
     match env {
-        Env::Frame(params, values) => add_frame(bindings, alloc, params, values),
+        Env::Frame(params, values) => add_parameter_bindings(bindings, alloc, params, values),
         Env::With(name, value, outer) => {
-            bindings.push(binding_of(alloc, name, value)?)?;
-            add_names(bindings, alloc, outer)
+            bindings.push(copy_as_binding(alloc, name, value)?)?;
+            add_environment_bindings(bindings, alloc, outer)
         }
     }
 }
 
 /// The names that an expression sees with copies of their values, the inner ones first.
-pub fn bindings_of(alloc: Global, env: &Env<'_>) -> Result<Items<Binding>, AllocError>
+pub fn bindings_of_environment(alloc: Global, env: &Env<'_>) -> Result<Items<Binding>, AllocError>
     ensures { IfOk result (λ bindings. named bindings ≡ env_of env.now) }
 {
     let mut bindings = Items::new(alloc);
-    add_names(&mut bindings, alloc, env)?;
+    add_environment_bindings(&mut bindings, alloc, env)?;
     Ok(bindings)
 }

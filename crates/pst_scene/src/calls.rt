@@ -1,7 +1,9 @@
 //! The commands of a case with their places and replies.
 
-use crate::letters::letter;
-use crate::spelling::{add_command, add_number, add_reply, add_str, add_variable};
+use crate::letters::branch_letter;
+use crate::spelling::{
+    add_command_spelling, add_command_variable, add_number, add_reply_spelling, add_str,
+};
 use pst_case::{Case, Command, History, Reply};
 use pst_model::Source;
 use pst_value::Items;
@@ -23,7 +25,7 @@ impl CasePart {
     pub fn letter(self) -> u8 {
         match self {
             CasePart::Prefix => b'P',
-            CasePart::Branch(branch) => letter(branch),
+            CasePart::Branch(branch) => branch_letter(branch),
             CasePart::Suffix => b'X',
         }
     }
@@ -56,7 +58,7 @@ pub struct Calls<'a> {
 }
 
 /// Returns the commands of `part`, numbered from `first` on.
-fn part_calls<'a>(
+fn calls_of_case_part<'a>(
     alloc: Global,
     part: CasePart,
     first: u32,
@@ -79,7 +81,7 @@ fn part_calls<'a>(
 }
 
 /// Returns the number after the last of `commands`, which are numbered from `first` on.
-fn number_after(first: u32, commands: &[Command]) -> u32 {
+fn command_number_after(first: u32, commands: &[Command]) -> u32 {
     let mut number = first;
     for _command in commands {
         number = number.saturating_add(1);
@@ -88,7 +90,7 @@ fn number_after(first: u32, commands: &[Command]) -> u32 {
 }
 
 /// Returns the commands of the branches, numbered from `first` on, and the number after them.
-fn branch_calls<'a>(
+fn calls_of_branches<'a>(
     alloc: Global,
     first: u32,
     branches: &'a [Items<Command>],
@@ -102,14 +104,14 @@ fn branch_calls<'a>(
             Some(answers) => answers.as_slice(),
             None => &[],
         };
-        calls.push(part_calls(alloc, CasePart::Branch(index), number, commands, answers)?)?;
-        number = number_after(number, commands);
+        calls.push(calls_of_case_part(alloc, CasePart::Branch(index), number, commands, answers)?)?;
+        number = command_number_after(number, commands);
     }
     Ok((calls, number))
 }
 
 /// Returns the commands of a case with their recorded replies.
-pub fn calls_with<'a>(
+pub fn calls_with_replies<'a>(
     alloc: Global,
     case: &'a Case,
     prefix: &'a [Reply],
@@ -117,10 +119,10 @@ pub fn calls_with<'a>(
     suffix: &'a [Reply],
 ) -> Result<Calls<'a>, AllocError> {
     let commands = case.prefix.as_slice();
-    let number = number_after(1, commands);
-    let prefix = part_calls(alloc, CasePart::Prefix, 1, commands, prefix)?;
-    let (branches, number) = branch_calls(alloc, number, case.branches.as_slice(), branches)?;
-    let suffix = part_calls(
+    let number = command_number_after(1, commands);
+    let prefix = calls_of_case_part(alloc, CasePart::Prefix, 1, commands, prefix)?;
+    let (branches, number) = calls_of_branches(alloc, number, case.branches.as_slice(), branches)?;
+    let suffix = calls_of_case_part(
         alloc,
         CasePart::Suffix,
         number,
@@ -135,20 +137,20 @@ pub fn calls_with<'a>(
 }
 
 /// Returns the commands of a case, with the replies of `history` if there is one.
-pub fn calls_of<'a>(
+pub fn calls_of_case<'a>(
     alloc: Global,
     case: &'a Case,
     history: &'a Option<History>,
 ) -> Result<Calls<'a>, AllocError> {
     match history {
-        Some(history) => calls_with(
+        Some(history) => calls_with_replies(
             alloc,
             case,
             history.prefix.as_slice(),
             history.branches.as_slice(),
             history.suffix.as_slice(),
         ),
-        None => calls_with(alloc, case, &[], &[], &[]),
+        None => calls_with_replies(alloc, case, &[], &[], &[]),
     }
 }
 
@@ -163,7 +165,7 @@ impl<'a> Call<'a> {
     fn add_text(&self, out: &mut Vec<u8>, alloc: Global, model: &Source) -> Result<(), AllocError> {
         self.add_place(out)?;
         add_str(out, " ")?;
-        add_command(out, alloc, model, self.command)
+        add_command_spelling(out, alloc, model, self.command)
     }
 
     /// The place of the command and its spelling, as `L2 (put 1)`.
@@ -174,7 +176,7 @@ impl<'a> Call<'a> {
     }
 
     /// Adds the text, followed by the reply, or by the command's variable if it has no reply.
-    pub fn add_with_reply(
+    pub fn add_text_with_reply(
         &self,
         out: &mut Vec<u8>,
         alloc: Global,
@@ -183,15 +185,15 @@ impl<'a> Call<'a> {
         self.add_text(out, alloc, model)?;
         add_str(out, " -> ")?;
         match self.reply {
-            Some(reply) => add_reply(out, alloc, model, reply),
-            None => add_variable(out, alloc, self.number),
+            Some(reply) => add_reply_spelling(out, alloc, model, reply),
+            None => add_command_variable(out, alloc, self.number),
         }
     }
 
     /// The text, followed by the reply, or by the command's variable if it has no reply.
-    pub fn with_reply(&self, alloc: Global, model: &Source) -> Result<Vec<u8>, AllocError> {
+    pub fn text_with_reply(&self, alloc: Global, model: &Source) -> Result<Vec<u8>, AllocError> {
         let mut out = Vec::new(alloc);
-        self.add_with_reply(&mut out, alloc, model)?;
+        self.add_text_with_reply(&mut out, alloc, model)?;
         Ok(out)
     }
 }

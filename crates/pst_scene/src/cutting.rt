@@ -9,22 +9,24 @@ fn is_continuation_byte(byte: u8) -> bool {
 }
 
 /// Returns the first `end` bytes of a text, without those of a character that ends after them.
-fn whole_characters(text: &[u8], end: usize) -> &[u8]
+fn prefix_of_whole_characters(text: &[u8], end: usize) -> &[u8]
     requires { end ≤ length text.now }
     ensures { length result.now ≤ end }
 {
     if end > 0 && end < text.len() && is_continuation_byte(text[end]) {
-        return whole_characters(text, end - 1);
+        return prefix_of_whole_characters(text, end - 1);
     }
     &text[..end]
 }
 
 /// Returns a text without the continuation bytes at its beginning.
-fn without_continuation(text: &[u8]) -> &[u8]
+fn without_leading_continuation_bytes(text: &[u8]) -> &[u8]
     ensures { length result.now ≤ length text.now }
 {
     match text.split_first() {
-        Some((first, rest)) if is_continuation_byte(*first) => without_continuation(rest),
+        Some((first, rest)) if is_continuation_byte(*first) => without_leading_continuation_bytes(
+            rest,
+        ),
         _ => text,
     }
 }
@@ -44,8 +46,8 @@ pub fn cut_in_middle(alloc: Global, text: &[u8], width: usize) -> Result<Vec<u8>
     }
     let kept = width - 2;
     let behind = kept / 2;
-    let mut cut = Vec::from_slice(alloc, whole_characters(text, kept - behind))?;
+    let mut cut = Vec::from_slice(alloc, prefix_of_whole_characters(text, kept - behind))?;
     cut.extend_from_slice(b"..")?;
-    cut.extend_from_slice(without_continuation(&text[text.len() - behind..]))?;
+    cut.extend_from_slice(without_leading_continuation_bytes(&text[text.len() - behind..]))?;
     Ok(cut)
 }

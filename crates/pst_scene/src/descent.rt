@@ -12,7 +12,8 @@ ghost use Rattle.pst_scene.specs.Outcomes.{outcome_at};
 ghost use Rattle.pst_scene.specs.Parts.{Appends, SameIfSome, Visits};
 
 use crate::attempt::{
-    Site, Tried, TriedAll, attempt_all, faulty_part_here, function_named, split_first, try_evaluate,
+    Site, Tried, TriedAll, last_function_named, split_first_clause, try_evaluate, try_evaluate_all,
+    whole_expression_as_faulty_part,
 };
 use crate::faulty::FaultyPart;
 use crate::parts::deciding_part;
@@ -34,7 +35,7 @@ pub enum Visited<'a> {
 }
 
 /// The list that is built with one more item.
-fn push_to_built<'a>(
+fn append_to_built_list<'a>(
     built: Items<Value>,
     value: Value,
     left: u32,
@@ -50,7 +51,7 @@ fn push_to_built<'a>(
 
 /// The part of an expression that has no value by itself.
 #[cycle(descent)]
-pub fn in_expr<'a>(
+pub fn faulty_part_in_expression<'a>(
     expr: &'a Expr,
     site: &Site<'a>,
     env: &Env<'_>,
@@ -62,44 +63,49 @@ pub fn in_expr<'a>(
     let context = &site.context;
     match expr {
         Expr::Let(name, bound, body) => match try_evaluate(bound.get(), context, env, turns)? {
-            Tried::Faults(_) => in_expr(bound.get(), site, env, turns),
+            Tried::Faults(_) => faulty_part_in_expression(bound.get(), site, env, turns),
             Tried::Gives(value, left) => {
                 let inner = Env::With(name.as_bytes(), &value, &*env);
-                in_expr(body.get(), site, &inner, left)
+                faulty_part_in_expression(body.get(), site, &inner, left)
             }
-            Tried::Stuck => faulty_part_here(expr, site, env, turns),
+            Tried::Stuck => whole_expression_as_faulty_part(expr, site, env, turns),
         },
-        Expr::Apply(name, parts) => match attempt_all(parts.as_slice(), context, env, turns)? {
-            TriedAll::Faults(part, left, _) => in_expr(part, site, env, left),
+        Expr::Apply(name, parts) => match try_evaluate_all(parts.as_slice(), context, env, turns)? {
+            TriedAll::Faults(part, left, _) => faulty_part_in_expression(part, site, env, left),
             TriedAll::Give(arguments, left) => {
-                match in_body(name.as_bytes(), arguments.as_slice(), site, left)? {
+                match faulty_part_in_function_body(
+                    name.as_bytes(),
+                    arguments.as_slice(),
+                    site,
+                    left,
+                )? {
                     Some(part) => Ok(part),
-                    None => faulty_part_here(expr, site, env, turns),
+                    None => whole_expression_as_faulty_part(expr, site, env, turns),
                 }
             }
-            TriedAll::Stuck => faulty_part_here(expr, site, env, turns),
+            TriedAll::Stuck => whole_expression_as_faulty_part(expr, site, env, turns),
         },
         Expr::For(clauses, body) => {
             let built = Items::new(context.alloc);
             match visit_clauses(clauses.as_slice(), body.get(), site, env, turns, built)? {
                 Visited::Part(part, _) => Ok(part),
-                _ => faulty_part_here(expr, site, env, turns),
+                _ => whole_expression_as_faulty_part(expr, site, env, turns),
             }
         }
-        Expr::Fold(_, _, _, _, _) => match in_fold(expr, site, env, turns)? {
+        Expr::Fold(_, _, _, _, _) => match faulty_part_in_fold(expr, site, env, turns)? {
             Some(part) => Ok(part),
-            None => faulty_part_here(expr, site, env, turns),
+            None => whole_expression_as_faulty_part(expr, site, env, turns),
         },
         _ => match deciding_part(expr, context, env, turns)? {
-            Some((part, left)) => in_expr(part, site, env, left),
-            None => faulty_part_here(expr, site, env, turns),
+            Some((part, left)) => faulty_part_in_expression(part, site, env, left),
+            None => whole_expression_as_faulty_part(expr, site, env, turns),
         },
     }
 }
 
 /// The part of the body of a function that has no value by itself, if the function can be applied.
 #[cycle(descent)]
-fn in_body<'a>(
+fn faulty_part_in_function_body<'a>(
     name: &[u8],
     arguments: &[Value],
     site: &Site<'a>,
@@ -109,7 +115,7 @@ fn in_body<'a>(
         (SameIfSome site.now.context.items.now
         (spec.applied (functions_in site.now.context) name.now arguments.now turns)) }
 {
-    let Some((function, earlier)) = function_named(site.context.earlier, name) else {
+    let Some((function, earlier)) = last_function_named(site.context.earlier, name) else {
         return Ok(None);
     };
     if function.params.len() != arguments.len() {
@@ -129,12 +135,12 @@ fn in_body<'a>(
         function: Some(function.name.as_str()),
     };
     let frame = Env::Frame(function.params.as_slice(), arguments);
-    Ok(Some(in_expr(&function.body, &inner, &frame, left)?))
+    Ok(Some(faulty_part_in_expression(&function.body, &inner, &frame, left)?))
 }
 
 /// The part of a fold that has no value by itself, if it is not the whole fold. `None` of any other form.
 #[cycle(descent)]
-fn in_fold<'a>(
+fn faulty_part_in_fold<'a>(
     expr: &'a Expr,
     site: &Site<'a>,
     env: &Env<'_>,
@@ -148,12 +154,17 @@ fn in_fold<'a>(
     };
     let context = &site.context;
     match try_evaluate(list.get(), context, env, turns)? {
-        Tried::Faults(_) => Ok(Some(in_expr(list.get(), site, env, turns)?)),
+        Tried::Faults(_) => Ok(Some(faulty_part_in_expression(list.get(), site, env, turns)?)),
         Tried::Gives(value, left) => match items_of(value) {
             Ok(items) => match try_evaluate(first.get(), context, env, left)? {
-                Tried::Faults(_) => Ok(Some(in_expr(first.get(), site, env, left)?)),
+                Tried::Faults(_) => Ok(Some(faulty_part_in_expression(
+                    first.get(),
+                    site,
+                    env,
+                    left,
+                )?)),
                 Tried::Gives(first, left) => {
-                    in_items(
+                    faulty_part_in_fold_items(
                         body.get(),
                         name.as_bytes(),
                         acc.as_bytes(),
@@ -174,7 +185,7 @@ fn in_fold<'a>(
 
 /// The part of the body of a fold that has no value by itself, of the first item for which it has none.
 #[cycle(descent)]
-fn in_items<'a>(
+fn faulty_part_in_fold_items<'a>(
     body: &'a Expr,
     name: &[u8],
     acc: &[u8],
@@ -197,7 +208,9 @@ fn in_items<'a>(
         let outer = Env::With(&*name, item, &*env);
         let inner = Env::With(&*acc, &built, &outer);
         match try_evaluate(body, &site.context, &inner, left)? {
-            Tried::Faults(_) => return Ok(Some(in_expr(body, site, &inner, left)?)),
+            Tried::Faults(_) => return Ok(Some(faulty_part_in_expression(
+                body, site, &inner, left,
+            )?)),
             Tried::Gives(next, more) => {
                 built = next;
                 left = more;
@@ -224,16 +237,20 @@ fn visit_clauses<'a>(
         built turns)) }
 {
     let context = &site.context;
-    let Some((first, rest)) = split_first(clauses) else {
+    let Some((first, rest)) = split_first_clause(clauses) else {
         return match try_evaluate(body, context, env, turns)? {
-            Tried::Faults(fault) => { Ok(Visited::Part(in_expr(body, site, env, turns)?, fault)) }
-            Tried::Gives(value, left) => push_to_built(built, value, left),
+            Tried::Faults(fault) => {
+                Ok(Visited::Part(faulty_part_in_expression(body, site, env, turns)?, fault))
+            }
+            Tried::Gives(value, left) => append_to_built_list(built, value, left),
             Tried::Stuck => Ok(Visited::Itself),
         };
     };
     match first {
         Clause::In(name, list) => match try_evaluate(list, context, env, turns)? {
-            Tried::Faults(fault) => { Ok(Visited::Part(in_expr(list, site, env, turns)?, fault)) }
+            Tried::Faults(fault) => {
+                Ok(Visited::Part(faulty_part_in_expression(list, site, env, turns)?, fault))
+            }
             Tried::Gives(value, left) => match items_of(value) {
                 Ok(items) => {
                     visit_clauses_for_each_item(
@@ -252,7 +269,9 @@ fn visit_clauses<'a>(
             Tried::Stuck => Ok(Visited::Itself),
         },
         Clause::When(test) => match try_evaluate(test, context, env, turns)? {
-            Tried::Faults(fault) => { Ok(Visited::Part(in_expr(test, site, env, turns)?, fault)) }
+            Tried::Faults(fault) => {
+                Ok(Visited::Part(faulty_part_in_expression(test, site, env, turns)?, fault))
+            }
             Tried::Gives(Value::Bool(true), left) => {
                 visit_clauses(rest, body, site, env, left, built)
             }

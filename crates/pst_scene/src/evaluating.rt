@@ -15,7 +15,7 @@ use std::alloc::{AllocError, Global};
 pub const TURNS: u32 = 1_000_000;
 
 /// What callbacks of the model may name besides their variables.
-pub fn context_of<'a>(alloc: Global, model: &'a Source) -> Context<'a>
+pub fn evaluation_context_of_model<'a>(alloc: Global, model: &'a Source) -> Context<'a>
     ensures items { result.items.now ≡ model.now.items }
     ensures earlier { result.earlier.now ≡ model.now.items }
 {
@@ -37,7 +37,12 @@ pub fn evaluate(
     ensures { IfOk result (ValueOf (at_names model.now expr.now (env_of env.now))) }
 {
     let mut turns = TURNS;
-    match eval(expr, &context_of(alloc, model), env, &mut turns) {
+    match eval(
+        expr,
+        &evaluation_context_of_model(alloc, model),
+        env,
+        &mut turns,
+    ) {
         Ok(value) => Ok(Ok(value)),
         Err(Stop::Fault(fault)) => Ok(Err(Stop::Fault(fault))),
         Err(Stop::Stuck) => Ok(Err(Stop::Stuck)),
@@ -46,7 +51,7 @@ pub fn evaluate(
 }
 
 /// The value of an expression of the model in an environment, if it has one.
-pub fn value_in(
+pub fn value_of_expression_in_environment(
     alloc: Global,
     model: &Source,
     expr: &Expr,
@@ -63,7 +68,7 @@ pub fn value_in(
 }
 
 /// Whether an expression of the model is true in an environment; `None` if its value is no bool or it has none.
-pub fn truth_in(
+pub fn truth_of_expression_in_environment(
     alloc: Global,
     model: &Source,
     expr: &Expr,
@@ -71,7 +76,7 @@ pub fn truth_in(
 ) -> Result<Option<bool>, AllocError>
     ensures { IfOk result (GivesTruth (at_names model.now expr.now (env_of env.now))) }
 {
-    match value_in(alloc, model, expr, env)? {
+    match value_of_expression_in_environment(alloc, model, expr, env)? {
         Some(Value::Bool(truth)) => Ok(Some(truth)),
         _ => Ok(None),
     }

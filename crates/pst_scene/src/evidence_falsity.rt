@@ -5,8 +5,8 @@ ghost use Rattle.pst_eval.specs.Callbacks.{at_names};
 ghost use Rattle.pst_eval.specs.Env.{env_of};
 ghost use Rattle.pst_scene.specs.Outcomes.{IsFalse};
 
-use crate::evaluating::{truth_in, value_in};
-use crate::wanted::wanted_by_part;
+use crate::evaluating::{truth_of_expression_in_environment, value_of_expression_in_environment};
+use crate::wanted::reply_wanted_by_part;
 use pst_eval::Env;
 use pst_model::{Binary, Expr, Source, Unary};
 use pst_value::Value;
@@ -38,7 +38,7 @@ fn is_comparison(operator: Binary) -> bool {
 }
 
 /// What is negated if the expression is a negation, and else the expression itself.
-fn without_not(expr: &Expr) -> &Expr {
+fn expression_without_negation(expr: &Expr) -> &Expr {
     match expr {
         Expr::Unary(Unary::Not, operand) => operand.get(),
         _ => expr,
@@ -57,14 +57,14 @@ fn compared_values(
     expr: &Expr,
     env: &Env<'_>,
 ) -> Result<Evidence, AllocError> {
-    let Expr::Binary(operator, first, second) = without_not(expr) else {
+    let Expr::Binary(operator, first, second) = expression_without_negation(expr) else {
         return Ok(Evidence::Nothing);
     };
     if !is_comparison(*operator) {
         return Ok(Evidence::Nothing);
     }
-    let first = value_in(alloc, model, first.get(), env)?;
-    let second = value_in(alloc, model, second.get(), env)?;
+    let first = value_of_expression_in_environment(alloc, model, first.get(), env)?;
+    let second = value_of_expression_in_environment(alloc, model, second.get(), env)?;
     match (first, second) {
         (Some(first), Some(second)) => Ok(Evidence::Compares(first, second)),
         _ => Ok(Evidence::Nothing),
@@ -72,7 +72,7 @@ fn compared_values(
 }
 
 /// The expression itself, with what is known of it.
-fn whole_as_false_part<'a>(
+fn whole_expression_as_false_part<'a>(
     alloc: Global,
     model: &Source,
     expr: &'a Expr,
@@ -80,7 +80,7 @@ fn whole_as_false_part<'a>(
 ) -> Result<FalsePart<'a>, AllocError>
     ensures { IfOk result (λ p. p.part.now ≡ expr.now) }
 {
-    let evidence = match wanted_by_part(alloc, model, expr, env)? {
+    let evidence = match reply_wanted_by_part(alloc, model, expr, env)? {
         Some(value) => Evidence::Wants(value),
         None => compared_values(alloc, model, expr, env)?,
     };
@@ -92,7 +92,7 @@ fn whole_as_false_part<'a>(
 
 /// The part that makes an expression false, if it is false.
 #[cycle(falsity)]
-fn false_part_of<'a>(
+fn false_part_of_expression<'a>(
     alloc: Global,
     model: &Source,
     expr: &'a Expr,
@@ -101,19 +101,19 @@ fn false_part_of<'a>(
     ensures { IfOk result (λ r. MatchOption r (Unit {0})
         (λ p. IsFalse (at_names model.now p.part.now (env_of env.now)))) }
 {
-    match truth_in(alloc, model, expr, env)? {
+    match truth_of_expression_in_environment(alloc, model, expr, env)? {
         Some(false) => {}
         _ => return Ok(None),
     }
-    match false_part_within(alloc, model, expr, env)? {
+    match false_part_within_conjunct_or_if(alloc, model, expr, env)? {
         Some(found) => Ok(Some(found)),
-        None => Ok(Some(whole_as_false_part(alloc, model, expr, env)?)),
+        None => Ok(Some(whole_expression_as_false_part(alloc, model, expr, env)?)),
     }
 }
 
 /// The part that makes the first false conjunct false, or the chosen one of an `if` if something is known of that part.
 #[cycle(falsity)]
-fn false_part_within<'a>(
+fn false_part_within_conjunct_or_if<'a>(
     alloc: Global,
     model: &Source,
     expr: &'a Expr,
@@ -123,14 +123,19 @@ fn false_part_within<'a>(
         (λ p. IsFalse (at_names model.now p.part.now (env_of env.now)))) }
 {
     match expr {
-        Expr::And(first, second) => match false_part_of(alloc, model, first.get(), env)? {
+        Expr::And(first, second) => match false_part_of_expression(
+            alloc,
+            model,
+            first.get(),
+            env,
+        )? {
             Some(found) => Ok(Some(found)),
-            None => false_part_of(alloc, model, second.get(), env),
+            None => false_part_of_expression(alloc, model, second.get(), env),
         },
         Expr::If(test, then, other) => {
-            let found = match truth_in(alloc, model, test.get(), env)? {
-                Some(true) => false_part_of(alloc, model, then.get(), env)?,
-                Some(false) => false_part_of(alloc, model, other.get(), env)?,
+            let found = match truth_of_expression_in_environment(alloc, model, test.get(), env)? {
+                Some(true) => false_part_of_expression(alloc, model, then.get(), env)?,
+                Some(false) => false_part_of_expression(alloc, model, other.get(), env)?,
                 None => None,
             };
             match found {
@@ -144,7 +149,7 @@ fn false_part_within<'a>(
 
 /// The part that makes a postcondition of the model false, if it is false: the conjunct that is, or that of the chosen part of
 /// an `if`, and what is known of it.
-pub fn false_part<'a>(
+pub fn false_part_of_postcondition<'a>(
     alloc: Global,
     model: &Source,
     post: &'a Expr,
@@ -153,5 +158,5 @@ pub fn false_part<'a>(
     ensures { IfOk result (λ r. MatchOption r (Unit {0})
         (λ p. IsFalse (at_names model.now p.part.now (env_of env.now)))) }
 {
-    false_part_of(alloc, model, post, env)
+    false_part_of_expression(alloc, model, post, env)
 }

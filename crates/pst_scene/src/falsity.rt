@@ -1,7 +1,7 @@
 //! Why the postcondition of a command is not true on a state.
 
 use crate::calls::Call;
-use crate::evidence_falsity::{Evidence, FalsePart, false_part};
+use crate::evidence_falsity::{Evidence, FalsePart, false_part_of_postcondition};
 use crate::scene::Scene;
 use crate::texts::{
     copy_explanation_text, expression_text, join_explanation_parts, operation_of_call, value_text,
@@ -14,7 +14,7 @@ use pst_value::Value;
 use std::alloc::{AllocError, Global};
 
 /// Returns a text on the reply that the model requires.
-fn wanted_text(
+fn wanted_reply_text(
     alloc: Global,
     model: &Source,
     part: Option<&[u8]>,
@@ -29,7 +29,7 @@ fn wanted_text(
 }
 
 /// Returns a text on a comparison that is false.
-fn compared_text(
+fn false_comparison_text(
     alloc: Global,
     model: &Source,
     part: &[u8],
@@ -51,7 +51,7 @@ fn compared_text(
 }
 
 /// The part of a postcondition that is false, and what is known of it.
-fn part_text(
+fn false_part_text(
     alloc: Global,
     model: &Source,
     found: &FalsePart<'_>,
@@ -62,9 +62,11 @@ fn part_text(
     match &found.evidence {
         Evidence::Wants(value) => {
             let shown = if is_whole { None } else { Some(part) };
-            wanted_text(alloc, model, shown, value)
+            wanted_reply_text(alloc, model, shown, value)
         }
-        Evidence::Compares(first, second) => compared_text(alloc, model, part, first, second),
+        Evidence::Compares(first, second) => false_comparison_text(
+            alloc, model, part, first, second,
+        ),
         Evidence::Nothing => join_explanation_parts(alloc, &[part, b" is false"]),
     }
 }
@@ -86,7 +88,7 @@ pub enum Falsity<'a> {
 }
 
 /// Why the postcondition of a command is not true on the state before it.
-pub fn falsity_of<'a>(
+pub fn falsity_of_postcondition<'a>(
     alloc: Global,
     scene: &Scene<'a>,
     call: &Call<'_>,
@@ -102,7 +104,7 @@ pub fn falsity_of<'a>(
     let frame = Env::Frame(operation.params.as_slice(), args.as_slice());
     let outer = Env::With(b"s", &*state, &frame);
     let inner = Env::With(b"r", reply, &outer);
-    match false_part(alloc, scene.model, &operation.post, &inner)? {
+    match false_part_of_postcondition(alloc, scene.model, &operation.post, &inner)? {
         Some(found) => {
             let is_whole = *found.part == operation.post;
             Ok(Falsity::Part { found, is_whole })
@@ -114,7 +116,7 @@ pub fn falsity_of<'a>(
 /// Returns a text that says why the postcondition of a command is not true: it has the value that the model requires in
 /// place of the reply, or the false part, or says that the postcondition faults. It is empty if the reply is not a
 /// value.
-pub fn falsity_text(
+pub fn false_postcondition_text(
     alloc: Global,
     model: &Source,
     falsity: &Falsity<'_>,
@@ -122,6 +124,6 @@ pub fn falsity_text(
     match falsity {
         Falsity::Unknown => Ok(Vec::new(alloc)),
         Falsity::Faults => copy_explanation_text(alloc, "it faults"),
-        Falsity::Part { found, is_whole } => part_text(alloc, model, found, *is_whole),
+        Falsity::Part { found, is_whole } => false_part_text(alloc, model, found, *is_whole),
     }
 }

@@ -7,8 +7,8 @@ ghost use Rattle.pst_scene.specs.Outcomes.{FaultsIn};
 
 use crate::attempt::Site;
 use crate::binding::Binding;
-use crate::descent::in_expr;
-use crate::evaluating::{TURNS, context_of, evaluate};
+use crate::descent::faulty_part_in_expression;
+use crate::evaluating::{TURNS, evaluate, evaluation_context_of_model};
 use pst_eval::Env;
 use pst_model::{Expr, Item, Source};
 use pst_operators::Stop;
@@ -30,7 +30,7 @@ pub struct FaultyPart<'a> {
 }
 
 /// The part of an expression of the model that faults, if the expression does in its environment.
-pub fn faulty_part<'a>(
+pub fn faulty_part_of_expression<'a>(
     alloc: Global,
     model: &'a Source,
     expr: &'a Expr,
@@ -42,10 +42,10 @@ pub fn faulty_part<'a>(
         Ok(_) => Ok(None),
         Err(Stop::Fault(_)) => {
             let site = Site {
-                context: context_of(alloc, model),
+                context: evaluation_context_of_model(alloc, model),
                 function: None,
             };
-            Ok(Some(in_expr(expr, &site, env, TURNS)?))
+            Ok(Some(faulty_part_in_expression(expr, &site, env, TURNS)?))
         }
         Err(Stop::Stuck) => Ok(None),
         Err(Stop::NoMemory) => Err(AllocError),

@@ -3,7 +3,7 @@
 use std::alloc::AllocError;
 
 /// The letter of a branch, from 0.
-pub fn letter(branch: usize) -> u8 {
+pub fn branch_letter(branch: usize) -> u8 {
     match branch {
         0 => b'L',
         1 => b'R',
@@ -18,7 +18,7 @@ pub fn add_interleaving_letters(out: &mut Vec<u8>, word: &[usize]) -> Result<(),
         out.push(b'-')?;
     }
     for branch in word {
-        out.push(letter(*branch))?;
+        out.push(branch_letter(*branch))?;
     }
     Ok(())
 }

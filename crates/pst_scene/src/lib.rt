@@ -30,28 +30,32 @@ mod walk;
 mod wanted;
 mod words;
 
-pub use binding::{Binding, bindings_of};
+pub use binding::{Binding, bindings_of_environment};
 pub use calls::{Call, Calls, CasePart};
 pub use cutting::cut_in_middle;
 pub use evaluating::evaluate;
-pub use evidence_falsity::{Evidence, FalsePart, false_part};
-pub use falsity::{Falsity, falsity_of, falsity_text};
-pub use faulty::{FaultyPart, faulty_part};
-pub use forms::{add_form, add_quoted};
+pub use evidence_falsity::{Evidence, FalsePart, false_part_of_postcondition};
+pub use falsity::{Falsity, false_postcondition_text, falsity_of_postcondition};
+pub use faulty::{FaultyPart, faulty_part_of_expression};
+pub use forms::{add_quoted_text, add_tree_spelling};
 pub use letters::add_interleaving_letters;
-pub use order::{call_numbered, calls_in_order, count_before, first_calls, next_calls};
-pub use outcome::{DeadEnd, Outcome, dead_end_text, outcome_of};
+pub use order::{
+    call_numbered, calls_in_interleaving_order, calls_that_may_come_next,
+    count_calls_before_number, first_calls,
+};
+pub use outcome::{DeadEnd, Outcome, dead_end_text, outcome_of_call_on_state};
 pub use page::Page;
-pub use scene::{Scene, scene_of};
-pub use spelling::{add_number, add_reply, add_str, add_value};
+pub use scene::{Scene, scene_of_run};
+pub use spelling::{add_number, add_reply_spelling, add_str, add_value_spelling};
 pub use style::Style;
-pub use table::{Cell, Table, two_cells};
+pub use table::{Cell, Table, row_of_two_plain_cells};
 pub use texts::{
     copy_explanation_text, expression_text, join_explanation_parts, operation_of_call, value_text,
 };
 pub use walk::{
-    PreAnswer, calls_before, evaluate_precondition, initial_state, recorded_arguments,
-    reference_to_result, state_after, state_before, states_along,
+    PreAnswer, calls_before_call_in_interleaving, evaluate_precondition, initial_state,
+    recorded_arguments, reference_to_result, state_after_call, state_before_call_in_interleaving,
+    states_along_calls,
 };
-pub use wanted::{wanted_reply, wants_one_reply};
-pub use words::words_of;
+pub use wanted::{postcondition_wants_one_reply, reply_wanted_by_postcondition};
+pub use words::words_of_expression;

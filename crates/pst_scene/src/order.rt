@@ -4,7 +4,7 @@ use crate::calls::{Call, Calls};
 use std::alloc::{AllocError, Global};
 
 /// Returns how many letters of `word` are `branch`.
-fn count_of(word: &[usize], branch: usize) -> usize {
+fn count_branch_in_interleaving(word: &[usize], branch: usize) -> usize {
     let mut count = 0usize;
     for letter in word {
         if *letter == branch {
@@ -15,9 +15,11 @@ fn count_of(word: &[usize], branch: usize) -> usize {
 }
 
 /// Returns the next command of `branch` after the interleaving `word`.
-fn next_call<'a>(calls: &Calls<'a>, word: &[usize], branch: usize) -> Option<Call<'a>> {
+fn next_call_of_branch<'a>(calls: &Calls<'a>, word: &[usize], branch: usize) -> Option<Call<'a>> {
     let commands = calls.branches.get(branch)?;
-    commands.get(count_of(word, branch)).copied()
+    commands
+        .get(count_branch_in_interleaving(word, branch))
+        .copied()
 }
 
 fn add_calls<'a>(order: &mut Vec<Call<'a>>, calls: &[Call<'a>]) -> Result<(), AllocError> {
@@ -29,7 +31,7 @@ fn add_calls<'a>(order: &mut Vec<Call<'a>>, calls: &[Call<'a>]) -> Result<(), Al
 
 /// Returns the commands of the prefix, those of the branches in the order of the interleaving `word`, and those of the
 /// suffix.
-pub fn calls_in_order<'a>(
+pub fn calls_in_interleaving_order<'a>(
     alloc: Global,
     calls: &Calls<'a>,
     word: &[usize],
@@ -38,7 +40,7 @@ pub fn calls_in_order<'a>(
     add_calls(&mut order, calls.prefix.as_slice())?;
     for (index, branch) in word.iter().enumerate() {
         let before = word.get(..index).unwrap_or(&[]);
-        if let Some(call) = next_call(calls, before, *branch) {
+        if let Some(call) = next_call_of_branch(calls, before, *branch) {
             order.push(call)?;
         }
     }
@@ -47,14 +49,14 @@ pub fn calls_in_order<'a>(
 }
 
 /// Returns the next command of each branch after the interleaving `word`.
-fn next_of_branches<'a>(
+fn next_call_of_each_branch<'a>(
     alloc: Global,
     calls: &Calls<'a>,
     word: &[usize],
 ) -> Result<Vec<Call<'a>>, AllocError> {
     let mut next = Vec::new(alloc);
     for branch in 0..calls.branches.len() {
-        if let Some(call) = next_call(calls, word, branch) {
+        if let Some(call) = next_call_of_branch(calls, word, branch) {
             next.push(call)?;
         }
     }
@@ -63,7 +65,7 @@ fn next_of_branches<'a>(
 
 /// Returns the commands that may come after the first `count` events of the prefix, the interleaving `word` and the
 /// suffix: the next one of the prefix, or of each branch, or of the suffix.
-pub fn next_calls<'a>(
+pub fn calls_that_may_come_next<'a>(
     alloc: Global,
     calls: &Calls<'a>,
     word: &[usize],
@@ -74,7 +76,7 @@ pub fn next_calls<'a>(
         next.push(*call)?;
         return Ok(next);
     }
-    let next = next_of_branches(alloc, calls, word)?;
+    let next = next_call_of_each_branch(alloc, calls, word)?;
     if !next.is_empty() {
         return Ok(next);
     }
@@ -97,7 +99,7 @@ pub fn call_numbered<'a>(calls: &[Call<'a>], number: u32) -> Option<Call<'a>> {
 }
 
 /// Returns how many of `calls` are before command `number`, or the number of all `calls` if it is not one of them.
-pub fn count_before(calls: &[Call<'_>], number: u32) -> usize {
+pub fn count_calls_before_number(calls: &[Call<'_>], number: u32) -> usize {
     let mut count = 0usize;
     for call in calls {
         if call.number == number {

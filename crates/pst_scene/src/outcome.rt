@@ -2,10 +2,10 @@
 
 use crate::calls::Call;
 use crate::evaluating::evaluate;
-use crate::falsity::{Falsity, falsity_of, falsity_text};
+use crate::falsity::{Falsity, false_postcondition_text, falsity_of_postcondition};
 use crate::scene::Scene;
 use crate::texts::{copy_explanation_text, join_explanation_parts, operation_of_call};
-use crate::walk::{PreAnswer, evaluate_precondition, recorded_arguments, state_after};
+use crate::walk::{PreAnswer, evaluate_precondition, recorded_arguments, state_after_call};
 use pst_case::Reply;
 use pst_eval::Env;
 use pst_model::Source;
@@ -56,34 +56,34 @@ fn answer_satisfies_postcondition(
 }
 
 /// Returns the state after a command that may come next, unless its `next` faults.
-fn next_state<'a>(
+fn outcome_of_next_callback<'a>(
     alloc: Global,
     scene: &Scene<'a>,
     state: &Value,
     call: &Call<'_>,
 ) -> Result<Outcome<'a>, AllocError> {
-    match state_after(alloc, scene, state, call)? {
+    match state_after_call(alloc, scene, state, call)? {
         Some(next) => Ok(Outcome::Leads(next)),
         None => Ok(Outcome::Refused(DeadEnd::NextFaults)),
     }
 }
 
 /// Returns the outcome of a command of a case that was not run, by its precondition.
-fn outcome_of_case<'a>(
+fn outcome_by_precondition<'a>(
     alloc: Global,
     scene: &Scene<'a>,
     state: &Value,
     call: &Call<'_>,
 ) -> Result<Outcome<'a>, AllocError> {
     match evaluate_precondition(alloc, scene, state, call)? {
-        PreAnswer::Holds => next_state(alloc, scene, state, call),
+        PreAnswer::Holds => outcome_of_next_callback(alloc, scene, state, call),
         PreAnswer::Fails => Ok(Outcome::Refused(DeadEnd::PreFalse)),
         PreAnswer::Faults(fault) => Ok(Outcome::Refused(DeadEnd::PreFaults(fault))),
     }
 }
 
 /// Returns the outcome of a command that answered a value, by its postcondition.
-fn outcome_of_answer<'a>(
+fn outcome_by_postcondition<'a>(
     alloc: Global,
     scene: &Scene<'a>,
     state: &Value,
@@ -91,22 +91,22 @@ fn outcome_of_answer<'a>(
     answer: &Value,
 ) -> Result<Outcome<'a>, AllocError> {
     if answer_satisfies_postcondition(alloc, scene, state, call, answer)? {
-        return next_state(alloc, scene, state, call);
+        return outcome_of_next_callback(alloc, scene, state, call);
     }
-    let falsity = falsity_of(alloc, scene, call, state)?;
+    let falsity = falsity_of_postcondition(alloc, scene, call, state)?;
     Ok(Outcome::Refused(DeadEnd::PostFails(falsity)))
 }
 
 /// Returns the outcome of a command on a state: by its postcondition in a recorded run, by its precondition in a case.
-pub fn outcome_of<'a>(
+pub fn outcome_of_call_on_state<'a>(
     alloc: Global,
     scene: &Scene<'a>,
     state: &Value,
     call: &Call<'_>,
 ) -> Result<Outcome<'a>, AllocError> {
     match call.reply {
-        None => outcome_of_case(alloc, scene, state, call),
-        Some(Reply::Value(answer)) => outcome_of_answer(alloc, scene, state, call, answer),
+        None => outcome_by_precondition(alloc, scene, state, call),
+        Some(Reply::Value(answer)) => outcome_by_postcondition(alloc, scene, state, call, answer),
         Some(_) => Ok(Outcome::Refused(DeadEnd::NoValue)),
     }
 }
@@ -122,7 +122,7 @@ pub fn dead_end_text(
         DeadEnd::PreFaults(fault) => {
             join_explanation_parts(alloc, &[b"pre faults with ", fault.name().as_bytes()])
         }
-        DeadEnd::PostFails(falsity) => falsity_text(alloc, model, falsity),
+        DeadEnd::PostFails(falsity) => false_postcondition_text(alloc, model, falsity),
         DeadEnd::NoValue => copy_explanation_text(alloc, "it answered no value"),
         DeadEnd::NextFaults => copy_explanation_text(alloc, "next faults"),
     }

@@ -4,7 +4,7 @@ ghost use Rattle.std.specs.Prelude.{IfOk, MatchOption};
 ghost use Rattle.pst_eval.specs.Env.{env_of};
 ghost use Rattle.pst_scene.specs.Parts.{Decides};
 
-use crate::attempt::{Tried, TriedAll, attempt_all, try_evaluate};
+use crate::attempt::{Tried, TriedAll, try_evaluate, try_evaluate_all};
 use pst_eval::{Context, Env};
 use pst_model::Expr;
 use pst_value::Value;
@@ -187,7 +187,7 @@ fn faulty_part_of_tuple<'a>(
     let Expr::Tuple(parts) = expr else {
         return Ok(None);
     };
-    match attempt_all(parts.as_slice(), context, env, turns)? {
+    match try_evaluate_all(parts.as_slice(), context, env, turns)? {
         TriedAll::Faults(part, left, _) => Ok(Some((part, left))),
         _ => Ok(None),
     }
@@ -206,7 +206,7 @@ fn faulty_part_of_list<'a>(
     let Expr::List(_, items) = expr else {
         return Ok(None);
     };
-    match attempt_all(items.as_slice(), context, env, turns)? {
+    match try_evaluate_all(items.as_slice(), context, env, turns)? {
         TriedAll::Faults(part, left, _) => Ok(Some((part, left))),
         _ => Ok(None),
     }
@@ -225,7 +225,7 @@ fn faulty_part_of_call<'a>(
     let Expr::Call(_, arguments) = expr else {
         return Ok(None);
     };
-    match attempt_all(arguments.as_slice(), context, env, turns)? {
+    match try_evaluate_all(arguments.as_slice(), context, env, turns)? {
         TriedAll::Faults(part, left, _) => Ok(Some((part, left))),
         _ => Ok(None),
     }

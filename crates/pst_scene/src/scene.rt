@@ -1,7 +1,7 @@
 //! The data of an item to be explained.
 ghost use Rattle.std.specs.Prelude.{◌≡◌, IfOk};
 
-use crate::calls::{Call, Calls, calls_of};
+use crate::calls::{Call, Calls, calls_of_case};
 use crate::order::all_calls;
 use pst_case::{History, Run};
 use pst_model::{Source, Typed};
@@ -24,7 +24,7 @@ pub struct Scene<'a> {
 }
 
 /// Returns the recorded results, or no results if there is no history.
-fn known_results(
+fn recorded_results_of_history(
     alloc: Global,
     history: &Option<History>,
 ) -> Result<Vec<Option<Value>>, AllocError> {
@@ -35,14 +35,18 @@ fn known_results(
 }
 
 /// Returns the data of an item of the model `typed`.
-pub fn scene_of<'a>(alloc: Global, typed: &'a Typed, run: &'a Run) -> Result<Scene<'a>, AllocError>
+pub fn scene_of_run<'a>(
+    alloc: Global,
+    typed: &'a Typed,
+    run: &'a Run,
+) -> Result<Scene<'a>, AllocError>
     ensures model { IfOk result (λ scene. scene.model.now ≡ typed.now) }
     ensures run { IfOk result (λ scene. scene.run.now ≡ run.now) }
 {
     let model = typed.source();
-    let calls = calls_of(alloc, run.shaped.case(), &run.history)?;
+    let calls = calls_of_case(alloc, run.shaped.case(), &run.history)?;
     let all = all_calls(alloc, &calls)?;
-    let known = known_results(alloc, &run.history)?;
+    let known = recorded_results_of_history(alloc, &run.history)?;
     Ok(Scene {
         model,
         run,

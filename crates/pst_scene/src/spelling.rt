@@ -1,6 +1,6 @@
 //! The spelling of values and of calls.
 
-use crate::forms::add_quoted;
+use crate::forms::add_quoted_text;
 use pst_case::{Command, Reply};
 use pst_model::{Source, operation_of};
 use pst_value::{Key, Value};
@@ -30,25 +30,33 @@ fn add_integer(out: &mut Vec<u8>, alloc: Global, number: i64) -> Result<(), Allo
 }
 
 /// Adds the variable of a command.
-pub fn add_variable(out: &mut Vec<u8>, alloc: Global, number: u32) -> Result<(), AllocError> {
+pub fn add_command_variable(
+    out: &mut Vec<u8>,
+    alloc: Global,
+    number: u32,
+) -> Result<(), AllocError> {
     let text = format!(in alloc; "${number}")?;
     add_str(out, text.as_str())
 }
 
-fn add_truth(out: &mut Vec<u8>, holds: bool) -> Result<(), AllocError> {
+fn add_bool_spelling(out: &mut Vec<u8>, holds: bool) -> Result<(), AllocError> {
     add_str(out, if holds { "true" } else { "false" })
 }
 
-fn add_key(out: &mut Vec<u8>, alloc: Global, key: &Key) -> Result<(), AllocError> {
+fn add_map_key_spelling(out: &mut Vec<u8>, alloc: Global, key: &Key) -> Result<(), AllocError> {
     match key {
         Key::Int(number) => add_integer(out, alloc, *number),
-        Key::Bool(holds) => add_truth(out, *holds),
-        Key::Text(text) => add_quoted(out, text.as_bytes()),
+        Key::Bool(holds) => add_bool_spelling(out, *holds),
+        Key::Text(text) => add_quoted_text(out, text.as_bytes()),
     }
 }
 
 /// Adds the name of an operation, by its number from 0.
-pub fn add_operation(out: &mut Vec<u8>, model: &Source, number: u32) -> Result<(), AllocError> {
+pub fn add_operation_name(
+    out: &mut Vec<u8>,
+    model: &Source,
+    number: u32,
+) -> Result<(), AllocError> {
     match operation_of(model.items.as_slice(), number as usize) {
         Some(operation) => add_str(out, operation.name.as_str()),
         None => Ok(()),
@@ -58,7 +66,7 @@ pub fn add_operation(out: &mut Vec<u8>, model: &Source, number: u32) -> Result<(
 /// Adds a value as items spell it; a reference as `$n=` and the value that it names; a call as its operation and its
 /// arguments.
 #[cycle(value)]
-pub fn add_value(
+pub fn add_value_spelling(
     out: &mut Vec<u8>,
     alloc: Global,
     model: &Source,
@@ -66,19 +74,19 @@ pub fn add_value(
 ) -> Result<(), AllocError> {
     match value {
         Value::Int(number) => add_integer(out, alloc, *number),
-        Value::Bool(holds) => add_truth(out, *holds),
-        Value::Text(text) => add_quoted(out, text.as_bytes()),
+        Value::Bool(holds) => add_bool_spelling(out, *holds),
+        Value::Text(text) => add_quoted_text(out, text.as_bytes()),
         Value::Tuple(parts) => {
             add_str(out, "(tuple")?;
-            add_values(out, alloc, model, parts.as_slice())
+            add_value_spellings_and_bracket(out, alloc, model, parts.as_slice())
         }
         Value::List(parts) => {
             add_str(out, "(list")?;
-            add_values(out, alloc, model, parts.as_slice())
+            add_value_spellings_and_bracket(out, alloc, model, parts.as_slice())
         }
         Value::Map(keys, values) => {
             add_str(out, "(map")?;
-            add_entries(
+            add_map_entries_and_bracket(
                 out,
                 alloc,
                 model,
@@ -86,23 +94,23 @@ pub fn add_value(
                 values.get().as_slice(),
             )
         }
-        Value::Var(number) => add_variable(out, alloc, *number),
+        Value::Var(number) => add_command_variable(out, alloc, *number),
         Value::Ref(number, value) => {
-            add_variable(out, alloc, *number)?;
+            add_command_variable(out, alloc, *number)?;
             add_str(out, "=")?;
-            add_value(out, alloc, model, value.get())
+            add_value_spelling(out, alloc, model, value.get())
         }
         Value::Call(operation, args) => {
             add_str(out, "(")?;
-            add_operation(out, model, *operation)?;
-            add_values(out, alloc, model, args.as_slice())
+            add_operation_name(out, model, *operation)?;
+            add_value_spellings_and_bracket(out, alloc, model, args.as_slice())
         }
     }
 }
 
 /// Adds values, a space before each, and the bracket that closes them.
 #[cycle(value)]
-fn add_values(
+fn add_value_spellings_and_bracket(
     out: &mut Vec<u8>,
     alloc: Global,
     model: &Source,
@@ -110,14 +118,14 @@ fn add_values(
 ) -> Result<(), AllocError> {
     for value in values {
         add_str(out, " ")?;
-        add_value(out, alloc, model, value)?;
+        add_value_spelling(out, alloc, model, value)?;
     }
     add_str(out, ")")
 }
 
 /// Adds the entries of a map, a space before each, and the bracket that closes them.
 #[cycle(value)]
-fn add_entries(
+fn add_map_entries_and_bracket(
     out: &mut Vec<u8>,
     alloc: Global,
     model: &Source,
@@ -130,9 +138,9 @@ fn add_entries(
             return add_str(out, ")");
         };
         add_str(out, " (")?;
-        add_key(out, alloc, key)?;
+        add_map_key_spelling(out, alloc, key)?;
         add_str(out, " ")?;
-        add_value(out, alloc, model, value)?;
+        add_value_spelling(out, alloc, model, value)?;
         add_str(out, ")")?;
         rest = others;
     }
@@ -140,26 +148,26 @@ fn add_entries(
 }
 
 /// Adds a command as items spell it.
-pub fn add_command(
+pub fn add_command_spelling(
     out: &mut Vec<u8>,
     alloc: Global,
     model: &Source,
     command: &Command,
 ) -> Result<(), AllocError> {
     add_str(out, "(")?;
-    add_operation(out, model, command.op)?;
-    add_values(out, alloc, model, command.args.as_slice())
+    add_operation_name(out, model, command.op)?;
+    add_value_spellings_and_bracket(out, alloc, model, command.args.as_slice())
 }
 
 /// Adds a reply as items spell it.
-pub fn add_reply(
+pub fn add_reply_spelling(
     out: &mut Vec<u8>,
     alloc: Global,
     model: &Source,
     reply: &Reply,
 ) -> Result<(), AllocError> {
     match reply {
-        Reply::Value(value) => add_value(out, alloc, model, value),
+        Reply::Value(value) => add_value_spelling(out, alloc, model, value),
         Reply::Misfit => add_str(out, "misfit"),
         Reply::Failed => add_str(out, "failed"),
         Reply::NotRun => add_str(out, "not-run"),

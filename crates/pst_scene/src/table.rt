@@ -63,7 +63,11 @@ pub struct Table {
 }
 
 /// A row of two cells of plain text.
-pub fn two_cells(alloc: Global, first: Vec<u8>, second: Vec<u8>) -> Result<Vec<Cell>, AllocError> {
+pub fn row_of_two_plain_cells(
+    alloc: Global,
+    first: Vec<u8>,
+    second: Vec<u8>,
+) -> Result<Vec<Cell>, AllocError> {
     let mut row = Vec::new(alloc);
     row.push(Cell::plain(first))?;
     row.push(Cell::plain(second))?;
@@ -71,7 +75,7 @@ pub fn two_cells(alloc: Global, first: Vec<u8>, second: Vec<u8>) -> Result<Vec<C
 }
 
 /// The sum of the numbers.
-fn sum_of(numbers: &[usize]) -> usize {
+fn sum_of_widths(numbers: &[usize]) -> usize {
     let mut sum = 0usize;
     for number in numbers {
         sum = sum.saturating_add(*number);
@@ -95,7 +99,11 @@ fn sum_small_and_count_large(widths: &[usize], share: usize) -> (usize, usize) {
 
 /// Returns the widths of columns that may have `room` bytes together. Each column that needs at most an equal share
 /// keeps its width, and the others share the rest equally.
-fn fit_widths(alloc: Global, widths: &[usize], room: usize) -> Result<Vec<usize>, AllocError> {
+fn fit_column_widths(
+    alloc: Global,
+    widths: &[usize],
+    room: usize,
+) -> Result<Vec<usize>, AllocError> {
     let share = room.checked_div(widths.len()).unwrap_or(0);
     let (sum, large) = sum_small_and_count_large(widths, share);
     let most = room.saturating_sub(sum).checked_div(large).unwrap_or(0);
@@ -111,7 +119,7 @@ fn fit_widths(alloc: Global, widths: &[usize], room: usize) -> Result<Vec<usize>
 }
 
 /// Returns how many bytes `columns` columns may have together.
-fn room_for(page: &Page, indent: usize, columns: usize) -> usize {
+fn room_for_table_columns(page: &Page, indent: usize, columns: usize) -> usize {
     let gaps = GAP.saturating_mul(columns.saturating_sub(1));
     page.width.saturating_sub(indent).saturating_sub(gaps)
 }
@@ -162,14 +170,14 @@ impl Table {
     }
 
     /// Returns whether no cell has to be cut, or each column may have `least` bytes.
-    pub fn is_wide_enough(&self, page: &Page, indent: usize, least: usize) -> bool {
-        let room = room_for(page, indent, self.widths.len());
+    pub fn has_wide_enough_columns(&self, page: &Page, indent: usize, least: usize) -> bool {
+        let room = room_for_table_columns(page, indent, self.widths.len());
         let share = room.checked_div(self.widths.len()).unwrap_or(0);
-        sum_of(self.widths.as_slice()) <= room || least <= share
+        sum_of_widths(self.widths.as_slice()) <= room || least <= share
     }
 
     /// The text of a cell that begins at `begin`.
-    fn text_of(&self, begin: usize, cell: &CellEnd) -> &[u8] {
+    fn text_of_cell(&self, begin: usize, cell: &CellEnd) -> &[u8] {
         self.text.as_slice().get(begin..cell.end).unwrap_or(&[])
     }
 
@@ -187,7 +195,7 @@ impl Table {
                 alloc,
                 indent.saturating_add(further),
                 cell.style,
-                self.text_of(begin, cell),
+                self.text_of_cell(begin, cell),
             )?;
             begin = cell.end;
         }
@@ -201,7 +209,7 @@ impl Table {
         alloc: Global,
         indent: usize,
     ) -> Result<(), AllocError> {
-        if self.is_wide_enough(page, indent, LEAST_COLUMN) {
+        if self.has_wide_enough_columns(page, indent, LEAST_COLUMN) {
             self.write(page, alloc, indent)
         } else {
             self.write_stacked(page, alloc, indent)
@@ -211,17 +219,17 @@ impl Table {
     /// Adds the rows to a page in columns. Cells that do not fit are cut in the middle.
     pub fn write(&self, page: &mut Page, alloc: Global, indent: usize) -> Result<(), AllocError> {
         let widths = self.widths.as_slice();
-        let room = room_for(page, indent, widths.len());
-        if sum_of(widths) <= room {
-            return self.write_in(page, alloc, indent, widths);
+        let room = room_for_table_columns(page, indent, widths.len());
+        if sum_of_widths(widths) <= room {
+            return self.write_columns_of_widths(page, alloc, indent, widths);
         }
-        let widths = fit_widths(alloc, widths, room)?;
-        self.write_in(page, alloc, indent, widths.as_slice())
+        let widths = fit_column_widths(alloc, widths, room)?;
+        self.write_columns_of_widths(page, alloc, indent, widths.as_slice())
     }
 
     /// Adds the rows to a page, each cell cut to the width of its column, with spaces up to the next. No spaces come
     /// after the last cell of a row that is not empty.
-    fn write_in(
+    fn write_columns_of_widths(
         &self,
         page: &mut Page,
         alloc: Global,
@@ -240,7 +248,7 @@ impl Table {
                 column = 0;
                 wanted = 0;
             }
-            let text = self.text_of(begin, cell);
+            let text = self.text_of_cell(begin, cell);
             let width = widths.get(cell.column).copied().unwrap_or(0);
             if !text.is_empty() {
                 page.add_spaces(wanted.saturating_sub(column))?;

@@ -1,9 +1,9 @@
 //! The spelling of values and expressions, and the operation of a command.
 
 use crate::calls::Call;
-use crate::forms::add_form;
+use crate::forms::add_tree_spelling;
 use crate::scene::Scene;
-use crate::spelling::{add_str, add_value};
+use crate::spelling::{add_str, add_value_spelling};
 use pst_model::{Expr, Op, Source, operation_of};
 use pst_print::expr_form;
 use pst_sexpr::Form;
@@ -29,14 +29,14 @@ pub fn copy_explanation_text(alloc: Global, part: &str) -> Result<Vec<u8>, Alloc
 /// The spelling of a value.
 pub fn value_text(alloc: Global, model: &Source, value: &Value) -> Result<Vec<u8>, AllocError> {
     let mut text = Vec::new(alloc);
-    add_value(&mut text, alloc, model, value)?;
+    add_value_spelling(&mut text, alloc, model, value)?;
     Ok(text)
 }
 
 /// The spelling of an expression.
 pub fn expression_text(alloc: Global, expression: &Expr) -> Result<Vec<u8>, AllocError> {
     let mut text = Vec::new(alloc);
-    add_form(&mut text, &expr_form(alloc, expression)?)?;
+    add_tree_spelling(&mut text, &expr_form(alloc, expression)?)?;
     Ok(text)
 }
 

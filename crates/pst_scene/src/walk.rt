@@ -2,7 +2,7 @@
 
 use crate::calls::Call;
 use crate::evaluating::evaluate;
-use crate::order::{calls_in_order, count_before, first_calls};
+use crate::order::{calls_in_interleaving_order, count_calls_before_number, first_calls};
 use crate::scene::Scene;
 use crate::texts::operation_of_call;
 use pst_case::Reply;
@@ -59,7 +59,7 @@ pub fn initial_state(alloc: Global, scene: &Scene<'_>) -> Result<Option<Value>, 
 }
 
 /// Returns the state after a command. `None` if its `next` cannot be evaluated.
-pub fn state_after(
+pub fn state_after_call(
     alloc: Global,
     scene: &Scene<'_>,
     state: &Value,
@@ -78,7 +78,7 @@ pub fn state_after(
 }
 
 /// Returns the initial state and the state after each command in turn, up to the first callback that faults.
-pub fn states_along(
+pub fn states_along_calls(
     alloc: Global,
     scene: &Scene<'_>,
     calls: &[Call<'_>],
@@ -88,7 +88,7 @@ pub fn states_along(
         return Ok(states);
     };
     for call in calls {
-        let Some(next) = state_after(alloc, scene, &state, call)? else {
+        let Some(next) = state_after_call(alloc, scene, &state, call)? else {
             break;
         };
         states.push(state)?;
@@ -99,26 +99,26 @@ pub fn states_along(
 }
 
 /// Returns the commands before `call` in the interleaving `word`.
-pub fn calls_before<'a>(
+pub fn calls_before_call_in_interleaving<'a>(
     alloc: Global,
     scene: &Scene<'a>,
     word: &[usize],
     call: &Call<'_>,
 ) -> Result<Vec<Call<'a>>, AllocError> {
-    let order = calls_in_order(alloc, &scene.calls, word)?;
-    let count = count_before(order.as_slice(), call.number);
+    let order = calls_in_interleaving_order(alloc, &scene.calls, word)?;
+    let count = count_calls_before_number(order.as_slice(), call.number);
     first_calls(alloc, order.as_slice(), count)
 }
 
 /// Returns the state before `call` in the interleaving `word`. `None` if a callback faults before it.
-pub fn state_before(
+pub fn state_before_call_in_interleaving(
     alloc: Global,
     scene: &Scene<'_>,
     word: &[usize],
     call: &Call<'_>,
 ) -> Result<Option<Value>, AllocError> {
-    let before = calls_before(alloc, scene, word, call)?;
-    let mut states = states_along(alloc, scene, before.as_slice())?;
+    let before = calls_before_call_in_interleaving(alloc, scene, word, call)?;
+    let mut states = states_along_calls(alloc, scene, before.as_slice())?;
     if states.len() <= before.len() {
         return Ok(None);
     }

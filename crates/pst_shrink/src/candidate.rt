@@ -3,8 +3,8 @@ ghost use Rattle.std.specs.Prelude.{◌≡◌, ◌+◌, ◌^◌, ◌<◌, IfOk, 
 ghost use Rattle.pst_case.specs.Shape.{commands_of};
 ghost use Rattle.pst_shrink.specs.Candidates as spec;
 
-use crate::parts::{count_commands, is_used, other_branch_commands, other_commands};
-use crate::renumbering::{Renumbering, numbers_by};
+use crate::parts::{count_commands, is_used, other_branch_commands, renumbered_commands_without};
+use crate::renumbering::{Renumbering, new_command_numbers};
 use pst_case::{Case, Command, renumber_command, renumber_commands};
 use pst_value::Items;
 use std::alloc::{AllocError, Global};
@@ -15,14 +15,14 @@ fn without_command(alloc: Global, case: &Case, number: u32) -> Result<Case, Allo
     ensures { IfOk result (λ smaller. smaller ≡ spec.without number case.now) }
 {
     let count = count_commands(case);
-    let numbers = numbers_by(alloc, Renumbering::Without(number), count)?;
+    let numbers = new_command_numbers(alloc, Renumbering::Without(number), count)?;
     let numbers = numbers.as_slice();
     let first = case.prefix.len() as u32 + 1;
     let first_of_suffix = count + 1 - case.suffix.len() as u32;
     Ok(Case {
-        prefix: other_commands(alloc, number, 1, case.prefix.as_slice(), numbers)?,
+        prefix: renumbered_commands_without(alloc, number, 1, case.prefix.as_slice(), numbers)?,
         branches: other_branch_commands(alloc, number, first, case.branches.as_slice(), numbers)?,
-        suffix: other_commands(
+        suffix: renumbered_commands_without(
             alloc,
             number,
             first_of_suffix,
@@ -43,7 +43,7 @@ fn with_command_moved(
     ensures { IfOk result (λ smaller. smaller ≡ spec.moved number command.now case.now) }
 {
     let first = case.prefix.len() as u32 + 1;
-    let numbers = numbers_by(
+    let numbers = new_command_numbers(
         alloc,
         Renumbering::Moved(number, first),
         count_commands(case),

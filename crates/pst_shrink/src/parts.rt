@@ -49,7 +49,7 @@ pub(crate) fn is_used(case: &Case, number: u32) -> bool
 }
 
 /// The commands except command `number`, renumbered. The first of `commands` has the number `first`.
-pub(crate) fn other_commands(
+pub(crate) fn renumbered_commands_without(
     alloc: Global,
     number: u32,
     first: u32,
@@ -87,7 +87,7 @@ pub(crate) fn other_branch_commands(
     let mut all = Items::new(alloc);
     let mut next = first;
     for branch in branches {
-        all.push(other_commands(alloc, number, next, branch.as_slice(), numbers)?)?;
+        all.push(renumbered_commands_without(alloc, number, next, branch.as_slice(), numbers)?)?;
         next += branch.len() as u32;
     }
     Ok(all)

@@ -41,7 +41,11 @@ impl Renumbering {
 }
 
 /// The new numbers of the commands 1, 2, and so on, of a case with `count` commands.
-pub(crate) fn numbers_by(alloc: Global, by: Renumbering, count: u32) -> Result<Vec<u32>, AllocError>
+pub(crate) fn new_command_numbers(
+    alloc: Global,
+    by: Renumbering,
+    count: u32,
+) -> Result<Vec<u32>, AllocError>
     requires { count + 1 < 2 ^ 32 }
     ensures { IfOk result (λ numbers. numbers.items ≡ numbers_by by count) }
 {

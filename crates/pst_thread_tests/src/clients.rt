@@ -1,6 +1,6 @@
 //! Clients that are texts, the lines of calls, and the values of answers.
 
-use pst_clients::{ClientAnswer, Clients, Connection, Notes, answer_of, call_line};
+use pst_clients::{ClientAnswer, Clients, Connection, Notes, call_line, client_answer_of_line};
 use pst_system::{RealCall, System};
 use pst_value::{Boxed, Items, Key, KeyTy, Text, Ty, Value};
 use std::alloc::{AllocError, Global};
@@ -196,7 +196,7 @@ fn a_map_is_read_with_its_keys_in_any_order(rt: HostRuntime) -> Result<(), Fail>
     let alloc = rt.alloc();
     let ty = Ty::Map(KeyTy::Int, Boxed::new(alloc, Ty::Int)?);
     let wanted = ClientAnswer::Value(map_of(alloc, Value::Int(1), Value::Int(0))?);
-    let read = answer_of(alloc, Some(&ty), " {\"3\":0, \"-2\":1}\r")?;
+    let read = client_answer_of_line(alloc, Some(&ty), " {\"3\":0, \"-2\":1}\r")?;
     assert!(rt; read == wanted);
     Ok(())
 }
@@ -205,7 +205,7 @@ fn a_map_is_read_with_its_keys_in_any_order(rt: HostRuntime) -> Result<(), Fail>
 fn letters(alloc: Global, lines: &[&str]) -> Result<String, AllocError> {
     let mut letters = String::new(alloc);
     for line in lines {
-        letters.push(match answer_of(alloc, Some(&Ty::Int), line)? {
+        letters.push(match client_answer_of_line(alloc, Some(&Ty::Int), line)? {
             ClientAnswer::Value(_) => 'v',
             ClientAnswer::Failed => 'f',
             ClientAnswer::NoValue => 'n',

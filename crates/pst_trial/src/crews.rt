@@ -12,7 +12,7 @@ use crate::record::Record;
 use crate::shrinking::ShrinkProgress;
 use crate::trials::run_trial_with_driver;
 use pst_case::History;
-use pst_driver::{Crew, DriveFault, Relations, Subject, run_with};
+use pst_driver::{Crew, DriveFault, Relations, Subject, drive_valid_case_with_crew};
 use pst_judge::Valid;
 use pst_model::Typed;
 use std::alloc::Global;
@@ -49,7 +49,7 @@ impl<'r, 'c, 's, J: Relations, S: Subject, R: Wait> Driver for CrewDriver<'r, 'c
         typed: &Typed,
         valid: &Valid,
     ) -> Result<History, DriveFault> {
-        run_with(self.rt, alloc, self.crew, typed, valid)
+        drive_valid_case_with_crew(self.rt, alloc, self.crew, typed, valid)
     }
 
     fn candidate_begins(&self, driven: u64) {

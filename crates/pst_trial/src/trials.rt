@@ -53,7 +53,7 @@ fn shrink_case<D: Driver>(
 }
 
 /// Drives a valid case, and shrinks it if a run is not explained.
-fn try_case<D: Driver>(
+fn drive_and_shrink_trial_case<D: Driver>(
     alloc: Global,
     plan: &Plan,
     driver: &mut D,
@@ -90,7 +90,7 @@ fn generate_drive_and_shrink<D: Driver>(
     ensures keeps { D.keeps driver.old driver.new }
 {
     match trial_case(alloc, plan, number)? {
-        Ok(valid) => try_case(alloc, plan, driver, valid),
+        Ok(valid) => drive_and_shrink_trial_case(alloc, plan, driver, valid),
         Err(place) => Ok(TrialOutcome::GenFaulted(place)),
     }
 }

@@ -2,7 +2,7 @@
 
 use crate::diagnose::BlamedPart;
 use crate::operands::operand_type_problem;
-use crate::trees::part_or_whole;
+use crate::trees::tree_part_or_whole;
 use pst_model::{Fun, Item, Param};
 use pst_sexpr::word_of;
 use pst_syntax_problems::{
@@ -54,7 +54,11 @@ fn first_ill_typed_argument(
 
 /// Whether exactly two arguments do not fit, and both would fit if they were swapped. `first` is the number of the
 /// first of them.
-fn are_swapped(leaf: &BlamedPart<'_>, params: &[Param], first: usize) -> Result<bool, AllocError> {
+fn are_two_arguments_swapped(
+    leaf: &BlamedPart<'_>,
+    params: &[Param],
+    first: usize,
+) -> Result<bool, AllocError> {
     let Some(second) = first_ill_typed_argument(leaf, params, first.saturating_add(1))? else {
         return Ok(false);
     };
@@ -68,7 +72,7 @@ fn are_swapped(leaf: &BlamedPart<'_>, params: &[Param], first: usize) -> Result<
 }
 
 /// The problem `refused`, with the declaration.
-fn with_signature(
+fn with_declaration_note(
     leaf: &BlamedPart<'_>,
     refused: Option<Problem>,
     declared: &Signature<'_>,
@@ -78,7 +82,7 @@ fn with_signature(
 
 /// The problem of argument `place`, counted from 0, which has another type than its parameter. `part` is its number in
 /// the tree.
-fn ill_argument(
+fn argument_type_problem(
     leaf: &BlamedPart<'_>,
     declared: &Signature<'_>,
     place: usize,
@@ -95,19 +99,19 @@ fn ill_argument(
     let name = declared.name;
     let what = format_args!("the parameter {called} of `{name}`");
     let refused = operand_type_problem(leaf, what, part, &wanted, found)?;
-    with_signature(leaf, refused, declared)
+    with_declaration_note(leaf, refused, declared)
 }
 
-/// The problem of argument `place`, as [`ill_argument`] returns it, with a hint if two arguments would fit in the other
+/// The problem of argument `place`, as [`argument_type_problem`] returns it, with a hint if two arguments would fit in the other
 /// order.
-fn ill_order(
+fn argument_problem_with_order_hint(
     leaf: &BlamedPart<'_>,
     declared: &Signature<'_>,
     place: usize,
     part: usize,
 ) -> FoundProblem {
-    let refused = ill_argument(leaf, declared, place, part)?;
-    if are_swapped(leaf, declared.params, place)? {
+    let refused = argument_type_problem(leaf, declared, place, part)?;
+    if are_two_arguments_swapped(leaf, declared.params, place)? {
         let hint = "hint: in the other order the two arguments fit";
         return with_note(leaf.alloc, refused, hint);
     }
@@ -115,7 +119,7 @@ fn ill_order(
 }
 
 /// The problem of arguments whose number is not that of the parameters.
-fn wrong_argument_count(leaf: &BlamedPart<'_>, declared: &Signature<'_>) -> FoundProblem {
+fn argument_count_problem(leaf: &BlamedPart<'_>, declared: &Signature<'_>) -> FoundProblem {
     let name = declared.name;
     let takes = counted(declared.params.len(), "argument");
     let found = leaf.kinds.len();
@@ -124,27 +128,32 @@ fn wrong_argument_count(leaf: &BlamedPart<'_>, declared: &Signature<'_>) -> Foun
         leaf.path,
         format_args!("`{name}` takes {takes}, here it has {found}"),
     )?;
-    with_signature(leaf, refused, declared)
+    with_declaration_note(leaf, refused, declared)
 }
 
 /// The problem of arguments that do not fit the parameters, if one does not. `first` is the number of the first
 /// argument in the tree.
-fn arguments_problem(
+fn arguments_type_problem(
     leaf: &BlamedPart<'_>,
     declared: &Signature<'_>,
     first: usize,
 ) -> FoundProblem {
     if leaf.kinds.len() != declared.params.len() {
-        return wrong_argument_count(leaf, declared);
+        return argument_count_problem(leaf, declared);
     }
     match first_ill_typed_argument(leaf, declared.params, 0)? {
-        Some(place) => ill_order(leaf, declared, place, first.saturating_add(place)),
+        Some(place) => argument_problem_with_order_hint(
+            leaf,
+            declared,
+            place,
+            first.saturating_add(place),
+        ),
         None => Ok(None),
     }
 }
 
 /// The problem of the unknown name `name` at part `part` of the tree, with the known operations or functions.
-fn unknown_at(
+fn unknown_name_at_part_problem(
     leaf: &BlamedPart<'_>,
     part: usize,
     name: &str,
@@ -161,8 +170,8 @@ fn unknown_at(
 }
 
 /// The problem of a call of an operation, if it has one.
-pub fn call_problem(leaf: &BlamedPart<'_>) -> FoundProblem {
-    let Some(name) = word_of(part_or_whole(leaf.form, 1)) else {
+pub fn operation_call_type_problem(leaf: &BlamedPart<'_>) -> FoundProblem {
+    let Some(name) = word_of(tree_part_or_whole(leaf.form, 1)) else {
         return Ok(None);
     };
     let name = name.as_str();
@@ -173,14 +182,14 @@ pub fn call_problem(leaf: &BlamedPart<'_>) -> FoundProblem {
                 params: op.params.as_slice(),
                 gives: &op.result,
             };
-            arguments_problem(leaf, &declared, 2)
+            arguments_type_problem(leaf, &declared, 2)
         }
-        None => unknown_at(leaf, 1, name, true),
+        None => unknown_name_at_part_problem(leaf, 1, name, true),
     }
 }
 
 /// The problem of a function that no item declares, with a note.
-fn unknown_function_noted<N: Display + Drop>(
+fn unknown_function_problem_with_note<N: Display + Drop>(
     leaf: &BlamedPart<'_>,
     name: &str,
     note: N,
@@ -196,34 +205,34 @@ fn unknown_function_noted<N: Display + Drop>(
 
 /// The problem of a function that no item declares, with the known name that is probably meant, or with the known
 /// functions.
-fn unknown_function_near(leaf: &BlamedPart<'_>, name: &str) -> FoundProblem {
+fn unknown_function_problem_with_suggestion(leaf: &BlamedPart<'_>, name: &str) -> FoundProblem {
     match nearest_head(leaf.alloc, leaf.has_maps, name)? {
-        Some(hint) => unknown_function_noted(leaf, name, hint),
-        None => unknown_at(leaf, 0, name, false),
+        Some(hint) => unknown_function_problem_with_note(leaf, name, hint),
+        None => unknown_name_at_part_problem(leaf, 0, name, false),
     }
 }
 
 /// The problem of a function that no item declares.
 fn unknown_function_problem(leaf: &BlamedPart<'_>, name: &str) -> FoundProblem {
     if let Some(hint) = hint_for_foreign_word(name) {
-        return unknown_function_noted(leaf, name, format_args!("hint: {hint}"));
+        return unknown_function_problem_with_note(leaf, name, format_args!("hint: {hint}"));
     }
     if is_of_maps(name) {
         let hint = "hint: a model with maps begins with `(model2 NAME ..)`";
-        return unknown_function_noted(leaf, name, hint);
+        return unknown_function_problem_with_note(leaf, name, hint);
     }
     if operation_named(leaf.context.items, name).is_some() {
-        return unknown_function_noted(
+        return unknown_function_problem_with_note(
             leaf,
             name,
             format_args!("hint: `{name}` is an operation: a call of it is `(call {name} ..)`"),
         );
     }
-    unknown_function_near(leaf, name)
+    unknown_function_problem_with_suggestion(leaf, name)
 }
 
 /// The problem of a declared function that may not be applied here, if it may not.
-fn later_function_problem(leaf: &BlamedPart<'_>, fun: &Fun) -> FoundProblem {
+fn inapplicable_function_problem(leaf: &BlamedPart<'_>, fun: &Fun) -> FoundProblem {
     let name = fun.name.as_str();
     if find_declared_function(leaf.context.earlier, name).is_none() {
         return problem_with_note_at_part(
@@ -247,7 +256,7 @@ fn later_function_problem(leaf: &BlamedPart<'_>, fun: &Fun) -> FoundProblem {
 }
 
 /// The problem of an application of a function, if it has one.
-pub fn application_problem(leaf: &BlamedPart<'_>, name: &str) -> FoundProblem {
+pub fn function_application_type_problem(leaf: &BlamedPart<'_>, name: &str) -> FoundProblem {
     let Some(fun) = find_declared_function(leaf.context.items, name) else {
         return unknown_function_problem(leaf, name);
     };
@@ -256,8 +265,8 @@ pub fn application_problem(leaf: &BlamedPart<'_>, name: &str) -> FoundProblem {
         params: fun.params.as_slice(),
         gives: &fun.result,
     };
-    match later_function_problem(leaf, fun)? {
+    match inapplicable_function_problem(leaf, fun)? {
         Some(found) => Ok(Some(found)),
-        None => arguments_problem(leaf, &declared, 1),
+        None => arguments_type_problem(leaf, &declared, 1),
     }
 }

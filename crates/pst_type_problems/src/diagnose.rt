@@ -1,12 +1,14 @@
 //! What is wrong with the part of an expression that is to blame, by the types of its parts.
 
-use crate::applied::{application_problem, call_problem};
-use crate::lists::{fold_problem, for_problem, list_problem, nth_problem};
+use crate::applied::{function_application_type_problem, operation_call_type_problem};
+use crate::lists::{
+    comprehension_type_problem, first_list_item_type_problem, fold_type_problem, nth_type_problem,
+};
 use crate::operands::{
     first_operand_problem, map_wanted_problem, operand_type_problem, sequence_wanted_problem,
     tuple_wanted_problem,
 };
-use crate::spelling::spelled;
+use crate::spelling::type_text_of_kind;
 use pst_model::{Expr, Op};
 use pst_sexpr::{Form, word_of};
 use pst_syntax_problems::{
@@ -35,7 +37,7 @@ pub struct BlamedPart<'a> {
 }
 
 /// The problem `found`, with the names that the part sees.
-fn with_names(leaf: &BlamedPart<'_>, found: Option<Problem>) -> FoundProblem {
+fn with_known_names_note(leaf: &BlamedPart<'_>, found: Option<Problem>) -> FoundProblem {
     if leaf.names.is_empty() {
         let called = leaf.called;
         return with_note(leaf.alloc, found, format_args!("{called} sees no names"));
@@ -45,7 +47,7 @@ fn with_names(leaf: &BlamedPart<'_>, found: Option<Problem>) -> FoundProblem {
 }
 
 /// A hint for a name that only callbacks see, or that other languages have.
-fn fixed_hint(name: &str) -> Option<&'static str> {
+fn hint_on_special_name(name: &str) -> Option<&'static str> {
     match name {
         "s" => Some("hint: only callbacks see the state `s`: give it as a parameter"),
         "r" => Some("hint: only next and post see the result `r`"),
@@ -57,23 +59,27 @@ fn fixed_hint(name: &str) -> Option<&'static str> {
 }
 
 /// The problem of the name `name`, which nothing has here. A note lists the names that the part sees.
-fn meaningless_name_problem(leaf: &BlamedPart<'_>, name: &str) -> FoundProblem {
+fn undeclared_name_problem(leaf: &BlamedPart<'_>, name: &str) -> FoundProblem {
     let called = leaf.called;
     let what = format_args!("{called}: nothing has the name `{name}` here");
     let found = problem_at(leaf.alloc, leaf.path, what)?;
-    with_names(leaf, found)
+    with_known_names_note(leaf, found)
 }
 
 /// The problem of the name `name`, which nothing has here, with a hint.
-fn unknown_noted<N: Display + Drop>(leaf: &BlamedPart<'_>, name: &str, hint: N) -> FoundProblem {
-    with_note(leaf.alloc, meaningless_name_problem(leaf, name)?, hint)
+fn undeclared_name_problem_with_hint<N: Display + Drop>(
+    leaf: &BlamedPart<'_>,
+    name: &str,
+    hint: N,
+) -> FoundProblem {
+    with_note(leaf.alloc, undeclared_name_problem(leaf, name)?, hint)
 }
 
 /// The problem of the name of the operation `op` in the place of a call of it.
 fn uncalled_operation_problem(leaf: &BlamedPart<'_>, op: &Op) -> FoundProblem {
     let name = op.name.as_str();
     let arguments = if op.params.is_empty() { "" } else { " .." };
-    unknown_noted(
+    undeclared_name_problem_with_hint(
         leaf,
         name,
         format_args!("hint: `{name}` is an operation: a call of it is `(call {name}{arguments})`"),
@@ -82,15 +88,15 @@ fn uncalled_operation_problem(leaf: &BlamedPart<'_>, op: &Op) -> FoundProblem {
 
 /// The problem of the name `name`, which nothing has here, with a hint if there is one.
 fn unknown_name_problem(leaf: &BlamedPart<'_>, name: &str) -> FoundProblem {
-    if let Some(hint) = fixed_hint(name) {
-        return unknown_noted(leaf, name, hint);
+    if let Some(hint) = hint_on_special_name(name) {
+        return undeclared_name_problem_with_hint(leaf, name, hint);
     }
     if let Some(op) = operation_named(leaf.context.items, name) {
         return uncalled_operation_problem(leaf, op);
     }
     match nearest(leaf.alloc, leaf.names, name)? {
-        Some(hint) => unknown_noted(leaf, name, hint),
-        None => meaningless_name_problem(leaf, name),
+        Some(hint) => undeclared_name_problem_with_hint(leaf, name, hint),
+        None => undeclared_name_problem(leaf, name),
     }
 }
 
@@ -118,7 +124,7 @@ fn first_ill_typed_part_problem(leaf: &BlamedPart<'_>, head: &str, wanted: &Ty) 
 }
 
 /// The problem of an `if`, if it has one.
-fn if_problem(leaf: &BlamedPart<'_>) -> FoundProblem {
+fn if_type_problem(leaf: &BlamedPart<'_>) -> FoundProblem {
     let [test, yes, no] = leaf.kinds else {
         return Ok(None);
     };
@@ -130,7 +136,12 @@ fn if_problem(leaf: &BlamedPart<'_>) -> FoundProblem {
 }
 
 /// The problem of a comparison by order, if it has one.
-fn order_problem(leaf: &BlamedPart<'_>, head: &str, first: &Kind, second: &Kind) -> FoundProblem {
+fn order_comparison_type_problem(
+    leaf: &BlamedPart<'_>,
+    head: &str,
+    first: &Kind,
+    second: &Kind,
+) -> FoundProblem {
     match first.form(leaf.alloc)? {
         KindForm::Int | KindForm::Text => {
             operand_type_problem(leaf, format_args!("`{head}`"), 2, first, second)
@@ -140,7 +151,7 @@ fn order_problem(leaf: &BlamedPart<'_>, head: &str, first: &Kind, second: &Kind)
 }
 
 /// The problem of a comparison by `=`, if it has one.
-fn equality_problem(leaf: &BlamedPart<'_>, first: &Kind, second: &Kind) -> FoundProblem {
+fn equality_type_problem(leaf: &BlamedPart<'_>, first: &Kind, second: &Kind) -> FoundProblem {
     if let Some(found) = operand_type_problem(
         leaf,
         "`=` compares values of one type",
@@ -153,7 +164,7 @@ fn equality_problem(leaf: &BlamedPart<'_>, first: &Kind, second: &Kind) -> Found
     if !first.holds_ref(leaf.alloc)? {
         return Ok(None);
     }
-    let found = spelled(leaf.alloc, first)?;
+    let found = type_text_of_kind(leaf.alloc, first)?;
     problem_with_note(
         leaf.alloc,
         leaf.path,
@@ -163,7 +174,7 @@ fn equality_problem(leaf: &BlamedPart<'_>, first: &Kind, second: &Kind) -> Found
 }
 
 /// The problem of a `same`, if it has one.
-fn same_problem(leaf: &BlamedPart<'_>, first: &Kind, second: &Kind) -> FoundProblem {
+fn same_operator_type_problem(leaf: &BlamedPart<'_>, first: &Kind, second: &Kind) -> FoundProblem {
     match first.form(leaf.alloc)? {
         KindForm::Ref(_) => operand_type_problem(
             leaf,
@@ -177,7 +188,7 @@ fn same_problem(leaf: &BlamedPart<'_>, first: &Kind, second: &Kind) -> FoundProb
 }
 
 /// The problem of a `deref`, if it has one.
-fn deref_problem(leaf: &BlamedPart<'_>) -> FoundProblem {
+fn deref_type_problem(leaf: &BlamedPart<'_>) -> FoundProblem {
     if !leaf.context.is_post {
         return problem_with_note(
             leaf.alloc,
@@ -194,7 +205,7 @@ fn deref_problem(leaf: &BlamedPart<'_>) -> FoundProblem {
 
 /// The problem of a `++` of a list of the kind `list` and something else, if it has one, with a hint if that
 /// is an item.
-fn list_join_problem(
+fn list_join_type_problem(
     leaf: &BlamedPart<'_>,
     list: &Kind,
     item: &Kind,
@@ -204,13 +215,13 @@ fn list_join_problem(
     if !item.same(leaf.alloc, other)? {
         return Ok(refused);
     }
-    let shown = spelled(leaf.alloc, item)?;
+    let shown = type_text_of_kind(leaf.alloc, item)?;
     let hint = format_args!("hint: a list of one item is `(list {shown} x)`");
     with_note(leaf.alloc, refused, hint)
 }
 
 /// The problem of a `len` or a `++`, if it has one.
-fn sequence_problem(leaf: &BlamedPart<'_>, head: &str) -> FoundProblem {
+fn sequence_type_problem(leaf: &BlamedPart<'_>, head: &str) -> FoundProblem {
     let Some(first) = leaf.kinds.first() else {
         return Ok(None);
     };
@@ -218,13 +229,13 @@ fn sequence_problem(leaf: &BlamedPart<'_>, head: &str) -> FoundProblem {
         (KindForm::Text, Some(second)) => {
             operand_type_problem(leaf, "`++` joins values of one type", 2, first, second)
         }
-        (KindForm::List(item), Some(second)) => list_join_problem(leaf, first, &item, second),
+        (KindForm::List(item), Some(second)) => list_join_type_problem(leaf, first, &item, second),
         _ => sequence_wanted_problem(leaf, head, first),
     }
 }
 
 /// The problem of an `at`, if it has one.
-fn at_problem(leaf: &BlamedPart<'_>) -> FoundProblem {
+fn tuple_item_type_problem(leaf: &BlamedPart<'_>) -> FoundProblem {
     let Some(found) = leaf.kinds.first() else {
         return Ok(None);
     };
@@ -232,13 +243,13 @@ fn at_problem(leaf: &BlamedPart<'_>) -> FoundProblem {
         return tuple_wanted_problem(leaf, found);
     };
     let number = items.len();
-    let shown = spelled(leaf.alloc, found)?;
+    let shown = type_text_of_kind(leaf.alloc, found)?;
     let what = format_args!("the tuple has {number} items: {shown}");
     problem_at_part(leaf.alloc, leaf.path, 2, what)
 }
 
 /// The problem of a key of another type than the keys of the map, if it has one.
-fn ill_key(leaf: &BlamedPart<'_>, keys: KeyTy) -> FoundProblem {
+fn map_key_type_problem(leaf: &BlamedPart<'_>, keys: KeyTy) -> FoundProblem {
     let Some(found) = leaf.kinds.get(1) else {
         return Ok(None);
     };
@@ -249,8 +260,8 @@ fn ill_key(leaf: &BlamedPart<'_>, keys: KeyTy) -> FoundProblem {
 }
 
 /// The problem of a key or a value of another type than those of the map, if there is one.
-fn ill_entry(leaf: &BlamedPart<'_>, keys: KeyTy, value: &Kind) -> FoundProblem {
-    if let Some(found) = ill_key(leaf, keys)? {
+fn map_entry_type_problem(leaf: &BlamedPart<'_>, keys: KeyTy, value: &Kind) -> FoundProblem {
+    if let Some(found) = map_key_type_problem(leaf, keys)? {
         return Ok(Some(found));
     }
     match leaf.kinds.get(2) {
@@ -260,32 +271,32 @@ fn ill_entry(leaf: &BlamedPart<'_>, keys: KeyTy, value: &Kind) -> FoundProblem {
 }
 
 /// The problem of a form of maps, if it has one.
-fn map_problem(leaf: &BlamedPart<'_>, head: &str) -> FoundProblem {
+fn map_form_type_problem(leaf: &BlamedPart<'_>, head: &str) -> FoundProblem {
     let Some(map) = leaf.kinds.first() else {
         return Ok(None);
     };
     match map.form(leaf.alloc)? {
-        KindForm::Map(keys, value) => ill_entry(leaf, keys, &value),
+        KindForm::Map(keys, value) => map_entry_type_problem(leaf, keys, &value),
         _ => map_wanted_problem(leaf, head, map),
     }
 }
 
 /// What is wrong with an operator of two parts, by its head.
-fn binary_problem(leaf: &BlamedPart<'_>, head: &str) -> FoundProblem {
+fn binary_operator_type_problem(leaf: &BlamedPart<'_>, head: &str) -> FoundProblem {
     let [first, second] = leaf.kinds else {
         return Ok(None);
     };
     match head {
-        "<" | "<=" => order_problem(leaf, head, first, second),
-        "=" => equality_problem(leaf, first, second),
-        "same" => same_problem(leaf, first, second),
-        "nth" => nth_problem(leaf, first, second),
+        "<" | "<=" => order_comparison_type_problem(leaf, head, first, second),
+        "=" => equality_type_problem(leaf, first, second),
+        "same" => same_operator_type_problem(leaf, first, second),
+        "nth" => nth_type_problem(leaf, first, second),
         _ => Ok(None),
     }
 }
 
 /// What is wrong with an operator, by its head.
-fn operator_problem(leaf: &BlamedPart<'_>, head: &str) -> FoundProblem {
+fn operator_type_problem(leaf: &BlamedPart<'_>, head: &str) -> FoundProblem {
     match head {
         "and" | "or" | "not" => first_ill_typed_part_problem(leaf, head, &Ty::Bool),
         "+" | "-" | "*" | "div" | "rem" | "range" => first_ill_typed_part_problem(
@@ -293,40 +304,40 @@ fn operator_problem(leaf: &BlamedPart<'_>, head: &str) -> FoundProblem {
             head,
             &Ty::Int,
         ),
-        "len" | "++" => sequence_problem(leaf, head),
-        _ => binary_problem(leaf, head),
+        "len" | "++" => sequence_type_problem(leaf, head),
+        _ => binary_operator_type_problem(leaf, head),
     }
 }
 
 /// What is wrong with a form of expressions, by its head.
-fn expression_form_problem(leaf: &BlamedPart<'_>, head: &str) -> FoundProblem {
+fn expression_form_type_problem(leaf: &BlamedPart<'_>, head: &str) -> FoundProblem {
     match head {
-        "if" => if_problem(leaf),
-        "deref" => deref_problem(leaf),
-        "at" => at_problem(leaf),
-        "list" => list_problem(leaf),
-        "for" => for_problem(leaf),
-        "fold" => fold_problem(leaf),
-        "call" => call_problem(leaf),
-        _ if leaf.has_maps && is_of_maps(head) => map_problem(leaf, head),
-        _ => operator_problem(leaf, head),
+        "if" => if_type_problem(leaf),
+        "deref" => deref_type_problem(leaf),
+        "at" => tuple_item_type_problem(leaf),
+        "list" => first_list_item_type_problem(leaf),
+        "for" => comprehension_type_problem(leaf),
+        "fold" => fold_type_problem(leaf),
+        "call" => operation_call_type_problem(leaf),
+        _ if leaf.has_maps && is_of_maps(head) => map_form_type_problem(leaf, head),
+        _ => operator_type_problem(leaf, head),
     }
 }
 
 /// What is wrong with a form of expressions, or else with the application of a function, by the head.
-fn problem_by_head(leaf: &BlamedPart<'_>, head: &str) -> FoundProblem {
-    match expression_form_problem(leaf, head)? {
+fn type_problem_by_head(leaf: &BlamedPart<'_>, head: &str) -> FoundProblem {
+    match expression_form_type_problem(leaf, head)? {
         Some(found) => Ok(Some(found)),
-        None => application_problem(leaf, head),
+        None => function_application_type_problem(leaf, head),
     }
 }
 
 /// What is wrong with the part that is to blame.
-pub fn diagnose(leaf: &BlamedPart<'_>) -> FoundProblem {
+pub fn diagnose_blamed_part(leaf: &BlamedPart<'_>) -> FoundProblem {
     if let Some(word) = word_of(leaf.form) {
         return unknown_name_problem(leaf, word.as_str());
     }
-    match problem_by_head(leaf, head_word(leaf.form))? {
+    match type_problem_by_head(leaf, head_word(leaf.form))? {
         Some(found) => Ok(Some(found)),
         None => problem_at(leaf.alloc, leaf.path, "this has no type"),
     }

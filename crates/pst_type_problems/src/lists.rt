@@ -2,11 +2,11 @@
 
 use crate::diagnose::BlamedPart;
 use crate::operands::{
-    list_wanted_problem, operand_type_problem, with_item_hint, with_reference_hint,
-    with_references_hint,
+    list_wanted_problem, operand_type_problem, with_hint_if_reference,
+    with_hint_on_references_for_values, with_item_access_hint,
 };
-use crate::spelling::spelled;
-use crate::trees::{clause_iterates_over_list, clauses_of};
+use crate::spelling::type_text_of_kind;
+use crate::trees::{clause_iterates_over_list, comprehension_clauses};
 use pst_model::Expr;
 use pst_sexpr::Form;
 use pst_syntax_problems::{FoundProblem, TypeText, problem_at_part, problem_with_note};
@@ -15,7 +15,7 @@ use pst_value::Ty;
 use std::alloc::AllocError;
 
 /// The problem of an `nth`, if it has one.
-pub fn nth_problem(leaf: &BlamedPart<'_>, list: &Kind, place: &Kind) -> FoundProblem {
+pub fn nth_type_problem(leaf: &BlamedPart<'_>, list: &Kind, place: &Kind) -> FoundProblem {
     match (list.form(leaf.alloc)?, place.form(leaf.alloc)?) {
         (KindForm::List(_), _) => {
             let int = Kind::of(leaf.alloc, &Ty::Int)?;
@@ -29,36 +29,45 @@ pub fn nth_problem(leaf: &BlamedPart<'_>, list: &Kind, place: &Kind) -> FoundPro
         ),
         (KindForm::Tuple(_), _) => {
             let refused = list_wanted_problem(leaf.alloc, leaf.path, "`nth`", 1, list)?;
-            with_item_hint(leaf.alloc, refused, list)
+            with_item_access_hint(leaf.alloc, refused, list)
         }
         _ => list_wanted_problem(leaf.alloc, leaf.path, "`nth`", 1, list),
     }
 }
 
 /// The problem of an item of a list that has the type `found` instead of `wanted`. `part` is its number in the tree.
-fn ill_item(leaf: &BlamedPart<'_>, part: usize, wanted: &Ty, found: &Kind) -> FoundProblem {
+fn list_item_type_problem(
+    leaf: &BlamedPart<'_>,
+    part: usize,
+    wanted: &Ty,
+    found: &Kind,
+) -> FoundProblem {
     let wants = TypeText(wanted);
-    let has = spelled(leaf.alloc, found)?;
+    let has = type_text_of_kind(leaf.alloc, found)?;
     let what = format_args!("an item of the list: expected {wants}, found {has}");
     let refused = problem_at_part(leaf.alloc, leaf.path, part, what)?;
-    with_references_hint(leaf.alloc, refused, &Kind::of(leaf.alloc, wanted)?, found)
+    with_hint_on_references_for_values(leaf.alloc, refused, &Kind::of(leaf.alloc, wanted)?, found)
 }
 
 /// The problem of the first item of a list that has another type, if there is one.
-pub fn list_problem(leaf: &BlamedPart<'_>) -> FoundProblem {
+pub fn first_list_item_type_problem(leaf: &BlamedPart<'_>) -> FoundProblem {
     let Expr::List(wanted, _) = leaf.expr else {
         return Ok(None);
     };
     for (place, found) in leaf.kinds.iter().enumerate() {
         if !found.is(leaf.alloc, wanted)? {
-            return ill_item(leaf, place.saturating_add(2), wanted, found);
+            return list_item_type_problem(leaf, place.saturating_add(2), wanted, found);
         }
     }
     Ok(None)
 }
 
 /// Whether a type is the one that the expression of a clause has to have.
-fn fits_clause(leaf: &BlamedPart<'_>, clause: &Form, found: &Kind) -> Result<bool, AllocError> {
+fn is_type_wanted_by_clause(
+    leaf: &BlamedPart<'_>,
+    clause: &Form,
+    found: &Kind,
+) -> Result<bool, AllocError> {
     match found.form(leaf.alloc)? {
         KindForm::List(_) => Ok(clause_iterates_over_list(clause)),
         KindForm::Bool => Ok(!clause_iterates_over_list(clause)),
@@ -67,33 +76,38 @@ fn fits_clause(leaf: &BlamedPart<'_>, clause: &Form, found: &Kind) -> Result<boo
 }
 
 /// The problem of clause `place`, which has another type.
-fn ill_clause(leaf: &BlamedPart<'_>, clause: &Form, place: usize, found: &Kind) -> FoundProblem {
+fn clause_type_problem(
+    leaf: &BlamedPart<'_>,
+    clause: &Form,
+    place: usize,
+    found: &Kind,
+) -> FoundProblem {
     let mut path = Vec::from_slice(leaf.alloc, leaf.path)?;
     path.extend_from_slice(&[1, place])?;
     if clause_iterates_over_list(clause) {
         return list_wanted_problem(leaf.alloc, path.as_slice(), "`in`", 2, found);
     }
-    let has = spelled(leaf.alloc, found)?;
+    let has = type_text_of_kind(leaf.alloc, found)?;
     let what = format_args!("`when`: expected bool, found {has}");
     let refused = problem_at_part(leaf.alloc, path.as_slice(), 1, what)?;
-    with_reference_hint(leaf.alloc, refused, found)
+    with_hint_if_reference(leaf.alloc, refused, found)
 }
 
 /// The problem of the first clause of a comprehension that has another type, if there is one.
-pub fn for_problem(leaf: &BlamedPart<'_>) -> FoundProblem {
-    for (place, clause) in clauses_of(leaf.form).iter().enumerate() {
+pub fn comprehension_type_problem(leaf: &BlamedPart<'_>) -> FoundProblem {
+    for (place, clause) in comprehension_clauses(leaf.form).iter().enumerate() {
         let Some(found) = leaf.kinds.get(place) else {
             return Ok(None);
         };
-        if !fits_clause(leaf, clause, found)? {
-            return ill_clause(leaf, clause, place, found);
+        if !is_type_wanted_by_clause(leaf, clause, found)? {
+            return clause_type_problem(leaf, clause, place, found);
         }
     }
     Ok(None)
 }
 
 /// The problem of a fold over no list, or with a body of another type than its first value.
-pub fn fold_problem(leaf: &BlamedPart<'_>) -> FoundProblem {
+pub fn fold_type_problem(leaf: &BlamedPart<'_>) -> FoundProblem {
     match leaf.kinds {
         [_, first, body] => operand_type_problem(
             leaf,

@@ -1,7 +1,7 @@
 //! Parts of another type than their form takes.
 
 use crate::diagnose::BlamedPart;
-use crate::spelling::{spelled, spelled_as_value};
+use crate::spelling::{type_text_of_kind, type_text_without_references};
 use pst_syntax_problems::{
     FoundProblem, Problem, below, problem_at, problem_at_part, problem_with_note, with_note,
 };
@@ -14,32 +14,40 @@ const REFERENCE: &str =
     "hint: a `ref`, as `r` in next, has a value only in post: keep it in the state, and `deref` it there (docs/language.md, Patterns)";
 
 /// Whether `found` has references where `wanted` has their values, and is the same type otherwise.
-fn has_references(alloc: Global, wanted: &Kind, found: &Kind) -> Result<bool, AllocError> {
-    let wants = spelled_as_value(alloc, wanted)?;
-    let has = spelled_as_value(alloc, found)?;
+fn has_references_in_place_of_values(
+    alloc: Global,
+    wanted: &Kind,
+    found: &Kind,
+) -> Result<bool, AllocError> {
+    let wants = type_text_without_references(alloc, wanted)?;
+    let has = type_text_without_references(alloc, found)?;
     if wants.as_str() != has.as_str() {
         return Ok(false);
     }
-    let wants = spelled(alloc, wanted)?;
-    let has = spelled(alloc, found)?;
+    let wants = type_text_of_kind(alloc, wanted)?;
+    let has = type_text_of_kind(alloc, found)?;
     Ok(has.len() > wants.len())
 }
 
 /// The problem `refused`, with a hint if references are in the place of their values.
-pub fn with_references_hint(
+pub fn with_hint_on_references_for_values(
     alloc: Global,
     refused: Option<Problem>,
     wanted: &Kind,
     found: &Kind,
 ) -> FoundProblem {
-    if has_references(alloc, wanted, found)? {
+    if has_references_in_place_of_values(alloc, wanted, found)? {
         return with_note(alloc, refused, REFERENCE);
     }
     Ok(refused)
 }
 
 /// The problem `refused` of a part that is no reference and has the type `found`, with a hint if that is one.
-pub fn with_reference_hint(alloc: Global, refused: Option<Problem>, found: &Kind) -> FoundProblem {
+pub fn with_hint_if_reference(
+    alloc: Global,
+    refused: Option<Problem>,
+    found: &Kind,
+) -> FoundProblem {
     match found.form(alloc)? {
         KindForm::Ref(_) => with_note(alloc, refused, REFERENCE),
         _ => Ok(refused),
@@ -47,7 +55,7 @@ pub fn with_reference_hint(alloc: Global, refused: Option<Problem>, found: &Kind
 }
 
 /// The problem `refused`, with a hint if a map is in the place of a list.
-fn with_keys_hint(alloc: Global, refused: Option<Problem>, found: &Kind) -> FoundProblem {
+fn with_map_keys_hint(alloc: Global, refused: Option<Problem>, found: &Kind) -> FoundProblem {
     match found.form(alloc)? {
         KindForm::Map(_, _) => with_note(
             alloc,
@@ -60,7 +68,11 @@ fn with_keys_hint(alloc: Global, refused: Option<Problem>, found: &Kind) -> Foun
 
 /// The problem `refused` of a form that takes an item out of another type than `found`, with a hint how an item is
 /// taken out of that.
-pub fn with_item_hint(alloc: Global, refused: Option<Problem>, found: &Kind) -> FoundProblem {
+pub fn with_item_access_hint(
+    alloc: Global,
+    refused: Option<Problem>,
+    found: &Kind,
+) -> FoundProblem {
     let hint = match found.form(alloc)? {
         KindForm::Tuple(_) => "hint: for a tuple write `(at TUPLE PLACE)`, counted from 1",
         KindForm::List(_) => "hint: for a list write `(nth LIST PLACE)`, counted from 0",
@@ -71,21 +83,21 @@ pub fn with_item_hint(alloc: Global, refused: Option<Problem>, found: &Kind) -> 
 }
 
 /// The problem of the expression at `path`, which has the type `found` instead of `wanted`.
-pub fn other_type_problem<D: Display + Drop>(
+pub fn expected_type_problem<D: Display + Drop>(
     alloc: Global,
     path: &[usize],
     what: D,
     wanted: &Kind,
     found: &Kind,
 ) -> FoundProblem {
-    let wants = spelled(alloc, wanted)?;
-    let has = spelled(alloc, found)?;
+    let wants = type_text_of_kind(alloc, wanted)?;
+    let has = type_text_of_kind(alloc, found)?;
     let refused = problem_at(
         alloc,
         path,
         format_args!("{what}: expected {wants}, found {has}"),
     )?;
-    with_references_hint(alloc, refused, wanted, found)
+    with_hint_on_references_for_values(alloc, refused, wanted, found)
 }
 
 /// The problem of part `part` of a tree, if its type `found` is another than `wanted`.
@@ -100,7 +112,7 @@ pub fn operand_type_problem<D: Display + Drop>(
         return Ok(None);
     }
     let path = below(leaf.path, leaf.alloc, part)?;
-    other_type_problem(leaf.alloc, path.as_slice(), what, wanted, found)
+    expected_type_problem(leaf.alloc, path.as_slice(), what, wanted, found)
 }
 
 /// The problem of the first part, which has another kind than its form takes.
@@ -109,20 +121,20 @@ pub fn first_operand_problem<D: Display + Drop>(
     what: D,
     found: &Kind,
 ) -> FoundProblem {
-    let has = spelled(leaf.alloc, found)?;
+    let has = type_text_of_kind(leaf.alloc, found)?;
     let refused = problem_at_part(
         leaf.alloc,
         leaf.path,
         1,
         format_args!("{what}, found {has}"),
     )?;
-    with_reference_hint(leaf.alloc, refused, found)
+    with_hint_if_reference(leaf.alloc, refused, found)
 }
 
 /// The problem of the first part of `at`, which is no tuple.
 pub fn tuple_wanted_problem(leaf: &BlamedPart<'_>, found: &Kind) -> FoundProblem {
     let refused = first_operand_problem(leaf, "`at` takes a tuple", found)?;
-    with_item_hint(leaf.alloc, refused, found)
+    with_item_access_hint(leaf.alloc, refused, found)
 }
 
 /// The problem of a form that takes a text or a list, and whose first part is neither.
@@ -132,7 +144,7 @@ pub fn sequence_wanted_problem(leaf: &BlamedPart<'_>, head: &str, found: &Kind) 
         format_args!("`{head}` takes a text or a list"),
         found,
     )?;
-    with_keys_hint(leaf.alloc, refused, found)
+    with_map_keys_hint(leaf.alloc, refused, found)
 }
 
 /// The problem of part `part` of the tree that `path` leads to, which is no list.
@@ -143,15 +155,15 @@ pub fn list_wanted_problem(
     part: usize,
     found: &Kind,
 ) -> FoundProblem {
-    let has = spelled(alloc, found)?;
+    let has = type_text_of_kind(alloc, found)?;
     let refused = problem_at_part(
         alloc,
         path,
         part,
         format_args!("{what}: expected a list, found {has}"),
     )?;
-    let refused = with_reference_hint(alloc, refused, found)?;
-    with_keys_hint(alloc, refused, found)
+    let refused = with_hint_if_reference(alloc, refused, found)?;
+    with_map_keys_hint(alloc, refused, found)
 }
 
 /// The problem of a form of maps whose first part is no map.
@@ -164,12 +176,12 @@ pub fn map_wanted_problem(leaf: &BlamedPart<'_>, head: &str, found: &Kind) -> Fo
         let what = format_args!("`{head}`: expected a map");
         let refused = first_operand_problem(leaf, what, found)?;
         return if head == "get" {
-            with_item_hint(leaf.alloc, refused, found)
+            with_item_access_hint(leaf.alloc, refused, found)
         } else {
             Ok(refused)
         };
     }
-    let found = spelled(leaf.alloc, found)?;
+    let found = type_text_of_kind(leaf.alloc, found)?;
     problem_with_note(
         leaf.alloc,
         leaf.path,

@@ -20,7 +20,7 @@ enum References {
 }
 
 /// A type, as it is written.
-pub fn spelled(alloc: Global, kind: &Kind) -> Result<String, AllocError> {
+pub fn type_text_of_kind(alloc: Global, kind: &Kind) -> Result<String, AllocError> {
     let mut text = String::new(alloc);
     let mut left = MOST_FORMS;
     spell(&mut text, alloc, kind, References::Whole, &mut left)?;
@@ -28,7 +28,7 @@ pub fn spelled(alloc: Global, kind: &Kind) -> Result<String, AllocError> {
 }
 
 /// A type, as it is written with the type of its value in the place of each reference.
-pub fn spelled_as_value(alloc: Global, kind: &Kind) -> Result<String, AllocError> {
+pub fn type_text_without_references(alloc: Global, kind: &Kind) -> Result<String, AllocError> {
     let mut text = String::new(alloc);
     let mut left = MOST_FORMS;
     spell(&mut text, alloc, kind, References::Values, &mut left)?;
@@ -55,23 +55,33 @@ fn spell(
         KindForm::Bool => text.push_str("bool"),
         KindForm::Text => text.push_str("text"),
         KindForm::Call => text.push_str("call"),
-        KindForm::Tuple(kinds) => spell_all(text, alloc, kinds.as_slice(), references, left),
-        KindForm::List(item) => spell_last(text, alloc, "(list ", &item, references, left),
+        KindForm::Tuple(kinds) => push_tuple_type_text(
+            text,
+            alloc,
+            kinds.as_slice(),
+            references,
+            left,
+        ),
+        KindForm::List(item) => push_last_type_part_text(
+            text, alloc, "(list ", &item, references, left,
+        ),
         KindForm::Ref(named) => match references {
-            References::Whole => spell_last(text, alloc, "(ref ", &named, references, left),
+            References::Whole => push_last_type_part_text(
+                text, alloc, "(ref ", &named, references, left,
+            ),
             References::Values => spell(text, alloc, &named, references, left),
         },
         KindForm::Map(keys, value) => {
             text.push_str("(map ")?;
             text.push_str(key_type_word(keys))?;
-            spell_last(text, alloc, " ", &value, references, left)
+            push_last_type_part_text(text, alloc, " ", &value, references, left)
         }
     }
 }
 
 /// Adds `opening`, the last part of a type, and a closing bracket.
 #[cycle(spell)]
-fn spell_last(
+fn push_last_type_part_text(
     text: &mut String,
     alloc: Global,
     opening: &str,
@@ -88,7 +98,7 @@ fn spell_last(
 
 /// Adds the type of tuples with items of `kinds`.
 #[cycle(spell)]
-fn spell_all(
+fn push_tuple_type_text(
     text: &mut String,
     alloc: Global,
     kinds: &[Kind],

@@ -5,7 +5,7 @@ use pst_syntax_problems::head_word;
 use std::alloc::AllocError;
 
 /// Tree `number` in `form`, or `form` itself if it holds no such tree.
-pub fn part_or_whole(form: &Form, number: usize) -> &Form {
+pub fn tree_part_or_whole(form: &Form, number: usize) -> &Form {
     match node_of(form) {
         Some(trees) => trees.get(number).unwrap_or(form),
         None => form,
@@ -13,7 +13,7 @@ pub fn part_or_whole(form: &Form, number: usize) -> &Form {
 }
 
 /// The clauses of a comprehension.
-pub fn clauses_of(form: &Form) -> &[Form] {
+pub fn comprehension_clauses(form: &Form) -> &[Form] {
     match node_of(form) {
         Some([_, clauses, _]) => node_of(clauses).unwrap_or(&[]),
         _ => &[],
@@ -26,9 +26,13 @@ pub fn clause_iterates_over_list(clause: &Form) -> bool {
 }
 
 /// Goes from a tree to tree `number` in it: extends `path`, and returns that tree.
-fn enter<'a>(path: &mut Vec<usize>, form: &'a Form, number: usize) -> Result<&'a Form, AllocError> {
+fn enter_tree<'a>(
+    path: &mut Vec<usize>,
+    form: &'a Form,
+    number: usize,
+) -> Result<&'a Form, AllocError> {
     path.push(number)?;
-    Ok(part_or_whole(form, number))
+    Ok(tree_part_or_whole(form, number))
 }
 
 /// Goes from the tree of a comprehension to the expression of clause `part`, or to the body if it has no such clause.
@@ -37,12 +41,12 @@ fn enter_comprehension_part<'a>(
     form: &'a Form,
     part: usize,
 ) -> Result<&'a Form, AllocError> {
-    let Some(clause) = clauses_of(form).get(part) else {
-        return enter(path, form, 2);
+    let Some(clause) = comprehension_clauses(form).get(part) else {
+        return enter_tree(path, form, 2);
     };
     path.push(1)?;
     path.push(part)?;
-    enter(
+    enter_tree(
         path,
         clause,
         if clause_iterates_over_list(clause) {
@@ -54,16 +58,16 @@ fn enter_comprehension_part<'a>(
 }
 
 /// Goes from the tree of an expression to its part `part`: extends `path`, and returns the tree of the part.
-pub fn enter_part<'a>(
+pub fn enter_expression_part<'a>(
     path: &mut Vec<usize>,
     form: &'a Form,
     part: usize,
 ) -> Result<&'a Form, AllocError> {
     match head_word(form) {
-        "let" | "list" | "call" => enter(path, form, part.saturating_add(2)),
-        "fold" if part > 0 => enter(path, form, part.saturating_add(3)),
-        "fold" => enter(path, form, 2),
+        "let" | "list" | "call" => enter_tree(path, form, part.saturating_add(2)),
+        "fold" if part > 0 => enter_tree(path, form, part.saturating_add(3)),
+        "fold" => enter_tree(path, form, 2),
         "for" => enter_comprehension_part(path, form, part),
-        _ => enter(path, form, part.saturating_add(1)),
+        _ => enter_tree(path, form, part.saturating_add(1)),
     }
 }

@@ -1,9 +1,9 @@
 //! Models that are not well typed.
 
-use crate::diagnose::{BlamedPart, diagnose};
-use crate::operands::other_type_problem;
-use crate::trees::{enter_part, part_or_whole};
-use crate::walk::{names_in, part_at};
+use crate::diagnose::{BlamedPart, diagnose_blamed_part};
+use crate::operands::expected_type_problem;
+use crate::trees::{enter_expression_part, tree_part_or_whole};
+use crate::walk::{expression_part_at_path, scope_names};
 use pst_model::{Expr, Fun, Item, Op, Source, state_of};
 use pst_sexpr::{Form, node_of};
 use pst_syntax_problems::{
@@ -40,20 +40,20 @@ pub struct ItemSite<'a> {
 
 /// Goes from the tree of an expression to the part in it that the numbers `parts` lead to: extends `path`, and returns
 /// the tree of the part.
-fn enter_parts<'a>(
+fn enter_expression_part_at_path<'a>(
     path: &mut Vec<usize>,
     form: &'a Form,
     parts: &[usize],
 ) -> Result<&'a Form, AllocError> {
     let mut here = form;
     for part in parts {
-        here = enter_part(path, here, *part)?;
+        here = enter_expression_part(path, here, *part)?;
     }
     Ok(here)
 }
 
 /// The problem of a part that is to blame.
-fn blame_problem(
+fn type_problem_of_blame(
     expr: &Expr,
     context: &Context<'_>,
     scope: &Scope<'_>,
@@ -62,9 +62,9 @@ fn blame_problem(
 ) -> FoundProblem {
     let alloc = context.alloc;
     let mut path = Vec::from_slice(alloc, site.path)?;
-    let form = enter_parts(&mut path, site.form, blame.path.as_slice())?;
-    let mut names = names_in(alloc, scope)?;
-    let expr = part_at(alloc, &mut names, expr, blame.path.as_slice())?;
+    let form = enter_expression_part_at_path(&mut path, site.form, blame.path.as_slice())?;
+    let mut names = scope_names(alloc, scope)?;
+    let expr = expression_part_at_path(alloc, &mut names, expr, blame.path.as_slice())?;
     let leaf = BlamedPart {
         alloc,
         context,
@@ -76,7 +76,7 @@ fn blame_problem(
         called: site.called,
         has_maps: site.has_maps,
     };
-    diagnose(&leaf)
+    diagnose_blamed_part(&leaf)
 }
 
 /// The problem of an expression of the kind `found`, if it has to have another kind.
@@ -84,7 +84,7 @@ fn wanted_type_problem(alloc: Global, site: &Site<'_>, found: &Kind) -> FoundPro
     if found.same(alloc, site.wanted)? {
         return Ok(None);
     }
-    let refused = other_type_problem(alloc, site.path, site.called, site.wanted, found)?;
+    let refused = expected_type_problem(alloc, site.path, site.called, site.wanted, found)?;
     if site.called == "next" && head_word(site.form) == "=" {
         return with_note(
             alloc,
@@ -96,7 +96,7 @@ fn wanted_type_problem(alloc: Global, site: &Site<'_>, found: &Kind) -> FoundPro
 }
 
 /// Adds what is wrong with the type of an expression: one problem for each part that is to blame.
-fn tell_expression(
+fn add_expression_type_problems(
     problems: &mut Vec<Problem>,
     expr: &Expr,
     context: &Context<'_>,
@@ -110,7 +110,10 @@ fn tell_expression(
         ),
         Found::Blamed(blames) => {
             for blame in blames.as_slice() {
-                push_problem(problems, blame_problem(expr, context, scope, site, blame)?)?;
+                push_problem(
+                    problems,
+                    type_problem_of_blame(expr, context, scope, site, blame)?,
+                )?;
             }
             Ok(())
         }
@@ -118,7 +121,7 @@ fn tell_expression(
 }
 
 /// The context of an expression that sees all items.
-fn context_of(here: ItemSite<'_>, is_post: bool) -> Context<'_> {
+fn context_with_all_items(here: ItemSite<'_>, is_post: bool) -> Context<'_> {
     Context {
         alloc: here.alloc,
         items: here.items,
@@ -128,7 +131,7 @@ fn context_of(here: ItemSite<'_>, is_post: bool) -> Context<'_> {
 }
 
 /// The body of the callback `word`, if the tree is this callback.
-fn body_of<'a>(form: &'a Form, word: &str) -> Option<&'a Form> {
+fn callback_body_in_tree<'a>(form: &'a Form, word: &str) -> Option<&'a Form> {
     match node_of(form)? {
         [_, body] if head_word(form) == word => Some(body),
         _ => None,
@@ -139,7 +142,7 @@ fn body_of<'a>(form: &'a Form, word: &str) -> Option<&'a Form> {
 fn find_callback_body<'a>(form: &'a Form, word: &str) -> Option<(usize, &'a Form)> {
     for (number, part) in node_of(form)?.iter().enumerate() {
         if number >= 4 {
-            if let Some(body) = body_of(part, word) {
+            if let Some(body) = callback_body_in_tree(part, word) {
                 return Some((number, body));
             }
         }
@@ -148,7 +151,7 @@ fn find_callback_body<'a>(form: &'a Form, word: &str) -> Option<(usize, &'a Form
 }
 
 /// Adds what is wrong with the callback `word`.
-fn tell_callback(
+fn add_callback_type_problems(
     problems: &mut Vec<Problem>,
     expr: &Expr,
     word: &str,
@@ -167,39 +170,51 @@ fn tell_callback(
         wanted,
         has_maps: here.has_maps,
     };
-    tell_expression(problems, expr, context, scope, &site)
+    add_expression_type_problems(problems, expr, context, scope, &site)
 }
 
 /// Adds what is wrong with the callback `pre`, which sees the state.
-fn tell_pre(problems: &mut Vec<Problem>, op: &Op, here: ItemSite<'_>) -> Result<(), AllocError> {
+fn add_pre_type_problems(
+    problems: &mut Vec<Problem>,
+    op: &Op,
+    here: ItemSite<'_>,
+) -> Result<(), AllocError> {
     let truth = Kind::of(here.alloc, &Ty::Bool)?;
-    let context = context_of(here, false);
+    let context = context_with_all_items(here, false);
     let params = Scope::Parameters(op.params.as_slice());
     let scope = Scope::With(b"s".as_slice(), here.state, &params);
-    tell_callback(problems, &op.pre, "pre", &context, &scope, &truth, here)
+    add_callback_type_problems(problems, &op.pre, "pre", &context, &scope, &truth, here)
 }
 
 /// Adds what is wrong with the callback `next`, which sees the state and a reference to the result.
-fn tell_next(problems: &mut Vec<Problem>, op: &Op, here: ItemSite<'_>) -> Result<(), AllocError> {
+fn add_next_type_problems(
+    problems: &mut Vec<Problem>,
+    op: &Op,
+    here: ItemSite<'_>,
+) -> Result<(), AllocError> {
     let named = Kind::of(here.alloc, &op.result)?.reference(here.alloc)?;
-    let context = context_of(here, false);
+    let context = context_with_all_items(here, false);
     let params = Scope::Parameters(op.params.as_slice());
     let seen = Scope::With(b"s".as_slice(), here.state, &params);
     let scope = Scope::With(b"r".as_slice(), &named, &seen);
-    tell_callback(
+    add_callback_type_problems(
         problems, &op.next, "next", &context, &scope, here.state, here,
     )
 }
 
 /// Adds what is wrong with the callback `post`, which sees the state and the result.
-fn tell_post(problems: &mut Vec<Problem>, op: &Op, here: ItemSite<'_>) -> Result<(), AllocError> {
+fn add_post_type_problems(
+    problems: &mut Vec<Problem>,
+    op: &Op,
+    here: ItemSite<'_>,
+) -> Result<(), AllocError> {
     let truth = Kind::of(here.alloc, &Ty::Bool)?;
     let value = Kind::of(here.alloc, &op.result)?;
-    let context = context_of(here, true);
+    let context = context_with_all_items(here, true);
     let params = Scope::Parameters(op.params.as_slice());
     let seen = Scope::With(b"s".as_slice(), here.state, &params);
     let scope = Scope::With(b"r".as_slice(), &value, &seen);
-    tell_callback(problems, &op.post, "post", &context, &scope, &truth, here)
+    add_callback_type_problems(problems, &op.post, "post", &context, &scope, &truth, here)
 }
 
 /// What is wrong with the types that an operation declares.
@@ -223,19 +238,19 @@ fn declared_type_problem(op: &Op, here: ItemSite<'_>) -> FoundProblem {
 }
 
 /// Adds what is wrong with an operation: the types that it declares, and each of its callbacks.
-fn tell_operation(
+fn add_operation_type_problems(
     problems: &mut Vec<Problem>,
     op: &Op,
     here: ItemSite<'_>,
 ) -> Result<(), AllocError> {
     push_problem(problems, declared_type_problem(op, here)?)?;
-    tell_pre(problems, op, here)?;
-    tell_next(problems, op, here)?;
-    tell_post(problems, op, here)
+    add_pre_type_problems(problems, op, here)?;
+    add_next_type_problems(problems, op, here)?;
+    add_post_type_problems(problems, op, here)
 }
 
 /// Adds what is wrong with a function.
-fn tell_function(
+fn add_function_type_problems(
     problems: &mut Vec<Problem>,
     fun: &Fun,
     here: ItemSite<'_>,
@@ -250,17 +265,17 @@ fn tell_function(
     };
     let scope = Scope::Parameters(fun.params.as_slice());
     let site = Site {
-        form: part_or_whole(here.form, 4),
+        form: tree_part_or_whole(here.form, 4),
         path: &[0, number, 4],
         called: fun.name.as_str(),
         wanted: &result,
         has_maps: here.has_maps,
     };
-    tell_expression(problems, &fun.body, &context, &scope, &site)
+    add_expression_type_problems(problems, &fun.body, &context, &scope, &site)
 }
 
 /// Adds what is wrong with the expression of the item `called`, which is not in an operation or a function.
-fn tell_body(
+fn add_item_body_type_problems(
     problems: &mut Vec<Problem>,
     expr: &Expr,
     called: &str,
@@ -269,27 +284,33 @@ fn tell_body(
     here: ItemSite<'_>,
 ) -> Result<(), AllocError> {
     let site = Site {
-        form: part_or_whole(here.form, 1),
+        form: tree_part_or_whole(here.form, 1),
         path: &[0, here.number, 1],
         called,
         wanted,
         has_maps: here.has_maps,
     };
-    tell_expression(problems, expr, &context_of(here, false), scope, &site)
+    add_expression_type_problems(
+        problems,
+        expr,
+        &context_with_all_items(here, false),
+        scope,
+        &site,
+    )
 }
 
 /// Adds what is wrong with the initial state.
-fn tell_init(
+fn add_init_type_problems(
     problems: &mut Vec<Problem>,
     expr: &Expr,
     here: ItemSite<'_>,
 ) -> Result<(), AllocError> {
     let none = Scope::Parameters(&[]);
-    tell_body(problems, expr, "init", &none, here.state, here)
+    add_item_body_type_problems(problems, expr, "init", &none, here.state, here)
 }
 
 /// Adds what is wrong with the item `command`, which sees the state.
-fn tell_command(
+fn add_command_type_problems(
     problems: &mut Vec<Problem>,
     expr: &Expr,
     here: ItemSite<'_>,
@@ -297,7 +318,7 @@ fn tell_command(
     let calls = Kind::of(here.alloc, &Ty::Call)?.list(here.alloc)?;
     let none = Scope::Parameters(&[]);
     let scope = Scope::With(b"s".as_slice(), here.state, &none);
-    tell_body(problems, expr, "command", &scope, &calls, here)
+    add_item_body_type_problems(problems, expr, "command", &scope, &calls, here)
 }
 
 /// What is wrong with the type of the state.
@@ -311,16 +332,16 @@ fn state_type_problem(state: &Ty, here: ItemSite<'_>) -> FoundProblem {
 }
 
 /// Adds what is wrong with an item.
-fn tell_item(
+fn add_item_type_problems(
     problems: &mut Vec<Problem>,
     item: &Item,
     here: ItemSite<'_>,
 ) -> Result<(), AllocError> {
     match item {
-        Item::Fun(fun) => tell_function(problems, fun, here),
-        Item::Op(op) => tell_operation(problems, op, here),
-        Item::Init(expr) => tell_init(problems, expr, here),
-        Item::Command(expr) => tell_command(problems, expr, here),
+        Item::Fun(fun) => add_function_type_problems(problems, fun, here),
+        Item::Op(op) => add_operation_type_problems(problems, op, here),
+        Item::Init(expr) => add_init_type_problems(problems, expr, here),
+        Item::Command(expr) => add_command_type_problems(problems, expr, here),
         Item::State(state) => push_problem(problems, state_type_problem(state, here)?),
     }
 }
@@ -348,11 +369,11 @@ pub fn type_problems(
                 alloc,
                 items,
                 state: &state,
-                form: part_or_whole(model, place),
+                form: tree_part_or_whole(model, place),
                 number: place,
                 has_maps: source.has_maps,
             };
-            tell_item(&mut problems, item, here)?;
+            add_item_type_problems(&mut problems, item, here)?;
         }
         if is_first && problems.is_empty() {
             push_problem(

@@ -6,7 +6,7 @@ use pst_value::{Items, Text};
 use std::alloc::{AllocError, Global};
 
 /// The names of a scope, the inner ones last.
-pub fn names_in(alloc: Global, scope: &Scope<'_>) -> Result<Items<Text>, AllocError> {
+pub fn scope_names(alloc: Global, scope: &Scope<'_>) -> Result<Items<Text>, AllocError> {
     match scope {
         Scope::Parameters(params) => {
             let mut names = Items::new(alloc);
@@ -16,7 +16,7 @@ pub fn names_in(alloc: Global, scope: &Scope<'_>) -> Result<Items<Text>, AllocEr
             Ok(names)
         }
         Scope::With(name, _, outer) => {
-            let mut names = names_in(alloc, outer)?;
+            let mut names = scope_names(alloc, outer)?;
             if let Ok(name) = std::str::from_utf8(name) {
                 names.push(Text::from_string(String::from_str(alloc, name)?))?;
             }
@@ -26,7 +26,7 @@ pub fn names_in(alloc: Global, scope: &Scope<'_>) -> Result<Items<Text>, AllocEr
 }
 
 /// Expression `part` of `exprs`, or `whole` if it has no such expression.
-fn part_or_whole<'a>(whole: &'a Expr, exprs: &'a Items<Expr>, part: usize) -> &'a Expr {
+fn expression_part_or_whole<'a>(whole: &'a Expr, exprs: &'a Items<Expr>, part: usize) -> &'a Expr {
     match exprs.get(part) {
         Some(expr) => expr,
         None => whole,
@@ -34,7 +34,7 @@ fn part_or_whole<'a>(whole: &'a Expr, exprs: &'a Items<Expr>, part: usize) -> &'
 }
 
 /// Part `part` of a comprehension. Adds the names that the part sees.
-fn part_of_for<'a>(
+fn comprehension_part_with_names<'a>(
     alloc: Global,
     names: &mut Items<Text>,
     clauses: &'a [Clause],
@@ -60,7 +60,7 @@ fn part_of_for<'a>(
 }
 
 /// Part `part` of an expression whose parts see no further names.
-fn plain_part(expr: &Expr, part: usize) -> &Expr {
+fn part_of_nonbinding_expression(expr: &Expr, part: usize) -> &Expr {
     match (expr, part) {
         (Expr::If(first, _, _) | Expr::Put(first, _, _), 0) => first.get(),
         (Expr::If(_, second, _) | Expr::Put(_, second, _), 1) => second.get(),
@@ -75,13 +75,13 @@ fn plain_part(expr: &Expr, part: usize) -> &Expr {
             | Expr::Call(_, exprs)
             | Expr::Apply(_, exprs),
             _,
-        ) => part_or_whole(expr, exprs, part),
+        ) => expression_part_or_whole(expr, exprs, part),
         _ => expr,
     }
 }
 
 /// Part `part` of an expression. Adds the names that the part sees.
-fn part_of<'a>(
+fn expression_part_with_names<'a>(
     alloc: Global,
     names: &mut Items<Text>,
     expr: &'a Expr,
@@ -101,14 +101,14 @@ fn part_of<'a>(
             Ok(body.get())
         }
         (Expr::For(clauses, body), _) => {
-            part_of_for(alloc, names, clauses.as_slice(), body.get(), part)
+            comprehension_part_with_names(alloc, names, clauses.as_slice(), body.get(), part)
         }
-        _ => Ok(plain_part(expr, part)),
+        _ => Ok(part_of_nonbinding_expression(expr, part)),
     }
 }
 
 /// The part of an expression that `path` leads to. Adds the names that the part sees.
-pub fn part_at<'a>(
+pub fn expression_part_at_path<'a>(
     alloc: Global,
     names: &mut Items<Text>,
     expr: &'a Expr,
@@ -116,7 +116,7 @@ pub fn part_at<'a>(
 ) -> Result<&'a Expr, AllocError> {
     let mut here = expr;
     for part in path {
-        here = part_of(alloc, names, here, *part)?;
+        here = expression_part_with_names(alloc, names, here, *part)?;
     }
     Ok(here)
 }

@@ -45,7 +45,7 @@ fn section_form(
     headed(alloc, word, each_command(alloc, model, commands)?)
 }
 
-fn each_branch(
+fn branch_forms(
     alloc: Global,
     model: &Source,
     branches: &[Items<Command>],
@@ -77,7 +77,7 @@ fn branches_forms(
         }
         _ => list_of(
             alloc,
-            headed(alloc, "branches", each_branch(alloc, model, branches)?)?,
+            headed(alloc, "branches", branch_forms(alloc, model, branches)?)?,
         ),
     }
 }

@@ -20,7 +20,7 @@ fn variable(alloc: Global, number: u32) -> Result<Form, AllocError>
     Ok(Form::Word(Text::from_string(format!(in alloc; "${number}")?)))
 }
 
-fn truth(alloc: Global, holds: bool) -> Result<Form, AllocError>
+fn bool_form(alloc: Global, holds: bool) -> Result<Form, AllocError>
     ensures { IfOk result (λ form. form ≡ Word (truth_word holds)) }
 {
     if holds {
@@ -36,7 +36,7 @@ fn key_form(alloc: Global, key: &Key) -> Result<Form, AllocError>
 {
     match key {
         Key::Int(number) => integer(alloc, *number),
-        Key::Bool(holds) => truth(alloc, *holds),
+        Key::Bool(holds) => bool_form(alloc, *holds),
         Key::Text(text) => Ok(Form::Text(text.copy(alloc)?)),
     }
 }
@@ -60,7 +60,7 @@ pub fn value_form(alloc: Global, value: &Value) -> Result<Form, AllocError>
 {
     match value {
         Value::Int(number) => integer(alloc, *number),
-        Value::Bool(holds) => truth(alloc, *holds),
+        Value::Bool(holds) => bool_form(alloc, *holds),
         Value::Text(text) => Ok(Form::Text(text.copy(alloc)?)),
         Value::Tuple(parts) => headed(alloc, "tuple", each_value(alloc, parts.as_slice())?),
         Value::List(parts) => headed(alloc, "list", each_value(alloc, parts.as_slice())?),

@@ -6,9 +6,9 @@ use Rattle.pst_cli.specs.declared.output.Output.{Output}
 use Rattle.pst_cli.specs.declared.status.Status.TheVariants.{Refused}
 use Rattle.pst_cli.proofs.check.check_output.Goals as goal
 
-pub returns-in_ok-ok_line-in-Ok : goal.returns-in_ok-ok_line-in-Ok
-returns-in_ok-ok_line-in-Ok c =
-    accepted c.in-Ok.file.typed c.in-Ok.file.trees.items (rw c.in-Ok.is at c.in_ok-file.ensures) (c.new.ensures.text ∙ c.in_ok-ok_line-in-Ok.ensures) c.new.ensures.status
+pub returns-in_ok-accepted_model_line-in-Ok : goal.returns-in_ok-accepted_model_line-in-Ok
+returns-in_ok-accepted_model_line-in-Ok c =
+    accepted c.in-Ok.file.typed c.in-Ok.file.trees.items (rw c.in-Ok.is at c.in_ok-file.ensures) (c.new.ensures.text ∙ c.in_ok-accepted_model_line-in-Ok.ensures) c.new.ensures.status
 
 pub returns-in-Err : goal.returns-in-Err
 returns-in-Err c =

@@ -5,8 +5,8 @@ use Rattle.pst_cli.specs.ConvertOutput.{converted, refused, lines_in}
 use Rattle.pst_runs.specs.Lawful.{AreLawful}
 use Rattle.pst_cli.proofs.convert.convert_output.Goals as goal
 
-pub lines_in-requires : goal.lines_in-requires
-lines_in-requires c =
+pub item_lines_in_form-requires : goal.item_lines_in_form-requires
+item_lines_in_form-requires c =
     let m = c.in-Ok.read.compiled in
     let held = rw c.in-Ok.is at c.in_ok-read.ensures in
     let OfRuns : List Run → Type 0 = λ rs. AreLawful m rs in

@@ -19,4 +19,4 @@ returns g c =
     let IsSo : Output → Type 0 = λ o. IsExplainOutput c.args.input.now c.args.asked.chosen o.text.items o.status in
     if_ok_then IsChosen IsSo (λ o h. judged file.compiled read.runs all read.holds read.judged
     (subst (OfAll o) c.as_slice-2.ensures.value h))
-    c.chosen_output.result c.chosen_output.ensures
+    c.output_of_chosen_explanations.result c.output_of_chosen_explanations.ensures

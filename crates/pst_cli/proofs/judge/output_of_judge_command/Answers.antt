@@ -12,7 +12,7 @@ returns-clause-output g c =
     let read = rw c.in-Ok.is at c.in_ok-file.ensures in
     judged file.compiled read.runs file.judged.items read.holds read.judged (
       c.new-output.ensures.text ∙ c.in_ok-text.ensures ∙ ap (shown_lines c.args.shown) c.as_slice.ensures.value,
-      c.new-output.ensures.status ∙ c.status_of.ensures ∙ ap status_of c.as_slice-2.ensures.value,
+      c.new-output.ensures.status ∙ c.status_of_judgements.ensures ∙ ap status_of c.as_slice-2.ensures.value,
     )
 
 pub returns-clause-lawful : goal.returns-clause-lawful

@@ -7,8 +7,8 @@ use Rattle.pst_cli.specs.RepeatOutput.{AreRepeated, IsRepeated}
 use Rattle.pst_cli.specs.declared.output.Output.{Output}
 use Rattle.pst_cli.proofs.repeat.item_reports.Goals as goal
 
-pub item_report-requires-clause-model : goal.item_report-requires-clause-model
-item_report-requires-clause-model g c =
+pub drive_and_report_item_repeatedly-requires-clause-model : goal.drive_and_report_item_repeatedly-requires-clause-model
+drive_and_report_item_repeatedly-requires-clause-model g c =
     (lawful_here c.args.compiled.now c.args.runs.now c.loop-index.index c.index-runs-index.result c.loop-index-test.true c.index-runs-index.is c.requires.lawful).model
 
 pub loop-index-preserved : goal.loop-index-preserved
@@ -32,5 +32,5 @@ loop-index-preserved g c =
       reported = subst All (sym c.in_ok-push.ensures.items)
           (subst Upto next
           (repeated_more m A F R c.args.repeats 1 i runs c.loop-index.reports.items o run c.loop-index-test.true c.loop-index.invariant.reported (subst OfRun c.index-runs-index.is report)));
-      kept = kept_on c.item_report.ensures.kept c.loop-index.invariant.kept;
+      kept = kept_on c.drive_and_report_item_repeatedly.ensures.kept c.loop-index.invariant.kept;
     }

@@ -15,4 +15,4 @@ returns-clause-reported g c =
     let IsSo : Output → Type 0 = λ o. IsReported c.args.compiled.now (s.answers value) (s.fails value) (s.reset_fails value) c.args.number c.args.valid.case o.text.items o.status in
     if_ok_both HasText HasStatus IsSo
     (λ o t e. reported_so c.args.compiled.now (s.answers value) (s.fails value) (s.reset_fails value) c.args.number c.args.valid.case report o.text.items o.status c.in_ok-report.ensures.report t e)
-    c.report_output.result c.report_output.ensures.text c.report_output.ensures.status
+    c.output_of_item_report.result c.output_of_item_report.ensures.text c.output_of_item_report.ensures.status

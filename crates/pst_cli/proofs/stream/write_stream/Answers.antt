@@ -20,7 +20,7 @@ loop-turn-init g c = record {
 pub returns-in-Err : goal.returns-in-Err
 returns-in-Err g c =
     subst (λ (why : Cut). IsCutShort c.args.compiled.now (g.I.Read.remaining c.args.reader.now) (g.W.Sink.taken c.args.sink.now) (g.W.Sink.taken c.loop-turn.sink) (g.W.Sink.broken c.loop-turn.sink) why)
-    (sym c.cut_by.ensures) (stops_by _ _ _ _ _ _ _ _ c.loop-turn.invariant.come c.in-Err.fault)
+    (sym c.end_of_lines_by_stream_fault.ensures) (stops_by _ _ _ _ _ _ _ _ c.loop-turn.invariant.come c.in-Err.fault)
 
 pub returns-in-Err-write_block : goal.returns-in-Err-write_block
 returns-in-Err-write_block g c =

@@ -17,8 +17,8 @@ returns-clause-driven g c =
 pub call_commands_in_order-requires : goal.call_commands_in_order-requires
 call_commands_in_order-requires g c = rw c.as_slice.ensures (prefix_known _ _ c.requires.shaped)
 
-pub run_branches-requires : goal.run_branches-requires
-run_branches-requires g c = (search rules, rw c.as_slice-branches.ensures (each_branch_known _ _ c.requires.shaped))
+pub run_branches_if_prefix_has_values-requires : goal.run_branches_if_prefix_has_values-requires
+run_branches_if_prefix_has_values-requires g c = (search rules, rw c.as_slice-branches.ensures (each_branch_known _ _ c.requires.shaped))
 
 pub run_suffix-requires : goal.run_suffix-requires
 run_suffix-requires g c = rw c.as_slice-3.ensures (suffix_known _ _ c.requires.shaped)

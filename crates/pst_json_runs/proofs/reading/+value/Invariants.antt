@@ -4,8 +4,8 @@ use Rattle.json.specs.Value.{value_view, items_view, members_view}
 use Rattle.pst_json_runs.specs.Reading.{values_in, map_in}
 use Rattle.pst_json_runs.proofs.reading.+value.Given as goal
 
-abbrev pub decreases-value_in : goal.decreases-value_in
-decreases-value_in l = length (json_tokens (value_view l.json.now))
+abbrev pub decreases-value_from_json : goal.decreases-value_from_json
+decreases-value_from_json l = length (json_tokens (value_view l.json.now))
 
 abbrev pub decreases-values_in : goal.decreases-values_in
 decreases-values_in l = length (items_tokens (items_view l.parts.now))

@@ -6,13 +6,13 @@ use Rattle.pst_run_problems.proofs.value_fault.+first_fault.Goals.{fault_at-in-S
 use Rattle.pst_run_problems.specs.ValuePlaces as spec
 use Rattle.pst_run_problems.specs.declared.value_fault.Types.{Types}
 
-pub fault_among-returns-in-Some : goal.fault_among-returns-in-Some
-fault_among-returns-in-Some t c =
+pub first_value_fault_among_trees-returns-in-Some : goal.first_value_fault_among_trees-returns-in-Some
+first_value_fault_among_trees-returns-in-Some t c =
     entries_led c.args.search.now.source.now c.args.search.now.results.now _ _ _ c.args.trees.now _ _ c.in-Entries.is
     c.in-Some.is c.in_ok-found.ensures
 
-pub fault_at-returns-in_ok-prepend_tree_number_to_path-in-Some-found : goal.fault_at-returns-in_ok-prepend_tree_number_to_path-in-Some-found
-fault_at-returns-in_ok-prepend_tree_number_to_path-in-Some-found t c =
+pub value_fault_at_tree_number-returns-in_ok-prepend_tree_number_to_path-in-Some-found : goal.value_fault_at_tree_number-returns-in_ok-prepend_tree_number_to_path-in-Some-found
+value_fault_at_tree_number-returns-in_ok-prepend_tree_number_to_path-in-Some-found t c =
     let z : 0 < c.args.number = omega (arith, c.if-number-eq0.false) in
     let l : c.args.number < length c.args.trees.now = omega (arith, c.if-number-trees.false) in
     let m = c.args.search.now.source.now in

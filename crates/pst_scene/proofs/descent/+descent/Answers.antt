@@ -31,7 +31,7 @@ pub visit_clauses_for_each_item-loop-item-preserved : goal.visit_clauses_for_eac
 visit_clauses_for_each_item-loop-item-preserved t c =
     each_goes (visit (parts_in c.args.site.now.context c.args.rest.now) (mean_in c.args.site.now.context c.args.body.now)) c.args.name.now (env_of c.args.env.now) c.args.items.now c.loop-item.item-index c.item-item.result c.loop-item.built c.args.built c.in-Built.more c.loop-item.left c.args.turns c.take_turn.new.turns c.in-Built.fewer c.loop-item-test.true c.item-item.is c.in-Ok.ensures c.loop-item.invariant (rw c.in-Built.is at c.in_ok-more.ensures)
 
-pub in_expr-returns-in-Part : goal.in_expr-returns-in-Part
-in_expr-returns-in-Part t c =
+pub faulty_part_in_expression-returns-in-Part : goal.faulty_part_in_expression-returns-in-Part
+faulty_part_in_expression-returns-in-Part t c =
     let h = rw c.in-Part.is at c.in_ok-part-in-For.ensures in
     for_faults c.args.site.now.context.items.now (functions_in c.args.site.now.context) c.in-For.clauses c.in-For.body c.args.expr.now (env_of c.args.env.now) c.args.turns c.in-Part.field-1 c.in-For.is (rw (c.as_slice-in-For.ensures, c.get-in-For.ensures, c.new-built.ensures) at h.0) ∙ sym h.1

@@ -4,17 +4,17 @@ use Rattle.pst_eval.specs.Meaning.{visit, visit_each, fold_over}
 use Rattle.pst_eval.specs.Weight.{weight, clause_weight, functions_weight, total}
 use Rattle.pst_scene.proofs.descent.+descent.Given as goal
 
-abbrev pub decreases-in_expr : goal.decreases-in_expr
-decreases-in_expr l = 4 * (weight l.expr.now + functions_weight (reverse l.site.now.context.earlier.now)) + 1
+abbrev pub decreases-faulty_part_in_expression : goal.decreases-faulty_part_in_expression
+decreases-faulty_part_in_expression l = 4 * (weight l.expr.now + functions_weight (reverse l.site.now.context.earlier.now)) + 1
 
-abbrev pub decreases-in_fold : goal.decreases-in_fold
-decreases-in_fold l = 4 * (weight l.expr.now + functions_weight (reverse l.site.now.context.earlier.now))
+abbrev pub decreases-faulty_part_in_fold : goal.decreases-faulty_part_in_fold
+decreases-faulty_part_in_fold l = 4 * (weight l.expr.now + functions_weight (reverse l.site.now.context.earlier.now))
 
-abbrev pub decreases-in_body : goal.decreases-in_body
-decreases-in_body l = 4 * functions_weight (reverse l.site.now.context.earlier.now) + 1
+abbrev pub decreases-faulty_part_in_function_body : goal.decreases-faulty_part_in_function_body
+decreases-faulty_part_in_function_body l = 4 * functions_weight (reverse l.site.now.context.earlier.now) + 1
 
-abbrev pub decreases-in_items : goal.decreases-in_items
-decreases-in_items l = 4 * (weight l.body.now + functions_weight (reverse l.site.now.context.earlier.now)) + 2
+abbrev pub decreases-faulty_part_in_fold_items : goal.decreases-faulty_part_in_fold_items
+decreases-faulty_part_in_fold_items l = 4 * (weight l.body.now + functions_weight (reverse l.site.now.context.earlier.now)) + 2
 
 abbrev pub decreases-visit_clauses : goal.decreases-visit_clauses
 decreases-visit_clauses l =
@@ -24,8 +24,8 @@ abbrev pub decreases-visit_clauses_for_each_item : goal.decreases-visit_clauses_
 decreases-visit_clauses_for_each_item l =
     4 * (total (map clause_weight l.rest.now) + weight l.body.now + functions_weight (reverse l.site.now.context.earlier.now)) + 3
 
-abbrev pub invariant-in_items-loop-item : goal.invariant-in_items-loop-item
-invariant-in_items-loop-item l =
+abbrev pub invariant-faulty_part_in_fold_items-loop-item : goal.invariant-faulty_part_in_fold_items-loop-item
+invariant-faulty_part_in_fold_items-loop-item l =
     let f = fold_over (mean_in l.site.context l.body) l.name l.acc (env_of l.env) in
     f (drop l.item-index l.items) l.built l.left ≡ f l.items l.initial.built l.turns
 

@@ -6,5 +6,5 @@ use Rattle.pst_scene.proofs.evaluating.evaluate.Goals as goal
 pub returns-in-Ok : goal.returns-in-Ok
 returns-in-Ok c = (
   c.eval.new.turns,
-  at_start c.args.model.now c.context_of.result c.args.expr.now (env_of c.args.env.now) c.context_of.ensures.items c.context_of.ensures.earlier ∙ c.in-Ok.ensures,
+  at_start c.args.model.now c.evaluation_context_of_model.result c.args.expr.now (env_of c.args.env.now) c.evaluation_context_of_model.ensures.items c.evaluation_context_of_model.ensures.earlier ∙ c.in-Ok.ensures,
 )

@@ -4,11 +4,11 @@ use Rattle.pst_shrink.proofs.candidate.without_command.Goals as goal
 
 pub returns : goal.returns
 returns c =
-    without_is c.args.case.now c.args.number c.as_slice-numbers.result.now c.in_ok-other_commands.field-0
-    c.in_ok-other_commands-2.field-0 c.in_ok-other_branch_commands.field-0
+    without_is c.args.case.now c.args.number c.as_slice-numbers.result.now c.in_ok-renumbered_commands_without.field-0
+    c.in_ok-renumbered_commands_without-2.field-0 c.in_ok-other_branch_commands.field-0
     (c.count_commands-count.result + 1 - c.len-2.result)
     (rw c.count_commands-count.ensures at (c.as_slice-numbers.ensures.value ∙ c.in_ok-numbers.ensures))
     (omega (arith, c.count_commands-count.ensures, c.len-2.ensures, before_suffix-length c.args.case.now))
-    (rw c.as_slice.ensures at c.in_ok-other_commands.ensures)
+    (rw c.as_slice.ensures at c.in_ok-renumbered_commands_without.ensures)
     (rw (c.as_slice-2.ensures, c.len.ensures) at c.in_ok-other_branch_commands.ensures)
-    (rw c.as_slice-3.ensures at c.in_ok-other_commands-2.ensures)
+    (rw c.as_slice-3.ensures at c.in_ok-renumbered_commands_without-2.ensures)

@@ -4,11 +4,11 @@ use Rattle.pst_type_problems.proofs.spelling.+spell.Given as goal
 abbrev pub decreases-spell : goal.decreases-spell
 decreases-spell l = 3 * l.left.now
 
-abbrev pub decreases-spell_last : goal.decreases-spell_last
-decreases-spell_last l = 3 * l.left.now + 1
+abbrev pub decreases-push_last_type_part_text : goal.decreases-push_last_type_part_text
+decreases-push_last_type_part_text l = 3 * l.left.now + 1
 
-abbrev pub decreases-spell_all : goal.decreases-spell_all
-decreases-spell_all l = 3 * l.left.now + 1
+abbrev pub decreases-push_tuple_type_text : goal.decreases-push_tuple_type_text
+decreases-push_tuple_type_text l = 3 * l.left.now + 1
 
-abbrev pub invariant-spell_all-loop-kind : goal.invariant-spell_all-loop-kind
-invariant-spell_all-loop-kind l = l.left ≤ l.fn.left
+abbrev pub invariant-push_tuple_type_text-loop-kind : goal.invariant-push_tuple_type_text-loop-kind
+invariant-push_tuple_type_text-loop-kind l = l.left ≤ l.fn.left

@@ -6,14 +6,14 @@ use Rattle.pst_reasons.specs.Reasons.{always_true}
 use Rattle.pst_value.specs.declared.value.Value.{Bool as Truth}
 use Rattle.pst_reasons.proofs.asked.SomePostconditionsCondition.ask.Goals as goal
 
-pub returns-then-is_asked : goal.returns-then-is_asked
-returns-then-is_asked g c =
+pub returns-then-is_postcondition_checked : goal.returns-then-is_postcondition_checked
+returns-then-is_postcondition_checked g c =
     let m = g.C.Callbacks.model c.args.callbacks.now in
     let P : Bool → Type 0 = λ b. IfOk c.ask.result (SaysTruth (if b then post_asked m c.args.state.now c.args.event.now else always_true)) in
-    subst P c.if-is_asked.ensures c.ask.ensures
+    subst P c.if-is_postcondition_checked.ensures c.ask.ensures
 
 pub returns : goal.returns
 returns g c =
     let m = g.C.Callbacks.model c.args.callbacks.now in
     let P : Bool → Type 0 = λ b. SaysTruth (if b then post_asked m c.args.state.now c.args.event.now else always_true) (Ok true) in
-    subst P c.if-is_asked.ensures ((Truth true, 0), refl, truth_is)
+    subst P c.if-is_postcondition_checked.ensures ((Truth true, 0), refl, truth_is)

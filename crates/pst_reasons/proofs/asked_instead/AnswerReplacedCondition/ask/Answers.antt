@@ -12,7 +12,7 @@ pub returns-then-event-self : goal.returns-then-event-self
 returns-then-event-self g c =
     let m = g.C.Callbacks.model c.args.callbacks.now in
     let is : (c.args.event.now.number == c.args.self.now.number) ≡ true = grind (arith, nat_tests, c.if-event-self.true) in
-    says_there c.args.self.now.number (λ t d. is_right c.args.self.now.model.now t d c.args.self.now.answer.now) c.args.self.now.others.now m c.args.state.now c.args.event.now c.is_right.result is c.is_right.ensures
+    says_there c.args.self.now.number (λ t d. is_right c.args.self.now.model.now t d c.args.self.now.answer.now) c.args.self.now.others.now m c.args.state.now c.args.event.now c.is_answer_right.result is c.is_answer_right.ensures
 
 pub returns : goal.returns
 returns g c =

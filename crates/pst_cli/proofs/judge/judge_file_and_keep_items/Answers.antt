@@ -1,0 +1,8 @@
+use Rattle.pst_cli.proofs.Printing.{prints}
+use Rattle.pst_cli.specs.Output.{IsShownOutput}
+use Rattle.pst_cli.proofs.judge.judge_file_and_keep_items.Goals as goal
+
+pub returns-in-Ok-clause-prints : goal.returns-in-Ok-clause-prints
+returns-in-Ok-clause-prints g c =
+    prints (IsShownOutput c.args.shown c.args.input.now) (g.W.Sink.taken c.args.sink.now) (g.W.Sink.taken c.send.new.sink) (g.W.Sink.broken c.send.new.sink) c.send.result c.in-Ok.output.status
+    c.in-Ok.output.text.items c.as_slice.result.now c.in-Ok.ensures.output c.as_slice.ensures.value c.send.ensures

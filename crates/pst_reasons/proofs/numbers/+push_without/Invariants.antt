@@ -1,5 +1,0 @@
-use Rattle.std.proofs.Common.{length}
-use Rattle.pst_reasons.proofs.numbers.+push_without.Given as goal
-
-abbrev pub decreases-push_without : goal.decreases-push_without
-decreases-push_without l = length l.numbers.now

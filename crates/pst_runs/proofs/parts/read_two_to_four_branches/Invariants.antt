@@ -1,0 +1,10 @@
+use Rattle.std.proofs.Common.{◌≡◌, ◌++◌, drop, Some}
+use Rattle.pst_runs.specs.Values.{each}
+use Rattle.pst_sexpr.specs.Parts.{and_then}
+use Rattle.pst_runs.specs.Forms.{branch_of}
+use Rattle.pst_runs.proofs.parts.read_two_to_four_branches.Given as goal
+
+abbrev pub invariant-loop-form : goal.invariant-loop-form
+invariant-loop-form l =
+    each (branch_of l.typed) l.forms
+    ≡ and_then (each (branch_of l.typed) (drop l.form-index l.forms)) (λ more. Some (l.branches ++ more))
