@@ -1,7 +1,7 @@
 //! What is wrong with the form of a JSON item.
 
 use crate::bytes::ByteFault;
-use crate::json_places::{JsonParts, first_byte, is_array, value_at};
+use crate::json_places::{JsonParts, find_deeper_bracket, first_byte, is_array, value_at};
 use json::{Error, MAX_DEPTH, Reader, Scratch, Value as Json};
 use pst_run_problems::JSON_ITEM;
 use pst_sources::Span;
@@ -226,6 +226,16 @@ fn hint_on_bad_json(text: &str, place: usize) -> &'static str {
     }
 }
 
+/// The fault of the bracket at `place`, which opens more levels than a reader of JSON takes.
+fn too_deep_fault(alloc: Global, place: usize) -> FoundFault {
+    let span = Span {
+        start: place,
+        end: place.saturating_add(1),
+    };
+    let what = format_args!("arrays and objects are nested more than {MAX_DEPTH} deep");
+    Ok(Some(ByteFault::new(alloc, span, what)?))
+}
+
 /// The fault of a line that is no JSON.
 fn not_json_fault(alloc: Global, text: &str) -> FoundFault {
     if let Some(place) = place_after_value(alloc, text)? {
@@ -237,6 +247,11 @@ fn not_json_fault(alloc: Global, text: &str) -> FoundFault {
         return noted_fault(alloc, span, what, JSON_ITEM);
     }
     let place = find_json_syntax_error_offset(alloc, text)?.min(text.len());
+    if let Some(bracket) = find_deeper_bracket(text.as_bytes(), MAX_DEPTH) {
+        if bracket < place {
+            return too_deep_fault(alloc, bracket);
+        }
+    }
     let column = place.saturating_add(1);
     let span = Span {
         start: place,

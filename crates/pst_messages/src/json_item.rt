@@ -74,17 +74,36 @@ fn is_printable(bytes: &[u8]) -> bool {
     true
 }
 
-/// A hint on an object that is not what it has to be.
-fn hint_on_object(object: &str) -> &'static str {
-    if object.starts_with("{\"failed\":") {
-        "hint: a call that failed is `{\"failed\":null}`"
-    } else {
-        "hint: an object is a map, which only a `model2` has, or `{\"result\":n}` for a `ref`"
+/// The hint on how JSON spells a value of the type that a message shows as `ty`, unless it is a reference or a map.
+fn hint_on_type(ty: &str) -> Option<&'static str> {
+    match ty {
+        "int" => Some("hint: an int is a number: `7`"),
+        "bool" => Some("hint: a bool is `true` or `false`"),
+        "text" => Some("hint: a text is a string: `\"a\"`"),
+        _ if ty.starts_with("(list ") => Some("hint: a list is an array: `[1,2]`"),
+        _ if ty.starts_with("(tuple ") => Some("hint: a tuple is an array: `[1,\"a\"]`"),
+        _ => None,
     }
 }
 
-/// A hint on a value that is no array and no object, if no model has such a value.
-fn hint_on(line: &[u8], value: Span) -> Option<&'static str> {
+/// The type that a message with `before` before the value says to be expected.
+fn expected_type(before: &str) -> Option<&str> {
+    before.strip_prefix("expected ")?.strip_suffix(", found ")
+}
+
+/// The hint on an object in the place of a value, which a message shows after `before`.
+fn hint_on_object(object: &str, before: &str) -> Option<&'static str> {
+    if object.starts_with("{\"failed\":") {
+        return Some("hint: a call that failed is `{\"failed\":null}`");
+    }
+    match expected_type(before) {
+        Some(ty) => hint_on_type(ty),
+        None => Some("hint: an object is a map, which only a `model2` has"),
+    }
+}
+
+/// A hint on a value that is no array, if no model has such a value. A message shows it after `before`.
+fn hint_on(line: &[u8], value: Span, before: &str) -> Option<&'static str> {
     let bytes = line.get(value.start..value.end).unwrap_or(&[]);
     match first_byte(line, value) {
         b'"' if !is_printable(bytes) => Some("hint: printable ASCII only"),
@@ -92,14 +111,15 @@ fn hint_on(line: &[u8], value: Span) -> Option<&'static str> {
             Some("hint: integers only, from -9223372036854775808 to 9223372036854775807")
         }
         b'n' => Some("hint: there is no null; an option is a list: `[]` or `[1]`"),
-        b'{' => Some(hint_on_object(shorten_json(line, value))),
+        b'{' => hint_on_object(shorten_json(line, value), before),
         _ => None,
     }
 }
 
-/// The first value in an array that no model has, with a hint, or else the array itself without one.
-fn first_foreign_value(line: &[u8], value: Span) -> (Span, Option<&'static str>) {
-    let mut found = (value, hint_on(line, value));
+/// The first value in an array that no model has, with a hint, or else the array itself without one. A message shows it
+/// after `before`.
+fn first_foreign_value(line: &[u8], value: Span, before: &str) -> (Span, Option<&'static str>) {
+    let mut found = (value, hint_on(line, value, before));
     for at in value.start..value.end {
         if found.1.is_some() {
             return found;
@@ -107,7 +127,7 @@ fn first_foreign_value(line: &[u8], value: Span) -> (Span, Option<&'static str>)
         let part = value_at(line, at);
         let is_begun = at == part.start && part.start < part.end;
         if is_begun && matches!(first_byte(line, part), b'"' | b'-' | b'0'..=b'9' | b'n') {
-            found = (part, hint_on(line, part));
+            found = (part, hint_on(line, part, before));
         }
     }
     match found.1 {
@@ -161,7 +181,7 @@ fn value_fault(
     before: &str,
     after: &str,
 ) -> Result<ByteFault, AllocError> {
-    let (span, hint) = first_foreign_value(line, value);
+    let (span, hint) = first_foreign_value(line, value, before);
     let found = shorten_json(line, value);
     let fault = ByteFault::new(alloc, span, format_args!("{before}`{found}`{after}"))?;
     match hint {

@@ -44,6 +44,15 @@ struct Scan {
 }
 
 impl Scan {
+    /// The scan before the first byte.
+    fn new() -> Scan {
+        Scan {
+            depth: 0,
+            is_string: false,
+            is_escaped: false,
+        }
+    }
+
     /// The scan after the byte `byte` of a string.
     fn in_string(self, byte: u8) -> Scan {
         Scan {
@@ -76,13 +85,21 @@ impl Scan {
     }
 }
 
+/// The place of the first bracket of a line that opens more than `most` levels.
+pub fn find_deeper_bracket(line: &[u8], most: usize) -> Option<usize> {
+    let mut scan = Scan::new();
+    for (place, byte) in line.iter().enumerate() {
+        scan = scan.after_json_byte(*byte);
+        if scan.depth > most {
+            return Some(place);
+        }
+    }
+    None
+}
+
 /// The end of the string, the array or the object that begins at `start`.
 fn closed_end(line: &[u8], start: usize) -> usize {
-    let mut scan = Scan {
-        depth: 0,
-        is_string: false,
-        is_escaped: false,
-    };
+    let mut scan = Scan::new();
     for at in start..line.len() {
         let Some(byte) = line.get(at) else {
             return at;

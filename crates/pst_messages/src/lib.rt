@@ -14,6 +14,7 @@ mod broken;
 mod bytes;
 mod failing;
 mod faults;
+mod item_hints;
 mod item_input;
 mod json_fault;
 mod json_input;

@@ -1,16 +1,17 @@
 //! The messages on refused inputs.
 
 use crate::bytes::{ByteFault, byte_fault};
+use crate::item_hints::{is_model, with_item_hint};
 use crate::json_input::{find_first_json_item, json_errors};
 use pst_model::Typed;
 use pst_run_problems::run_problem;
 use pst_runs::{RunFault, read_runs};
-use pst_sexpr::{Tree, read};
+use pst_sexpr::{Form, Tree, read};
 use pst_sources::{
     Input, Notice, Notices, SourceFile, Span, first_item, span_in, span_of, text_of, tree_at,
 };
 use pst_syntax::read_model;
-use pst_syntax_problems::{MOST_PROBLEMS, Problem, form_problems, head_word};
+use pst_syntax_problems::{MOST_PROBLEMS, Problem, form_problems, with_type_hint};
 use pst_type_problems::type_problems;
 use pst_typing::{ModelFile, Refusal, load, trees_after_model};
 use std::alloc::{AllocError, Global};
@@ -88,11 +89,6 @@ fn file_of_model<'a>(input: &Input<'a>) -> Option<&'a str> {
     None
 }
 
-/// Whether a tree is a model.
-fn is_model(tree: &Tree) -> bool {
-    matches!(head_word(tree.form()), "model" | "model2")
-}
-
 /// Whether one of the trees is a model.
 fn has_model(trees: &[Tree]) -> bool {
     trees.iter().any(|tree| is_model(tree))
@@ -132,6 +128,19 @@ fn form_problems_with_hints(
     Ok(problems)
 }
 
+/// The problems of an ill-typed model, with hints on what is written as in another language.
+fn with_type_hints(
+    alloc: Global,
+    model: &Form,
+    problems: Vec<Problem>,
+) -> Result<Vec<Problem>, AllocError> {
+    let mut hinted = Vec::new(alloc);
+    for problem in problems {
+        hinted.push(with_type_hint(alloc, model, problem)?)?;
+    }
+    Ok(hinted)
+}
+
 /// The problems of a model that was read as trees.
 fn model_problems(
     alloc: Global,
@@ -144,7 +153,10 @@ fn model_problems(
     match refusal {
         Refusal::NoModel(_) => form_problems_with_hints(alloc, input, trees.as_slice()),
         Refusal::IllTyped(number) => match (read_model(alloc, trees.as_slice()), trees.first()) {
-            (Ok(model), Some(tree)) => type_problems(alloc, model.source(), tree.form(), *number),
+            (Ok(model), Some(tree)) => {
+                let problems = type_problems(alloc, model.source(), tree.form(), *number)?;
+                with_type_hints(alloc, tree.form(), problems)
+            }
             _ => Ok(Vec::new(alloc)),
         },
         Refusal::Unread(_) => Ok(Vec::new(alloc)),
@@ -179,7 +191,7 @@ fn notice_on_first_refused_item(
     let number = problem.path.first().copied().unwrap_or(0);
     let notice = problem_notice(alloc, input, problem);
     match trees.get(number) {
-        Some(tree) => Notices::one(alloc, with_file_hint(alloc, input, tree, notice)?),
+        Some(tree) => Notices::one(alloc, with_item_hint(alloc, input, tree, notice)?),
         None => Notices::one(alloc, notice),
     }
 }
@@ -189,26 +201,6 @@ fn notice_in_item(alloc: Global, input: &Input<'_>, item: Span, problem: Problem
     let path = problem.path.get(1..).unwrap_or(&[]);
     let span = span_in(input.bytes, item, path);
     notice_of(alloc, span, problem)
-}
-
-/// The error `notice` on `tree`. If the tree is the model of another file than the first, a hint says so.
-fn with_file_hint(
-    alloc: Global,
-    input: &Input<'_>,
-    tree: &Tree,
-    notice: Notice,
-) -> Result<Notice, AllocError> {
-    let part = input.part_at(notice.span);
-    let Some(first) = input.files.first() else {
-        return Ok(notice);
-    };
-    if !is_model(tree) || part.number == 0 {
-        return Ok(notice);
-    }
-    let (name, first) = (part.name, first.name);
-    let mut notes = Vec::new(alloc);
-    notes.push(format!(in alloc; "hint: `{name}` has a model of its own: leave out `{first}`")?)?;
-    Ok(Notice { notes, ..notice })
 }
 
 /// Adds the line that counts the refused items without a message, if there are some.
@@ -250,7 +242,7 @@ fn each_item_notices(
                 let notice = notice_in_item(alloc, input, span, problem);
                 notices
                     .all
-                    .push(with_file_hint(alloc, input, tree, notice)?)?;
+                    .push(with_item_hint(alloc, input, tree, notice)?)?;
             }
         }
         refused = refused.saturating_add(1);

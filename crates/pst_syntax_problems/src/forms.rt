@@ -74,7 +74,7 @@ const TYPES: [HeadedForm; 4] = [
 ];
 
 /// Words of other languages, and what is written in their place.
-const FOREIGN: [(&str, &str); 117] = [
+const FOREIGN: [(&str, &str); 123] = [
     (">", "write `(< b a)` for `(> a b)`"),
     (">=", "write `(<= b a)` for `(>= a b)`"),
     ("!=", "write `(not (= a b))`"),
@@ -127,6 +127,30 @@ const FOREIGN: [(&str, &str); 117] = [
     (
         "contains",
         "write `(< 0 (len (for ((in x a) (when (= x b))) x)))`; of a map `(has m k)`",
+    ),
+    (
+        ":=",
+        "there is no assignment: write `(next v)`, where `v` is the new state",
+    ),
+    (
+        "<-",
+        "there is no assignment: write `(next v)`, where `v` is the new state",
+    ),
+    (
+        "set!",
+        "there is no assignment: write `(next v)`, where `v` is the new state",
+    ),
+    (
+        "setq",
+        "there is no assignment: write `(next v)`, where `v` is the new state",
+    ),
+    (
+        "+=",
+        "there is no assignment: write `(next v)`, where `v` is the new state",
+    ),
+    (
+        "-=",
+        "there is no assignment: write `(next v)`, where `v` is the new state",
     ),
     ("return", "write the expression alone"),
     ("match", "write `(if c a (if d b e))`"),

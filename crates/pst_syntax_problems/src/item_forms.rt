@@ -38,6 +38,9 @@ pub const ITEM_FORMS: [ItemForm; 6] = [
 /// How an operation is written, for a note.
 pub const OPERATION: &str = "an operation is `(op NAME ((p T) ..) T (pre E) (next E) (post E))`";
 
+/// The hint on a command that is no list of calls.
+pub const CALLS: &str = "hint: write a list of calls: `(command (list call (call a) (call b)))`";
+
 /// Whether `head` heads a callback.
 pub fn is_callback(head: &str) -> bool {
     matches!(head, "pre" | "next" | "post")

@@ -5,16 +5,18 @@ use crate::found_problem::{
     FoundProblem, missing_name_problem, problem_at, problem_at_part, problem_with_note,
     problem_with_note_at_part, with_note,
 };
-use crate::item_forms::{ITEM_FORMS, ItemForm, OPERATION, is_callback, item_form, item_meant};
+use crate::infix::{ASSIGNMENT, assigned, infix_text, is_operator, operators_first};
+use crate::item_forms::{
+    CALLS, ITEM_FORMS, ItemForm, OPERATION, is_callback, item_form, item_meant,
+};
 use crate::names::{DidYouMean, NearestName, push_name};
 use crate::problem::{Problem, below};
-use crate::slips::operator_application_text;
 use crate::tree::{has_head, head_of};
 use crate::writing::{Listed, counted, short_text};
 use pst_sexpr::{Form, node_of};
 use pst_syntax::{FaultKind, MAX_DECLARED, MAX_PARTS};
 use pst_value::Items;
-use std::alloc::Global;
+use std::alloc::{AllocError, Global};
 use std::fmt;
 
 /// The heads of all items, for a note.
@@ -60,12 +62,11 @@ fn item_part_count_problem(
 ) -> FoundProblem {
     let ItemForm { head, written, .. } = form;
     let has = counted(number, "part");
-    problem_with_note(
-        alloc,
-        path,
-        format_args!("`{head}` is not written like this: it has {has}"),
-        format_args!("it is written `{written}`"),
-    )
+    let what = format_args!("`{head}` is not written like this: it has {has}");
+    if head == "command" {
+        return problem_with_note(alloc, path, what, CALLS);
+    }
+    problem_with_note(alloc, path, what, format_args!("it is written `{written}`"))
 }
 
 /// The problem of a function or an operation whose name is no word, or else whose parameters are no list.
@@ -167,6 +168,45 @@ impl fmt::Display for CallbackForm<'_> {
     }
 }
 
+/// The hint on parts of a callback with operators that are not between their operands.
+const OPERATORS: &str = "hint: operators come first, in brackets: `(= a (+ b c))`";
+
+/// The hint on the parts of the callback `head`, if they are an assignment.
+fn assignment_hint(
+    alloc: Global,
+    head: &str,
+    parts: &[Form],
+) -> Result<Option<String>, AllocError> {
+    let is_next = head == "next";
+    let Some(value) = assigned(is_next, parts) else {
+        return Ok(None);
+    };
+    match infix_text(alloc, value)? {
+        Some(written) if is_next => Ok(Some(format!(in alloc;
+            "hint: write `(next {written})`: the new state alone"
+        )?)),
+        _ => Ok(Some(String::from_str(alloc, ASSIGNMENT)?)),
+    }
+}
+
+/// The hint on the parts of the callback `head`, if the second of them is an operator or a word of another language.
+fn operators_hint(alloc: Global, head: &str, parts: &[Form]) -> Result<Option<String>, AllocError> {
+    let [_, Form::Word(operator), _, ..] = parts else {
+        return Ok(None);
+    };
+    match infix_text(alloc, parts)? {
+        Some(written) => {
+            let first = operators_first(parts);
+            Ok(Some(format!(in alloc; "hint: write `({head} {written})`: {first}")?))
+        }
+        None if is_operator(operator.as_str()) => Ok(Some(String::from_str(alloc, OPERATORS)?)),
+        None => match hint_for_foreign_word(operator.as_str()) {
+            Some(hint) => Ok(Some(format!(in alloc; "hint: {hint}")?)),
+            None => Ok(None),
+        },
+    }
+}
+
 /// The problem of a callback that has not one expression. `parts` are the parts after its head.
 fn callback_part_count_problem(
     alloc: Global,
@@ -177,19 +217,12 @@ fn callback_part_count_problem(
     let has = parts.len();
     let what = format_args!("`{head}` takes 1 part, here it has {has}");
     let found = problem_at(alloc, path, what)?;
-    match parts {
-        [left, Form::Word(operator), right] => {
-            match operator_application_text(alloc, operator.as_str(), left, right)? {
-                Some(written) => {
-                    let hint = format_args!(
-                        "hint: write `({head} {written})`: the operator comes first"
-                    );
-                    with_note(alloc, found, hint)
-                }
-                None => with_note(alloc, found, CallbackForm { head, has }),
-            }
-        }
-        _ => with_note(alloc, found, CallbackForm { head, has }),
+    if let Some(hint) = assignment_hint(alloc, head, parts)? {
+        return with_note(alloc, found, hint);
+    }
+    match operators_hint(alloc, head, parts)? {
+        Some(hint) => with_note(alloc, found, hint),
+        None => with_note(alloc, found, CallbackForm { head, has }),
     }
 }
 

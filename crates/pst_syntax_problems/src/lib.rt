@@ -14,6 +14,7 @@ mod expressions;
 mod fault;
 mod forms;
 mod found_problem;
+mod infix;
 mod item_faults;
 mod item_forms;
 mod items;
@@ -30,6 +31,7 @@ mod syntax;
 mod telling;
 mod tree;
 mod type_faults;
+mod type_slips;
 mod types;
 mod whole_faults;
 mod writing;
@@ -49,6 +51,7 @@ pub use operations::{operation_named, unknown_among};
 pub use problem::{MOST_PROBLEMS, Problem, below};
 pub use syntax::form_problems;
 pub use tree::{has_head, head_word};
+pub use type_slips::with_type_hint;
 pub use writing::{
     Count, FormText, Listed, Signature, TypeText, counted, key_type_word, short_text,
 };

@@ -2,47 +2,13 @@
 
 use crate::forms::{expression_form, hint_for_foreign_word};
 use crate::found_problem::{FoundProblem, with_note};
+use crate::infix::{ASSIGNMENT, assigned, infix_text, is_new_state, operators_first};
+use crate::item_forms::CALLS;
 use crate::problem::Problem;
-use crate::tree::head_of;
-use crate::writing::short_text;
+use crate::tree::{has_head, head_of};
 use pst_sexpr::{Form, is_integer, node_of, tree_in, word_of};
 use pst_value::Text;
 use std::alloc::{AllocError, Global};
-
-/// The operator of this language that `operator` means.
-fn operator_meant(operator: &str) -> Option<&str> {
-    match operator {
-        "+" | "-" | "*" | "++" | "<" | "<=" | "=" | "and" | "or" | "div" | "rem" => Some(operator),
-        "==" => Some("="),
-        "&&" => Some("and"),
-        "||" => Some("or"),
-        "/" => Some("div"),
-        "%" => Some("rem"),
-        _ => None,
-    }
-}
-
-/// How `operator` is applied to `left` and `right`, if it is an operator of this or of another language.
-pub fn operator_application_text(
-    alloc: Global,
-    operator: &str,
-    left: &Form,
-    right: &Form,
-) -> Result<Option<String>, AllocError> {
-    let left = short_text(alloc, left)?;
-    let right = short_text(alloc, right)?;
-    let left = left.as_str();
-    let right = right.as_str();
-    match operator {
-        ">" => Ok(Some(format!(in alloc; "(< {right} {left})")?)),
-        ">=" => Ok(Some(format!(in alloc; "(<= {right} {left})")?)),
-        "!=" => Ok(Some(format!(in alloc; "(not (= {left} {right}))")?)),
-        _ => match operator_meant(operator) {
-            Some(head) => Ok(Some(format!(in alloc; "({head} {left} {right})")?)),
-            None => Ok(None),
-        },
-    }
-}
 
 /// Whether a tree is a word that heads a form of expressions.
 fn heads_form(has_maps: bool, form: &Form) -> bool {
@@ -59,13 +25,16 @@ fn rewrite_with_operator_first(
     has_maps: bool,
     parts: &[Form],
 ) -> Result<Option<String>, AllocError> {
-    let [left, Form::Word(operator), right, ..] = parts else {
+    let [left, Form::Word(_), _, ..] = parts else {
         return Ok(None);
     };
     if heads_form(has_maps, left) {
         return Ok(None);
     }
-    operator_application_text(alloc, operator.as_str(), left, right)
+    match infix_text(alloc, parts)? {
+        Some(written) => Ok(Some(written)),
+        None => infix_text(alloc, parts.get(..3).unwrap_or(&[])),
+    }
 }
 
 /// The trees of the node `form`, or of the node that has the word `form` as its second tree. `path` leads to
@@ -116,6 +85,10 @@ fn hint_for_malformed_word(word: &Text) -> Option<&'static str> {
         Some("write `(not a)`")
     } else if is_signed_name(name, "-") {
         Some("write `(- 0 a)`")
+    } else if is_new_state(name) {
+        Some("the new state has no name: write `(next v)`, where `v` is the new state")
+    } else if name.len() > 2 && name.ends_with("++") {
+        Some("there is no assignment: write `(next (+ s 1))`, where `(+ s 1)` is the new state")
     } else {
         None
     }
@@ -125,9 +98,12 @@ fn hint_for_malformed_word(word: &Text) -> Option<&'static str> {
 fn hint_for_malformed_part(form: &Form) -> Option<&'static str> {
     let word = word_of(form)?;
     if word.as_str().starts_with("'") {
-        return Some("a text is in double quotes");
+        Some("a text is in double quotes")
+    } else if is_new_state(word.as_str()) {
+        None
+    } else {
+        hint_for_malformed_word(word)
     }
-    hint_for_malformed_word(word)
 }
 
 /// What to write in the place of the first word of another language among `forms`.
@@ -190,8 +166,17 @@ fn with_choice_hint(
     }
 }
 
+/// Whether the expression `form`, which `path` leads to, is the body of the command and has no head.
+fn is_list_of_calls(model: &Form, path: &[usize], form: &Form) -> bool {
+    let [_, item, _] = path else {
+        return false;
+    };
+    let is_command = tree_in(model, &[*item]).is_some_and(|item| has_head(item, "command"));
+    is_command && node_of(form).is_some() && head_of(form).is_none()
+}
+
 /// The problem `found` of the expression `form`, which `path` leads to, with a hint if it is written as in
-/// another language. A hint on an operator between its operands is the only note.
+/// another language. A hint on an assignment, or on an operator between its operands, is the only note.
 pub fn with_expression_hint(
     alloc: Global,
     has_maps: bool,
@@ -201,13 +186,20 @@ pub fn with_expression_hint(
     found: Option<Problem>,
 ) -> FoundProblem {
     let found = with_choice_hint(alloc, model, path, found)?;
+    if is_list_of_calls(model, path, form) {
+        return with_note(alloc, found, CALLS);
+    }
     let Some(parts) = trees_around(model, path, form) else {
         return with_word_hint(alloc, form, found);
     };
+    if assigned(false, parts).is_some() {
+        return with_note(alloc, without_notes(found), ASSIGNMENT);
+    }
     match rewrite_with_operator_first(alloc, has_maps, parts)? {
         Some(written) => {
             let written = written.as_str();
-            let hint = format_args!("hint: write `{written}`: the operator comes first");
+            let first = operators_first(parts);
+            let hint = format_args!("hint: write `{written}`: {first}");
             with_note(alloc, without_notes(found), hint)
         }
         None => with_word_hint(alloc, form, found),
