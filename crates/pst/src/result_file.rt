@@ -22,7 +22,7 @@ const ITEM_OBJECT: &[u8] = b"{\"item\":";
 /// What follows the number in the object of a refused item.
 const REFUSED_VERDICT: &str = "\"verdict\":\"refused\"";
 
-/// Where the output goes.
+/// The destination of the output.
 #[derive(Clone, Copy, PartialEq, Eq, Drop)]
 enum Route {
     /// Nothing was written.
