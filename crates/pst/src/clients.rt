@@ -7,7 +7,7 @@ use pst_clients::{Clients, Folder, Notes, open_clients, result_types};
 use pst_typing::load;
 use pst_value::{Items, Ty};
 use std::alloc::{AllocError, Global};
-use std::io::{BufReader, ErrorKind};
+use std::io::{self, BufReader, ErrorKind};
 use std::rt::Files;
 use std::sync::{Arc, Wait};
 
@@ -29,8 +29,8 @@ fn types_in(alloc: Global, input: &[u8]) -> Result<Items<Ty>, AllocError> {
 }
 
 /// Opens the clients of worker number `worker`, from 0, whose pipes are in `folder`. They answer calls of the model at
-/// the beginning of `input`. If the pipes cannot be opened, standard error says why.
-pub fn open_for_worker<H: Wait + Files + Drop, R: Files + Eprint + AllocGlobal>(
+/// the beginning of `input`.
+pub fn open_for_worker<H: Wait + Files + Drop, R: Files + AllocGlobal>(
     handle: H,
     rt: &R,
     folder: Folder<'_>,
@@ -44,12 +44,32 @@ pub fn open_for_worker<H: Wait + Files + Drop, R: Files + Eprint + AllocGlobal>(
     match open_clients(handle, rt, folder, worker, types, notes) {
         Ok(clients) => Ok(clients),
         Err(error) if error.kind() == ErrorKind::OutOfMemory => Err(Unmade::NoMemory),
-        Err(error) => {
-            let verb = "open the pipes of clients in";
-            report_failure(rt, rt.alloc(), verb, folder.name, &error);
-            Err(Unmade::NoSystem)
-        }
+        Err(error) => Err(Unmade::NoPipes(error)),
     }
+}
+
+/// Writes to standard error that the pipes of the clients that the arguments name cannot be opened, and why, unless the
+/// arguments forbid it.
+pub fn report_unopened<R: Eprint + AllocGlobal>(
+    rt: &R,
+    words: &ArgMatches<'_>,
+    name: &str,
+    error: &io::Error,
+) {
+    if words.get_flag("quiet") {
+        return;
+    }
+    let folder = match Folder::from_word(name) {
+        Some(folder) => folder.name,
+        None => name,
+    };
+    report_failure(
+        rt,
+        rt.alloc(),
+        "open the pipes of clients in",
+        folder,
+        error,
+    );
 }
 
 /// Writes what went wrong with clients to standard error, unless the arguments forbid it.

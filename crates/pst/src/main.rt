@@ -27,6 +27,7 @@ mod progress;
 mod quoting;
 mod reading;
 mod refused;
+mod result_file;
 mod running;
 mod saving;
 mod streaming;

@@ -47,8 +47,8 @@ fn refuse_arguments<R: Runtime + AllocGlobal>(
     let mut out = Out::new(io::writer(rt));
     let is_quiet = is_quiet(matches);
     let inputs = input_names(matches);
-    if let Some(name) = systems::unknown_system(matches) {
-        return Err(systems::refuse_system(rt, name, inputs, is_quiet, &mut out));
+    if let Some((command, name)) = systems::unknown_system(matches) {
+        return Err(systems::refuse_system(rt, command, name, inputs, is_quiet, &mut out));
     }
     if streaming::is_stream(matches) && !streaming::leaves_standard_input_for_items(inputs) {
         return Err(streaming::refuse_stream(rt, inputs, is_quiet, &mut out));

@@ -7,10 +7,12 @@ use crate::driving::drive;
 use crate::judging::judge;
 use crate::outputs::FailureKeeper;
 use crate::reading::output_name;
+use crate::result_file::{ResultFile, open_to_write, writes_refused_items};
 use crate::systems::Unmade;
 use crate::terminal::Terminals;
 use crate::{
-    converting, explaining, generating, noticed, outputs, refused, streaming, summary, warned,
+    clients, converting, explaining, generating, noticed, outputs, refused, streaming, summary,
+    warned,
 };
 use clap::ArgMatches;
 use pst_campaign::EarlyStop;
@@ -20,6 +22,7 @@ use pst_messages::ItemInput;
 use pst_sexpr::{Out, Sink};
 use pst_sources::{Input, SourceFile};
 use pst_system::BoxedSystem;
+use std::fs::{remove_file, symlink_metadata};
 use std::io;
 use std::io::Write;
 use std::rt::{Files, Runtime};
@@ -66,7 +69,10 @@ fn run_on_systems<
     let systems = match systems {
         Ok(systems) => systems,
         Err(Unmade::NoMemory) => return refuse_text(Absence::NoMemory, out),
-        Err(Unmade::NoSystem) => return refuse_text(Absence::NoSystem(name), out),
+        Err(Unmade::NoPipes(error)) => {
+            clients::report_unopened(rt, words, name, &error);
+            return refuse_text(Absence::NoSystem(name), out);
+        }
     };
     if word != "run" {
         let ending = work.ending;
@@ -158,23 +164,75 @@ fn report_outcome<R: Eprint + AllocGlobal>(
     summary::report_counts(rt, counts);
 }
 
-/// Runs the subcommand with its output to `writer`. Unless the arguments forbid it, standard error has a message on
-/// each refusal, and warnings on a model that `check` accepts and after the lines of `judge`. Its last line sums up the
-/// items of `judge` and `run`. It says in each case if the output cannot be written.
+/// Runs the subcommand with its output to `writer`, and returns its status and the error of the writer, if it had one.
+/// Unless the arguments forbid it, standard error has a message on each refusal, and warnings on a model that `check`
+/// accepts and after the lines of `judge`. Its last line sums up the items of `judge` and `run`.
 fn run_to<
     W: Write + Drop,
     R: Runtime + AllocGlobal + Threads + Wait + Sync + Copy + Drop + Send + 'static,
->(rt: &R, work: Work<'_, '_>, input: Input<'_>, systems: Systems, writer: W) -> Status {
+>(
+    rt: &R,
+    work: Work<'_, '_>,
+    input: Input<'_>,
+    systems: Systems,
+    writer: W,
+) -> (Status, Option<io::Error>) {
     let mut out = Out::new(FailureKeeper::new(writer));
     let mut counts = Counts::new();
     let status = run_subcommand(rt, work, input, systems, &mut counts, &mut out);
     report_outcome(rt, work, input, status, &counts);
     if out.has_failed() {
-        if let Some(error) = out.into_inner().failure() {
-            return outputs::report_lost_output(rt, rt.alloc(), output_name(work.matches), &error);
-        }
+        (status, out.into_inner().failure())
+    } else {
+        (status, None)
     }
-    status
+}
+
+/// Returns the status of a command with the status `status` whose output, to the file `name` or to standard output, had
+/// the error `failure`. Standard error says so if there is one.
+fn status_of_output<R: Eprint + AllocGlobal>(
+    rt: &R,
+    status: Status,
+    name: Option<&str>,
+    failure: Option<io::Error>,
+) -> Status {
+    match failure {
+        Some(error) => outputs::report_lost_output(rt, rt.alloc(), name, &error),
+        None => status,
+    }
+}
+
+/// Runs the subcommand with its output to the file `name`. If the input is refused, its refusal goes to standard output,
+/// and the file stays as it was.
+fn run_to_file<R: Runtime + AllocGlobal + Threads + Wait + Sync + Copy + Drop + Send + 'static>(
+    rt: &R,
+    work: Work<'_, '_>,
+    input: Input<'_>,
+    systems: Systems,
+    name: &str,
+) -> Status {
+    let was_there = symlink_metadata(rt, name).is_ok();
+    let file = match open_to_write(rt, name) {
+        Ok(file) => file,
+        Err(error) => return outputs::report_lost_output(rt, rt.alloc(), Some(name), &error),
+    };
+    let mut result = ResultFile::new(rt, file, writes_refused_items(work.matches));
+    let terminals = work.terminals.with_output_in_a_file();
+    let work = Work { terminals, ..work };
+    let (status, failure) = run_to(rt, work, input, systems, &mut result);
+    let failure = match failure {
+        Some(error) => Some(error),
+        None => result.end(status).err(),
+    };
+    if !result.is_in_file() && !was_there {
+        let _ = remove_file(rt, name);
+    }
+    let name = if result.is_on_standard_output() {
+        None
+    } else {
+        Some(name)
+    };
+    status_of_output(rt, status, name, failure)
 }
 
 /// Runs the subcommand with its output to the file that the arguments name, or to standard output.
@@ -184,17 +242,9 @@ pub fn run<R: Runtime + AllocGlobal + Threads + Wait + Sync + Copy + Drop + Send
     input: Input<'_>,
     systems: Systems,
 ) -> Status {
-    let Some(name) = output_name(work.matches) else {
-        return run_to(rt, work, input, systems, io::writer(rt));
-    };
-    match std::fs::create(rt, name) {
-        Ok(file) => {
-            let terminals = work.terminals.with_output_in_a_file();
-            run_to(rt, Work { terminals, ..work }, input, systems, file)
-        }
-        Err(error) => {
-            outputs::report_unwritten(rt, rt.alloc(), name, &error);
-            Status::Lost
-        }
+    if let Some(name) = output_name(work.matches) {
+        return run_to_file(rt, work, input, systems, name);
     }
+    let (status, failure) = run_to(rt, work, input, systems, io::writer(rt));
+    status_of_output(rt, status, None, failure)
 }

@@ -9,6 +9,7 @@ use pst_clients::Folder;
 use pst_sexpr::Sink;
 use pst_syntax_problems::NearestName;
 use std::alloc::AllocError;
+use std::io;
 use std::rt::Files;
 
 /// The systems that the program makes.
@@ -24,10 +25,10 @@ pub enum ChosenSystems<'a> {
 }
 
 /// Why a system was not made.
-#[derive(Clone, Copy, Debug, PartialEq, Eq, Drop)]
+#[derive(Drop)]
 pub enum Unmade {
-    /// No system has the name in the arguments.
-    NoSystem,
+    /// The pipes of clients cannot be opened.
+    NoPipes(io::Error),
     /// An allocation failed.
     NoMemory,
 }
@@ -50,14 +51,14 @@ pub fn chosen_systems<'a>(matches: &ArgMatches<'a>) -> Option<(ChosenSystems<'a>
     }
 }
 
-/// Returns the name of a system in the arguments, if no system has this name.
-pub fn unknown_system<'a>(matches: &ArgMatches<'a>) -> Option<&'a str> {
-    let (_, words) = matches.subcommand()?;
+/// Returns the command and the name of a system in the arguments, if no system has this name.
+pub fn unknown_system<'a>(matches: &'a ArgMatches<'_>) -> Option<(&'a str, &'a str)> {
+    let (command, words) = matches.subcommand()?;
     let name = words.get_str("SYSTEM")?;
     if systems_named(name).is_some() {
         None
     } else {
-        Some(name)
+        Some((command, name))
     }
 }
 
@@ -95,10 +96,32 @@ fn unknown_system_hint<R: Files + AllocGlobal>(
     }
 }
 
+/// Returns the first of `names` that is no file but the name of a system.
+fn misplaced_system<'a, R: Files>(rt: &R, names: &[&'a str]) -> Option<&'a str> {
+    for name in names {
+        if KnownSystem::named(name).is_some() && !input::can_be_opened(rt, name) {
+            return Some(*name);
+        }
+    }
+    None
+}
+
+/// Writes a hint to standard error if one of the files is no file but the name of a system. `name` is in the place of a
+/// system in the arguments of `command`.
+fn report_misplaced_system<R: Files + Eprint>(rt: &R, command: &str, name: &str, files: &[&str]) {
+    if let Some(system) = misplaced_system(rt, files) {
+        let _ = eprintln!(rt;
+            "  hint: `{system}` is no file; a system's name comes first: pst {command} {system} {name}"
+        );
+    }
+}
+
 /// Writes `refused system NAME`, or `refused file` if one of the files cannot be opened. It reads nothing. Unless
-/// `is_quiet`, a message on standard error says what is wrong; for an unknown system it lists the known ones.
+/// `is_quiet`, a message on standard error says what is wrong with the arguments of `command`; for an unknown system it
+/// lists the known ones.
 pub fn refuse_system<W: Sink, R: Files + Eprint + AllocGlobal>(
     rt: &R,
+    command: &str,
     name: &str,
     files: &[&str],
     is_quiet: bool,
@@ -107,6 +130,9 @@ pub fn refuse_system<W: Sink, R: Files + Eprint + AllocGlobal>(
     requires { W.broken out.old ≡ false }
 {
     if let Err(why) = input::try_to_open(rt, files, is_quiet) {
+        if !is_quiet {
+            report_misplaced_system(rt, command, name, files);
+        }
         return refuse_text(why, out);
     }
     let status = refuse_text(Absence::NoSystem(name), out);

@@ -1,0 +1,146 @@
+//! The file that `-o` names. If the input is refused, the refusal goes to standard output, and the file stays as it is.
+
+use crate::words::is_json;
+use clap::ArgMatches;
+use pst_cli::Status;
+use std::fs::{OpenFile, OpenOptions};
+use std::io::{self, Write};
+use std::rt::Files;
+
+/// How the line of a refusal begins.
+const REFUSAL: &[u8] = b"refused ";
+
+/// How the line of a refused item begins.
+const REFUSED_ITEM: &[u8] = b"refused run ";
+
+/// How the object of a refused model, or of a failed allocation, begins.
+const REFUSAL_OBJECT: &[u8] = b"{\"verdict\":\"refused\"";
+
+/// How the object of an item begins.
+const ITEM_OBJECT: &[u8] = b"{\"item\":";
+
+/// What follows the number in the object of a refused item.
+const REFUSED_VERDICT: &str = "\"verdict\":\"refused\"";
+
+/// The destination of the output.
+#[derive(Clone, Copy, PartialEq, Eq, Drop)]
+enum Route {
+    /// Nothing was written.
+    Undecided,
+    ToFile,
+    ToStandardOutput,
+}
+
+/// A writer that empties a file and writes to it, or writes to standard output and leaves the file as it is if the output
+/// is a refusal.
+#[derive(Drop)]
+pub struct ResultFile<'a, R, F> {
+    rt: &'a R,
+    file: F,
+    /// Whether an output has a line or an object for each item, also if items are refused.
+    has_refused_items: bool,
+    route: Route,
+}
+
+/// Opens the file `name`, or makes it, and leaves what is in it.
+pub fn open_to_write<R: Files>(rt: &R, name: &str) -> io::Result<R::File> {
+    OpenOptions::new().write(true).create(true).open(rt, name)
+}
+
+/// Returns whether the arguments choose an output with a line or an object for each item, also if items are refused.
+pub fn writes_refused_items(matches: &ArgMatches<'_>) -> bool {
+    match matches.subcommand() {
+        Some(("judge", words)) => {
+            words.get_flag("keep-going") || words.get_flag("stream") || is_json(words)
+        }
+        _ => false,
+    }
+}
+
+/// Returns whether an output begins with the line or the object of a refused item.
+fn begins_with_refused_item(bytes: &[u8]) -> bool {
+    if !bytes.starts_with(ITEM_OBJECT) {
+        return bytes.starts_with(REFUSED_ITEM);
+    }
+    match std::str::from_utf8(bytes) {
+        Ok(text) => match text.split_once(',') {
+            Some((_, rest)) => rest.starts_with(REFUSED_VERDICT),
+            None => false,
+        },
+        Err(_) => false,
+    }
+}
+
+/// Returns whether an output that begins with `bytes` is the refusal of the input.
+fn begins_refusal(bytes: &[u8], has_refused_items: bool) -> bool {
+    if begins_with_refused_item(bytes) {
+        return !has_refused_items;
+    }
+    bytes.starts_with(REFUSAL) || bytes.starts_with(REFUSAL_OBJECT)
+}
+
+impl<'a, R: Print, F: Write + OpenFile> ResultFile<'a, R, F> {
+    /// A writer to `file`, or to the standard output of `rt`.
+    pub fn new(rt: &'a R, file: F, has_refused_items: bool) -> ResultFile<'a, R, F> {
+        ResultFile {
+            rt,
+            file,
+            has_refused_items,
+            route: Route::Undecided,
+        }
+    }
+
+    /// Returns whether the output went to the file.
+    pub fn is_in_file(&self) -> bool {
+        self.route == Route::ToFile
+    }
+
+    /// Returns whether the output, a refusal, went to standard output.
+    pub fn is_on_standard_output(&self) -> bool {
+        self.route == Route::ToStandardOutput
+    }
+
+    /// Empties the file. Pipes and devices have nothing to remove.
+    fn empty_file(&self) -> io::Result<()> {
+        if self.file.metadata()?.is_file() {
+            self.file.set_len(0)?;
+        }
+        Ok(())
+    }
+
+    /// Chooses where an output goes that begins with `bytes`.
+    fn choose_route(&mut self, bytes: &[u8]) -> io::Result<()> {
+        if begins_refusal(bytes, self.has_refused_items) {
+            self.route = Route::ToStandardOutput;
+        } else {
+            self.empty_file()?;
+            self.route = Route::ToFile;
+        }
+        Ok(())
+    }
+
+    /// Empties the file if a command that was not refused wrote nothing.
+    pub fn end(&mut self, status: Status) -> io::Result<()> {
+        match (self.route, status) {
+            (Route::Undecided, Status::Accepted | Status::Failed) => self.choose_route(&[]),
+            _ => Ok(()),
+        }
+    }
+}
+
+impl<R: Print, F: Write + OpenFile> Write for ResultFile<'_, R, F> {
+    fn write(&mut self, buf: &[u8]) -> io::Result<usize> {
+        if self.route == Route::Undecided {
+            self.choose_route(buf)?;
+        }
+        if self.route == Route::ToStandardOutput {
+            io::writer(self.rt).write(buf)
+        } else {
+            self.file.write(buf)
+        }
+    }
+
+    fn flush(&mut self) -> io::Result<()> {
+        self.file.flush()
+    }
+}
