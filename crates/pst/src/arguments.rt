@@ -16,7 +16,7 @@ fn is_unhelpful_tip(line: &str) -> bool {
 
 /// Returns the least and the greatest number that the option `--name` of a subcommand takes, if it takes a
 /// number.
-fn number_range(
+fn number_range_of_option(
     alloc: Global,
     subcommand: &str,
     name: &str,
@@ -38,7 +38,7 @@ fn number_range(
 
 /// Returns the value and the option of an error's text, as `5` and `branches`, if the error is that a value
 /// is invalid.
-fn invalid_value(text: &str) -> Option<(&str, &str)> {
+fn invalid_value_and_option_of_error(text: &str) -> Option<(&str, &str)> {
     let (_, text) = text.split_once("invalid value '")?;
     let (value, text) = text.rsplit_once("' for '--")?;
     let (option, _) = text.split_once(' ')?;
@@ -52,10 +52,13 @@ fn number_out_of_range_message(
     started: &[String],
     text: &str,
 ) -> Result<Option<String>, AllocError> {
-    let (Some(subcommand), Some((value, name))) = (started.get(1), invalid_value(text)) else {
+    let (Some(subcommand), Some((value, name))) = (
+        started.get(1),
+        invalid_value_and_option_of_error(text),
+    ) else {
         return Ok(None);
     };
-    match number_range(alloc, subcommand.as_str(), name)? {
+    match number_range_of_option(alloc, subcommand.as_str(), name)? {
         Some((least, most)) => Ok(Some(format!(in alloc;
             "error: --{name} is a number from {least} to {most}, not '{value}'\n\nFor more information, try '--help'.\n"
         )?)),
@@ -65,7 +68,11 @@ fn number_out_of_range_message(
 
 /// Returns what is wrong with the arguments, without tips that do not help. `started` are the words of the
 /// program.
-fn error_text(alloc: Global, started: &[String], error: &Error) -> Result<String, AllocError> {
+fn arguments_error_text(
+    alloc: Global,
+    started: &[String],
+    error: &Error,
+) -> Result<String, AllocError> {
     let whole = format!(in alloc; "{error}")?;
     if error.kind() == ErrorKind::ValueValidation {
         if let Some(text) = number_out_of_range_message(alloc, started, whole.as_str())? {
@@ -87,7 +94,7 @@ fn error_text(alloc: Global, started: &[String], error: &Error) -> Result<String
 
 /// Prints help on standard output, or what is wrong with the arguments on standard error, and returns the status that
 /// the program ends with. `started` are the words of the program.
-fn report_parse_error<R: Runtime + AllocGlobal>(
+fn print_help_or_arguments_error<R: Runtime + AllocGlobal>(
     rt: &R,
     started: &[String],
     error: &Error,
@@ -101,7 +108,7 @@ fn report_parse_error<R: Runtime + AllocGlobal>(
             Err(error) => outputs::report_lost_output(rt, rt.alloc(), None, &error),
         };
     }
-    let Ok(text) = error_text(rt.alloc(), started, error) else {
+    let Ok(text) = arguments_error_text(rt.alloc(), started, error) else {
         return refused::report_out_of_memory(rt);
     };
     match eprint!(rt; "{text}") {
@@ -111,7 +118,7 @@ fn report_parse_error<R: Runtime + AllocGlobal>(
 }
 
 /// Prints a text on standard output, and returns the status that the program ends with.
-fn print_text<R: Runtime + AllocGlobal>(rt: &R, text: &str) -> Status {
+fn print_to_standard_output<R: Runtime + AllocGlobal>(rt: &R, text: &str) -> Status {
     match print!(rt; "{text}") {
         Ok(()) => Status::Accepted,
         Err(error) => outputs::report_lost_output(rt, rt.alloc(), None, &error),
@@ -119,7 +126,7 @@ fn print_text<R: Runtime + AllocGlobal>(rt: &R, text: &str) -> Status {
 }
 
 /// Writes to standard error that the launcher starts clients, and returns the status that the program ends with.
-fn refuse_client<R: Eprint>(rt: &R) -> Status {
+fn refuse_client_without_launcher<R: Eprint>(rt: &R) -> Status {
     let text =
         "error: the launcher takes --client, not the program itself: run ./pst or an installed pst";
     match eprintln!(rt; "{text}") {
@@ -139,11 +146,11 @@ pub fn parse_arguments<'a, R: Runtime + AllocGlobal>(
     };
     match command.try_get_matches_from(started) {
         Ok(matches) if matches.subcommand_name() == Some("verdicts") => {
-            Err(print_text(rt, help::VERDICTS))
+            Err(print_to_standard_output(rt, help::VERDICTS))
         }
-        Ok(matches) if words::names_client(&matches) => Err(refuse_client(rt)),
+        Ok(matches) if words::arguments_name_client(&matches) => Err(refuse_client_without_launcher(rt)),
         Ok(matches) => Ok(matches),
-        Err(error) => Err(report_parse_error(rt, started, &error)),
+        Err(error) => Err(print_help_or_arguments_error(rt, started, &error)),
     }
 }
 

@@ -61,22 +61,22 @@ fn first_command_and_reply<'a>(
 }
 
 /// Returns whether at most one branch of a case has commands.
-fn runs_in_turn(case: &Case) -> bool {
+fn has_at_most_one_branch_with_commands(case: &Case) -> bool {
     let branches = case.branches.as_slice().iter();
     branches.filter(|branch| !branch.is_empty()).count() <= 1
 }
 
 /// Returns whether all replies are values.
-fn are_values(replies: &[Reply]) -> bool {
+fn are_all_replies_values(replies: &[Reply]) -> bool {
     replies.iter().all(|reply| matches!(reply, Reply::Value(_)))
 }
 
 /// Returns whether all replies of a run are values.
 fn has_only_values(history: &History) -> bool {
     let mut branches = history.branches.as_slice().iter();
-    are_values(history.prefix.as_slice())
-        && branches.all(|replies| are_values(replies.as_slice()))
-        && are_values(history.suffix.as_slice())
+    are_all_replies_values(history.prefix.as_slice())
+        && branches.all(|replies| are_all_replies_values(replies.as_slice()))
+        && are_all_replies_values(history.suffix.as_slice())
 }
 
 /// Returns two empty branches.
@@ -88,7 +88,11 @@ fn two_empty_branches<T: Drop>(alloc: Global) -> Result<Items<Items<T>>, AllocEr
 }
 
 /// Returns a run of one command.
-fn run_of(alloc: Global, command: &Command, reply: &Reply) -> Result<(Case, History), AllocError> {
+fn run_of_one_command(
+    alloc: Global,
+    command: &Command,
+    reply: &Reply,
+) -> Result<(Case, History), AllocError> {
     let mut commands = Items::new(alloc);
     commands.push(command.copy(alloc)?)?;
     let mut replies = Items::new(alloc);
@@ -107,7 +111,7 @@ fn run_of(alloc: Global, command: &Command, reply: &Reply) -> Result<(Case, Hist
 }
 
 /// Returns the note on an explanation of a run of one command, in the initial state of the model.
-fn note_for_explanation(text: &str) -> &'static str {
+fn note_on_explanation_of_first_call(text: &str) -> &'static str {
     if text.starts_with(POST_FAULT) {
         FAULT_NOTE
     } else if text.contains(ONE_WRONG) && !text.starts_with(FAULT) {
@@ -119,7 +123,7 @@ fn note_for_explanation(text: &str) -> &'static str {
 
 /// Returns the note on the first call of a run, in the initial state of the model. It is empty if the call is
 /// right there.
-fn beginning_note(
+fn note_on_first_call_of_run(
     alloc: Global,
     input: &[u8],
     case: &Case,
@@ -128,10 +132,10 @@ fn beginning_note(
     let Some((command, reply)) = first_command_and_reply(case, history) else {
         return Ok("");
     };
-    let (case, history) = run_of(alloc, command, reply)?;
+    let (case, history) = run_of_one_command(alloc, command, reply)?;
     match explain_run(alloc, input, case, history, WIDTH)? {
         Some(text) => match std::str::from_utf8(text.as_slice()) {
-            Ok(text) => Ok(note_for_explanation(text)),
+            Ok(text) => Ok(note_on_explanation_of_first_call(text)),
             Err(_) => Ok(""),
         },
         None => Ok(""),
@@ -140,20 +144,27 @@ fn beginning_note(
 
 /// Writes why no interleaving explains the least failure of a campaign, to standard error, and a note if one applies.
 /// The model is at the beginning of `input`. If an allocation fails or a text cannot be written, nothing else is said.
-pub fn explain_failure<R: Eprint>(
+pub fn print_failure_explanation_to_stderr<R: Eprint>(
     rt: &R,
     alloc: Global,
     input: &[u8],
     case: Case,
     history: History,
 ) {
-    let in_turn = if runs_in_turn(&case) && has_only_values(&history) {
+    let in_turn = if has_at_most_one_branch_with_commands(&case) && has_only_values(&history) {
         IN_TURN_NOTE
     } else {
         ""
     };
-    let note = beginning_note(alloc, input, &case, &history);
-    explained::report_unexplained(rt, alloc, "the least failure:", input, case, history);
+    let note = note_on_first_call_of_run(alloc, input, &case, &history);
+    explained::print_run_explanation_to_stderr(
+        rt,
+        alloc,
+        "the least failure:",
+        input,
+        case,
+        history,
+    );
     if let Ok(note) = note {
         let note = if note.is_empty() { in_turn } else { note };
         let _ = eprint!(rt; "{note}");

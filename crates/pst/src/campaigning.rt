@@ -29,14 +29,17 @@ struct How<'a> {
     ending: &'a EarlyStop,
     /// Whether standard error is a terminal.
     is_terminal: bool,
-    is_json: bool,
+    arguments_select_json: bool,
     is_quiet: bool,
     page: CampaignPage<'a>,
     input: Input<'a>,
 }
 
 /// Runs a campaign. If standard error is a terminal, a line on it displays the progress, unless the arguments forbid it.
-fn run_with_progress<W: Sink, R: Threads + Wait + Sync + Eprint + Copy + Drop + Send + 'static>(
+fn run_campaign_with_progress_line<
+    W: Sink,
+    R: Threads + Wait + Sync + Eprint + Copy + Drop + Send + 'static,
+>(
     rt: &R,
     alloc: Global,
     settings: Settings,
@@ -66,7 +69,11 @@ fn run_with_progress<W: Sink, R: Threads + Wait + Sync + Eprint + Copy + Drop + 
 }
 
 /// Writes the report of a campaign. `Err`: it is not written, and the status is the one that the program ends with.
-fn write_report<W: Sink>(report: &[u8], status: Status, out: &mut W) -> Result<Status, Status>
+fn write_campaign_report<W: Sink>(
+    report: &[u8],
+    status: Status,
+    out: &mut W,
+) -> Result<Status, Status>
     requires { W.broken out.old ≡ false }
 {
     // A report has lines: there are none only if an allocation of the buffer failed.
@@ -80,7 +87,7 @@ fn write_report<W: Sink>(report: &[u8], status: Status, out: &mut W) -> Result<S
 }
 
 /// Writes the JSON object of a campaign, or that of the refusal of its model or of a failed allocation.
-fn write_object<W: Sink>(
+fn write_campaign_json_object<W: Sink>(
     alloc: Global,
     status: Status,
     input: &[u8],
@@ -111,7 +118,7 @@ fn write_object<W: Sink>(
 /// Runs a campaign and writes its report once it is complete. Unless the arguments forbid it, explanations of the least
 /// failure and of the first trial without a case follow on standard error; without such a trial also the warnings on the
 /// model.
-fn run_with_messages<
+fn run_campaign_with_messages<
     W: Sink,
     R: Threads + Wait + Sync + Eprint + Files + Copy + Drop + Send + 'static,
 >(
@@ -127,32 +134,40 @@ fn run_with_messages<
     requires stands { W.broken out.old ≡ false }
 {
     let (page, input) = (how.page, how.input.bytes);
-    if how.is_quiet && !how.is_json {
-        let status = run_with_progress(rt, alloc, settings, systems, how, notes, out);
+    if how.is_quiet && !how.arguments_select_json {
+        let status = run_campaign_with_progress_line(rt, alloc, settings, systems, how, notes, out);
         return status.or_worse(page.write(rt, alloc, input, notes));
     }
     let mut report = Out::new(Vec::new(alloc));
-    let status = run_with_progress(rt, alloc, settings, systems, how, notes, &mut report);
-    let status = if how.is_json {
-        write_object(alloc, status, input, notes.report.as_ref(), out)
+    let status = run_campaign_with_progress_line(
+        rt,
+        alloc,
+        settings,
+        systems,
+        how,
+        notes,
+        &mut report,
+    );
+    let status = if how.arguments_select_json {
+        write_campaign_json_object(alloc, status, input, notes.report.as_ref(), out)
     } else {
-        match write_report(report.into_inner().as_slice(), status, out) {
+        match write_campaign_report(report.into_inner().as_slice(), status, out) {
             Ok(status) => status,
             Err(status) => return status,
         }
     };
     let status = status.or_worse(page.write(rt, alloc, input, notes));
     if !how.is_quiet {
-        least::explain_least_failure(rt, alloc, settings, input, notes);
+        least::print_why_campaign_failed_to_stderr(rt, alloc, settings, input, notes);
         if notes.first_genfault.is_none() {
-            warned::report_warnings(rt, alloc, how.input.files, input);
+            warned::print_warnings_to_stderr(rt, alloc, how.input.files, input);
         }
     }
     status
 }
 
 /// Saves the failures of a campaign that has ended, if they were kept.
-fn save_failures<R: Eprint + Files + AllocGlobal>(
+fn save_campaign_failures<R: Eprint + Files + AllocGlobal>(
     rt: &R,
     saving: &Saving<'_>,
     notes: &CampaignNotes,
@@ -165,7 +180,7 @@ fn save_failures<R: Eprint + Files + AllocGlobal>(
 }
 
 /// Runs a campaign and saves its failures in a folder. The status is `Lost` too if one cannot be saved.
-fn run_and_save<
+fn run_campaign_and_save_failures<
     W: Sink,
     R: Threads + Wait + Sync + Eprint + Files + AllocGlobal + Copy + Drop + Send + 'static,
 >(
@@ -180,12 +195,20 @@ fn run_and_save<
     requires stands { W.broken out.old ≡ false }
 {
     let mut notes = CampaignNotes::keeping(how.page.is_written(), true);
-    let status = run_with_messages(rt, rt.alloc(), settings, systems, how, &mut notes, out);
-    status.or_worse(save_failures(rt, saving, &notes, how.is_quiet))
+    let status = run_campaign_with_messages(
+        rt,
+        rt.alloc(),
+        settings,
+        systems,
+        how,
+        &mut notes,
+        out,
+    );
+    status.or_worse(save_campaign_failures(rt, saving, &notes, how.is_quiet))
 }
 
 /// Writes to standard error that the file that ends the campaign is there before it begins, if that is so.
-fn report_early_end<R: Eprint>(rt: &R, words: &ArgMatches<'_>, ending: &EarlyStop) {
+fn print_that_stop_file_exists<R: Eprint>(rt: &R, words: &ArgMatches<'_>, ending: &EarlyStop) {
     if let Some(name) = words.get_str("stop-file") {
         if ending.is_over() {
             let _ = eprintln!(rt; "pst: {name} is there already: no trial was begun");
@@ -220,20 +243,20 @@ pub fn campaign<
     let how = How {
         ending,
         is_terminal,
-        is_json: words::is_json(words),
+        arguments_select_json: words::arguments_select_json(words),
         is_quiet: words.get_flag("quiet"),
         page: CampaignPage::from_arguments(words, input),
         input,
     };
     if !how.is_quiet {
-        report_early_end(rt, words, ending);
+        print_that_stop_file_exists(rt, words, ending);
     }
     if let Some(folder) = words.get_str("save") {
         return match Saving::begin(rt, words, folder, settings.seed, name) {
-            Ok(saving) => run_and_save(rt, settings, systems, &saving, how, out),
+            Ok(saving) => run_campaign_and_save_failures(rt, settings, systems, &saving, how, out),
             Err(status) => status,
         };
     }
     let mut notes = CampaignNotes::keeping(how.page.is_written(), false);
-    run_with_messages(rt, rt.alloc(), settings, systems, how, &mut notes, out)
+    run_campaign_with_messages(rt, rt.alloc(), settings, systems, how, &mut notes, out)
 }

@@ -1,6 +1,6 @@
 //! Clients that a campaign or a run calls in place of a known system.
 
-use crate::outputs::report_failure;
+use crate::outputs::print_file_error_to_stderr;
 use crate::systems::Unmade;
 use clap::ArgMatches;
 use pst_clients::{Clients, Folder, Notes, open_clients, result_types};
@@ -15,13 +15,13 @@ use std::sync::{Arc, Wait};
 pub type SharedNotes = Arc<Notes, Global>;
 
 /// Returns an empty list of notes.
-pub fn empty_notes(alloc: Global) -> Result<SharedNotes, AllocError> {
+pub fn empty_client_notes(alloc: Global) -> Result<SharedNotes, AllocError> {
     Ok(Arc::new(alloc, Notes::new(alloc)?)?)
 }
 
 /// Returns the result types of the operations of the model at the beginning of `input`. There are no types if it cannot
 /// be loaded; such a model is refused before anything is called.
-fn types_in(alloc: Global, input: &[u8]) -> Result<Items<Ty>, AllocError> {
+fn operation_result_types_of_model(alloc: Global, input: &[u8]) -> Result<Items<Ty>, AllocError> {
     match load(alloc, input)? {
         Ok(file) => result_types(alloc, file.typed.source().items.as_slice()),
         Err(_) => Ok(Items::new(alloc)),
@@ -30,7 +30,7 @@ fn types_in(alloc: Global, input: &[u8]) -> Result<Items<Ty>, AllocError> {
 
 /// Opens the clients of worker number `worker`, from 0, whose pipes are in `folder`. They answer calls of the model at
 /// the beginning of `input`.
-pub fn open_for_worker<H: Wait + Files + Drop, R: Files + AllocGlobal>(
+pub fn open_clients_for_worker<H: Wait + Files + Drop, R: Files + AllocGlobal>(
     handle: H,
     rt: &R,
     folder: Folder<'_>,
@@ -38,7 +38,10 @@ pub fn open_for_worker<H: Wait + Files + Drop, R: Files + AllocGlobal>(
     input: &[u8],
     notes: &SharedNotes,
 ) -> Result<Clients<H, BufReader<R::File>, R::File>, Unmade> {
-    let (Ok(types), Ok(notes)) = (types_in(rt.alloc(), input), Arc::try_clone(notes)) else {
+    let (Ok(types), Ok(notes)) = (
+        operation_result_types_of_model(rt.alloc(), input),
+        Arc::try_clone(notes),
+    ) else {
         return Err(Unmade::NoMemory);
     };
     match open_clients(handle, rt, folder, worker, types, notes) {
@@ -63,7 +66,7 @@ pub fn report_unopened<R: Eprint + AllocGlobal>(
         Some(folder) => folder.name,
         None => name,
     };
-    report_failure(
+    print_file_error_to_stderr(
         rt,
         rt.alloc(),
         "open the pipes of clients in",
@@ -73,7 +76,7 @@ pub fn report_unopened<R: Eprint + AllocGlobal>(
 }
 
 /// Writes what went wrong with clients to standard error, unless the arguments forbid it.
-pub fn report_client_notes<R: Eprint>(rt: &R, matches: &ArgMatches<'_>, notes: &Notes) {
+pub fn print_client_notes_to_stderr<R: Eprint>(rt: &R, matches: &ArgMatches<'_>, notes: &Notes) {
     let Some((_, words)) = matches.subcommand() else {
         return;
     };

@@ -11,12 +11,12 @@ use std::alloc::{AllocError, Global};
 /// The forms of items.
 const FORMS: [&str; 2] = ["json", "trees"];
 
-/// `convert`, with the files of a model and its items.
+/// `run_convert_subcommand`, with the files of a model and its items.
 pub fn clap_command_for_convert<'a>(alloc: Global) -> Result<Command<'a>, AllocError> {
     Command::new(alloc, "convert")
         .about("Writes cases and recorded runs as JSON, or as trees: one on each line")
         .after_help(help::CONVERT)
-        .arg(words::files_argument(alloc))?
+        .arg(words::model_and_items_files_argument(alloc))?
         .arg(
             Arg::new(alloc, "to")
                 .long("to")
@@ -31,7 +31,12 @@ pub fn clap_command_for_convert<'a>(alloc: Global) -> Result<Command<'a>, AllocE
 }
 
 /// Writes the items of the input in the form that the words ask for.
-pub fn convert<W: Sink>(alloc: Global, words: &ArgMatches<'_>, input: &[u8], out: &mut W) -> Status
+pub fn run_convert_subcommand<W: Sink>(
+    alloc: Global,
+    words: &ArgMatches<'_>,
+    input: &[u8],
+    out: &mut W,
+) -> Status
     requires { W.broken out.old ≡ false }
 {
     let form = if words.get_str("to") == Some("trees") {

@@ -2,7 +2,7 @@
 ghost use Rattle.std.specs.Prelude.{◌≡◌, false};
 
 use crate::telling::StepsDisplay;
-use crate::words::is_json;
+use crate::words::arguments_select_json;
 use crate::{explained, overheard};
 use clap::ArgMatches;
 use pst_case::Run;
@@ -18,7 +18,12 @@ use std::sync::Wait;
 use std::thread::Threads;
 
 /// Writes to standard error why the first broken run is broken, and how many other runs are broken.
-fn explain_broken<R: Eprint>(rt: &R, alloc: Global, input: &[u8], counts: &mut Counts) {
+fn print_why_first_run_is_broken<R: Eprint>(
+    rt: &R,
+    alloc: Global,
+    input: &[u8],
+    counts: &mut Counts,
+) {
     let Some((item, run)) = counts.first_broken.take() else {
         return;
     };
@@ -29,7 +34,7 @@ fn explain_broken<R: Eprint>(rt: &R, alloc: Global, input: &[u8], counts: &mut C
     let Ok(heading) = format!(in alloc; "item {item} is broken:") else {
         return;
     };
-    explained::report_unexplained(
+    explained::print_run_explanation_to_stderr(
         rt,
         alloc,
         heading.as_str(),
@@ -49,13 +54,13 @@ fn explain_broken<R: Eprint>(rt: &R, alloc: Global, input: &[u8], counts: &mut C
 struct DriveOptions {
     /// How often each is driven; `None`: once, without a count of drives.
     repeats: Option<u32>,
-    is_json: bool,
+    arguments_select_json: bool,
     /// Whether a line on standard error says how far it is.
     is_told: bool,
 }
 
 /// Drives each item of the input, and writes the runs and their verdicts.
-fn run_items<W: Sink, R: Threads + Wait>(
+fn drive_items_of_input<W: Sink, R: Threads + Wait>(
     rt: &R,
     alloc: Global,
     system: &mut BoxedSystem,
@@ -67,7 +72,7 @@ fn run_items<W: Sink, R: Threads + Wait>(
 ) -> Status
     requires { W.broken out.old ≡ false }
 {
-    if how.is_json {
+    if how.arguments_select_json {
         return run_json(rt, alloc, input, system, how.repeats, counts, steps, out);
     }
     match how.repeats {
@@ -80,7 +85,10 @@ fn run_items<W: Sink, R: Threads + Wait>(
 
 /// Drives the items of the input, and writes the report once it is complete. Then it writes to standard error what the
 /// system answered for each reply `misfit`, and why a run is broken.
-fn drive_and_explain<W: Sink, R: Threads + Wait + Sync + Eprint + Copy + Drop + Send + 'static>(
+fn drive_items_and_print_misfits<
+    W: Sink,
+    R: Threads + Wait + Sync + Eprint + Copy + Drop + Send + 'static,
+>(
     rt: &R,
     alloc: Global,
     system: &mut BoxedSystem,
@@ -92,12 +100,12 @@ fn drive_and_explain<W: Sink, R: Threads + Wait + Sync + Eprint + Copy + Drop + 
 ) -> Status
     requires { W.broken out.old ≡ false }
 {
-    overheard::compare_with_model(alloc, misfits, input);
+    overheard::compare_answers_with_model_of_input(alloc, misfits, input);
     let Ok(telling) = StepsDisplay::begin(rt, alloc, how.is_told, "run") else {
         return refuse_text(Absence::NoMemory, out);
     };
     let mut report = Out::new(Vec::new(alloc));
-    let status = run_items(
+    let status = drive_items_of_input(
         rt,
         alloc,
         system,
@@ -116,14 +124,17 @@ fn drive_and_explain<W: Sink, R: Threads + Wait + Sync + Eprint + Copy + Drop + 
     if put_all(report.as_slice(), out).is_err() {
         return Status::Lost;
     }
-    overheard::report_misfits(rt, alloc, misfits);
-    explain_broken(rt, alloc, input, counts);
+    overheard::print_misfits_to_stderr(rt, alloc, misfits);
+    print_why_first_run_is_broken(rt, alloc, input, counts);
     status
 }
 
 /// Drives the items of the input on a system, if there is one. If there is a list of misfits, it then writes to
 /// standard error what is wrong with the runs; if `is_told`, a line of it says meanwhile how many items are run.
-pub fn drive<W: Sink, R: Threads + Wait + Sync + Eprint + Copy + Drop + Send + 'static>(
+pub fn drive_items_on_given_system<
+    W: Sink,
+    R: Threads + Wait + Sync + Eprint + Copy + Drop + Send + 'static,
+>(
     rt: &R,
     alloc: Global,
     words: &ArgMatches<'_>,
@@ -142,14 +153,14 @@ pub fn drive<W: Sink, R: Threads + Wait + Sync + Eprint + Copy + Drop + Send + '
     };
     let how = DriveOptions {
         repeats: words.get_one("repeats"),
-        is_json: is_json(words),
+        arguments_select_json: arguments_select_json(words),
         is_told,
     };
     match misfits {
         Some(misfits) => {
-            drive_and_explain(rt, alloc, &mut system, how, misfits, input, counts, out)
+            drive_items_and_print_misfits(rt, alloc, &mut system, how, misfits, input, counts, out)
         }
-        None => run_items(
+        None => drive_items_of_input(
             rt,
             alloc,
             &mut system,

@@ -9,7 +9,7 @@ const WIDTH: usize = 80;
 
 /// Writes a heading and why no interleaving explains a run, to standard error. The model is at the beginning of
 /// `input`. If an allocation fails or the text cannot be written, the run and its verdict remain without it.
-pub fn report_unexplained<R: Eprint>(
+pub fn print_run_explanation_to_stderr<R: Eprint>(
     rt: &R,
     alloc: Global,
     heading: &str,

@@ -19,7 +19,7 @@ use std::sync::Wait;
 use std::thread::Threads;
 
 /// The option that gives the width of lines.
-fn width_option<'a>(alloc: Global) -> Arg<'a> {
+fn line_width_option<'a>(alloc: Global) -> Arg<'a> {
     Arg::new(alloc, "width")
         .long("width")
         .value_name("N")
@@ -31,7 +31,7 @@ fn width_option<'a>(alloc: Global) -> Arg<'a> {
 const FORMS: [&str; 4] = ["text", "json", "html", "dot"];
 
 /// The option that names the form of the explanations.
-fn format_option<'a>(alloc: Global) -> Arg<'a> {
+fn explanation_format_option<'a>(alloc: Global) -> Arg<'a> {
     Arg::new(alloc, "format")
         .long("format")
         .value_name("FORM")
@@ -44,7 +44,7 @@ fn format_option<'a>(alloc: Global) -> Arg<'a> {
 }
 
 /// The option that selects a graph.
-fn dot_option<'a>(alloc: Global) -> Result<Arg<'a>, AllocError> {
+fn dot_graph_option<'a>(alloc: Global) -> Result<Arg<'a>, AllocError> {
     Arg::new(alloc, "dot")
         .long("dot")
         .action(ArgAction::SetTrue)
@@ -53,7 +53,7 @@ fn dot_option<'a>(alloc: Global) -> Result<Arg<'a>, AllocError> {
 }
 
 /// The option that selects the whole search of an explained run.
-fn all_option<'a>(alloc: Global) -> Arg<'a> {
+fn whole_search_option<'a>(alloc: Global) -> Arg<'a> {
     Arg::new(alloc, "all")
         .long("all")
         .action(ArgAction::SetTrue)
@@ -61,7 +61,7 @@ fn all_option<'a>(alloc: Global) -> Arg<'a> {
 }
 
 /// The option that limits how many items are explained.
-fn max_option<'a>(alloc: Global) -> Arg<'a> {
+fn max_explained_items_option<'a>(alloc: Global) -> Arg<'a> {
     Arg::new(alloc, "max")
         .long("max")
         .value_name("N")
@@ -70,7 +70,7 @@ fn max_option<'a>(alloc: Global) -> Arg<'a> {
 }
 
 /// The option that names the item that is explained or drawn.
-fn item_option<'a>(alloc: Global) -> Result<Arg<'a>, AllocError> {
+fn item_number_option<'a>(alloc: Global) -> Result<Arg<'a>, AllocError> {
     Arg::new(alloc, "item")
         .long("item")
         .value_name("N")
@@ -81,31 +81,31 @@ fn item_option<'a>(alloc: Global) -> Result<Arg<'a>, AllocError> {
         .conflicts_with("failures")
 }
 
-/// `explain`, with files, the form of explanations and the width of lines.
+/// `run_explain_subcommand`, with files, the form of explanations and the width of lines.
 fn clap_command_for_explain_base<'a>(alloc: Global) -> Result<Command<'a>, AllocError> {
     Command::new(alloc, "explain")
         .about("Explains the verdicts on cases and recorded runs")
         .after_help(help::EXPLAIN)
-        .arg(words::files_argument(alloc))?
-        .arg(format_option(alloc))?
-        .arg(dot_option(alloc)?)?
-        .arg(all_option(alloc))?
-        .arg(width_option(alloc))?
+        .arg(words::model_and_items_files_argument(alloc))?
+        .arg(explanation_format_option(alloc))?
+        .arg(dot_graph_option(alloc)?)?
+        .arg(whole_search_option(alloc))?
+        .arg(line_width_option(alloc))?
         .arg(terminal::color_option(alloc))
 }
 
-/// `explain`, with files, the form of explanations, and the items that are explained.
+/// `run_explain_subcommand`, with files, the form of explanations, and the items that are explained.
 pub fn clap_command_for_explain<'a>(alloc: Global) -> Result<Command<'a>, AllocError> {
     clap_command_for_explain_base(alloc)?
-        .arg(words::failures_option(alloc))?
-        .arg(item_option(alloc)?)?
-        .arg(max_option(alloc))?
+        .arg(words::only_failures_option(alloc))?
+        .arg(item_number_option(alloc)?)?
+        .arg(max_explained_items_option(alloc))?
         .arg(words::output_option(alloc))?
         .arg(words::quiet_option(alloc))
 }
 
 /// Returns the number of the item that the arguments choose, if they choose one.
-fn item_number(words: &ArgMatches<'_>) -> Option<usize> {
+fn item_number_from_arguments(words: &ArgMatches<'_>) -> Option<usize> {
     let item: Option<u64> = words.get_one("item");
     match item {
         Some(item) => Some(item as usize),
@@ -114,8 +114,8 @@ fn item_number(words: &ArgMatches<'_>) -> Option<usize> {
 }
 
 /// Returns the items to explain, by the arguments.
-fn chosen_items(words: &ArgMatches<'_>) -> Chosen {
-    match item_number(words) {
+fn items_to_explain_from_arguments(words: &ArgMatches<'_>) -> Chosen {
+    match item_number_from_arguments(words) {
         Some(number) => Chosen::Item(number),
         None if words.get_flag("failures") => Chosen::Failures,
         None => Chosen::All,
@@ -123,7 +123,7 @@ fn chosen_items(words: &ArgMatches<'_>) -> Chosen {
 }
 
 /// Returns the maximum number of items that the arguments allow.
-fn max_items(words: &ArgMatches<'_>) -> usize {
+fn max_items_from_arguments(words: &ArgMatches<'_>) -> usize {
     let most: Option<u64> = words.get_one("max");
     match most {
         Some(most) => most as usize,
@@ -132,7 +132,7 @@ fn max_items(words: &ArgMatches<'_>) -> usize {
 }
 
 /// Whether the words ask for graphs.
-fn is_dot(words: &ArgMatches<'_>) -> bool {
+fn arguments_select_dot_graph(words: &ArgMatches<'_>) -> bool {
     words.get_flag("dot") || words.get_str("format") == Some("dot")
 }
 
@@ -151,12 +151,12 @@ fn text_form_by_color_option<R: Env + AllocGlobal>(
 }
 
 /// The form of explanations that the words ask for.
-fn explanation_form<R: Env + AllocGlobal>(
+fn explanation_form_from_arguments<R: Env + AllocGlobal>(
     rt: &R,
     words: &ArgMatches<'_>,
     is_terminal: bool,
 ) -> ExplanationForm {
-    if is_dot(words) {
+    if arguments_select_dot_graph(words) {
         return ExplanationForm::Dot {
             is_whole: words.get_flag("all"),
         };
@@ -195,7 +195,7 @@ fn explain_with_progress_line<
 
 /// Explains the chosen items of `input`, or draws their searches if the arguments choose graphs: that of one item, unless
 /// `--failures` or `--max` choose several.
-pub fn explain<
+pub fn run_explain_subcommand<
     W: Sink,
     R: Threads + Wait + Sync + Eprint + Env + AllocGlobal + Copy + Drop + Send + 'static,
 >(rt: &R, words: &ArgMatches<'_>, terminals: Terminals, input: Input<'_>, out: &mut W) -> Status
@@ -203,21 +203,21 @@ pub fn explain<
 {
     let Input { files, bytes } = input;
     let is_one = !words.get_flag("failures") && words.get_str("max").is_none();
-    if is_dot(words) && is_one {
+    if arguments_select_dot_graph(words) && is_one {
         return graph_text(
             rt,
             rt.alloc(),
             bytes,
-            item_number(words),
+            item_number_from_arguments(words),
             words.get_flag("all"),
             out,
         );
     }
     let asked = ExplainOptions {
         files,
-        chosen: chosen_items(words),
-        most: max_items(words),
-        form: explanation_form(rt, words, terminals.output),
+        chosen: items_to_explain_from_arguments(words),
+        most: max_items_from_arguments(words),
+        form: explanation_form_from_arguments(rt, words, terminals.output),
     };
     let is_told = terminals.errors && !words.get_flag("quiet");
     explain_with_progress_line(rt, bytes, asked, is_told, out)

@@ -40,7 +40,7 @@ struct FormatOptions {
 }
 
 /// Prints a text on standard output. If it cannot be printed, standard error says so.
-fn print_text<R: Runtime + AllocGlobal>(rt: &R, text: &[u8]) -> Status {
+fn print_formatted_model_text<R: Runtime + AllocGlobal>(rt: &R, text: &[u8]) -> Status {
     match io::writer(rt).write_all(text) {
         Ok(()) => Status::Accepted,
         Err(error) => outputs::report_lost_output(rt, rt.alloc(), None, &error),
@@ -59,7 +59,7 @@ enum Unwritten {
 }
 
 /// Makes the copy, in which the bytes are before those of the file change: if the disk is full, nothing is lost.
-fn write_copy<R: Files>(rt: &R, copy: &str, text: &[u8]) -> Result<(), Unwritten> {
+fn write_backup_copy_of_file<R: Files>(rt: &R, copy: &str, text: &[u8]) -> Result<(), Unwritten> {
     let mut file = match File::create_new(rt, copy) {
         Ok(file) => file,
         Err(error) if error.kind() == ErrorKind::AlreadyExists => return Err(Unwritten::Taken),
@@ -75,13 +75,13 @@ fn write_copy<R: Files>(rt: &R, copy: &str, text: &[u8]) -> Result<(), Unwritten
 }
 
 /// Writes the bytes of a file, first to a copy, which is removed in the end.
-fn write_copy_then_file<R: Files>(
+fn write_backup_copy_then_file<R: Files>(
     rt: &R,
     name: &str,
     copy: &str,
     text: &[u8],
 ) -> Result<(), Unwritten> {
-    write_copy(rt, copy, text)?;
+    write_backup_copy_of_file(rt, copy, text)?;
     match write(rt, name, text) {
         Ok(()) => {}
         Err(error) => return Err(Unwritten::Kept(error)),
@@ -102,7 +102,7 @@ fn report_unwritten_file<R: Eprint>(
 ) {
     match why {
         Unwritten::Kept(error) => {
-            outputs::report_unwritten(rt, alloc, name, error);
+            outputs::print_unwritten_file_to_stderr(rt, alloc, name, error);
             let _ = eprintln!(rt; "  its new text is in {copy}");
         }
         Unwritten::Taken => {
@@ -110,7 +110,7 @@ fn report_unwritten_file<R: Eprint>(
                 "pst: cannot write {name}: there is a file {copy}, which would be lost"
             );
         }
-        Unwritten::NoCopy(error) => outputs::report_unwritten(rt, alloc, copy, error),
+        Unwritten::NoCopy(error) => outputs::print_unwritten_file_to_stderr(rt, alloc, copy, error),
     }
 }
 
@@ -119,7 +119,7 @@ fn rewrite_file<R: Runtime + AllocGlobal>(rt: &R, name: &str, text: &[u8]) -> St
     let Ok(copy) = format!(in rt.alloc(); "{name}.pst-fmt") else {
         return refused::report_out_of_memory(rt);
     };
-    match write_copy_then_file(rt, name, copy.as_str(), text) {
+    match write_backup_copy_then_file(rt, name, copy.as_str(), text) {
         Ok(()) => Status::Accepted,
         Err(why) => {
             report_unwritten_file(rt, rt.alloc(), name, copy.as_str(), &why);
@@ -148,7 +148,7 @@ fn output_formatted_file<R: Runtime + AllocGlobal>(
         };
     }
     if name == STANDARD_INPUT {
-        print_text(rt, text)
+        print_formatted_model_text(rt, text)
     } else if is_same {
         Status::Accepted
     } else {
@@ -157,7 +157,7 @@ fn output_formatted_file<R: Runtime + AllocGlobal>(
 }
 
 /// Refuses a file that cannot be read, with a message unless `how` is quiet.
-fn refuse_unread<R: Runtime + AllocGlobal>(
+fn print_refusal_of_unreadable_file<R: Runtime + AllocGlobal>(
     rt: &R,
     files: &[SourceFile<'_>],
     bytes: &[u8],
@@ -186,7 +186,7 @@ fn refuse_unread<R: Runtime + AllocGlobal>(
 
 /// The text of a file with items as JSON that has to be trees: up to the first of these items if that is refused, or
 /// else all of it with blanks in place of them.
-fn text_of_trees(alloc: Global, bytes: &[u8]) -> Result<Vec<u8>, AllocError> {
+fn text_without_json_items(alloc: Global, bytes: &[u8]) -> Result<Vec<u8>, AllocError> {
     let head = json_items::text_before_json_items(bytes);
     match read(alloc, head) {
         Ok(_) => json_items::blank_json_items(alloc, bytes),
@@ -202,7 +202,7 @@ fn keep_file_with_json_items<R: Runtime + AllocGlobal>(
 ) -> Status {
     let alloc = rt.alloc();
     let name = file.name;
-    let Ok(text) = text_of_trees(alloc, file.bytes.as_slice()) else {
+    let Ok(text) = text_without_json_items(alloc, file.bytes.as_slice()) else {
         return refused::report_out_of_memory(rt);
     };
     if let Err(fault) = read(alloc, text.as_slice()) {
@@ -213,7 +213,7 @@ fn keep_file_with_json_items<R: Runtime + AllocGlobal>(
         if files.push(SourceFile { name, bytes }).is_err() {
             return refused::report_out_of_memory(rt);
         }
-        return refuse_unread(rt, files.as_slice(), text.as_slice(), fault, how);
+        return print_refusal_of_unreadable_file(rt, files.as_slice(), text.as_slice(), fault, how);
     }
     if !how.reading.is_quiet {
         let _ = eprintln!(rt; "pst: there are items as JSON in {name}, so it stays as it is");
@@ -222,7 +222,7 @@ fn keep_file_with_json_items<R: Runtime + AllocGlobal>(
 }
 
 /// Lays out the file `name`.
-fn lay_out_file<R: Runtime + AllocGlobal>(rt: &R, name: &str, how: FormatOptions) -> Status {
+fn format_file_by_name<R: Runtime + AllocGlobal>(rt: &R, name: &str, how: FormatOptions) -> Status {
     let files = match input::read_files(rt, &[name], how.reading) {
         Ok(files) => files,
         Err(why) => return refuse_text(why, &mut Out::new(io::writer(rt))),
@@ -236,13 +236,13 @@ fn lay_out_file<R: Runtime + AllocGlobal>(rt: &R, name: &str, how: FormatOptions
     }
     match format_file(rt.alloc(), bytes) {
         Ok(text) => output_formatted_file(rt, file, text.as_slice(), how),
-        Err(fault) => refuse_unread(rt, files.as_slice(), bytes, fault, how),
+        Err(fault) => print_refusal_of_unreadable_file(rt, files.as_slice(), bytes, fault, how),
     }
 }
 
 /// Lays out the files that the arguments name, or standard input. The status is the worst of the files: `Refused` if
 /// one cannot be read, `Lost` if one cannot be written, `Failed` if one would change with `--check`.
-pub fn lay_out<R: Runtime + AllocGlobal>(
+pub fn run_fmt_subcommand<R: Runtime + AllocGlobal>(
     rt: &R,
     words: &ArgMatches<'_>,
     reading: Reading,
@@ -253,11 +253,11 @@ pub fn lay_out<R: Runtime + AllocGlobal>(
     };
     let names = words.get_strs("FILE").unwrap_or(&[]);
     if names.is_empty() {
-        return lay_out_file(rt, STANDARD_INPUT, how);
+        return format_file_by_name(rt, STANDARD_INPUT, how);
     }
     let mut status = Status::Accepted;
     for name in names {
-        status = status.or_worse(lay_out_file(rt, name, how));
+        status = status.or_worse(format_file_by_name(rt, name, how));
     }
     status
 }

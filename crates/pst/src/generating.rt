@@ -8,8 +8,8 @@ use pst_sexpr::Sink;
 use std::thread::Threads;
 
 /// Returns the form of cases that the arguments choose.
-fn case_form(words: &ArgMatches<'_>) -> ItemForm {
-    if words::is_json(words) {
+fn case_form_from_arguments(words: &ArgMatches<'_>) -> ItemForm {
+    if words::arguments_select_json(words) {
         ItemForm::Json
     } else {
         ItemForm::Trees
@@ -18,7 +18,10 @@ fn case_form(words: &ArgMatches<'_>) -> ItemForm {
 
 /// Refuses trials whose numbers do not fit 64 bits. The error is the status that the program ends with, and
 /// standard error says why.
-pub fn refuse_trials<R: Eprint>(rt: &R, matches: &ArgMatches<'_>) -> Result<(), Status> {
+pub fn refuse_trial_numbers_beyond_64_bits<R: Eprint>(
+    rt: &R,
+    matches: &ArgMatches<'_>,
+) -> Result<(), Status> {
     let Some(("generate", words)) = matches.subcommand() else {
         return Ok(());
     };
@@ -53,6 +56,6 @@ pub fn generate<W: Sink, R: Threads + Sync + AllocGlobal>(
         return Status::Refused;
     };
     let count = trials.min(u64::MAX - first);
-    let form = case_form(words);
+    let form = case_form_from_arguments(words);
     generate_text(rt, rt.alloc(), input, form, settings, first, count, out)
 }

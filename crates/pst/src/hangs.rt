@@ -1,7 +1,7 @@
 //! Lines on standard error that say which client does not answer, and that resets fail.
 
 use crate::interrupting::stop_file;
-use crate::systems::{ChosenSystems, chosen_systems};
+use crate::systems::{ChosenSystems, systems_from_arguments};
 use clap::ArgMatches;
 use pst_clients::{Notes, Waits};
 use std::alloc::{AllocError, Global};
@@ -48,7 +48,7 @@ impl ClientWait {
     }
 
     /// Counts a second in which it may have answered. The answer is whether a line is to be written.
-    fn is_late(&mut self, line: Option<u64>) -> bool {
+    fn count_second_and_check_lateness(&mut self, line: Option<u64>) -> bool {
         if line.is_none() || line != self.line {
             *self = ClientWait::at(line);
             return false;
@@ -88,7 +88,7 @@ fn report_silent_client<R: Eprint>(
 }
 
 /// Writes to standard error that resets fail, and how to end the campaign, if a file ends it.
-fn say_resets_fail<R: Eprint>(rt: &R, has_stop_file: bool) {
+fn print_that_resets_fail_to_stderr<R: Eprint>(rt: &R, has_stop_file: bool) {
     let advice = if has_stop_file {
         " Ctrl-C ends the campaign with its report"
     } else {
@@ -115,13 +115,13 @@ fn report_silent_clients_each_second<R: Wait + Eprint>(
             return Ok(());
         }
         for place in 0..clients.len() {
-            if clients[place].is_late(waits.unanswered(place)) {
+            if clients[place].count_second_and_check_lateness(waits.unanswered(place)) {
                 report_silent_client(rt, alloc, waits, place, clients[place].seconds);
             }
         }
         if !is_said && watched.notes.failed_resets() >= MANY {
             is_said = true;
-            say_resets_fail(rt, watched.has_stop_file);
+            print_that_resets_fail_to_stderr(rt, watched.has_stop_file);
         }
     }
     Ok(())
@@ -176,7 +176,7 @@ pub fn watch_clients<R: Threads + Wait + Eprint + Copy + Drop + Send + 'static>(
     notes: &Arc<Notes, Global>,
 ) -> Option<ClientWatch> {
     let (_, words) = matches.subcommand()?;
-    match chosen_systems(matches)? {
+    match systems_from_arguments(matches)? {
         (ChosenSystems::Clients(_), _) if !words.get_flag("quiet") => {
             ClientWatch::start(rt, alloc, notes, stop_file(matches).is_some())
         }

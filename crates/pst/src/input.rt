@@ -1,6 +1,6 @@
 //! The input of the program: its files, and their text.
 
-use crate::outputs::report_failure;
+use crate::outputs::print_file_error_to_stderr;
 use pst_cli::Absence;
 use pst_sexpr::MAX_BYTES;
 use pst_sources::SourceFile;
@@ -68,7 +68,12 @@ fn read_file<R: Files + AllocGlobal>(rt: &R, name: &str, limit: u64) -> Result<V
 }
 
 /// Writes to standard error which file cannot be read and why, unless `is_quiet`.
-fn report_unread<R: Eprint + AllocGlobal>(rt: &R, name: &str, unread: &Unread, is_quiet: bool) {
+fn print_unread_file_to_stderr<R: Eprint + AllocGlobal>(
+    rt: &R,
+    name: &str,
+    unread: &Unread,
+    is_quiet: bool,
+) {
     if is_quiet {
         return;
     }
@@ -82,11 +87,11 @@ fn report_unread<R: Eprint + AllocGlobal>(rt: &R, name: &str, unread: &Unread, i
         let _ = eprintln!(rt; "pst: cannot {done} {name}: no such file");
         return;
     }
-    report_failure(rt, rt.alloc(), done, name, &unread.error);
+    print_file_error_to_stderr(rt, rt.alloc(), done, name, &unread.error);
 }
 
 /// Returns why there is no input if a file cannot be read. Standard error says which file it is, unless `is_quiet`.
-fn report_absence<R: Eprint + AllocGlobal>(
+fn print_unread_file_and_classify_absence<R: Eprint + AllocGlobal>(
     rt: &R,
     name: &str,
     unread: &Unread,
@@ -95,7 +100,7 @@ fn report_absence<R: Eprint + AllocGlobal>(
     if unread.error.kind() == ErrorKind::OutOfMemory {
         return Absence::NoMemory;
     }
-    report_unread(rt, name, unread, is_quiet);
+    print_unread_file_to_stderr(rt, name, unread, is_quiet);
     Absence::NoFile
 }
 
@@ -106,7 +111,7 @@ pub fn can_be_opened<R: Files>(rt: &R, name: &str) -> bool {
 
 /// Opens each of the files, and reads nothing. `NoFile` means that one cannot be opened; standard error says which,
 /// unless `is_quiet`.
-pub fn try_to_open<R: Files + Eprint + AllocGlobal>(
+pub fn open_files_without_reading<R: Files + Eprint + AllocGlobal>(
     rt: &R,
     names: &[&str],
     is_quiet: bool,
@@ -120,7 +125,7 @@ pub fn try_to_open<R: Files + Eprint + AllocGlobal>(
                 was_opened: false,
                 error,
             };
-            return Err(report_absence(rt, name, &unread, is_quiet));
+            return Err(print_unread_file_and_classify_absence(rt, name, &unread, is_quiet));
         }
     }
     Ok(())
@@ -149,7 +154,12 @@ pub fn read_files<'a, R: Files + Input + Eprint + AllocGlobal>(
         };
         let bytes = match found {
             Ok(bytes) => bytes,
-            Err(unread) => return Err(report_absence(rt, name, &unread, reading.is_quiet)),
+            Err(unread) => return Err(print_unread_file_and_classify_absence(
+                rt,
+                name,
+                &unread,
+                reading.is_quiet,
+            )),
         };
         limit = limit.saturating_sub(bytes.len() as u64);
         if files.push(SourceFile { name, bytes }).is_err() {

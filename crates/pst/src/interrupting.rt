@@ -67,7 +67,7 @@ pub fn initial_stop_flag<R: Files>(
 }
 
 /// What the thread that looks for the file shares, if the arguments name a file.
-pub fn shared_watch(
+pub fn stop_file_watch_from_arguments(
     alloc: Global,
     matches: &ArgMatches<'_>,
     has_appeared: &Arc<AtomicBool>,
@@ -97,7 +97,10 @@ impl StopFile {
 }
 
 /// When a campaign ends before all its trials have run, by the arguments.
-pub fn early_end(matches: &ArgMatches<'_>, has_appeared: Option<Arc<AtomicBool>>) -> EarlyStop {
+pub fn early_stop_from_arguments(
+    matches: &ArgMatches<'_>,
+    has_appeared: Option<Arc<AtomicBool>>,
+) -> EarlyStop {
     let most = match matches.subcommand() {
         Some(("campaign", words)) => words.get_one("max-failures"),
         _ => None,

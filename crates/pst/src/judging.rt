@@ -3,7 +3,7 @@ ghost use Rattle.std.specs.Prelude.{◌≡◌, false, All, IfSome};
 ghost use Rattle.pst_runs.specs.Lawful.{AreLawful};
 
 use crate::telling::StepsDisplay;
-use crate::words::is_json;
+use crate::words::arguments_select_json;
 use clap::ArgMatches;
 use pst_cli::{
     AnsweredFile, Counts, JudgedFile, MEMORY_OBJECT, ProgressCounter, Shown, Status, item_count,
@@ -12,8 +12,8 @@ use pst_cli::{
     judge_text_keep_going,
 };
 use pst_messages::{
-    ItemInput, explain_first_broken_result, explain_first_broken_run, warnings_on_answers,
-    warnings_on_runs,
+    ItemInput, explain_first_broken_result, explain_first_broken_run,
+    precondition_warnings_on_item_results, precondition_warnings_on_runs,
 };
 use pst_sexpr::{Out, Sink, put_all};
 use std::alloc::{AllocError, Global};
@@ -23,7 +23,7 @@ use std::thread::Threads;
 
 /// Writes `messages` to standard error. It does nothing if an allocation for them failed, and ignores failures to
 /// write.
-fn write_messages<R: Eprint>(rt: &R, messages: Result<Option<String>, AllocError>) {
+fn print_messages_to_stderr<R: Eprint>(rt: &R, messages: Result<Option<String>, AllocError>) {
     if let Ok(Some(messages)) = messages {
         let _ = eprint!(rt; "{messages}");
     }
@@ -33,7 +33,12 @@ fn write_messages<R: Eprint>(rt: &R, messages: Result<Option<String>, AllocError
 ///
 /// The program ends after this, and the system frees its memory at once. So the items are not dropped one by one: with
 /// many small items that would take an eighth of the instructions of the whole run.
-fn warn_on_runs<R: Eprint>(rt: &R, alloc: Global, input: ItemInput<'_>, judged: Option<JudgedFile>)
+fn print_warnings_on_judged_runs<R: Eprint>(
+    rt: &R,
+    alloc: Global,
+    input: ItemInput<'_>,
+    judged: Option<JudgedFile>,
+)
     requires { IfSome judged (λ judged. All (λ runs. AreLawful judged.compiled runs.items) judged.runs.items) }
 {
     if let Some(
@@ -45,11 +50,11 @@ fn warn_on_runs<R: Eprint>(rt: &R, alloc: Global, input: ItemInput<'_>, judged: 
     ) = judged
     {
         let typed = compiled.typed();
-        write_messages(
+        print_messages_to_stderr(
             rt,
             explain_first_broken_run(alloc, typed, input, judged.as_slice()),
         );
-        let warnings = warnings_on_runs(
+        let warnings = precondition_warnings_on_runs(
             &compiled,
             alloc,
             typed,
@@ -57,13 +62,13 @@ fn warn_on_runs<R: Eprint>(rt: &R, alloc: Global, input: ItemInput<'_>, judged: 
             runs.as_slice(),
             judged.as_slice(),
         );
-        write_messages(rt, warnings);
+        print_messages_to_stderr(rt, warnings);
         forget((compiled, runs, judged));
     }
 }
 
 /// Writes why the first broken item of the answered ones is broken, and the warnings on the answered items.
-fn warn_on_answers<R: Eprint>(
+fn print_warnings_on_item_results<R: Eprint>(
     rt: &R,
     alloc: Global,
     input: ItemInput<'_>,
@@ -72,11 +77,11 @@ fn warn_on_answers<R: Eprint>(
     if let Some(AnsweredFile { file, answers }) = answered {
         let typed = file.compiled.typed();
         let trees = file.trees.as_slice();
-        write_messages(
+        print_messages_to_stderr(
             rt,
             explain_first_broken_result(alloc, typed, input, trees, answers.as_slice()),
         );
-        let warnings = warnings_on_answers(
+        let warnings = precondition_warnings_on_item_results(
             &file.compiled,
             alloc,
             typed,
@@ -84,12 +89,12 @@ fn warn_on_answers<R: Eprint>(
             trees,
             answers.as_slice(),
         );
-        write_messages(rt, warnings)
+        print_messages_to_stderr(rt, warnings)
     }
 }
 
 /// Returns the items whose lines are written, by the arguments.
-fn shown_items(words: &ArgMatches<'_>) -> Shown {
+fn shown_items_from_arguments(words: &ArgMatches<'_>) -> Shown {
     if words.get_flag("failures") {
         Shown::Failures
     } else {
@@ -98,7 +103,7 @@ fn shown_items(words: &ArgMatches<'_>) -> Shown {
 }
 
 /// Counts the answered items, and writes why the first broken one is broken and the warnings on them.
-fn count_and_warn<R: Eprint>(
+fn count_item_results_and_print_warnings<R: Eprint>(
     rt: &R,
     alloc: Global,
     input: ItemInput<'_>,
@@ -108,11 +113,11 @@ fn count_and_warn<R: Eprint>(
     if let Some(answered) = &answered {
         counts.add_answers(answered.answers.as_slice());
     }
-    warn_on_answers(rt, alloc, input, answered);
+    print_warnings_on_item_results(rt, alloc, input, answered);
 }
 
 /// Judges the items of the input without messages.
-fn judge_quietly<W: Sink, R: Threads + Sync>(
+fn judge_items_without_messages<W: Sink, R: Threads + Sync>(
     rt: &R,
     alloc: Global,
     words: &ArgMatches<'_>,
@@ -121,8 +126,8 @@ fn judge_quietly<W: Sink, R: Threads + Sync>(
 ) -> Status
     requires { W.broken out.old ≡ false }
 {
-    let shown = shown_items(words);
-    if is_json(words) {
+    let shown = shown_items_from_arguments(words);
+    if arguments_select_json(words) {
         return judge_json(rt, alloc, input, shown, out).0;
     }
     match (words.get_flag("keep-going"), shown) {
@@ -134,7 +139,7 @@ fn judge_quietly<W: Sink, R: Threads + Sync>(
 }
 
 /// Judges all items of the input, even if some are refused.
-fn judge_all<W: Sink, R: Threads + Sync>(
+fn judge_all_items_despite_refusals<W: Sink, R: Threads + Sync>(
     rt: &R,
     alloc: Global,
     words: &ArgMatches<'_>,
@@ -144,8 +149,8 @@ fn judge_all<W: Sink, R: Threads + Sync>(
 ) -> (Status, Option<AnsweredFile>)
     requires { W.broken out.old ≡ false }
 {
-    let shown = shown_items(words);
-    if is_json(words) {
+    let shown = shown_items_from_arguments(words);
+    if arguments_select_json(words) {
         judge_json_with_progress(rt, alloc, input, shown, steps, out)
     } else {
         judge_file_keep_going_with_progress(rt, alloc, input, shown, steps, out)
@@ -153,7 +158,7 @@ fn judge_all<W: Sink, R: Threads + Sync>(
 }
 
 /// Writes the lines of the items. There are none, with another status than `Accepted`, only if an allocation failed.
-fn write_lines<W: Sink>(
+fn write_lines_of_judged_items<W: Sink>(
     words: &ArgMatches<'_>,
     lines: Out<Vec<u8>>,
     status: Status,
@@ -163,7 +168,7 @@ fn write_lines<W: Sink>(
 {
     let lines = lines.into_inner();
     let is_lost = lines.is_empty() && status != Status::Accepted;
-    let text = match (is_lost, is_json(words)) {
+    let text = match (is_lost, arguments_select_json(words)) {
         (false, _) => lines.as_slice(),
         (true, false) => b"refused memory\n",
         (true, true) => MEMORY_OBJECT,
@@ -191,7 +196,10 @@ fn begin_judging_display<R: Threads + Wait + Eprint + Copy + Drop + Send + 'stat
 /// Judges the items of the input, up to the first refused one, or all of them with `--keep-going` or JSON output.
 /// Unless the arguments forbid messages, it then counts the items, and may write messages to standard error; if
 /// `is_told`, a line of it says meanwhile how many are judged.
-pub fn judge<W: Sink, R: Threads + Wait + Sync + Eprint + Copy + Drop + Send + 'static>(
+pub fn run_judge_subcommand<
+    W: Sink,
+    R: Threads + Wait + Sync + Eprint + Copy + Drop + Send + 'static,
+>(
     rt: &R,
     alloc: Global,
     words: &ArgMatches<'_>,
@@ -204,26 +212,33 @@ pub fn judge<W: Sink, R: Threads + Wait + Sync + Eprint + Copy + Drop + Send + '
 {
     let bytes = input.trees.bytes;
     if words.get_flag("quiet") {
-        return judge_quietly(rt, alloc, words, bytes, out);
+        return judge_items_without_messages(rt, alloc, words, bytes, out);
     }
     let mut lines = Out::new(Vec::new(alloc));
     let Ok(telling) = begin_judging_display(rt, alloc, is_told, bytes) else {
-        return write_lines(words, lines, Status::Lost, out);
+        return write_lines_of_judged_items(words, lines, Status::Lost, out);
     };
-    if is_json(words) || words.get_flag("keep-going") {
-        let (status, answered) = judge_all(rt, alloc, words, bytes, telling.steps(), &mut lines);
+    if arguments_select_json(words) || words.get_flag("keep-going") {
+        let (status, answered) = judge_all_items_despite_refusals(
+            rt,
+            alloc,
+            words,
+            bytes,
+            telling.steps(),
+            &mut lines,
+        );
         telling.end(rt);
-        let status = write_lines(words, lines, status, out);
-        count_and_warn(rt, alloc, input, counts, answered);
+        let status = write_lines_of_judged_items(words, lines, status, out);
+        count_item_results_and_print_warnings(rt, alloc, input, counts, answered);
         return status;
     }
-    let (shown, steps) = (shown_items(words), telling.steps());
+    let (shown, steps) = (shown_items_from_arguments(words), telling.steps());
     let (status, judged) = judge_file_with_progress(rt, alloc, bytes, shown, steps, &mut lines);
     telling.end(rt);
-    let status = write_lines(words, lines, status, out);
+    let status = write_lines_of_judged_items(words, lines, status, out);
     if let Some(judged) = &judged {
         counts.add_all(judged.judged.as_slice());
     }
-    warn_on_runs(rt, alloc, input, judged);
+    print_warnings_on_judged_runs(rt, alloc, input, judged);
     status
 }

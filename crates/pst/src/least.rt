@@ -9,7 +9,7 @@ use pst_trial::Settings;
 use std::alloc::Global;
 
 /// Writes why trial `number` has no case.
-fn explain_genfault<R: Eprint>(
+fn print_why_trial_has_no_case<R: Eprint>(
     rt: &R,
     alloc: Global,
     settings: Settings,
@@ -33,7 +33,7 @@ fn explain_genfault<R: Eprint>(
 /// Writes to standard error why no interleaving explains the least failure of a campaign, if it has a failure, and why
 /// its first trial without a case has no case, if it has such a trial. If an allocation fails or the text cannot be
 /// written, the report and the status remain without it.
-pub fn explain_least_failure<R: Eprint>(
+pub fn print_why_campaign_failed_to_stderr<R: Eprint>(
     rt: &R,
     alloc: Global,
     settings: Settings,
@@ -43,9 +43,9 @@ pub fn explain_least_failure<R: Eprint>(
     requires { AreInRange settings }
 {
     if let Some((case, history)) = notes.least.take() {
-        beginning::explain_failure(rt, alloc, input, case, history);
+        beginning::print_failure_explanation_to_stderr(rt, alloc, input, case, history);
     }
     if let Some(number) = notes.first_genfault {
-        explain_genfault(rt, alloc, settings, input, number);
+        print_why_trial_has_no_case(rt, alloc, settings, input, number);
     }
 }

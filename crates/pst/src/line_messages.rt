@@ -3,7 +3,7 @@
 use crate::input::STANDARD_INPUT;
 use pst_cli::RefusedLines;
 use pst_json_runs::has_json;
-use pst_messages::{Asked, errors_of};
+use pst_messages::{Asked, input_error_notices};
 use pst_sexpr::{MAX_BYTES, read};
 use pst_sources::{
     Input, Notices, Place, SourceFile, Span, first_item, first_line, joined, place_on, tree_at,
@@ -36,7 +36,7 @@ pub struct LineMessages<'a, R: Eprint + AllocGlobal> {
 }
 
 /// Returns a copy of the bytes.
-fn copied(alloc: Global, bytes: &[u8]) -> Result<Vec<u8>, AllocError> {
+fn copy_line_bytes(alloc: Global, bytes: &[u8]) -> Result<Vec<u8>, AllocError> {
     let mut copy = Vec::new(alloc);
     copy.extend_from_slice(bytes)?;
     Ok(copy)
@@ -66,7 +66,7 @@ fn first_error_in_last_file(
         bytes: text.as_slice(),
     };
     let last = files.len().saturating_sub(1);
-    let Notices { all, more: _ } = errors_of(alloc, &input, Asked::FirstItem)?;
+    let Notices { all, more: _ } = input_error_notices(alloc, &input, Asked::FirstItem)?;
     for notice in all {
         let part = input.part_at(notice.span);
         if part.number == last {
@@ -81,17 +81,20 @@ fn first_error_in_last_file(
 }
 
 /// The file that a line is in the messages on it.
-fn line_file(alloc: Global, line: &[u8]) -> Result<SourceFile<'static>, AllocError> {
+fn source_file_of_line(alloc: Global, line: &[u8]) -> Result<SourceFile<'static>, AllocError> {
     Ok(SourceFile {
         name: STANDARD_INPUT,
-        bytes: copied(alloc, line)?,
+        bytes: copy_line_bytes(alloc, line)?,
     })
 }
 
 /// Returns the fault of a line that is not one tree, or that is a model.
-fn fault_unless_one_item(alloc: Global, line: &[u8]) -> Result<Option<LineFault>, AllocError> {
+fn fault_of_line_unless_one_item(
+    alloc: Global,
+    line: &[u8],
+) -> Result<Option<LineFault>, AllocError> {
     let Ok(trees) = read(alloc, line) else {
-        return first_error_in_last_file(alloc, &[line_file(alloc, line)?]);
+        return first_error_in_last_file(alloc, &[source_file_of_line(alloc, line)?]);
     };
     let first = tree_at(line, 0);
     if trees.is_empty() {
@@ -141,19 +144,19 @@ impl<'a, R: Eprint + AllocGlobal> LineMessages<'a, R> {
     fn item_fault(&self, alloc: Global, line: &[u8]) -> Result<Option<LineFault>, AllocError> {
         let model = SourceFile {
             name: self.name,
-            bytes: copied(alloc, self.model)?,
+            bytes: copy_line_bytes(alloc, self.model)?,
         };
-        first_error_in_last_file(alloc, &[model, line_file(alloc, line)?])
+        first_error_in_last_file(alloc, &[model, source_file_of_line(alloc, line)?])
     }
 
     /// Returns what is wrong with a refused line.
-    fn fault_of(&self, alloc: Global, line: &[u8]) -> Result<LineFault, AllocError> {
+    fn fault_of_refused_line(&self, alloc: Global, line: &[u8]) -> Result<LineFault, AllocError> {
         let start = Span { start: 0, end: 1 };
         if line.len() > MAX_BYTES {
             return line_fault_without_notes(alloc, start, "the line is longer than 1 MiB");
         }
         if !has_json(line) {
-            if let Some(found) = fault_unless_one_item(alloc, line)? {
+            if let Some(found) = fault_of_line_unless_one_item(alloc, line)? {
                 return Ok(found);
             }
         }
@@ -173,7 +176,7 @@ impl<'a, R: Eprint + AllocGlobal> LineMessages<'a, R> {
     /// Returns the message on the refused line `number`.
     fn message(&self, number: usize, line: &[u8]) -> Result<String, AllocError> {
         let alloc = self.rt.alloc();
-        let LineFault { span, what, notes } = self.fault_of(alloc, line)?;
+        let LineFault { span, what, notes } = self.fault_of_refused_line(alloc, line)?;
         let Place {
             line: _,
             column,

@@ -127,7 +127,7 @@ fn main(rt: HostRuntime) -> ExitCode {
             };
             let (Ok(text), Ok(notes)) = (
                 joined(alloc, files.as_trees()),
-                clients::empty_notes(alloc),
+                clients::empty_client_notes(alloc),
             ) else {
                 return refused::report_out_of_memory(&rt).code();
             };
@@ -138,11 +138,11 @@ fn main(rt: HostRuntime) -> ExitCode {
             // Boxed systems are made here, since a function cannot return one.
             let misfits = overheard::new_misfits_for_run(alloc, &matches);
             let mut systems: Systems = Ok(Vec::new(alloc));
-            if let Some((wanted, count)) = systems::chosen_systems(&matches) {
+            if let Some((wanted, count)) = systems::systems_from_arguments(&matches) {
                 for worker in 0..count {
                     let system: Result<BoxedSystem, Unmade> = match wanted {
                         ChosenSystems::Known(known) => known_system!(rt, alloc, misfits, known),
-                        ChosenSystems::Clients(folder) => match clients::open_for_worker(
+                        ChosenSystems::Clients(folder) => match clients::open_clients_for_worker(
                             rt,
                             &rt,
                             folder,
@@ -161,7 +161,11 @@ fn main(rt: HostRuntime) -> ExitCode {
                 return refused::report_out_of_memory(&rt).code();
             };
             let watched = match &has_appeared {
-                Some(has_appeared) => interrupting::shared_watch(alloc, &matches, has_appeared),
+                Some(has_appeared) => interrupting::stop_file_watch_from_arguments(
+                    alloc,
+                    &matches,
+                    has_appeared,
+                ),
                 None => None,
             };
             let stop_file = match watched {
@@ -177,7 +181,7 @@ fn main(rt: HostRuntime) -> ExitCode {
                 },
                 None => None,
             };
-            let ending = interrupting::early_end(&matches, has_appeared);
+            let ending = interrupting::early_stop_from_arguments(&matches, has_appeared);
             let work = Work {
                 matches: &matches,
                 files: files.as_read(),
@@ -193,7 +197,7 @@ fn main(rt: HostRuntime) -> ExitCode {
             if let Some(stop_file) = stop_file {
                 stop_file.end(&rt);
             }
-            clients::report_client_notes(&rt, &matches, &notes);
+            clients::print_client_notes_to_stderr(&rt, &matches, &notes);
             status.code()
         });
     match worker {

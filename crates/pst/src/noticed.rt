@@ -1,15 +1,15 @@
 //! The errors and warnings on a model, as JSON.
 
-use crate::words::is_json;
+use crate::words::arguments_select_json;
 use clap::ArgMatches;
-use pst_messages::{Asked, errors_of, warnings_in};
+use pst_messages::{Asked, input_error_notices, input_warning_notices};
 use pst_rejudge::{Field, Name, add_number_field, add_text_field, object_line};
 use pst_sources::{Input, Notice, Notices, place_in};
 use pst_value::Text;
 use std::alloc::{AllocError, Global};
 
 /// Returns the strings as texts.
-fn texts_of(alloc: Global, strings: Vec<String>) -> Result<Vec<Text>, AllocError> {
+fn json_texts_of_strings(alloc: Global, strings: Vec<String>) -> Result<Vec<Text>, AllocError> {
     let mut texts = Vec::new(alloc);
     for string in strings {
         texts.push(Text::from_string(string))?;
@@ -40,7 +40,7 @@ fn notice_object(alloc: Global, input: &Input<'_>, notice: Notice) -> Result<Vec
         lines,
     } = notice;
     fields.push(Field::Words(Name::Message, Text::from_string(what)))?;
-    fields.push(Field::Lines(Name::Notes, texts_of(alloc, notes)?))?;
+    fields.push(Field::Lines(Name::Notes, json_texts_of_strings(alloc, notes)?))?;
     if !lines.is_empty() {
         fields.push(Field::Words(Name::Explanation, Text::from_string(lines)))?;
     }
@@ -69,22 +69,26 @@ fn notice_objects(
 
 /// Returns the objects of the errors of a model, or of the warnings on it if it is accepted, a line each.
 fn model_notices(alloc: Global, input: &Input<'_>) -> Result<Vec<u8>, AllocError> {
-    let errors = errors_of(alloc, input, Asked::Model)?;
+    let errors = input_error_notices(alloc, input, Asked::Model)?;
     if errors.all.is_empty() {
-        notice_objects(alloc, input, warnings_in(alloc, input)?)
+        notice_objects(alloc, input, input_warning_notices(alloc, input)?)
     } else {
         notice_objects(alloc, input, errors)
     }
 }
 
 /// Returns whether the errors and warnings are part of the output.
-pub fn writes_notices(word: &str, words: &ArgMatches<'_>) -> bool {
-    word == "check" && is_json(words)
+pub fn output_includes_notices(word: &str, words: &ArgMatches<'_>) -> bool {
+    word == "check" && arguments_select_json(words)
 }
 
 /// Returns the objects of the errors and warnings on a model, a line each. There are no lines if the arguments forbid
 /// them, or if an allocation for them fails.
-pub fn notice_lines(alloc: Global, words: &ArgMatches<'_>, input: &Input<'_>) -> Vec<u8> {
+pub fn notice_json_lines_on_model(
+    alloc: Global,
+    words: &ArgMatches<'_>,
+    input: &Input<'_>,
+) -> Vec<u8> {
     if words.get_flag("quiet") {
         return Vec::new(alloc);
     }

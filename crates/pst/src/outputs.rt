@@ -47,7 +47,7 @@ impl<W: Write> Write for FailureKeeper<W> {
 }
 
 /// Returns the text of an error without its number.
-fn without_number(text: &str) -> &str {
+fn error_text_without_number(text: &str) -> &str {
     match text.split_once(" (os error ") {
         Some((message, _)) => message,
         None => text,
@@ -58,7 +58,7 @@ fn without_number(text: &str) -> &str {
 fn error_reason(alloc: Global, error: &io::Error) -> Result<String, AllocError> {
     let whole = format!(in alloc; "{error}")?;
     let mut reason = String::new(alloc);
-    for character in without_number(whole.as_str()).chars() {
+    for character in error_text_without_number(whole.as_str()).chars() {
         if reason.is_empty() {
             reason.push(character.to_ascii_lowercase())?;
         } else {
@@ -69,7 +69,13 @@ fn error_reason(alloc: Global, error: &io::Error) -> Result<String, AllocError> 
 }
 
 /// Writes to standard error what cannot be done to `name`, as `write`, and why.
-pub fn report_failure<R: Eprint>(rt: &R, alloc: Global, verb: &str, name: &str, error: &io::Error) {
+pub fn print_file_error_to_stderr<R: Eprint>(
+    rt: &R,
+    alloc: Global,
+    verb: &str,
+    name: &str,
+    error: &io::Error,
+) {
     let _ = match error_reason(alloc, error) {
         Ok(reason) => eprintln!(rt; "pst: cannot {verb} {name}: {reason}"),
         Err(AllocError) => eprintln!(rt; "pst: cannot {verb} {name}"),
@@ -77,8 +83,13 @@ pub fn report_failure<R: Eprint>(rt: &R, alloc: Global, verb: &str, name: &str, 
 }
 
 /// Writes to standard error that the file `name` cannot be written, and why.
-pub fn report_unwritten<R: Eprint>(rt: &R, alloc: Global, name: &str, error: &io::Error) {
-    report_failure(rt, alloc, "write", name, error);
+pub fn print_unwritten_file_to_stderr<R: Eprint>(
+    rt: &R,
+    alloc: Global,
+    name: &str,
+    error: &io::Error,
+) {
+    print_file_error_to_stderr(rt, alloc, "write", name, error);
 }
 
 /// Returns the status of a command whose output, to the file `name` or to standard output, cannot be written.
@@ -91,8 +102,8 @@ pub fn report_lost_output<R: Eprint>(
 ) -> Status {
     if error.kind() != ErrorKind::BrokenPipe {
         match name {
-            Some(name) => report_unwritten(rt, alloc, name, error),
-            None => report_failure(rt, alloc, "write to", "standard output", error),
+            Some(name) => print_unwritten_file_to_stderr(rt, alloc, name, error),
+            None => print_file_error_to_stderr(rt, alloc, "write to", "standard output", error),
         }
     }
     Status::Lost

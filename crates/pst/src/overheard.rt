@@ -25,7 +25,7 @@ pub fn share_misfits(misfits: &Option<SharedMisfits>) -> Option<SharedMisfits> {
 }
 
 /// Compares answers from now on with the model at the beginning of `input`, if it can be loaded.
-pub fn compare_with_model(alloc: Global, misfits: &Misfits, input: &[u8]) {
+pub fn compare_answers_with_model_of_input(alloc: Global, misfits: &Misfits, input: &[u8]) {
     if let Ok(Ok(file)) = load(alloc, input) {
         misfits.set_model(file.typed);
     }
@@ -33,7 +33,7 @@ pub fn compare_with_model(alloc: Global, misfits: &Misfits, input: &[u8]) {
 
 /// Writes a line for each recorded misfit to standard error. If an allocation fails or the lines cannot be written, the
 /// runs and their verdicts remain without them.
-pub fn report_misfits<R: Eprint>(rt: &R, alloc: Global, misfits: &Misfits) {
+pub fn print_misfits_to_stderr<R: Eprint>(rt: &R, alloc: Global, misfits: &Misfits) {
     if let Ok(text) = misfits_text(alloc, misfits) {
         let _ = eprint!(rt; "{text}");
     }

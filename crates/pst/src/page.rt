@@ -1,7 +1,7 @@
 //! The page of a campaign's failures: `pst campaign --html FILE`.
 
 use crate::input::STANDARD_INPUT;
-use crate::outputs::report_unwritten;
+use crate::outputs::print_unwritten_file_to_stderr;
 use clap::{Arg, ArgMatches};
 use pst_cli::{CampaignNotes, Status, campaign_page};
 use pst_sources::{Input, SourceFile};
@@ -50,7 +50,7 @@ fn check_file_can_be_written<R: Files>(rt: &R, name: &str) -> io::Result<()> {
 
 /// Refuses a page on standard output, and a file that cannot be written: a campaign may take hours before its
 /// page is. The error is the status that the program ends with, and standard error says why.
-pub fn refuse_page<R: Files + Eprint + AllocGlobal>(
+pub fn refuse_unwritable_html_page<R: Files + Eprint + AllocGlobal>(
     rt: &R,
     matches: &ArgMatches<'_>,
 ) -> Result<(), Status> {
@@ -66,7 +66,7 @@ pub fn refuse_page<R: Files + Eprint + AllocGlobal>(
     match check_file_can_be_written(rt, name) {
         Ok(()) => Ok(()),
         Err(error) => {
-            report_unwritten(rt, rt.alloc(), name, &error);
+            print_unwritten_file_to_stderr(rt, rt.alloc(), name, &error);
             Err(Status::Lost)
         }
     }
@@ -109,7 +109,7 @@ impl<'a> CampaignPage<'a> {
         match std::fs::write(rt, name, page.as_slice()) {
             Ok(()) => Status::Accepted,
             Err(error) => {
-                report_unwritten(rt, alloc, name, &error);
+                print_unwritten_file_to_stderr(rt, alloc, name, &error);
                 Status::Lost
             }
         }

@@ -21,7 +21,7 @@ pub fn is_quiet(matches: &ArgMatches<'_>) -> bool {
 }
 
 /// Returns the name of the output file in the arguments. `None` is standard output, which `-` also names.
-pub fn output_name<'a>(matches: &ArgMatches<'a>) -> Option<&'a str> {
+pub fn output_file_from_arguments<'a>(matches: &ArgMatches<'a>) -> Option<&'a str> {
     let (_, words) = matches.subcommand()?;
     match words.get_str("output") {
         Some(STANDARD_INPUT) => None,
@@ -30,7 +30,7 @@ pub fn output_name<'a>(matches: &ArgMatches<'a>) -> Option<&'a str> {
 }
 
 /// Returns the file names in the arguments.
-fn input_names<'a>(matches: &'a ArgMatches<'_>) -> &'a [&'a str] {
+fn input_files_from_arguments<'a>(matches: &'a ArgMatches<'_>) -> &'a [&'a str] {
     match matches.subcommand() {
         Some((_, words)) => words.get_strs("FILE").unwrap_or(&[]),
         None => &[],
@@ -40,20 +40,28 @@ fn input_names<'a>(matches: &'a ArgMatches<'_>) -> &'a [&'a str] {
 /// Refuses an unknown system, a stream whose model is not in a file of its own, output to a file of the
 /// input, a file or `-` as the folder of failures, trials that have no number, and a page that cannot be written.
 /// The error is the status that the program ends with.
-fn refuse_arguments<R: Runtime + AllocGlobal>(
+fn refuse_invalid_arguments<R: Runtime + AllocGlobal>(
     rt: &R,
     matches: &ArgMatches<'_>,
 ) -> Result<(), Status> {
     let mut out = Out::new(io::writer(rt));
     let is_quiet = is_quiet(matches);
-    let inputs = input_names(matches);
-    if let Some((command, name)) = systems::unknown_system(matches) {
-        return Err(systems::refuse_system(rt, command, name, inputs, is_quiet, &mut out));
+    let inputs = input_files_from_arguments(matches);
+    if let Some((command, name)) = systems::unknown_system_in_arguments(matches) {
+        return Err(systems::refuse_unknown_system(rt, command, name, inputs, is_quiet, &mut out));
     }
-    if streaming::is_stream(matches) && !streaming::leaves_standard_input_for_items(inputs) {
+    if streaming::arguments_select_stream_of_items(matches)
+        && !streaming::leaves_standard_input_for_items(inputs)
+    {
         return Err(streaming::refuse_stream(rt, inputs, is_quiet, &mut out));
     }
-    outputs::refuse_to_overwrite_input(rt, inputs, "-o", output_name(matches), is_quiet)?;
+    outputs::refuse_to_overwrite_input(
+        rt,
+        inputs,
+        "-o",
+        output_file_from_arguments(matches),
+        is_quiet,
+    )?;
     outputs::refuse_to_overwrite_input(
         rt,
         inputs,
@@ -62,8 +70,8 @@ fn refuse_arguments<R: Runtime + AllocGlobal>(
         is_quiet,
     )?;
     saving::refuse_file_as_save_folder(rt, matches)?;
-    generating::refuse_trials(rt, matches)?;
-    page::refuse_page(rt, matches)
+    generating::refuse_trial_numbers_beyond_64_bits(rt, matches)?;
+    page::refuse_unwritable_html_page(rt, matches)
 }
 
 /// The files of the input.
@@ -97,15 +105,15 @@ pub fn prepare_input<'a, R: Runtime + AllocGlobal>(
     matches: &'a ArgMatches<'_>,
     terminals: Terminals,
 ) -> Result<InputFiles<'a>, Status> {
-    refuse_arguments(rt, matches)?;
+    refuse_invalid_arguments(rt, matches)?;
     let reading = Reading {
         is_quiet: is_quiet(matches),
         is_terminal: terminals.input,
     };
     if let Some(("fmt", words)) = matches.subcommand() {
-        return Err(formatting::lay_out(rt, words, reading));
+        return Err(formatting::run_fmt_subcommand(rt, words, reading));
     }
-    let read = match input::read_files(rt, input_names(matches), reading) {
+    let read = match input::read_files(rt, input_files_from_arguments(matches), reading) {
         Ok(read) => read,
         Err(why) => return Err(refuse_text(why, &mut Out::new(io::writer(rt)))),
     };

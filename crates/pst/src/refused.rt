@@ -1,6 +1,6 @@
 //! The messages on refusals, on standard error.
 
-use crate::words::is_json;
+use crate::words::arguments_select_json;
 use clap::ArgMatches;
 use pst_cli::{Absence, Status, refuse_text};
 use pst_messages::{Asked, input_error_messages_text};
@@ -15,10 +15,10 @@ pub fn report_out_of_memory<R: Runtime>(rt: &R) -> Status {
 }
 
 /// Returns what to write messages for, by the command `word` and its arguments.
-fn messages_asked(word: &str, words: &ArgMatches<'_>) -> Asked {
+fn messages_wanted_by_subcommand(word: &str, words: &ArgMatches<'_>) -> Asked {
     match word {
         "judge" if words.get_flag("stream") => Asked::Model,
-        "judge" if words.get_flag("keep-going") || is_json(words) => {
+        "judge" if words.get_flag("keep-going") || arguments_select_json(words) => {
             if words.get_flag("all-messages") {
                 Asked::AllItems
             } else {
@@ -31,7 +31,7 @@ fn messages_asked(word: &str, words: &ArgMatches<'_>) -> Asked {
 }
 
 /// Writes to standard error that there is no item with the number that the arguments of `explain` give.
-fn report_missing_item<R: Eprint>(rt: &R, words: &ArgMatches<'_>) {
+fn print_missing_item_to_stderr<R: Eprint>(rt: &R, words: &ArgMatches<'_>) {
     let item: Option<u64> = words.get_one("item");
     if let Some(item) = item {
         let _ = eprintln!(rt; "pst: there is no item {item}: --item counts cases and runs from 1");
@@ -40,13 +40,13 @@ fn report_missing_item<R: Eprint>(rt: &R, words: &ArgMatches<'_>) {
 
 /// Writes the messages on the refusals of an input to standard error, for the command `word`. If an allocation fails or
 /// a message cannot be written, the lines of the refusals and the status remain without it.
-pub fn report_refusals<R: Eprint + AllocGlobal>(
+pub fn print_refusal_messages_to_stderr<R: Eprint + AllocGlobal>(
     rt: &R,
     word: &str,
     words: &ArgMatches<'_>,
     files: &[SourceFile<'_>],
 ) {
-    let asked = messages_asked(word, words);
+    let asked = messages_wanted_by_subcommand(word, words);
     let Ok(text) = joined(rt.alloc(), files) else {
         return;
     };
@@ -54,7 +54,7 @@ pub fn report_refusals<R: Eprint + AllocGlobal>(
         Ok(Some(message)) => {
             let _ = eprint!(rt; "{message}");
         }
-        Ok(None) if word == "explain" => report_missing_item(rt, words),
+        Ok(None) if word == "explain" => print_missing_item_to_stderr(rt, words),
         _ => {}
     }
 }

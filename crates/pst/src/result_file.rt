@@ -1,6 +1,6 @@
 //! The file that `-o` names. If the input is refused, the refusal goes to standard output, and the file stays as it is.
 
-use crate::words::is_json;
+use crate::words::arguments_select_json;
 use clap::ArgMatches;
 use pst_cli::Status;
 use std::fs::{OpenFile, OpenOptions};
@@ -51,7 +51,7 @@ pub fn open_to_write<R: Files>(rt: &R, name: &str) -> io::Result<R::File> {
 pub fn writes_refused_items(matches: &ArgMatches<'_>) -> bool {
     match matches.subcommand() {
         Some(("judge", words)) => {
-            words.get_flag("keep-going") || words.get_flag("stream") || is_json(words)
+            words.get_flag("keep-going") || words.get_flag("stream") || arguments_select_json(words)
         }
         _ => false,
     }

@@ -3,10 +3,10 @@
 ghost use Rattle.std.specs.Prelude.{◌≡◌, false};
 
 use crate::campaigning::campaign;
-use crate::driving::drive;
-use crate::judging::judge;
+use crate::driving::drive_items_on_given_system;
+use crate::judging::run_judge_subcommand;
 use crate::outputs::FailureKeeper;
-use crate::reading::output_name;
+use crate::reading::output_file_from_arguments;
 use crate::result_file::{ResultFile, open_to_write, writes_refused_items};
 use crate::systems::Unmade;
 use crate::terminal::Terminals;
@@ -49,7 +49,7 @@ pub struct Work<'a, 'm> {
 pub type Systems = Result<Vec<BoxedSystem>, Unmade>;
 
 /// Runs cases or trials on the systems, or refuses if they were not made.
-fn run_on_systems<
+fn run_subcommand_on_systems<
     W: Sink,
     R: Threads + Wait + Sync + Eprint + Files + Clock + AllocGlobal + Copy + Drop + Send + 'static,
 >(
@@ -80,7 +80,7 @@ fn run_on_systems<
     }
     let (alloc, misfits) = (rt.alloc(), work.misfits);
     let Input { files: _, bytes } = input;
-    drive(
+    drive_items_on_given_system(
         rt,
         alloc,
         words,
@@ -114,30 +114,30 @@ fn run_subcommand<
     let (alloc, terminals) = (rt.alloc(), work.terminals);
     let Input { files: _, bytes } = input;
     match word {
-        "check" if noticed::writes_notices(word, words) => {
-            let notices = noticed::notice_lines(alloc, words, &input);
+        "check" if noticed::output_includes_notices(word, words) => {
+            let notices = noticed::notice_json_lines_on_model(alloc, words, &input);
             check_json(alloc, bytes, notices.as_slice(), out)
         }
         "check" => check_text(alloc, bytes, out),
         "list" => list_text(alloc, bytes, out),
         "generate" => generating::generate(rt, words, bytes, out),
-        "convert" => converting::convert(alloc, words, bytes, out),
+        "convert" => converting::run_convert_subcommand(alloc, words, bytes, out),
         "judge" if words.get_flag("stream") => {
             streaming::judge_standard_input(rt, words, terminals, bytes, counts, out)
         }
         "judge" => {
             let read = work.files;
             let input = ItemInput { trees: input, read };
-            judge(rt, alloc, words, terminals.errors, input, counts, out)
+            run_judge_subcommand(rt, alloc, words, terminals.errors, input, counts, out)
         }
-        "explain" => explaining::explain(rt, words, terminals, input, out),
-        _ => run_on_systems(rt, work, word, words, input, systems, counts, out),
+        "explain" => explaining::run_explain_subcommand(rt, words, terminals, input, out),
+        _ => run_subcommand_on_systems(rt, work, word, words, input, systems, counts, out),
     }
 }
 
 /// Writes messages on refusals, warnings on a model that `check` accepts, and a line that sums up the items,
 /// to standard error, unless the arguments forbid it.
-fn report_outcome<R: Eprint + AllocGlobal>(
+fn print_outcome_messages_to_stderr<R: Eprint + AllocGlobal>(
     rt: &R,
     work: Work<'_, '_>,
     input: Input<'_>,
@@ -147,27 +147,27 @@ fn report_outcome<R: Eprint + AllocGlobal>(
     let Some((word, words)) = work.matches.subcommand() else {
         return;
     };
-    if words.get_flag("quiet") || noticed::writes_notices(word, words) {
+    if words.get_flag("quiet") || noticed::output_includes_notices(word, words) {
         return;
     }
     let Input { files, bytes } = input;
     match status {
-        Status::Refused => refused::report_refusals(rt, word, words, work.files),
-        Status::Accepted if word == "check" => warned::report_warnings(
+        Status::Refused => refused::print_refusal_messages_to_stderr(rt, word, words, work.files),
+        Status::Accepted if word == "check" => warned::print_warnings_to_stderr(
             rt,
             rt.alloc(),
             files,
             bytes,
         ),
-        _ => summary::report_no_items(rt, word, words, bytes, status, counts),
+        _ => summary::print_that_input_has_no_items(rt, word, words, bytes, status, counts),
     }
-    summary::report_counts(rt, counts);
+    summary::print_summary_of_items_to_stderr(rt, counts);
 }
 
 /// Runs the subcommand with its output to `writer`, and returns its status and the error of the writer, if it had one.
 /// Unless the arguments forbid it, standard error has a message on each refusal, and warnings on a model that `check`
 /// accepts and after the lines of `judge`. Its last line sums up the items of `judge` and `run`.
-fn run_to<
+fn run_subcommand_with_output_to_writer<
     W: Write + Drop,
     R: Runtime + AllocGlobal + Threads + Wait + Sync + Copy + Drop + Send + 'static,
 >(
@@ -180,7 +180,7 @@ fn run_to<
     let mut out = Out::new(FailureKeeper::new(writer));
     let mut counts = Counts::new();
     let status = run_subcommand(rt, work, input, systems, &mut counts, &mut out);
-    report_outcome(rt, work, input, status, &counts);
+    print_outcome_messages_to_stderr(rt, work, input, status, &counts);
     if out.has_failed() {
         (status, out.into_inner().failure())
     } else {
@@ -219,7 +219,13 @@ fn run_to_file<R: Runtime + AllocGlobal + Threads + Wait + Sync + Copy + Drop + 
     let mut result = ResultFile::new(rt, file, writes_refused_items(work.matches));
     let terminals = work.terminals.with_output_in_a_file();
     let work = Work { terminals, ..work };
-    let (status, failure) = run_to(rt, work, input, systems, &mut result);
+    let (status, failure) = run_subcommand_with_output_to_writer(
+        rt,
+        work,
+        input,
+        systems,
+        &mut result,
+    );
     let failure = match failure {
         Some(error) => Some(error),
         None => result.end(status).err(),
@@ -242,9 +248,15 @@ pub fn run<R: Runtime + AllocGlobal + Threads + Wait + Sync + Copy + Drop + Send
     input: Input<'_>,
     systems: Systems,
 ) -> Status {
-    if let Some(name) = output_name(work.matches) {
+    if let Some(name) = output_file_from_arguments(work.matches) {
         return run_to_file(rt, work, input, systems, name);
     }
-    let (status, failure) = run_to(rt, work, input, systems, io::writer(rt));
+    let (status, failure) = run_subcommand_with_output_to_writer(
+        rt,
+        work,
+        input,
+        systems,
+        io::writer(rt),
+    );
     status_of_output(rt, status, None, failure)
 }

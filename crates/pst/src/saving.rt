@@ -1,7 +1,7 @@
 //! Files of the failures of a campaign.
 
 use crate::input::STANDARD_INPUT;
-use crate::outputs::report_failure;
+use crate::outputs::print_file_error_to_stderr;
 use crate::quoting::push_shell_word;
 use clap::ArgMatches;
 use pst_cli::Status;
@@ -44,7 +44,7 @@ fn client_arguments<R: Files + AllocGlobal>(
 }
 
 /// The arguments of a command that drives cases on the systems of a campaign, before the file of the cases.
-fn command_arguments<R: Files + AllocGlobal>(
+fn arguments_to_drive_failure_again<R: Files + AllocGlobal>(
     rt: &R,
     words: &ArgMatches<'_>,
     name: &str,
@@ -64,7 +64,7 @@ fn command_arguments<R: Files + AllocGlobal>(
 }
 
 /// The text of a file: comments that say where the failure is from and how its case is driven again, and the run.
-fn failure_file(
+fn failure_file_text(
     alloc: Global,
     saving: &Saving<'_>,
     file: &str,
@@ -123,10 +123,10 @@ impl<'a> Saving<'a> {
         name: &str,
     ) -> Result<Saving<'a>, Status> {
         if let Err(error) = std::fs::create_dir_all(rt, folder) {
-            report_failure(rt, rt.alloc(), "make", folder, &error);
+            print_file_error_to_stderr(rt, rt.alloc(), "make", folder, &error);
             return Err(Status::Lost);
         }
-        match command_arguments(rt, words, name) {
+        match arguments_to_drive_failure_again(rt, words, name) {
             Ok(command) => Ok(Saving {
                 folder,
                 seed,
@@ -142,7 +142,7 @@ impl<'a> Saving<'a> {
         let case = fnv1a_hash(numbered.failure.case.as_slice());
         let folder = self.folder;
         let file = format!(in alloc; "{folder}/failure-{case:016x}.runs")?;
-        let text = failure_file(alloc, self, file.as_str(), numbered)?;
+        let text = failure_file_text(alloc, self, file.as_str(), numbered)?;
         std::fs::write(rt, file.as_str(), text.as_slice())
     }
 
@@ -157,7 +157,7 @@ impl<'a> Saving<'a> {
         let folder = self.folder;
         for numbered in failures {
             if let Err(error) = self.write(rt, numbered) {
-                report_failure(rt, rt.alloc(), "write a failure to", folder, &error);
+                print_file_error_to_stderr(rt, rt.alloc(), "write a failure to", folder, &error);
                 return Status::Lost;
             }
         }

@@ -14,7 +14,7 @@ use std::sync::Wait;
 use std::thread::Threads;
 
 /// Returns whether the arguments select a stream of items.
-pub fn is_stream(matches: &ArgMatches<'_>) -> bool {
+pub fn arguments_select_stream_of_items(matches: &ArgMatches<'_>) -> bool {
     match matches.subcommand() {
         Some((word, words)) => word == "judge" && words.get_flag("stream"),
         None => false,
@@ -54,7 +54,7 @@ pub fn refuse_stream<W: Sink, R: Eprint>(
 }
 
 /// Writes to standard error that the items after the model in its file are not judged, if there are some.
-fn report_unjudged<R: Eprint>(rt: &R, alloc: Global, input: &[u8]) {
+fn print_that_file_items_are_not_judged<R: Eprint>(rt: &R, alloc: Global, input: &[u8]) {
     if matches!(item_count(alloc, input), Ok(1..)) {
         let _ = eprintln!(rt;
             "pst: the items after the model are not judged: with --stream they come on standard input"
@@ -63,7 +63,7 @@ fn report_unjudged<R: Eprint>(rt: &R, alloc: Global, input: &[u8]) {
 }
 
 /// Returns how many refused lines get messages, by the arguments.
-fn most_messages(words: &ArgMatches<'_>) -> usize {
+fn max_messages_from_arguments(words: &ArgMatches<'_>) -> usize {
     if words.get_flag("quiet") {
         0
     } else if words.get_flag("all-messages") {
@@ -74,7 +74,7 @@ fn most_messages(words: &ArgMatches<'_>) -> usize {
 }
 
 /// Writes to standard error how many of the refused lines have no message, if there are some and others have one.
-fn report_refusals_without_messages<R: Eprint>(rt: &R, refused: usize, most: usize) {
+fn print_count_of_unexplained_refusals<R: Eprint>(rt: &R, refused: usize, most: usize) {
     let more = refused.saturating_sub(most);
     if most > 0 && more > 0 {
         let items = if more == 1 { "item is" } else { "items are" };
@@ -102,14 +102,14 @@ pub fn judge_standard_input<
     let alloc = rt.alloc();
     let is_quiet = words.get_flag("quiet");
     if !is_quiet {
-        report_unjudged(rt, alloc, input);
+        print_that_file_items_are_not_judged(rt, alloc, input);
     }
     let is_told = terminals.errors && !terminals.output && !is_quiet;
     let Ok(telling) = StepsDisplay::begin(rt, alloc, is_told, "judged") else {
         return refuse_text(Absence::NoMemory, out);
     };
     let steps = telling.steps();
-    let most = most_messages(words);
+    let most = max_messages_from_arguments(words);
     let name = words.get_str("FILE").unwrap_or(STANDARD_INPUT);
     let mut messages = LineMessages::new(rt, name, input, most, is_told);
     let mut reader = rt.reader();
@@ -124,6 +124,6 @@ pub fn judge_standard_input<
         out,
     );
     telling.end(rt);
-    report_refusals_without_messages(rt, counts.refused, most);
+    print_count_of_unexplained_refusals(rt, counts.refused, most);
     status
 }

@@ -5,7 +5,7 @@ use pst_cli::{Counts, Status, item_count};
 use std::alloc::{AllocError, Global};
 
 /// Returns the number of items with each result, in the order of the line.
-fn each_count(counts: &Counts) -> [(usize, &'static str); 9] {
+fn counts_with_result_words(counts: &Counts) -> [(usize, &'static str); 9] {
     [
         (counts.explained, "explained"),
         (counts.unexplained, "unexplained"),
@@ -38,9 +38,9 @@ pub fn add_grouped_number(
 }
 
 /// Returns how many items there are.
-fn count_items(counts: &Counts) -> usize {
+fn total_of_item_counts(counts: &Counts) -> usize {
     let mut total = 0usize;
-    for (count, _) in &each_count(counts) {
+    for (count, _) in &counts_with_result_words(counts) {
         total = total.saturating_add(*count);
     }
     total
@@ -49,8 +49,8 @@ fn count_items(counts: &Counts) -> usize {
 /// Returns the line for two or more items, as `pst: 3 items: 2 explained, 1 unexplained`. `None` for fewer
 /// items.
 fn summary_line(alloc: Global, counts: &Counts) -> Result<Option<String>, AllocError> {
-    let each = each_count(counts);
-    let total = count_items(counts);
+    let each = counts_with_result_words(counts);
+    let total = total_of_item_counts(counts);
     if total < 2 {
         return Ok(None);
     }
@@ -72,14 +72,14 @@ fn summary_line(alloc: Global, counts: &Counts) -> Result<Option<String>, AllocE
 
 /// Writes a line to standard error that sums up the results of the items, if there is more than one item. It ignores
 /// failures.
-pub fn report_counts<R: Eprint + AllocGlobal>(rt: &R, counts: &Counts) {
+pub fn print_summary_of_items_to_stderr<R: Eprint + AllocGlobal>(rt: &R, counts: &Counts) {
     if let Ok(Some(line)) = summary_line(rt.alloc(), counts) {
         let _ = eprintln!(rt; "{line}");
     }
 }
 
 /// Returns whether the command takes items from its files.
-fn takes_items(word: &str, words: &ArgMatches<'_>) -> bool {
+fn subcommand_takes_items(word: &str, words: &ArgMatches<'_>) -> bool {
     match word {
         "judge" => !words.get_flag("stream"),
         "explain" | "run" => true,
@@ -89,7 +89,7 @@ fn takes_items(word: &str, words: &ArgMatches<'_>) -> bool {
 
 /// Writes to standard error that the command `word` had no items, if its input has none after the model.
 /// `status` is the status of the command.
-pub fn report_no_items<R: Eprint + AllocGlobal>(
+pub fn print_that_input_has_no_items<R: Eprint + AllocGlobal>(
     rt: &R,
     word: &str,
     words: &ArgMatches<'_>,
@@ -97,7 +97,10 @@ pub fn report_no_items<R: Eprint + AllocGlobal>(
     status: Status,
     counts: &Counts,
 ) {
-    if status != Status::Accepted || count_items(counts) > 0 || !takes_items(word, words) {
+    if status != Status::Accepted
+        || total_of_item_counts(counts) > 0
+        || !subcommand_takes_items(word, words)
+    {
         return;
     }
     if item_count(rt.alloc(), input) == Ok(0) {

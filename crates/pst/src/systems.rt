@@ -34,7 +34,7 @@ pub enum Unmade {
 }
 
 /// Returns the systems with the name `name`, if there are some.
-fn systems_named(name: &str) -> Option<ChosenSystems<'_>> {
+fn systems_of_name(name: &str) -> Option<ChosenSystems<'_>> {
     if let Some(folder) = Folder::from_word(name) {
         return Some(ChosenSystems::Clients(folder));
     }
@@ -42,9 +42,9 @@ fn systems_named(name: &str) -> Option<ChosenSystems<'_>> {
 }
 
 /// Returns the systems that the arguments name, and how many of them are needed.
-pub fn chosen_systems<'a>(matches: &ArgMatches<'a>) -> Option<(ChosenSystems<'a>, u64)> {
+pub fn systems_from_arguments<'a>(matches: &ArgMatches<'a>) -> Option<(ChosenSystems<'a>, u64)> {
     let (word, words) = matches.subcommand()?;
-    let wanted = systems_named(words.get_str("SYSTEM")?)?;
+    let wanted = systems_of_name(words.get_str("SYSTEM")?)?;
     match word {
         "campaign" => Some((wanted, words.get_one("workers")?)),
         _ => Some((wanted, 1)),
@@ -52,10 +52,10 @@ pub fn chosen_systems<'a>(matches: &ArgMatches<'a>) -> Option<(ChosenSystems<'a>
 }
 
 /// Returns the command and the name of a system in the arguments, if no system has this name.
-pub fn unknown_system<'a>(matches: &'a ArgMatches<'_>) -> Option<(&'a str, &'a str)> {
+pub fn unknown_system_in_arguments<'a>(matches: &'a ArgMatches<'_>) -> Option<(&'a str, &'a str)> {
     let (command, words) = matches.subcommand()?;
     let name = words.get_str("SYSTEM")?;
-    if systems_named(name).is_some() {
+    if systems_of_name(name).is_some() {
         None
     } else {
         Some((command, name))
@@ -119,7 +119,7 @@ fn report_misplaced_system<R: Files + Eprint>(rt: &R, command: &str, name: &str,
 /// Writes `refused system NAME`, or `refused file` if one of the files cannot be opened. It reads nothing. Unless
 /// `is_quiet`, a message on standard error says what is wrong with the arguments of `command`; for an unknown system it
 /// lists the known ones.
-pub fn refuse_system<W: Sink, R: Files + Eprint + AllocGlobal>(
+pub fn refuse_unknown_system<W: Sink, R: Files + Eprint + AllocGlobal>(
     rt: &R,
     command: &str,
     name: &str,
@@ -129,7 +129,7 @@ pub fn refuse_system<W: Sink, R: Files + Eprint + AllocGlobal>(
 ) -> Status
     requires { W.broken out.old ≡ false }
 {
-    if let Err(why) = input::try_to_open(rt, files, is_quiet) {
+    if let Err(why) = input::open_files_without_reading(rt, files, is_quiet) {
         if !is_quiet {
             report_misplaced_system(rt, command, name, files);
         }

@@ -100,7 +100,7 @@ fn progress_line(
 }
 
 /// Writes the line again and again until the work is over, and takes it away then.
-fn display_steps<R: Wait + Eprint>(rt: &R, alloc: Global, told: &DisplayedSteps) {
+fn display_progress_until_over<R: Wait + Eprint>(rt: &R, alloc: Global, told: &DisplayedSteps) {
     let mut milliseconds = 0u64;
     for _ in rt.forever() {
         told.parker.park_timeout(rt, Duration::from_millis(PAUSE));
@@ -146,7 +146,7 @@ impl StepsDisplay {
         let own = Arc::try_clone(&told)?;
         let rt = *rt;
         let thread = Builder::new()
-            .spawn(&rt, move || display_steps(&rt, alloc, &own))
+            .spawn(&rt, move || display_progress_until_over(&rt, alloc, &own))
             .ok();
         Ok(StepsDisplay { told, thread })
     }

@@ -48,7 +48,7 @@ pub fn color_option<'a>(alloc: Global) -> Arg<'a> {
 }
 
 /// Whether a variable of the environment has another text than the empty one.
-fn is_set<R: Env + AllocGlobal>(rt: &R, name: &str) -> bool {
+fn is_environment_variable_set<R: Env + AllocGlobal>(rt: &R, name: &str) -> bool {
     match env::var(rt, name) {
         Ok(text) => !text.is_empty(),
         Err(_) => false,
@@ -60,12 +60,12 @@ pub fn has_colors<R: Env + AllocGlobal>(rt: &R, words: &ArgMatches<'_>, is_termi
     match words.get_str("color") {
         Some("always") => true,
         Some("never") => false,
-        _ => is_terminal && !is_set(rt, "NO_COLOR"),
+        _ => is_terminal && !is_environment_variable_set(rt, "NO_COLOR"),
     }
 }
 
 /// The width of lines that the environment gives by `COLUMNS`, if it does.
-fn environment_width<R: Env + AllocGlobal>(rt: &R) -> Option<u64> {
+fn line_width_of_environment<R: Env + AllocGlobal>(rt: &R) -> Option<u64> {
     let text = env::var(rt, "COLUMNS").ok()?;
     text.as_str()
         .parse::<u64>()
@@ -76,7 +76,7 @@ fn environment_width<R: Env + AllocGlobal>(rt: &R) -> Option<u64> {
 /// The width of lines: as the arguments say, or else `COLUMNS`, or 80.
 pub fn line_width<R: Env + AllocGlobal>(rt: &R, words: &ArgMatches<'_>) -> usize {
     let asked: Option<u64> = words.get_one("width");
-    match asked.or(environment_width(rt)) {
+    match asked.or(line_width_of_environment(rt)) {
         Some(width) => width.clamp(LEAST_WIDTH, MOST_WIDTH) as usize,
         None => WIDTH,
     }

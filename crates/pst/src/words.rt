@@ -6,7 +6,8 @@ mod plan;
 use crate::{converting, explaining, formatting, help, page};
 use clap::Command;
 pub use options::{
-    failures_option, files_argument, is_json, names_client, output_option, quiet_option,
+    arguments_name_client, arguments_select_json, model_and_items_files_argument,
+    only_failures_option, output_option, quiet_option,
 };
 pub use plan::{campaign_settings_from_arguments, generate_settings_from_arguments};
 use std::alloc::{AllocError, Global};
@@ -19,7 +20,7 @@ fn clap_command_with_model_file<'a>(
 ) -> Result<Command<'a>, AllocError> {
     Command::new(alloc, name)
         .about(about)
-        .arg(options::file_argument(alloc))?
+        .arg(options::model_file_argument(alloc))?
         .arg(output_option(alloc))?
         .arg(quiet_option(alloc))
 }
@@ -52,10 +53,10 @@ fn clap_command_for_judge<'a>(alloc: Global) -> Result<Command<'a>, AllocError> 
     Command::new(alloc, "judge")
         .about("Judges cases and recorded runs: prints a verdict for each")
         .after_help(help::JUDGE)
-        .arg(files_argument(alloc))?
+        .arg(model_and_items_files_argument(alloc))?
         .arg(options::keep_going_option(alloc))?
         .arg(options::all_messages_option(alloc))?
-        .arg(failures_option(alloc))?
+        .arg(only_failures_option(alloc))?
         .arg(options::format_option(alloc))?
         .arg(options::stream_option(alloc)?)?
         .arg(output_option(alloc))?
@@ -70,7 +71,7 @@ fn clap_command_for_run<'a>(alloc: Global) -> Result<Command<'a>, AllocError> {
         .after_help(help::RUN);
     options::add_system_or_client_arguments(alloc, command)?
         .arg(options::branches_option(alloc)?)?
-        .arg(files_argument(alloc))?
+        .arg(model_and_items_files_argument(alloc))?
         .arg(options::repeats_option(alloc))?
         .arg(options::format_option(alloc))?
         .arg(output_option(alloc))?
@@ -86,12 +87,12 @@ fn clap_command_for_campaign<'a>(alloc: Global) -> Result<Command<'a>, AllocErro
         .override_usage(help::CAMPAIGN_USAGE)
         .after_help(help::CAMPAIGN);
     let command = options::add_system_or_client_arguments(alloc, command)?.arg(
-        options::file_argument(alloc),
+        options::model_file_argument(alloc),
     )?;
     plan::add_campaign_number_options(alloc, command)?
         .arg(options::max_failures_option(alloc))?
         .arg(options::stop_file_option(alloc))?
-        .arg(options::save_option(alloc))?
+        .arg(options::save_failures_option(alloc))?
         .arg(options::format_option(alloc))?
         .arg(page::html_option(alloc))?
         .arg(output_option(alloc))?
@@ -103,7 +104,7 @@ fn clap_command_for_generate<'a>(alloc: Global) -> Result<Command<'a>, AllocErro
     let command = Command::new(alloc, "generate")
         .about("Generates the cases of a campaign: prints one on each line")
         .after_help(help::GENERATE)
-        .arg(options::file_argument(alloc))?;
+        .arg(options::model_file_argument(alloc))?;
     plan::add_generate_number_options(alloc, command)?
         .arg(options::format_option(alloc))?
         .arg(output_option(alloc))?

@@ -3,7 +3,7 @@
 
 use crate::commands::{COMMANDS, Command, answer_of, spoken};
 use crate::deep::{Deep, LIMITS, text_of};
-use pst_messages::warnings_of;
+use pst_messages::input_warnings_text;
 use pst_sexpr::{Out, read, write};
 use pst_sources::SourceFile;
 use pst_tests::{Model, print_model, read_model};
@@ -62,7 +62,7 @@ fn print_warnings<R: Print + AllocGlobal>(rt: &R, text: &str) -> io::Result<()> 
         name: "-",
         bytes: Vec::from_slice(rt.alloc(), text.as_bytes())?,
     };
-    let warnings = warnings_of(rt.alloc(), slice::from_ref(&file), text.as_bytes())?;
+    let warnings = input_warnings_text(rt.alloc(), slice::from_ref(&file), text.as_bytes())?;
     let line = match &warnings {
         Some(warnings) => warnings.as_str().lines().next().unwrap_or(""),
         None => "none",

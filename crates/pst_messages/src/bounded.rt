@@ -21,7 +21,11 @@ pub struct Bounded<'a> {
 }
 
 /// A command of the operation `op` with copies of `arguments`.
-fn command_of(alloc: Global, op: u32, arguments: &[Value]) -> Result<Command, AllocError> {
+fn command_with_copied_arguments(
+    alloc: Global,
+    op: u32,
+    arguments: &[Value],
+) -> Result<Command, AllocError> {
     let mut args = Items::new(alloc);
     for argument in arguments {
         args.push(argument.copy(alloc)?)?;
@@ -64,7 +68,7 @@ impl<'a> Bounded<'a> {
         op: u32,
         arguments: &[Value],
     ) -> Result<(), AllocError> {
-        let command = command_of(alloc, op, arguments)?;
+        let command = command_with_copied_arguments(alloc, op, arguments)?;
         match self.commands.try_borrow_mut() {
             Ok(mut commands) => commands.push(command),
             Err(_) => Ok(()),

@@ -23,7 +23,7 @@ struct Broken {
 }
 
 /// Adds item `item` if it is broken.
-fn count_if_broken(broken: Option<Broken>, item: usize, judged: &Judged) -> Option<Broken> {
+fn count_broken_item(broken: Option<Broken>, item: usize, judged: &Judged) -> Option<Broken> {
     let Judged::Verdict(Verdict::Broken(command)) = judged else {
         return broken;
     };
@@ -48,7 +48,7 @@ fn count_if_broken(broken: Option<Broken>, item: usize, judged: &Judged) -> Opti
 }
 
 /// Whether a tree has the head `replies`.
-fn is_replies(form: &Form) -> bool {
+fn has_replies_head(form: &Form) -> bool {
     match node_of(form).unwrap_or(&[]).first() {
         Some(head) => match word_of(head) {
             Some(word) => word.as_str() == "replies",
@@ -68,7 +68,7 @@ fn path_to_reply(
 ) -> Result<Vec<usize>, AllocError> {
     let parts = parts_of_case(alloc, form)?;
     let trees = node_of(form).unwrap_or(&[]);
-    let replies = trees.iter().position(|tree| is_replies(tree));
+    let replies = trees.iter().position(|tree| has_replies_head(tree));
     match (replies, find_part_of_command(parts.as_slice(), command)) {
         (Some(replies), Some((part, offset))) => {
             Vec::from_slice(alloc, &[item, replies, part.saturating_add(1), offset])
@@ -78,7 +78,7 @@ fn path_to_reply(
 }
 
 /// The sentence that says why the item `tree` is broken.
-fn sentence_of(
+fn broken_item_sentence(
     alloc: Global,
     typed: &Typed,
     tree: &Tree,
@@ -105,7 +105,7 @@ fn message_on_broken_items(
     let Some(tree) = trees.get(item) else {
         return Ok(None);
     };
-    let Some(sentence) = sentence_of(alloc, typed, tree, broken.command)? else {
+    let Some(sentence) = broken_item_sentence(alloc, typed, tree, broken.command)? else {
         return Ok(None);
     };
     let Ok(sentence) = std::str::from_utf8(sentence.as_slice()) else {
@@ -119,7 +119,7 @@ fn message_on_broken_items(
         notes: Vec::new(alloc),
         lines: String::new(alloc),
     };
-    let mut text = input.text_on_part(alloc, tree.form(), path.as_slice(), notice)?;
+    let mut text = input.notice_text_on_part(alloc, tree.form(), path.as_slice(), notice)?;
     let more = broken.count.saturating_sub(1);
     if more > 0 {
         let items = if more == 1 { "item is" } else { "items are" };
@@ -141,7 +141,7 @@ pub fn explain_first_broken_run(
 ) -> Result<Option<String>, AllocError> {
     let mut broken = None;
     for (index, judged) in judged.iter().enumerate() {
-        broken = count_if_broken(broken, index.saturating_add(1), judged);
+        broken = count_broken_item(broken, index.saturating_add(1), judged);
     }
     let Some(broken) = broken else {
         return Ok(None);
@@ -164,7 +164,7 @@ pub fn explain_first_broken_result(
     let mut broken = None;
     for (index, answer) in answers.iter().enumerate() {
         if let ItemResult::Judged(judged) = answer {
-            broken = count_if_broken(broken, index.saturating_add(1), judged);
+            broken = count_broken_item(broken, index.saturating_add(1), judged);
         }
     }
     match broken {

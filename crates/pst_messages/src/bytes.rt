@@ -14,7 +14,7 @@ pub struct ByteFault {
 }
 
 /// The span of the byte at `place`.
-fn one_byte(place: usize) -> Span {
+fn one_byte_span(place: usize) -> Span {
     Span {
         start: place,
         end: place.saturating_add(1),
@@ -66,10 +66,14 @@ fn with_open_item_note(
 }
 
 /// The fault of a missing `)`, at the item that is probably not closed.
-fn missing_close(alloc: Global, input: &Input<'_>, place: usize) -> Result<ByteFault, AllocError> {
+fn missing_close_fault(
+    alloc: Global,
+    input: &Input<'_>,
+    place: usize,
+) -> Result<ByteFault, AllocError> {
     let Some(open) = find_unclosed_item(input.bytes) else {
         let what = "a `)` is missing: this `(` is not closed";
-        return ByteFault::new(alloc, one_byte(place), what);
+        return ByteFault::new(alloc, one_byte_span(place), what);
     };
     let line = input.line_at(alloc, place, open.item.start)?;
     let line = line.as_str();
@@ -92,7 +96,7 @@ const ASCII: &str = "words and texts are printable ASCII; only comments may have
 const ESCAPES: &str = "a text has two escapes: `\\\"` and `\\\\`";
 
 /// The fault of `letter`, which has `width` bytes and is not printable ASCII.
-fn foreign_char(
+fn foreign_char_fault(
     alloc: Global,
     input: &Input<'_>,
     place: usize,
@@ -117,7 +121,7 @@ fn foreign_char(
 }
 
 /// The fault of a character that may not be at `place`, or of a byte that belongs to no character.
-fn bad_char(
+fn bad_char_fault(
     alloc: Global,
     input: &Input<'_>,
     place: usize,
@@ -126,21 +130,21 @@ fn bad_char(
     match char_at(input.bytes, place) {
         Some((letter, _)) if b' ' <= byte && byte <= b'~' => {
             let what = format_args!("`\\{letter}` is not an escape");
-            ByteFault::new(alloc, one_byte(place), what)?.with(alloc, ESCAPES)
+            ByteFault::new(alloc, one_byte_span(place), what)?.with(alloc, ESCAPES)
         }
-        Some((letter, width)) => foreign_char(alloc, input, place, letter, width),
+        Some((letter, width)) => foreign_char_fault(alloc, input, place, letter, width),
         None => {
             let what = format_args!(
                 "the byte {byte} is neither ASCII nor part of a UTF-8 character"
             );
-            ByteFault::new(alloc, one_byte(place), what)?.with(alloc, ASCII)
+            ByteFault::new(alloc, one_byte_span(place), what)?.with(alloc, ASCII)
         }
     }
 }
 
 /// The fault of a byte that may not be at `place`.
-fn bad_byte(alloc: Global, input: &Input<'_>, place: usize) -> Result<ByteFault, AllocError> {
-    let span = one_byte(place);
+fn bad_byte_fault(alloc: Global, input: &Input<'_>, place: usize) -> Result<ByteFault, AllocError> {
+    let span = one_byte_span(place);
     match input.bytes.get(place) {
         Some(b'\n') | Some(b'\r') | Some(b'\t') => {
             ByteFault::new(alloc, span, "a text does not end on its line")?.with(
@@ -148,14 +152,18 @@ fn bad_byte(alloc: Global, input: &Input<'_>, place: usize) -> Result<ByteFault,
                 "hint: a `\"` is missing, or the text has a tab or a line end in it",
             )
         }
-        Some(byte) => bad_char(alloc, input, place, *byte),
+        Some(byte) => bad_char_fault(alloc, input, place, *byte),
         None => ByteFault::new(alloc, span, "the file ends here"),
     }
 }
 
 /// The fault of a `)` that closes nothing, with the place where the item before it was closed.
-fn stray_close(alloc: Global, input: &Input<'_>, place: usize) -> Result<ByteFault, AllocError> {
-    let wrong = ByteFault::new(alloc, one_byte(place), "this `)` closes nothing")?;
+fn stray_close_fault(
+    alloc: Global,
+    input: &Input<'_>,
+    place: usize,
+) -> Result<ByteFault, AllocError> {
+    let wrong = ByteFault::new(alloc, one_byte_span(place), "this `)` closes nothing")?;
     let Some(item) = closed_item(input.bytes, place) else {
         return wrong.with(alloc, "hint: nothing is open here");
     };
@@ -176,14 +184,14 @@ pub fn byte_fault(
     input: &Input<'_>,
     refused: SexprFault,
 ) -> Result<ByteFault, AllocError> {
-    let span = one_byte(refused.place);
+    let span = one_byte_span(refused.place);
     match refused.kind {
-        FaultKind::BadByte => bad_byte(alloc, input, refused.place),
+        FaultKind::BadByte => bad_byte_fault(alloc, input, refused.place),
         FaultKind::UnclosedText => {
             ByteFault::new(alloc, span, "the text that begins here is not closed")
         }
-        FaultKind::UnclosedNode => missing_close(alloc, input, refused.place),
-        FaultKind::StrayClose => stray_close(alloc, input, refused.place),
+        FaultKind::UnclosedNode => missing_close_fault(alloc, input, refused.place),
+        FaultKind::StrayClose => stray_close_fault(alloc, input, refused.place),
         FaultKind::TooDeep => ByteFault::new(
             alloc,
             span,

@@ -21,7 +21,10 @@ pub struct FailingCommand {
 }
 
 /// For each operation of a model, in their order, whether its precondition is another expression than `true`.
-pub fn have_preconditions(alloc: Global, items: &[Item]) -> Result<Vec<bool>, AllocError> {
+pub fn mark_operations_with_preconditions(
+    alloc: Global,
+    items: &[Item],
+) -> Result<Vec<bool>, AllocError> {
     let mut marks = Vec::new(alloc);
     for item in items {
         if let Item::Op(op) = item {
@@ -39,7 +42,7 @@ fn any_calls_marked_operation(marks: &[bool], commands: &[Command]) -> bool {
 }
 
 /// Whether a command of a case calls a marked operation.
-pub fn calls_marked(marks: &[bool], case: &Case) -> bool {
+pub fn case_calls_marked_operation(marks: &[bool], case: &Case) -> bool {
     any_calls_marked_operation(marks, case.prefix.as_slice())
         || case.branches.as_slice().iter().any(|branch| any_calls_marked_operation(
             marks,
@@ -49,11 +52,11 @@ pub fn calls_marked(marks: &[bool], case: &Case) -> bool {
 }
 
 /// Whether all results are known.
-fn are_known(results: &[Option<Value>]) -> bool
+fn are_results_known(results: &[Option<Value>]) -> bool
     ensures { (n : ℕ) → result ≡ true → first_broken n results.now ≡ None }
 {
     match results.split_first() {
-        Some((Some(_), rest)) => are_known(rest),
+        Some((Some(_), rest)) => are_results_known(rest),
         Some((None, _)) => false,
         None => true,
     }
@@ -102,12 +105,12 @@ pub fn first_false_precondition<C: Callbacks>(
     let Some(history) = &run.history else {
         return Ok(None);
     };
-    if !are_known(history.recorded(alloc)?.as_slice()) {
+    if !are_results_known(history.recorded(alloc)?.as_slice()) {
         return Ok(None);
     }
     let mut states = states(callbacks, &Preconditions, alloc, &run.shaped, history, word)?;
     let case = run.shaped.case();
-    let commands = count_commands(case);
+    let commands = count_case_commands(case);
     let count = states.len();
     if count > commands {
         return Ok(None);
@@ -122,7 +125,7 @@ pub fn first_false_precondition<C: Callbacks>(
 }
 
 /// How many commands a case has.
-fn count_commands(case: &Case) -> usize {
+fn count_case_commands(case: &Case) -> usize {
     let branches = case.branches.as_slice();
     case.prefix
         .len()

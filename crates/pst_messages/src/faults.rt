@@ -1,8 +1,8 @@
 //! The warning on scripts in which a callback faults, and the explanation of one.
 ghost use Rattle.std.specs.Prelude.{◌≤◌};
 
-use crate::scripts::{FaultyScript, Scripts, faulty_script};
-use crate::warning::{tree_number_of_item, warning};
+use crate::scripts::{FaultyScript, Scripts, generate_faulty_script};
+use crate::warning::{tree_number_of_item, warning_notice};
 use pst_case::Command;
 use pst_compile::{Compiled, compile};
 use pst_eval::{Callback, FaultPlace};
@@ -73,7 +73,7 @@ fn explain_script_fault(
 }
 
 /// The text that says how many scripts fault. It has no number if not all scripts were generated.
-fn count_text(alloc: Global, scripts: &Scripts) -> Result<String, AllocError> {
+fn faulty_script_count_text(alloc: Global, scripts: &Scripts) -> Result<String, AllocError> {
     let count = scripts.count;
     let faulty = scripts.faulty;
     if scripts.is_cut {
@@ -96,7 +96,7 @@ pub fn faulty_scripts_warning(
     scripts: Scripts,
 ) -> Result<Vec<Notice>, AllocError> {
     let mut warnings = Vec::new(alloc);
-    let what = count_text(alloc, &scripts)?;
+    let what = faulty_script_count_text(alloc, &scripts)?;
     let Scripts {
         called: _called,
         count: _,
@@ -109,7 +109,7 @@ pub fn faulty_scripts_warning(
     };
     let items = typed.source().items.as_slice();
     let path = path_to_faulting_expression(alloc, items, first.commands.as_slice(), first.place)?;
-    let mut faults = warning(
+    let mut faults = warning_notice(
         alloc,
         input,
         path.as_slice(),
@@ -142,7 +142,7 @@ pub fn explain_generation_fault(
     let Ok(compiled) = compile(alloc, file.typed) else {
         return Err(AllocError);
     };
-    match faulty_script(alloc, &compiled, seed, number, commands)? {
+    match generate_faulty_script(alloc, &compiled, seed, number, commands)? {
         Some(script) => Ok(Some(explain_script_fault(alloc, compiled.typed(), script)?)),
         None => Ok(None),
     }

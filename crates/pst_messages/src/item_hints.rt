@@ -6,7 +6,7 @@ use pst_syntax_problems::head_word;
 use std::alloc::{AllocError, Global};
 
 /// Whether a tree is a model.
-pub fn is_model(tree: &Tree) -> bool {
+pub fn is_model_tree(tree: &Tree) -> bool {
     matches!(head_word(tree.form()), "model" | "model2")
 }
 
@@ -21,7 +21,7 @@ fn with_file_hint(
     let Some(first) = input.files.first() else {
         return Ok(notice);
     };
-    if !is_model(tree) || part.number == 0 {
+    if !is_model_tree(tree) || part.number == 0 {
         return Ok(notice);
     }
     let (name, first) = (part.name, first.name);

@@ -17,7 +17,7 @@ pub struct ItemInput<'a> {
 impl ItemInput<'_> {
     /// The text of `notice`, a notice on the part at `path` of the item `tree`. It shows the part as it was read. The
     /// path begins with the number of the item.
-    pub fn text_on_part(
+    pub fn notice_text_on_part(
         &self,
         alloc: Global,
         tree: &Form,

@@ -1,7 +1,9 @@
 //! What is wrong with the form of a JSON item.
 
 use crate::bytes::ByteFault;
-use crate::json_places::{JsonParts, find_deeper_bracket, first_byte, is_array, value_at};
+use crate::json_places::{
+    JsonParts, find_deeper_bracket, first_byte_of_json_value, is_json_array, json_value_span,
+};
 use json::{Error, MAX_DEPTH, Reader, Scratch, Value as Json};
 use pst_run_problems::JSON_ITEM;
 use pst_sources::Span;
@@ -18,7 +20,7 @@ const CALL: &str = "a call is an array: `[\"OPERATION\", VALUE, ..]`";
 const CALLS: &str = "hint: a branch is an array of calls: `[[[\"inc\"]],[[\"get\"]]]`";
 
 /// The bytes of a value, of a long one the first.
-pub fn shorten_json(line: &[u8], value: Span) -> &str {
+pub fn shortened_json_value(line: &[u8], value: Span) -> &str {
     let end = value.end.min(value.start.saturating_add(40));
     match line.get(value.start..end) {
         Some(bytes) => str::from_utf8(bytes).unwrap_or(".."),
@@ -27,13 +29,19 @@ pub fn shorten_json(line: &[u8], value: Span) -> &str {
 }
 
 /// The fault at the bytes from `start` on, with a note.
-fn noted_fault(alloc: Global, span: Span, what: &str, note: &str) -> FoundFault {
+fn json_fault_with_note(alloc: Global, span: Span, what: &str, note: &str) -> FoundFault {
     Ok(Some(ByteFault::new(alloc, span, what)?.with(alloc, note)?))
 }
 
 /// The fault of the value at `span`, which is not `what`.
-fn found_fault(alloc: Global, line: &[u8], span: Span, what: &str, note: &str) -> FoundFault {
-    let found = shorten_json(line, span);
+fn wrong_json_value_fault(
+    alloc: Global,
+    line: &[u8],
+    span: Span,
+    what: &str,
+    note: &str,
+) -> FoundFault {
+    let found = shortened_json_value(line, span);
     let fault = ByteFault::new(alloc, span, format_args!("{what}, found `{found}`"))?;
     if note.is_empty() {
         return Ok(Some(fault));
@@ -43,18 +51,20 @@ fn found_fault(alloc: Global, line: &[u8], span: Span, what: &str, note: &str) -
 
 /// Whether a value is an array that begins with a string, as calls do.
 fn is_json_array_with_name(line: &[u8], value: Span) -> bool {
-    is_array(line, value) && first_byte(line, value_at(line, value.start.saturating_add(1))) == b'"'
+    is_json_array(line, value)
+        && first_byte_of_json_value(line, json_value_span(line, value.start.saturating_add(1)))
+            == b'"'
 }
 
 /// The fault of the first value of an array that is no call, if there is one.
-fn call_fault(alloc: Global, line: &[u8], calls: Span, note: &str) -> FoundFault {
+fn first_json_call_fault(alloc: Global, line: &[u8], calls: Span, note: &str) -> FoundFault {
     let mut parts = JsonParts::of(calls);
     for _ in calls.start..calls.end {
         let Some(call) = parts.next(line) else {
             return Ok(None);
         };
         if !is_json_array_with_name(line, call) {
-            let found = shorten_json(line, call);
+            let found = shortened_json_value(line, call);
             let what = format_args!("`{found}` is not a call");
             return Ok(Some(ByteFault::new(alloc, call, what)?.with(alloc, note)?));
         }
@@ -63,30 +73,30 @@ fn call_fault(alloc: Global, line: &[u8], calls: Span, note: &str) -> FoundFault
 }
 
 /// The fault of the prefix or the suffix, if it has one.
-fn part_fault(alloc: Global, line: &[u8], part: Span) -> FoundFault {
-    if !is_array(line, part) {
-        return found_fault(alloc, line, part, "expected an array of calls", CALL);
+fn json_part_fault(alloc: Global, line: &[u8], part: Span) -> FoundFault {
+    if !is_json_array(line, part) {
+        return wrong_json_value_fault(alloc, line, part, "expected an array of calls", CALL);
     }
-    call_fault(alloc, line, part, CALL)
+    first_json_call_fault(alloc, line, part, CALL)
 }
 
 /// The fault of a branch, if it has one.
-fn branch_fault(alloc: Global, line: &[u8], branch: Span) -> FoundFault {
-    if !is_array(line, branch) {
-        return found_fault(alloc, line, branch, "a branch is an array of calls", CALL);
+fn json_branch_fault(alloc: Global, line: &[u8], branch: Span) -> FoundFault {
+    if !is_json_array(line, branch) {
+        return wrong_json_value_fault(alloc, line, branch, "a branch is an array of calls", CALL);
     }
     let note = if is_json_array_with_name(line, branch) {
         CALLS
     } else {
         CALL
     };
-    call_fault(alloc, line, branch, note)
+    first_json_call_fault(alloc, line, branch, note)
 }
 
 /// The fault of the branches, if they have one.
-fn branches_fault(alloc: Global, line: &[u8], branches: Span) -> FoundFault {
-    if !is_array(line, branches) {
-        return found_fault(
+fn json_branches_fault(alloc: Global, line: &[u8], branches: Span) -> FoundFault {
+    if !is_json_array(line, branches) {
+        return wrong_json_value_fault(
             alloc,
             line,
             branches,
@@ -99,7 +109,7 @@ fn branches_fault(alloc: Global, line: &[u8], branches: Span) -> FoundFault {
         let Some(branch) = parts.next(line) else {
             return Ok(None);
         };
-        let found = branch_fault(alloc, line, branch)?;
+        let found = json_branch_fault(alloc, line, branch)?;
         if found.is_some() {
             return Ok(found);
         }
@@ -108,16 +118,16 @@ fn branches_fault(alloc: Global, line: &[u8], branches: Span) -> FoundFault {
 }
 
 /// The fault of the replies, if they are no array of arrays.
-fn replies_fault(alloc: Global, line: &[u8], replies: Span) -> FoundFault {
+fn json_replies_fault(alloc: Global, line: &[u8], replies: Span) -> FoundFault {
     let what = "the replies are arrays in an array, one for each part";
-    if !is_array(line, replies) {
-        return found_fault(alloc, line, replies, what, "");
+    if !is_json_array(line, replies) {
+        return wrong_json_value_fault(alloc, line, replies, what, "");
     }
     let mut parts = JsonParts::of(replies);
     for _ in replies.start..replies.end {
         match parts.next(line) {
-            Some(list) if !is_array(line, list) => {
-                return found_fault(alloc, line, list, what, "");
+            Some(list) if !is_json_array(line, list) => {
+                return wrong_json_value_fault(alloc, line, list, what, "");
             }
             Some(_) => {}
             None => return Ok(None),
@@ -127,7 +137,7 @@ fn replies_fault(alloc: Global, line: &[u8], replies: Span) -> FoundFault {
 }
 
 /// The fault of the member `name`, whose key is at `key`. No item has such a member.
-fn unknown_member(alloc: Global, name: &str, key: Span) -> FoundFault {
+fn unknown_json_member_fault(alloc: Global, name: &str, key: Span) -> FoundFault {
     let what = format_args!("unknown member `{name}`: prefix, branches, suffix, replies");
     let fault = ByteFault::new(alloc, key, what)?;
     let near = NearestName::to(name)
@@ -142,32 +152,32 @@ fn unknown_member(alloc: Global, name: &str, key: Span) -> FoundFault {
 }
 
 /// The fault of the member `name`, if its value has one.
-fn member_fault(alloc: Global, line: &[u8], name: &str, key: Span, value: Span) -> FoundFault {
+fn json_member_fault(alloc: Global, line: &[u8], name: &str, key: Span, value: Span) -> FoundFault {
     match name {
-        "prefix" | "suffix" => part_fault(alloc, line, value),
-        "branches" => branches_fault(alloc, line, value),
-        "replies" => replies_fault(alloc, line, value),
-        _ => unknown_member(alloc, name, key),
+        "prefix" | "suffix" => json_part_fault(alloc, line, value),
+        "branches" => json_branches_fault(alloc, line, value),
+        "replies" => json_replies_fault(alloc, line, value),
+        _ => unknown_json_member_fault(alloc, name, key),
     }
 }
 
 /// Whether one of the first `count` members has the name `name`.
-fn is_among(members: &[(&str, Json<'_>)], count: usize, name: &str) -> bool {
+fn is_among_first_json_members(members: &[(&str, Json<'_>)], count: usize, name: &str) -> bool {
     members.iter().take(count).any(|(other, _)| *other == name)
 }
 
 /// The fault of a member, if it has one.
-fn first_fault(alloc: Global, line: &[u8], members: &[(&str, Json<'_>)]) -> FoundFault {
-    let mut parts = JsonParts::of(value_at(line, 0));
+fn first_json_member_fault(alloc: Global, line: &[u8], members: &[(&str, Json<'_>)]) -> FoundFault {
+    let mut parts = JsonParts::of(json_value_span(line, 0));
     for (number, (name, _)) in members.iter().enumerate() {
         let (Some(key), Some(value)) = (parts.next(line), parts.next(line)) else {
             return Ok(None);
         };
-        let found = member_fault(alloc, line, name, key, value)?;
+        let found = json_member_fault(alloc, line, name, key, value)?;
         if found.is_some() {
             return Ok(found);
         }
-        if is_among(members, number, name) {
+        if is_among_first_json_members(members, number, name) {
             let what = format_args!("the member `{name}` is there twice");
             return Ok(Some(ByteFault::new(alloc, key, what)?));
         }
@@ -176,14 +186,14 @@ fn first_fault(alloc: Global, line: &[u8], members: &[(&str, Json<'_>)]) -> Foun
 }
 
 /// The fault of the members of an item, if they have one.
-fn members_fault(alloc: Global, line: &[u8], members: &[(&str, Json<'_>)]) -> FoundFault {
-    let found = first_fault(alloc, line, members)?;
-    if found.is_some() || is_among(members, members.len(), "branches") {
+fn json_members_fault(alloc: Global, line: &[u8], members: &[(&str, Json<'_>)]) -> FoundFault {
+    let found = first_json_member_fault(alloc, line, members)?;
+    if found.is_some() || is_among_first_json_members(members, members.len(), "branches") {
         return Ok(found);
     }
-    noted_fault(
+    json_fault_with_note(
         alloc,
-        value_at(line, 0),
+        json_value_span(line, 0),
         "the member `branches` is missing",
         CALLS,
     )
@@ -198,15 +208,15 @@ fn find_json_syntax_error_offset(alloc: Global, text: &str) -> Result<usize, All
 }
 
 /// The place after the first value of a line, if that is JSON and more follows it.
-fn place_after_value(alloc: Global, text: &str) -> Result<Option<usize>, AllocError> {
+fn place_after_json_value(alloc: Global, text: &str) -> Result<Option<usize>, AllocError> {
     let line = text.as_bytes();
-    let whole = value_at(line, 0);
+    let whole = json_value_span(line, 0);
     let Some(value) = text.get(whole.start..whole.end) else {
         return Ok(None);
     };
     let mut scratch = Scratch::new(alloc);
     match Json::parse(alloc, value, &mut scratch) {
-        Ok(_) => Ok(Some(value_at(line, whole.end).start)),
+        Ok(_) => Ok(Some(json_value_span(line, whole.end).start)),
         Err(Error::OutOfMemory) => Err(AllocError),
         Err(_) => Ok(None),
     }
@@ -238,13 +248,13 @@ fn too_deep_fault(alloc: Global, place: usize) -> FoundFault {
 
 /// The fault of a line that is no JSON.
 fn not_json_fault(alloc: Global, text: &str) -> FoundFault {
-    if let Some(place) = place_after_value(alloc, text)? {
+    if let Some(place) = place_after_json_value(alloc, text)? {
         let span = Span {
             start: place,
             end: place.saturating_add(1),
         };
         let what = "no JSON: something follows the object on its line";
-        return noted_fault(alloc, span, what, JSON_ITEM);
+        return json_fault_with_note(alloc, span, what, JSON_ITEM);
     }
     let place = find_json_syntax_error_offset(alloc, text)?.min(text.len());
     if let Some(bracket) = find_deeper_bracket(text.as_bytes(), MAX_DEPTH) {
@@ -259,7 +269,7 @@ fn not_json_fault(alloc: Global, text: &str) -> FoundFault {
     };
     if place >= text.trim_end().len() {
         let what = "no JSON: the object is not closed on its line";
-        return noted_fault(alloc, span, what, JSON_ITEM);
+        return json_fault_with_note(alloc, span, what, JSON_ITEM);
     }
     let what = format_args!("no JSON at column {column}");
     let hint = hint_on_bad_json(text, place);
@@ -270,11 +280,11 @@ fn not_json_fault(alloc: Global, text: &str) -> FoundFault {
 pub fn json_fault(alloc: Global, line: &[u8]) -> FoundFault {
     let Ok(text) = str::from_utf8(line) else {
         let what = "no JSON: the line is not UTF-8";
-        return Ok(Some(ByteFault::new(alloc, value_at(line, 0), what)?));
+        return Ok(Some(ByteFault::new(alloc, json_value_span(line, 0), what)?));
     };
     let mut scratch = Scratch::new(alloc);
     match Json::parse(alloc, text, &mut scratch) {
-        Ok(Json::Object(members)) => members_fault(alloc, line, members.as_slice()),
+        Ok(Json::Object(members)) => json_members_fault(alloc, line, members.as_slice()),
         Ok(_) => Ok(None),
         Err(Error::OutOfMemory) => Err(AllocError),
         Err(_) => not_json_fault(alloc, text),

@@ -1,8 +1,8 @@
 //! The messages on inputs with JSON items.
 
 use crate::bytes::ByteFault;
-use crate::json_item::{item_fault, json_at};
-use crate::message::{Asked, tree_errors};
+use crate::json_item::{json_item_fault, json_span_at_tree_path};
+use crate::message::{Asked, errors_of_input_without_json_items};
 use pst_json_runs::{has_json, replace_json_lines_by_trees};
 use pst_model::{Source, Typed};
 use pst_sexpr::{Form, MAX_BYTES};
@@ -84,7 +84,7 @@ pub fn span_in_json_text(
             end: pair.place_in_json(span.end),
         };
     }
-    let found = json_at(line, tree, path);
+    let found = json_span_at_tree_path(line, tree, path);
     Span {
         start: pair.json.saturating_add(found.start),
         end: pair.json.saturating_add(found.end),
@@ -92,7 +92,7 @@ pub fn span_in_json_text(
 }
 
 /// The error on the fault of the JSON item whose line begins at `start`.
-fn notice_of(alloc: Global, start: usize, fault: ByteFault) -> Notice {
+fn json_fault_notice(alloc: Global, start: usize, fault: ByteFault) -> Notice {
     let ByteFault { span, what, notes } = fault;
     Notice {
         span: Span {
@@ -107,7 +107,7 @@ fn notice_of(alloc: Global, start: usize, fault: ByteFault) -> Notice {
 }
 
 /// The error `notice`, which is about the text with trees, as an error on the text with JSON items.
-fn json_notice(
+fn notice_on_json_text(
     alloc: Global,
     typed: &Typed,
     json: &[u8],
@@ -116,8 +116,8 @@ fn json_notice(
 ) -> Result<Notice, AllocError> {
     let line = line_at(json, pair.json);
     if has_json(line) {
-        if let Some(fault) = item_fault(alloc, typed, line)? {
-            return Ok(notice_of(alloc, pair.json, fault));
+        if let Some(fault) = json_item_fault(alloc, typed, line)? {
+            return Ok(json_fault_notice(alloc, pair.json, fault));
         }
     }
     let span = Span {
@@ -143,7 +143,7 @@ pub fn files_with_json_as_trees<'a>(
 }
 
 /// The errors of an input whose model is read.
-fn item_errors(
+fn errors_after_model_with_json(
     alloc: Global,
     input: &Input<'_>,
     typed: &Typed,
@@ -155,7 +155,7 @@ fn item_errors(
         files: files.as_slice(),
         bytes: text.as_slice(),
     };
-    let Notices { all, more } = tree_errors(alloc, &trees, asked)?;
+    let Notices { all, more } = errors_of_input_without_json_items(alloc, &trees, asked)?;
     let mut notices = Notices {
         all: Vec::new(alloc),
         more,
@@ -163,30 +163,28 @@ fn item_errors(
     let mut pair = LinePair::first();
     for notice in all {
         pair = pair.advance_to_line_at(input.bytes, trees.bytes, notice.span.start);
-        notices
-            .all
-            .push(json_notice(alloc, typed, input.bytes, pair, notice)?)?;
+        notices.all.push(notice_on_json_text(alloc, typed, input.bytes, pair, notice)?)?;
     }
     Ok(notices)
 }
 
 /// The errors of an input whose first JSON item is at `place`. If the model is refused, they are those of the text
 /// before this item.
-pub fn json_errors(
+pub fn errors_of_input_with_json_items(
     alloc: Global,
     input: &Input<'_>,
     asked: Asked,
     place: usize,
 ) -> Result<Notices, AllocError> {
     if input.bytes.len() > MAX_BYTES {
-        return tree_errors(alloc, input, asked);
+        return errors_of_input_without_json_items(alloc, input, asked);
     }
     let head = input.bytes.get(..place).unwrap_or(&[]);
     match load(alloc, head)? {
-        Ok(file) => item_errors(alloc, input, &file.typed, asked),
+        Ok(file) => errors_after_model_with_json(alloc, input, &file.typed, asked),
         Err(_) => {
             let files = input.files;
-            tree_errors(alloc, &Input { files, bytes: head }, asked)
+            errors_of_input_without_json_items(alloc, &Input { files, bytes: head }, asked)
         }
     }
 }

@@ -1,8 +1,10 @@
 //! Refused JSON items.
 
 use crate::bytes::ByteFault;
-use crate::json_fault::{json_fault, shorten_json};
-use crate::json_places::{JsonParts, array_element_span, first_byte, value_at};
+use crate::json_fault::{json_fault, shortened_json_value};
+use crate::json_places::{
+    JsonParts, array_element_span, first_byte_of_json_value, json_value_span,
+};
 use pst_json_runs::json_tree;
 use pst_model::Typed;
 use pst_run_problems::{node_parts_or_empty, run_problem};
@@ -14,8 +16,8 @@ use std::alloc::{AllocError, Global};
 use std::slice;
 
 /// The value of the member `name` of an item, or all its bytes.
-fn member(line: &[u8], name: &str) -> Span {
-    let whole = value_at(line, 0);
+fn json_member_span_or_whole(line: &[u8], name: &str) -> Span {
+    let whole = json_value_span(line, 0);
     let mut parts = JsonParts::of(whole);
     for _ in whole.start..whole.end {
         let (Some(key), Some(value)) = (parts.next(line), parts.next(line)) else {
@@ -33,18 +35,24 @@ fn member(line: &[u8], name: &str) -> Span {
 /// through trees without a head of their own.
 fn find_json_of_part(line: &[u8], head: &str) -> (Span, usize) {
     match head {
-        "left" => (array_element_span(line, member(line, "branches"), 0), 1),
-        "right" => (array_element_span(line, member(line, "branches"), 1), 1),
-        "branches" => (member(line, head), 2),
-        _ => (member(line, head), 1),
+        "left" => (
+            array_element_span(line, json_member_span_or_whole(line, "branches"), 0),
+            1,
+        ),
+        "right" => (
+            array_element_span(line, json_member_span_or_whole(line, "branches"), 1),
+            1,
+        ),
+        "branches" => (json_member_span_or_whole(line, head), 2),
+        _ => (json_member_span_or_whole(line, head), 1),
     }
 }
 
 /// The JSON of the tree at `path` in `tree`, the tree of the JSON item on a line. It is an array around it where trees and
 /// JSON differ in their parts.
-pub fn json_at(line: &[u8], tree: &Form, path: &[usize]) -> Span {
+pub fn json_span_at_tree_path(line: &[u8], tree: &Form, path: &[usize]) -> Span {
     let Some((place, rest)) = path.split_first() else {
-        return value_at(line, 0);
+        return json_value_span(line, 0);
     };
     let head = match node_parts_or_empty(tree).get(*place) {
         Some(part) => head_word(part),
@@ -63,7 +71,7 @@ pub fn json_at(line: &[u8], tree: &Form, path: &[usize]) -> Span {
 }
 
 /// Whether a string of JSON is printable ASCII without escapes of other characters.
-fn is_printable(bytes: &[u8]) -> bool {
+fn is_printable_json_string(bytes: &[u8]) -> bool {
     let mut is_escaped = false;
     for byte in bytes {
         if *byte < b' ' || *byte > b'~' || (is_escaped && !matches!(*byte, b'"' | b'\\' | b'/')) {
@@ -92,7 +100,7 @@ fn expected_type(before: &str) -> Option<&str> {
 }
 
 /// The hint on an object in the place of a value, which a message shows after `before`.
-fn hint_on_object(object: &str, before: &str) -> Option<&'static str> {
+fn hint_on_json_object(object: &str, before: &str) -> Option<&'static str> {
     if object.starts_with("{\"failed\":") {
         return Some("hint: a call that failed is `{\"failed\":null}`");
     }
@@ -103,31 +111,40 @@ fn hint_on_object(object: &str, before: &str) -> Option<&'static str> {
 }
 
 /// A hint on a value that is no array, if no model has such a value. A message shows it after `before`.
-fn hint_on(line: &[u8], value: Span, before: &str) -> Option<&'static str> {
+fn hint_on_json_value(line: &[u8], value: Span, before: &str) -> Option<&'static str> {
     let bytes = line.get(value.start..value.end).unwrap_or(&[]);
-    match first_byte(line, value) {
-        b'"' if !is_printable(bytes) => Some("hint: printable ASCII only"),
-        b'-' | b'0'..=b'9' if shorten_json(line, value).parse::<i64>().is_err() => {
+    match first_byte_of_json_value(line, value) {
+        b'"' if !is_printable_json_string(bytes) => Some("hint: printable ASCII only"),
+        b'-' | b'0'..=b'9' if shortened_json_value(line, value).parse::<i64>().is_err() => {
             Some("hint: integers only, from -9223372036854775808 to 9223372036854775807")
         }
         b'n' => Some("hint: there is no null; an option is a list: `[]` or `[1]`"),
-        b'{' => hint_on_object(shorten_json(line, value), before),
+        b'{' => hint_on_json_object(shortened_json_value(line, value), before),
         _ => None,
     }
 }
 
 /// The first value in an array that no model has, with a hint, or else the array itself without one. A message shows it
 /// after `before`.
-fn first_foreign_value(line: &[u8], value: Span, before: &str) -> (Span, Option<&'static str>) {
-    let mut found = (value, hint_on(line, value, before));
+fn first_foreign_json_value(
+    line: &[u8],
+    value: Span,
+    before: &str,
+) -> (Span, Option<&'static str>) {
+    let mut found = (value, hint_on_json_value(line, value, before));
     for at in value.start..value.end {
         if found.1.is_some() {
             return found;
         }
-        let part = value_at(line, at);
+        let part = json_value_span(line, at);
         let is_begun = at == part.start && part.start < part.end;
-        if is_begun && matches!(first_byte(line, part), b'"' | b'-' | b'0'..=b'9' | b'n') {
-            found = (part, hint_on(line, part, before));
+        if is_begun
+            && matches!(
+                first_byte_of_json_value(line, part),
+                b'"' | b'-' | b'0'..=b'9' | b'n'
+            )
+        {
+            found = (part, hint_on_json_value(line, part, before));
         }
     }
     match found.1 {
@@ -137,7 +154,7 @@ fn first_foreign_value(line: &[u8], value: Span, before: &str) -> (Span, Option<
 }
 
 /// The note on a JSON item in place of `note`, a note on its tree. There is none if `note` says how a tree is written.
-fn json_note(note: &str) -> Option<&str> {
+fn note_in_json_terms(note: &str) -> Option<&str> {
     if note.starts_with("it is written `(")
         || note.starts_with("a call is `(")
         || note.starts_with("a reply is an integer,")
@@ -152,10 +169,14 @@ fn json_note(note: &str) -> Option<&str> {
 }
 
 /// The fault with what `notes`, notes on the tree, say of the item.
-fn with_notes(alloc: Global, fault: ByteFault, notes: &[String]) -> Result<ByteFault, AllocError> {
+fn with_notes_in_json_terms(
+    alloc: Global,
+    fault: ByteFault,
+    notes: &[String],
+) -> Result<ByteFault, AllocError> {
     let mut fault = fault;
     for note in notes {
-        if let Some(note) = json_note(note.as_str()) {
+        if let Some(note) = note_in_json_terms(note.as_str()) {
             fault = fault.with(alloc, note)?;
         }
     }
@@ -167,22 +188,22 @@ const REPLIES: &str =
     "`replies` is `[PREFIX, BRANCH, BRANCH, .., SUFFIX]`: an array of replies for each, not nested further";
 
 /// Whether `problem` is that an item has not one list of replies for each part.
-fn is_reply_list_count(problem: &Problem) -> bool {
+fn is_reply_list_count_problem(problem: &Problem) -> bool {
     problem
         .what
         .starts_with("the replies are lists, one for each part")
 }
 
 /// The fault at `value`, about which a message shows the value instead of its tree.
-fn value_fault(
+fn json_value_fault(
     alloc: Global,
     line: &[u8],
     value: Span,
     before: &str,
     after: &str,
 ) -> Result<ByteFault, AllocError> {
-    let (span, hint) = first_foreign_value(line, value, before);
-    let found = shorten_json(line, value);
+    let (span, hint) = first_foreign_json_value(line, value, before);
+    let found = shortened_json_value(line, value);
     let fault = ByteFault::new(alloc, span, format_args!("{before}`{found}`{after}"))?;
     match hint {
         Some(hint) => fault.with(alloc, hint),
@@ -191,7 +212,7 @@ fn value_fault(
 }
 
 /// What a message says before and after the tree at `path`, if that is a node and the message shows it.
-fn around_shown_node<'a>(
+fn text_around_shown_node<'a>(
     alloc: Global,
     tree: &Form,
     path: &[usize],
@@ -214,21 +235,23 @@ fn json_fault_from_tree_problem(
     problem: &Problem,
 ) -> Result<ByteFault, AllocError> {
     let what = problem.what.as_str();
-    if is_reply_list_count(problem) {
-        let fault = ByteFault::new(alloc, member(line, "replies"), what)?.with(alloc, REPLIES)?;
-        return with_notes(alloc, fault, problem.notes.as_slice());
+    if is_reply_list_count_problem(problem) {
+        let fault = ByteFault::new(alloc, json_member_span_or_whole(line, "replies"), what)?.with(
+            alloc, REPLIES,
+        )?;
+        return with_notes_in_json_terms(alloc, fault, problem.notes.as_slice());
     }
     let path = problem.path.as_slice().get(1..).unwrap_or(&[]);
-    let value = json_at(line, tree, path);
-    let fault = match around_shown_node(alloc, tree, path, what)? {
-        Some((before, after)) => value_fault(alloc, line, value, before, after)?,
+    let value = json_span_at_tree_path(line, tree, path);
+    let fault = match text_around_shown_node(alloc, tree, path, what)? {
+        Some((before, after)) => json_value_fault(alloc, line, value, before, after)?,
         None => ByteFault::new(alloc, value, what)?,
     };
-    with_notes(alloc, fault, problem.notes.as_slice())
+    with_notes_in_json_terms(alloc, fault, problem.notes.as_slice())
 }
 
 /// The fault of the JSON item on a line, if it is refused.
-pub fn item_fault(
+pub fn json_item_fault(
     alloc: Global,
     typed: &Typed,
     line: &[u8],

@@ -5,15 +5,15 @@
 use pst_sources::Span;
 
 /// Whether a byte is white space of JSON.
-fn is_space(byte: u8) -> bool {
+fn is_json_space(byte: u8) -> bool {
     matches!(byte, b' ' | b'\t' | b'\r' | b'\n')
 }
 
 /// The place of the first byte from `from` on that is no white space.
-fn skip_space(line: &[u8], from: usize) -> usize {
+fn skip_json_space(line: &[u8], from: usize) -> usize {
     for at in from..line.len() {
         match line.get(at) {
-            Some(byte) if is_space(*byte) => {}
+            Some(byte) if is_json_space(*byte) => {}
             _ => return at,
         }
     }
@@ -21,11 +21,11 @@ fn skip_space(line: &[u8], from: usize) -> usize {
 }
 
 /// The end of the number or the word that begins at `start`.
-fn word_end(line: &[u8], start: usize) -> usize {
+fn json_word_end(line: &[u8], start: usize) -> usize {
     for at in start..line.len() {
         match line.get(at) {
             Some(b',' | b':' | b'[' | b']' | b'{' | b'}' | b'"') => return at,
-            Some(byte) if !is_space(*byte) => {}
+            Some(byte) if !is_json_space(*byte) => {}
             _ => return at,
         }
     }
@@ -54,7 +54,7 @@ impl Scan {
     }
 
     /// The scan after the byte `byte` of a string.
-    fn in_string(self, byte: u8) -> Scan {
+    fn after_string_byte(self, byte: u8) -> Scan {
         Scan {
             is_string: self.is_escaped || byte != b'"',
             is_escaped: !self.is_escaped && byte == b'\\',
@@ -65,7 +65,7 @@ impl Scan {
     /// The scan after the byte `byte`.
     fn after_json_byte(self, byte: u8) -> Scan {
         if self.is_string {
-            return self.in_string(byte);
+            return self.after_string_byte(byte);
         }
         match byte {
             b'"' => Scan {
@@ -98,7 +98,7 @@ pub fn find_deeper_bracket(line: &[u8], most: usize) -> Option<usize> {
 }
 
 /// The end of the string, the array or the object that begins at `start`.
-fn closed_end(line: &[u8], start: usize) -> usize {
+fn end_of_json_string_or_container(line: &[u8], start: usize) -> usize {
     let mut scan = Scan::new();
     for at in start..line.len() {
         let Some(byte) = line.get(at) else {
@@ -113,18 +113,18 @@ fn closed_end(line: &[u8], start: usize) -> usize {
 }
 
 /// Returns the bytes of the first value from `from` on. The span is empty if a closing bracket comes first.
-pub fn value_at(line: &[u8], from: usize) -> Span {
-    let start = skip_space(line, from);
+pub fn json_value_span(line: &[u8], from: usize) -> Span {
+    let start = skip_json_space(line, from);
     let end = match line.get(start) {
-        Some(b'"' | b'[' | b'{') => closed_end(line, start),
-        Some(_) => word_end(line, start),
+        Some(b'"' | b'[' | b'{') => end_of_json_string_or_container(line, start),
+        Some(_) => json_word_end(line, start),
         None => start,
     };
     Span { start, end }
 }
 
 /// The first byte of a value, or 0.
-pub fn first_byte(line: &[u8], value: Span) -> u8 {
+pub fn first_byte_of_json_value(line: &[u8], value: Span) -> u8 {
     match line.get(value.start) {
         Some(byte) => *byte,
         None => 0,
@@ -132,8 +132,8 @@ pub fn first_byte(line: &[u8], value: Span) -> u8 {
 }
 
 /// Whether a value is an array.
-pub fn is_array(line: &[u8], value: Span) -> bool {
-    first_byte(line, value) == b'['
+pub fn is_json_array(line: &[u8], value: Span) -> bool {
+    first_byte_of_json_value(line, value) == b'['
 }
 
 /// The values of an array, or the keys and values of an object, from a place on.
@@ -152,11 +152,11 @@ impl JsonParts {
 
     /// The next part, if there is one.
     pub fn next(&mut self, line: &[u8]) -> Option<Span> {
-        let part = value_at(line, self.at);
+        let part = json_value_span(line, self.at);
         if part.start >= part.end {
             return None;
         }
-        let end = skip_space(line, part.end);
+        let end = skip_json_space(line, part.end);
         self.at = match line.get(end) {
             Some(b',' | b':') => end.saturating_add(1),
             _ => end,
@@ -167,7 +167,7 @@ impl JsonParts {
 
 /// Part `number`, from 0, of an array, or else the value itself.
 pub fn array_element_span(line: &[u8], value: Span, number: usize) -> Span {
-    if !is_array(line, value) {
+    if !is_json_array(line, value) {
         return value;
     }
     let mut parts = JsonParts::of(value);

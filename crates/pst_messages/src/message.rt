@@ -1,8 +1,8 @@
 //! The messages on refused inputs.
 
 use crate::bytes::{ByteFault, byte_fault};
-use crate::item_hints::{is_model, with_item_hint};
-use crate::json_input::{find_first_json_item, json_errors};
+use crate::item_hints::{is_model_tree, with_item_hint};
+use crate::json_input::{errors_of_input_with_json_items, find_first_json_item};
 use pst_model::Typed;
 use pst_run_problems::run_problem;
 use pst_runs::{RunFault, read_runs};
@@ -31,7 +31,7 @@ pub enum Asked {
 }
 
 /// The error on the bytes of `span` that `problem` describes.
-fn notice_of(alloc: Global, span: Span, problem: Problem) -> Notice {
+fn error_notice_of_problem(alloc: Global, span: Span, problem: Problem) -> Notice {
     let Problem {
         path: _,
         what,
@@ -47,13 +47,13 @@ fn notice_of(alloc: Global, span: Span, problem: Problem) -> Notice {
 }
 
 /// The error on the tree of the input that has the problem `problem`.
-fn problem_notice(alloc: Global, input: &Input<'_>, problem: Problem) -> Notice {
+fn error_notice_at_tree(alloc: Global, input: &Input<'_>, problem: Problem) -> Notice {
     let span = span_of(input.bytes, problem.path.as_slice());
-    notice_of(alloc, span, problem)
+    error_notice_of_problem(alloc, span, problem)
 }
 
 /// The errors on the problems of a model, at most twenty.
-fn problem_notices(
+fn model_problem_notices(
     alloc: Global,
     input: &Input<'_>,
     problems: Vec<Problem>,
@@ -61,7 +61,9 @@ fn problem_notices(
     let mut notices = Notices::none(alloc);
     for problem in problems {
         if notices.all.len() < MOST_PROBLEMS {
-            notices.all.push(problem_notice(alloc, input, problem))?;
+            notices
+                .all
+                .push(error_notice_at_tree(alloc, input, problem))?;
         } else if notices.more.is_empty() {
             notices
                 .more
@@ -77,7 +79,7 @@ fn begins_with_model(bytes: &[u8]) -> bool {
 }
 
 /// The name of the first file that begins with a model, if the input does not.
-fn file_of_model<'a>(input: &Input<'a>) -> Option<&'a str> {
+fn first_file_with_model<'a>(input: &Input<'a>) -> Option<&'a str> {
     if begins_with_model(input.bytes) {
         return None;
     }
@@ -90,12 +92,12 @@ fn file_of_model<'a>(input: &Input<'a>) -> Option<&'a str> {
 }
 
 /// Whether one of the trees is a model.
-fn has_model(trees: &[Tree]) -> bool {
-    trees.iter().any(|tree| is_model(tree))
+fn has_model_tree(trees: &[Tree]) -> bool {
+    trees.iter().any(|tree| is_model_tree(tree))
 }
 
 /// The problems, each with the note `hint`.
-fn with_hint(
+fn problems_with_hint(
     alloc: Global,
     problems: Vec<Problem>,
     hint: &str,
@@ -115,15 +117,15 @@ fn form_problems_with_hints(
     trees: &[Tree],
 ) -> Result<Vec<Problem>, AllocError> {
     let problems = form_problems(alloc, trees)?;
-    if let Some(name) = file_of_model(input) {
+    if let Some(name) = first_file_with_model(input) {
         let hint = format!(in alloc; "hint: `{name}` begins with a model: name this file first")?;
-        return with_hint(alloc, problems, hint.as_str());
+        return problems_with_hint(alloc, problems, hint.as_str());
     }
     if trees.is_empty() && input.files.len() > 1 {
-        return with_hint(alloc, problems, "hint: the model's file comes first");
+        return problems_with_hint(alloc, problems, "hint: the model's file comes first");
     }
-    if matches!(first_item(input.bytes), Some("case" | "run")) && !has_model(trees) {
-        return with_hint(alloc, problems, "hint: name the model's file first");
+    if matches!(first_item(input.bytes), Some("case" | "run")) && !has_model_tree(trees) {
+        return problems_with_hint(alloc, problems, "hint: name the model's file first");
     }
     Ok(problems)
 }
@@ -189,7 +191,7 @@ fn notice_on_first_refused_item(
         return Ok(Notices::none(alloc));
     };
     let number = problem.path.first().copied().unwrap_or(0);
-    let notice = problem_notice(alloc, input, problem);
+    let notice = error_notice_at_tree(alloc, input, problem);
     match trees.get(number) {
         Some(tree) => Notices::one(alloc, with_item_hint(alloc, input, tree, notice)?),
         None => Notices::one(alloc, notice),
@@ -200,7 +202,7 @@ fn notice_on_first_refused_item(
 fn notice_in_item(alloc: Global, input: &Input<'_>, item: Span, problem: Problem) -> Notice {
     let path = problem.path.get(1..).unwrap_or(&[]);
     let span = span_in(input.bytes, item, path);
-    notice_of(alloc, span, problem)
+    error_notice_of_problem(alloc, span, problem)
 }
 
 /// Adds the line that counts the refused items without a message, if there are some.
@@ -216,7 +218,7 @@ fn add_unshown_refusal_count(text: &mut String, more: usize) -> Result<(), Alloc
 }
 
 /// The errors on the first `most` refused items after a model, and the number of further ones. Scans the input once.
-fn each_item_notices(
+fn notices_on_refused_items(
     alloc: Global,
     input: &Input<'_>,
     typed: &Typed,
@@ -252,7 +254,7 @@ fn each_item_notices(
 }
 
 /// The errors on the items after a well-typed model.
-fn item_notices(
+fn item_error_notices(
     alloc: Global,
     input: &Input<'_>,
     file: &ModelFile,
@@ -262,15 +264,25 @@ fn item_notices(
     match asked {
         Asked::Model => Ok(Notices::none(alloc)),
         Asked::FirstItem => notice_on_first_refused_item(alloc, input, &file.typed, trees),
-        Asked::EachItem => each_item_notices(alloc, input, &file.typed, trees, MOST_PROBLEMS),
-        Asked::AllItems => each_item_notices(alloc, input, &file.typed, trees, usize::MAX),
+        Asked::EachItem => notices_on_refused_items(
+            alloc,
+            input,
+            &file.typed,
+            trees,
+            MOST_PROBLEMS,
+        ),
+        Asked::AllItems => notices_on_refused_items(alloc, input, &file.typed, trees, usize::MAX),
     }
 }
 
 /// The errors of an input without JSON items.
-pub fn tree_errors(alloc: Global, input: &Input<'_>, asked: Asked) -> Result<Notices, AllocError> {
+pub fn errors_of_input_without_json_items(
+    alloc: Global,
+    input: &Input<'_>,
+    asked: Asked,
+) -> Result<Notices, AllocError> {
     match load(alloc, input.bytes)? {
-        Ok(file) => item_notices(alloc, input, &file, asked),
+        Ok(file) => item_error_notices(alloc, input, &file, asked),
         Err(Refusal::Unread(refused)) => {
             let ByteFault { span, what, notes } = byte_fault(alloc, input, refused)?;
             let lines = String::new(alloc);
@@ -285,17 +297,21 @@ pub fn tree_errors(alloc: Global, input: &Input<'_>, asked: Asked) -> Result<Not
         }
         Err(refusal) => {
             let problems = model_problems(alloc, input, &refusal)?;
-            problem_notices(alloc, input, problems)
+            model_problem_notices(alloc, input, problems)
         }
     }
 }
 
 /// The errors of an input: for each the bytes that are wrong, what was expected and found, and hints. There are none if
 /// no part that `asked` selects is refused. Lines that begin with `{` are items as JSON.
-pub fn errors_of(alloc: Global, input: &Input<'_>, asked: Asked) -> Result<Notices, AllocError> {
+pub fn input_error_notices(
+    alloc: Global,
+    input: &Input<'_>,
+    asked: Asked,
+) -> Result<Notices, AllocError> {
     match find_first_json_item(input.bytes) {
-        Some(place) => json_errors(alloc, input, asked, place),
-        None => tree_errors(alloc, input, asked),
+        Some(place) => errors_of_input_with_json_items(alloc, input, asked, place),
+        None => errors_of_input_without_json_items(alloc, input, asked),
     }
 }
 
@@ -312,6 +328,6 @@ pub fn input_error_messages_text(
         files,
         bytes: input,
     };
-    let errors = errors_of(alloc, &input, asked)?;
+    let errors = input_error_notices(alloc, &input, asked)?;
     text_of(alloc, &input, &errors)
 }

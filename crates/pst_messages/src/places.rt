@@ -18,7 +18,7 @@ pub struct Spot {
 }
 
 /// The letter of part `number`.
-fn letter_of(parts: &[Part<'_>], number: usize) -> char {
+fn part_letter(parts: &[Part<'_>], number: usize) -> char {
     match parts.get(number) {
         Some(part) if part.is_prefix => 'P',
         Some(part) if part.is_branch => match number {
@@ -48,10 +48,10 @@ impl fmt::Display for CommandPlace {
 }
 
 /// The place of command `command`, counted from 1, in its case.
-fn place_in(parts: &[Part<'_>], command: usize) -> Option<CommandPlace> {
+fn command_place(parts: &[Part<'_>], command: usize) -> Option<CommandPlace> {
     let (part, offset) = find_part_of_command(parts, command)?;
     Some(CommandPlace {
-        part: letter_of(parts, part),
+        part: part_letter(parts, part),
         number: offset.saturating_add(1),
     })
 }
@@ -71,7 +71,7 @@ pub fn find_spot_of_command(
     command: usize,
 ) -> Result<Option<Spot>, AllocError> {
     let parts = parts_of_case(alloc, form)?;
-    let Some(place) = place_in(parts.as_slice(), command) else {
+    let Some(place) = command_place(parts.as_slice(), command) else {
         return Ok(None);
     };
     let Some((steps, call)) = command_with_path(alloc, parts.as_slice(), command)? else {

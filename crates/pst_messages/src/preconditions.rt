@@ -2,11 +2,14 @@
 ghost use Rattle.std.specs.Prelude.{◌≡◌, All};
 ghost use Rattle.pst_runs.specs.Lawful.{AreLawful, IsLawful};
 
-use crate::failing::{FailingCommand, calls_marked, first_false_precondition, have_preconditions};
+use crate::failing::{
+    FailingCommand, case_calls_marked_operation, first_false_precondition,
+    mark_operations_with_preconditions,
+};
 use crate::item_input::ItemInput;
 use crate::places::{Spot, find_spot_of_command};
-use crate::spelling::short_value;
-use crate::warning::warning;
+use crate::spelling::shortened_value_text;
+use crate::warning::warning_notice;
 use pst_case::Run;
 use pst_eval::Callbacks;
 use pst_judge::{Judged, Verdict};
@@ -48,13 +51,20 @@ fn precondition_warning(
         return Ok(String::new(alloc));
     };
     match find_spot_of_command(alloc, tree.form(), item, failing.command)? {
-        Some(spot) => spot_warning(alloc, subject, tree.form(), item, &spot, &failing.state),
+        Some(spot) => precondition_warning_at_spot(
+            alloc,
+            subject,
+            tree.form(),
+            item,
+            &spot,
+            &failing.state,
+        ),
         None => Ok(String::new(alloc)),
     }
 }
 
 /// The warning on the command at `spot` of item `item`, which is `tree`, with the state before the command.
-fn spot_warning(
+fn precondition_warning_at_spot(
     alloc: Global,
     subject: &Subject<'_>,
     tree: &Form,
@@ -64,8 +74,8 @@ fn spot_warning(
 ) -> Result<String, AllocError> {
     let place = spot.place;
     let call = spot.call.as_str();
-    let state = short_value(alloc, subject.source, state)?;
-    let warning = warning(
+    let state = shortened_value_text(alloc, subject.source, state)?;
+    let warning = warning_notice(
         alloc,
         &subject.input.trees,
         spot.path.as_slice(),
@@ -78,7 +88,7 @@ fn spot_warning(
     )?;
     subject
         .input
-        .text_on_part(alloc, tree, spot.path.as_slice(), warning)
+        .notice_text_on_part(alloc, tree, spot.path.as_slice(), warning)
 }
 
 /// Adds the recorded run of item `item`, which the interleaving `word` explains, if it gets a warning.
@@ -93,7 +103,7 @@ fn add_run_with_false_precondition<C: Callbacks>(
 ) -> Result<(), AllocError>
     requires { IsLawful (C.model callbacks.now) run.now }
 {
-    if !calls_marked(subject.conditional.as_slice(), run.shaped.case()) {
+    if !case_calls_marked_operation(subject.conditional.as_slice(), run.shaped.case()) {
         return Ok(());
     }
     let Some(failing) = first_false_precondition(callbacks, alloc, run, word)? else {
@@ -240,7 +250,7 @@ fn subject_of_precondition_warnings<'a>(
     input: ItemInput<'a>,
 ) -> Result<Option<Subject<'a>>, AllocError> {
     let source = typed.source();
-    let conditional = have_preconditions(alloc, source.items.as_slice())?;
+    let conditional = mark_operations_with_preconditions(alloc, source.items.as_slice())?;
     if !conditional.iter().any(|is_marked| *is_marked) {
         return Ok(None);
     }
@@ -252,7 +262,7 @@ fn subject_of_precondition_warnings<'a>(
 }
 
 /// No items.
-fn nothing_found(alloc: Global) -> FoundItems {
+fn no_items_found(alloc: Global) -> FoundItems {
     FoundItems {
         first: Vec::new(alloc),
         count: 0,
@@ -266,7 +276,7 @@ fn nothing_found(alloc: Global) -> FoundItems {
 /// `typed` is the model of the input, `parts` are the items after it in one part or more, and `judged` are the
 /// judgements on them in their order. If there are warnings, the function reads the trees of the input once more; it
 /// returns `None` if that fails.
-pub fn warnings_on_runs<C: Callbacks>(
+pub fn precondition_warnings_on_runs<C: Callbacks>(
     callbacks: &C,
     alloc: Global,
     typed: &Typed,
@@ -279,7 +289,7 @@ pub fn warnings_on_runs<C: Callbacks>(
     let Some(subject) = subject_of_precondition_warnings(alloc, typed, input)? else {
         return Ok(None);
     };
-    let mut found = nothing_found(alloc);
+    let mut found = no_items_found(alloc);
     add_false_preconditions_of_parts(&mut found, callbacks, alloc, &subject, parts, judged)?;
     if found.count == 0 {
         return Ok(None);
@@ -290,9 +300,9 @@ pub fn warnings_on_runs<C: Callbacks>(
     }
 }
 
-/// Warns as [`warnings_on_runs`] does, if some items of the input may be refused: on the items that were judged.
+/// Warns as [`precondition_warnings_on_runs`] does, if some items of the input may be refused: on the items that were judged.
 /// `answers` are the answers to all items in their order, and `trees` are the trees of the input.
-pub fn warnings_on_answers<C: Callbacks>(
+pub fn precondition_warnings_on_item_results<C: Callbacks>(
     callbacks: &C,
     alloc: Global,
     typed: &Typed,
@@ -305,7 +315,7 @@ pub fn warnings_on_answers<C: Callbacks>(
     let Some(subject) = subject_of_precondition_warnings(alloc, typed, input)? else {
         return Ok(None);
     };
-    let mut found = nothing_found(alloc);
+    let mut found = no_items_found(alloc);
     for (index, answer) in answers.iter().enumerate() {
         let item = index.saturating_add(1);
         add_result_with_false_precondition(

@@ -95,7 +95,7 @@ fn generate_script(
 
 /// The script of trial `number` if a callback faults in it, so that the trial has no case. `seed` and `number` choose
 /// its random words, and `commands` is the greatest number of its commands.
-pub fn faulty_script(
+pub fn generate_faulty_script(
     alloc: Global,
     compiled: &Compiled,
     seed: u64,
@@ -113,7 +113,7 @@ pub fn faulty_script(
 }
 
 /// A mark for each operation of a model, in their order, none of them set.
-fn no_operation_marks(alloc: Global, typed: &Typed) -> Result<Vec<bool>, AllocError> {
+fn unset_operation_marks(alloc: Global, typed: &Typed) -> Result<Vec<bool>, AllocError> {
     let mut marks = Vec::new(alloc);
     for item in typed.source().items.as_slice() {
         if let Item::Op(_) = item {
@@ -156,9 +156,9 @@ impl Scripts {
 }
 
 /// Generates scripts of a model, always of the same random words, up to a limit on the scripts and on the steps.
-pub fn generated_scripts(alloc: Global, compiled: &Compiled) -> Result<Scripts, AllocError> {
+pub fn generate_scripts(alloc: Global, compiled: &Compiled) -> Result<Scripts, AllocError> {
     let mut scripts = Scripts {
-        called: no_operation_marks(alloc, compiled.typed())?,
+        called: unset_operation_marks(alloc, compiled.typed())?,
         count: 0,
         faulty: 0,
         first_faulty: None,

@@ -9,7 +9,7 @@ use std::fmt;
 const MOST: usize = 60;
 
 /// Writes a text between quotes.
-fn write_quoted<W: fmt::Write>(f: &mut fmt::Formatter<W>, text: &str) -> fmt::Result {
+fn write_quoted_text<W: fmt::Write>(f: &mut fmt::Formatter<W>, text: &str) -> fmt::Result {
     f.write_str("\"")?;
     for character in text.chars() {
         if character == '"' || character == '\\' {
@@ -21,16 +21,16 @@ fn write_quoted<W: fmt::Write>(f: &mut fmt::Formatter<W>, text: &str) -> fmt::Re
 }
 
 /// Writes a key of a map.
-fn write_key<W: fmt::Write>(f: &mut fmt::Formatter<W>, key: &Key) -> fmt::Result {
+fn write_map_key<W: fmt::Write>(f: &mut fmt::Formatter<W>, key: &Key) -> fmt::Result {
     match key {
         Key::Int(number) => write!(f, "{number}"),
         Key::Bool(truth) => write!(f, "{truth}"),
-        Key::Text(text) => write_quoted(f, text.as_str()),
+        Key::Text(text) => write_quoted_text(f, text.as_str()),
     }
 }
 
 /// The name of operation `number`, counted from 0.
-fn name_of(model: &Source, number: u32) -> &str {
+fn operation_name_or_empty(model: &Source, number: u32) -> &str {
     match operation_of(model.items.as_slice(), number as usize) {
         Some(operation) => operation.name.as_str(),
         None => "",
@@ -60,9 +60,9 @@ fn write_value<W: fmt::Write>(
     match value {
         Value::Int(number) => write!(f, "{number}"),
         Value::Bool(truth) => write!(f, "{truth}"),
-        Value::Text(text) => write_quoted(f, text.as_str()),
-        Value::Tuple(parts) => write_node(f, model, "tuple", parts.as_slice()),
-        Value::List(parts) => write_node(f, model, "list", parts.as_slice()),
+        Value::Text(text) => write_quoted_text(f, text.as_str()),
+        Value::Tuple(parts) => write_node_of_values(f, model, "tuple", parts.as_slice()),
+        Value::List(parts) => write_node_of_values(f, model, "list", parts.as_slice()),
         Value::Map(keys, values) => {
             write_map(f, model, keys.get().as_slice(), values.get().as_slice())
         }
@@ -72,14 +72,19 @@ fn write_value<W: fmt::Write>(
             write_value(f, model, value.get())
         }
         Value::Call(operation, args) => {
-            write_node(f, model, name_of(model, *operation), args.as_slice())
+            write_node_of_values(
+                f,
+                model,
+                operation_name_or_empty(model, *operation),
+                args.as_slice(),
+            )
         }
     }
 }
 
 /// Writes `head` and then `values`, in brackets.
 #[cycle(write_value)]
-fn write_node<W: fmt::Write>(
+fn write_node_of_values<W: fmt::Write>(
     f: &mut fmt::Formatter<W>,
     model: &Source,
     head: &str,
@@ -104,7 +109,7 @@ fn write_map<W: fmt::Write>(
     f.write_str("(map")?;
     for (key, value) in keys.iter().zip(values.iter()) {
         f.write_str(" (")?;
-        write_key(f, key)?;
+        write_map_key(f, key)?;
         f.write_str(" ")?;
         write_value(f, model, value)?;
         f.write_str(")")?;
@@ -113,7 +118,11 @@ fn write_map<W: fmt::Write>(
 }
 
 /// A value as items spell it: all of it, or its first 60 bytes and `...`.
-pub fn short_value(alloc: Global, model: &Source, value: &Value) -> Result<String, AllocError> {
+pub fn shortened_value_text(
+    alloc: Global,
+    model: &Source,
+    value: &Value,
+) -> Result<String, AllocError> {
     let value = SpelledValue { model, value };
     let whole = format!(in alloc; "{value}")?;
     match whole.as_str().get(..MOST) {

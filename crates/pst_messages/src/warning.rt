@@ -1,7 +1,7 @@
 //! The warnings on an input.
 
 use crate::faults::faulty_scripts_warning;
-use crate::scripts::{COMMANDS, SCRIPTS, generated_scripts};
+use crate::scripts::{COMMANDS, SCRIPTS, generate_scripts};
 use pst_compile::{Compiled, compile};
 use pst_model::Item;
 use pst_sexpr::{Form, Tree, node_of, word_of};
@@ -11,7 +11,7 @@ use std::alloc::{AllocError, Global};
 use std::fmt::Display;
 
 /// The warning on the tree that `path` leads to, with a note.
-pub fn warning<D: Display + Drop, N: Display + Drop>(
+pub fn warning_notice<D: Display + Drop, N: Display + Drop>(
     alloc: Global,
     input: &Input<'_>,
     path: &[usize],
@@ -46,7 +46,7 @@ fn no_initial_call_warning(
             place = number;
         }
     }
-    warning(
+    warning_notice(
         alloc,
         input,
         &[0, tree_number_of_item(place)],
@@ -62,7 +62,7 @@ fn uncalled_operation_warning(
     item: usize,
     name: &str,
 ) -> Result<Notice, AllocError> {
-    warning(
+    warning_notice(
         alloc,
         input,
         &[0, tree_number_of_item(item), 1],
@@ -100,7 +100,7 @@ fn script_warnings(
 ) -> Result<Vec<Notice>, AllocError> {
     let typed = compiled.typed();
     let items = typed.source().items.as_slice();
-    let scripts = generated_scripts(alloc, compiled)?;
+    let scripts = generate_scripts(alloc, compiled)?;
     if scripts.faulty > 0 {
         return faulty_scripts_warning(alloc, input, typed, scripts);
     }
@@ -117,7 +117,7 @@ fn script_warnings(
 }
 
 /// Whether a tree has the head of a model.
-fn is_model(form: &Form) -> bool {
+fn has_model_head(form: &Form) -> bool {
     match node_of(form).unwrap_or(&[]).first() {
         Some(head) => match word_of(head) {
             Some(word) => word.as_str() == "model" || word.as_str() == "model2",
@@ -135,9 +135,9 @@ fn add_further_model_warnings(
     warnings: &mut Vec<Notice>,
 ) -> Result<(), AllocError> {
     for (index, tree) in trees_after_model(trees).iter().enumerate() {
-        if is_model(tree.form()) {
+        if has_model_head(tree.form()) {
             let path = [index.saturating_add(1)];
-            let warning = warning(
+            let warning = warning_notice(
                 alloc,
                 input,
                 &path,
@@ -157,7 +157,7 @@ fn add_further_model_warnings(
 /// The function generates at most sixteen scripts of at most sixteen commands, always of the same random words, and
 /// their callbacks take a bounded number of steps. If a callback faults in one of them, or the steps do not suffice for
 /// all, there are no warnings on calls.
-pub fn warnings_in(alloc: Global, input: &Input<'_>) -> Result<Notices, AllocError> {
+pub fn input_warning_notices(alloc: Global, input: &Input<'_>) -> Result<Notices, AllocError> {
     let Ok(ModelFile { typed, trees }) = load(alloc, input.bytes)? else {
         return Ok(Notices::none(alloc));
     };
@@ -172,9 +172,9 @@ pub fn warnings_in(alloc: Global, input: &Input<'_>) -> Result<Notices, AllocErr
     })
 }
 
-/// The warnings on an input, as [`warnings_in`] finds them, for a person to read. `input` is the text of `files`.
+/// The warnings on an input, as [`input_warning_notices`] finds them, for a person to read. `input` is the text of `files`.
 /// Returns `None` if there are no warnings.
-pub fn warnings_of(
+pub fn input_warnings_text(
     alloc: Global,
     files: &[SourceFile<'_>],
     input: &[u8],
@@ -183,6 +183,6 @@ pub fn warnings_of(
         files,
         bytes: input,
     };
-    let warnings = warnings_in(alloc, &input)?;
+    let warnings = input_warning_notices(alloc, &input)?;
     text_of(alloc, &input, &warnings)
 }

@@ -2,7 +2,9 @@
 
 use crate::requests::Request;
 use pst_cli::{Shown, judge_file, judge_file_keep_going};
-use pst_messages::{ItemInput, warnings_on_answers, warnings_on_runs};
+use pst_messages::{
+    ItemInput, precondition_warnings_on_item_results, precondition_warnings_on_runs,
+};
 use pst_sexpr::Out;
 use pst_sources::{Input, joined};
 use std::alloc::{AllocError, Global};
@@ -27,7 +29,7 @@ fn on_runs<R: Threads + Sync>(rt: &R, alloc: Global, input: Input<'_>) -> Warnin
         return Ok(None);
     };
     let compiled = &judged.compiled;
-    let warnings = warnings_on_runs(
+    let warnings = precondition_warnings_on_runs(
         compiled,
         alloc,
         compiled.typed(),
@@ -47,7 +49,7 @@ fn on_answers<R: Threads + Sync>(rt: &R, alloc: Global, input: Input<'_>) -> War
         return Ok(None);
     };
     let compiled = &answered.file.compiled;
-    let warnings = warnings_on_answers(
+    let warnings = precondition_warnings_on_item_results(
         compiled,
         alloc,
         compiled.typed(),

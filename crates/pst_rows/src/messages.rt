@@ -1,7 +1,7 @@
 //! The messages beside the refusals of files, and the warnings on models.
 
 use crate::requests::Request;
-use pst_messages::{Asked, input_error_messages_text, warnings_of};
+use pst_messages::{Asked, input_error_messages_text, input_warnings_text};
 use pst_sources::{SourceFile, joined};
 use std::alloc::{AllocError, Global};
 use std::slice;
@@ -22,7 +22,7 @@ pub fn message_answer(
 
 /// The warnings on the model of a request, or `no warnings`.
 pub fn warnings_answer(alloc: Global, request: &Request<'_>) -> Result<String, AllocError> {
-    match warnings_of(alloc, request.files.as_slice(), request.bytes())? {
+    match input_warnings_text(alloc, request.files.as_slice(), request.bytes())? {
         Some(warnings) => Ok(warnings),
         None => String::from_str(alloc, "no warnings\n"),
     }

@@ -9,7 +9,10 @@ use pst_case::CaseFaultKind;
 use pst_model::Source;
 use pst_runs::{RunFault, RunFaultKind};
 use pst_sexpr::Form;
-use pst_syntax_problems::{FoundProblem, Problem, below, head_word, problem_at, unknown_among};
+use pst_syntax_problems::{
+    FoundProblem, Problem, head_word, path_to_part, problem_at,
+    unknown_operation_or_function_problem,
+};
 use std::alloc::{AllocError, Global};
 
 /// The problem of the part at `path`, which has more than `most` commands.
@@ -72,9 +75,15 @@ fn command_problem(
 ) -> FoundProblem {
     match kind {
         CaseFaultKind::UnknownOp => {
-            let path = below(path, alloc, 0)?;
+            let path = path_to_part(path, alloc, 0)?;
             let items = search.source.items.as_slice();
-            unknown_among(alloc, items, path.as_slice(), head_word(form), true)
+            unknown_operation_or_function_problem(
+                alloc,
+                items,
+                path.as_slice(),
+                head_word(form),
+                true,
+            )
         }
         CaseFaultKind::BadArgument => bad_argument_problem(alloc, search, path, form),
         CaseFaultKind::ForwardVar => {

@@ -11,7 +11,7 @@ ghost use Rattle.pst_syntax.specs.ModelFaults as faults;
 ghost use Rattle.pst_syntax.specs.ShownItems.{shown_callback_option};
 
 use crate::fault::Role;
-use crate::problem::below;
+use crate::problem::path_to_part;
 use crate::telling::{Added, Faults, Walk, push_fault, push_fault_unless};
 use crate::whole_faults::add_single_expression_faults;
 use pst_sexpr::Form;
@@ -106,7 +106,7 @@ pub fn add_callbacks_faults(
     let mut seen = Items::new(walk.alloc);
     let mut number = 4;
     for form in forms {
-        let at = below(path, walk.alloc, number)?;
+        let at = path_to_part(path, walk.alloc, number)?;
         let shape = callback_shape(form);
         add_callback_faults(walk, faults, seen.as_slice(), at.as_slice(), &shape)?;
         seen.push(shape)?;

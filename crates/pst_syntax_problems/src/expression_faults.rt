@@ -14,7 +14,7 @@ use crate::part_faults::{
     add_bound_faults, add_map_faults, add_operation_name_faults, add_tuple_place_faults,
     is_within_limits,
 };
-use crate::problem::below;
+use crate::problem::path_to_part;
 use crate::telling::{Added, Faults, Walk, push_fault, push_fault_unless};
 use crate::type_faults::add_ty_part_faults;
 use pst_sexpr::Form;
@@ -83,7 +83,7 @@ fn add_expr_parts_faults(
         Shape::Binary(_, a, b) => add_binary_faults(walk, faults, path, a, b, room),
         Shape::Unary(_, a) => add_unary_faults(walk, faults, path, a, room),
         Shape::Tuple(items) => add_exprs_faults(walk, faults, path, 1, items, room),
-        Shape::At(tuple, number) => add_at_faults(walk, faults, path, tuple, number, room),
+        Shape::At(tuple, number) => add_tuple_item_faults(walk, faults, path, tuple, number, room),
         Shape::List(item, items) => add_list_faults(walk, faults, path, item, items, room),
         Shape::For(parts, body) => add_for_faults(walk, faults, path, parts, body, room),
         Shape::Fold(shape) => add_fold_faults(walk, faults, path, shape, room),
@@ -106,7 +106,7 @@ pub fn add_expr_part_faults(
     ensures { OnOk result (faults.new ≡ keep walk.limit faults.old
         (expr_faults_at walk.has_maps room role.Expression (spec.below path.now number) form.now)) }
 {
-    let path = below(path, walk.alloc, number)?;
+    let path = path_to_part(path, walk.alloc, number)?;
     add_expr_faults(walk, faults, path.as_slice(), form, room)
 }
 
@@ -189,7 +189,7 @@ fn add_let_faults(
 /// Adds the faults of an item of a tuple.
 #[cycle(add_expr_faults)]
 #[tactic(auto, using(crate::proofs::Keeping::keeping))]
-fn add_at_faults(
+fn add_tuple_item_faults(
     walk: Walk,
     faults: &mut Faults,
     path: &[usize],
@@ -329,7 +329,7 @@ fn add_clauses_faults(
         (all_at (spec.spot_in walk.has_maps (expr_faults_at walk.has_maps room))
         (spots_from (spec.below path.now 1) 0 (map Clause forms.now)))) }
 {
-    let path = below(path, walk.alloc, 1)?;
+    let path = path_to_part(path, walk.alloc, 1)?;
     let mut number = 0;
     for form in forms {
         add_clause_faults(walk, faults, path.as_slice(), number, form, room)?;
@@ -353,7 +353,7 @@ fn add_clause_faults(
         (spec.clause_faults_at walk.has_maps (expr_faults_at walk.has_maps room) role.Clause
         (spec.below path.now number) form.now)) }
 {
-    let path = below(path, walk.alloc, number)?;
+    let path = path_to_part(path, walk.alloc, number)?;
     let path = path.as_slice();
     match clause_shape(form) {
         Some(ClauseShape::In(name, list)) => {

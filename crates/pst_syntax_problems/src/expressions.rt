@@ -6,7 +6,7 @@ use crate::found_problem::{
     problem_at, problem_at_part, problem_with_note, problem_with_note_at_part, with_note,
     with_quotes_hint,
 };
-use crate::problem::below;
+use crate::problem::path_to_part;
 use crate::tree::head_of;
 use crate::writing::counted;
 use pst_sexpr::{Form, is_integer, word_of};
@@ -200,19 +200,23 @@ const MAP_ENTRIES: &str = "hint: an empty map is `(map text int)`, and `(put m k
 /// to be. `path` leads to the form.
 fn wrong_part_problem(alloc: Global, path: &[usize], word: &str, parts: &[Form]) -> FoundProblem {
     match (word, parts) {
-        ("at", [_, place]) => tuple_place_problem(alloc, below(path, alloc, 2)?.as_slice(), place),
+        ("at", [_, place]) => tuple_place_problem(
+            alloc,
+            path_to_part(path, alloc, 2)?.as_slice(),
+            place,
+        ),
         ("map", _) => with_note(
             alloc,
-            map_keys_problem(alloc, below(path, alloc, 1)?.as_slice())?,
+            map_keys_problem(alloc, path_to_part(path, alloc, 1)?.as_slice())?,
             MAP_ENTRIES,
         ),
-        ("for", _) => clause_list_problem(alloc, below(path, alloc, 1)?.as_slice()),
-        ("call", _) => missing_operation_problem(alloc, below(path, alloc, 1)?.as_slice()),
+        ("for", _) => clause_list_problem(alloc, path_to_part(path, alloc, 1)?.as_slice()),
+        ("call", _) => missing_operation_problem(alloc, path_to_part(path, alloc, 1)?.as_slice()),
         ("fold", [Form::Word(_), ..]) => missing_name_problem(
             alloc,
-            below(path, alloc, 3)?.as_slice(),
+            path_to_part(path, alloc, 3)?.as_slice(),
         ),
-        _ => missing_name_problem(alloc, below(path, alloc, 1)?.as_slice()),
+        _ => missing_name_problem(alloc, path_to_part(path, alloc, 1)?.as_slice()),
     }
 }
 

@@ -278,7 +278,7 @@ pub fn type_form(word: &str) -> Option<HeadedForm> {
 }
 
 /// Whether the word heads a form of maps.
-pub fn is_of_maps(word: &str) -> bool {
+pub fn is_head_of_map_form(word: &str) -> bool {
     find_headed_form(&MAPS, word).is_some()
 }
 

@@ -1,7 +1,7 @@
 //! What is wrong with a tree, if something is, and what messages say of refused names.
 
 use crate::forms::hint_for_foreign_word;
-use crate::problem::{Problem, below};
+use crate::problem::{Problem, path_to_part};
 use pst_syntax::{MAX_NAME, is_name};
 use pst_value::Text;
 use std::alloc::{AllocError, Global};
@@ -34,7 +34,7 @@ pub fn problem_at_part<D: Display + Drop>(
     part: usize,
     what: D,
 ) -> FoundProblem {
-    let path = below(path, alloc, part)?;
+    let path = path_to_part(path, alloc, part)?;
     Ok(Some(Problem::new(alloc, path, what)?))
 }
 
@@ -107,7 +107,7 @@ fn is_in_names(byte: u8) -> bool {
 }
 
 /// Whether a word would be a name if its first letter were lower-case.
-pub fn is_capitalized(word: &str) -> bool {
+pub fn is_capitalized_name(word: &str) -> bool {
     let bytes = word.as_bytes();
     match bytes.first() {
         Some(first) => first.is_ascii_uppercase() && bytes.iter().all(|byte| is_in_names(*byte)),
@@ -130,7 +130,7 @@ fn meaning_of_reserved_name(name: &str) -> &'static str {
 /// The problem of `word` where it is declared and is no valid name there.
 pub fn bad_name_problem(alloc: Global, path: &[usize], word: &Text) -> FoundProblem {
     let name = word.as_str();
-    if is_capitalized(name) {
+    if is_capitalized_name(name) {
         return problem_with_note(alloc, path, format_args!("`{name}` is not a name"), CAPITAL);
     }
     if !is_name(word) {

@@ -10,7 +10,7 @@ use crate::item_forms::{
     CALLS, ITEM_FORMS, ItemForm, OPERATION, is_callback, item_form, item_meant,
 };
 use crate::names::{DidYouMean, NearestName, push_name};
-use crate::problem::{Problem, below};
+use crate::problem::{Problem, path_to_part};
 use crate::tree::{has_head, head_of};
 use crate::writing::{Listed, counted, short_text};
 use pst_sexpr::{Form, node_of};
@@ -139,7 +139,7 @@ pub fn too_many_parameters_problem(alloc: Global, path: &[usize], params: &Form)
 pub fn parameter_problem(alloc: Global, path: &[usize], form: &Form) -> FoundProblem {
     let what = "a parameter is `(NAME TYPE)`";
     match node_of(form) {
-        Some([_, _]) => missing_name_problem(alloc, below(path, alloc, 0)?.as_slice()),
+        Some([_, _]) => missing_name_problem(alloc, path_to_part(path, alloc, 0)?.as_slice()),
         Some(_) => problem_at(alloc, path, what),
         None => problem_with_note(
             alloc,

@@ -38,17 +38,17 @@ mod writing;
 
 pub use fault::{FormFault, Role};
 pub use forms::{
-    HeadedForm, expression_form, hint_for_foreign_word, is_head, is_of_maps, nearest_head,
+    HeadedForm, expression_form, hint_for_foreign_word, is_head, is_head_of_map_form, nearest_head,
     type_form,
 };
 pub use found_problem::{
-    CAPITAL, FoundProblem, foreign_word_problem, in_single_quotes, is_capitalized, problem_at,
+    CAPITAL, FoundProblem, foreign_word_problem, in_single_quotes, is_capitalized_name, problem_at,
     problem_at_part, problem_with_note, problem_with_note_at_part, push_problem, with_note,
 };
-pub use model_faults::faults_of;
+pub use model_faults::model_syntax_faults;
 pub use names::{DidYouMean, NearestName, nearest, push_name};
-pub use operations::{operation_named, unknown_among};
-pub use problem::{MOST_PROBLEMS, Problem, below};
+pub use operations::{operation_named, unknown_operation_or_function_problem};
+pub use problem::{MOST_PROBLEMS, Problem, path_to_part};
 pub use syntax::form_problems;
 pub use tree::{has_head, head_word};
 pub use type_slips::with_type_hint;

@@ -12,7 +12,7 @@ ghost use Rattle.pst_syntax.specs.declared.fault.FaultKind.TheVariants.{OverLimi
 
 use crate::fault::{FormFault, Role};
 use crate::item_faults::add_item_faults;
-use crate::problem::below;
+use crate::problem::path_to_part;
 use crate::seen_items::has_required_items;
 use crate::telling::{
     Added, DeclaredName, Faults, Walk, push_fault, push_fault_unless, push_name_faults_at_part,
@@ -34,7 +34,7 @@ fn add_items_faults(walk: Walk, faults: &mut Faults, path: &[usize], forms: &[Fo
         if faults.len() >= walk.limit {
             return Ok(());
         }
-        let at = below(path, walk.alloc, number)?;
+        let at = path_to_part(path, walk.alloc, number)?;
         let shape = item_shape(form);
         add_item_faults(walk, faults, seen.as_slice(), at.as_slice(), &shape)?;
         seen.push(shape)?;
@@ -116,7 +116,7 @@ fn add_faults(walk: Walk, faults: &mut Faults, trees: &[Tree]) -> Added
 /// The faults of the model that the first tree spells, with their places: all, or the first `limit` of them.
 /// The first is the one that the reader returns.
 #[tactic(auto, using(crate::proofs::Keeping::keeping))]
-pub fn faults_of(
+pub fn model_syntax_faults(
     alloc: Global,
     trees: &[Tree],
     limit: usize,

@@ -1,6 +1,6 @@
 //! Names of operations and functions that a model does not have.
 
-use crate::found_problem::{CAPITAL, FoundProblem, is_capitalized, problem_at, with_note};
+use crate::found_problem::{CAPITAL, FoundProblem, is_capitalized_name, problem_at, with_note};
 use crate::names::{nearest, push_name};
 use crate::writing::Listed;
 use pst_model::{Item, Op};
@@ -38,7 +38,7 @@ fn names_of(
 
 /// The problem of the name `name`, which no operation, or no function, has. Its note is the known name that
 /// is probably meant, else a hint on a capital letter, else the known names, if there are some.
-pub fn unknown_among(
+pub fn unknown_operation_or_function_problem(
     alloc: Global,
     items: &[Item],
     path: &[usize],
@@ -55,7 +55,7 @@ pub fn unknown_among(
     if let Some(hint) = nearest(alloc, &known, name)? {
         return with_note(alloc, found, hint);
     }
-    if is_capitalized(name) {
+    if is_capitalized_name(name) {
         return with_note(alloc, found, CAPITAL);
     }
     if known.is_empty() {

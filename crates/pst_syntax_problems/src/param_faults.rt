@@ -12,7 +12,7 @@ ghost use Rattle.pst_syntax.specs.Reading.{are_few};
 ghost use Rattle.pst_syntax.specs.ShownItems.{shown_param_option};
 
 use crate::fault::Role;
-use crate::problem::below;
+use crate::problem::path_to_part;
 use crate::telling::{
     Added, DeclaredName, Faults, Walk, push_fault, push_fault_unless, push_name_faults_at_part,
 };
@@ -67,7 +67,12 @@ fn add_param_faults(
 
 /// Adds the faults of the parameters at `path`.
 #[tactic(auto, using(crate::proofs::Keeping::keeping))]
-fn add_params_faults_after(walk: Walk, faults: &mut Faults, path: &[usize], forms: &[Form]) -> Added
+fn add_each_parameter_faults(
+    walk: Walk,
+    faults: &mut Faults,
+    path: &[usize],
+    forms: &[Form],
+) -> Added
     ensures { OnOk result (faults.new ≡ keep walk.limit faults.old
         (spec.params_after_at walk.has_maps [] path.now 0 forms.now)) }
 {
@@ -77,7 +82,7 @@ fn add_params_faults_after(walk: Walk, faults: &mut Faults, path: &[usize], form
         if faults.len() >= walk.limit {
             return Ok(());
         }
-        let at = below(path, walk.alloc, number)?;
+        let at = path_to_part(path, walk.alloc, number)?;
         let shape = param_shape(form);
         add_param_faults(walk, faults, seen.as_slice(), at.as_slice(), &shape)?;
         seen.push(shape)?;
@@ -92,11 +97,11 @@ pub fn add_params_faults(walk: Walk, faults: &mut Faults, path: &[usize], forms:
     ensures { OnOk result (faults.new ≡ keep walk.limit faults.old
         (spec.params_faults_at walk.has_maps (below path.now 2) forms.now)) }
 {
-    let path = below(path, walk.alloc, 2)?;
+    let path = path_to_part(path, walk.alloc, 2)?;
     let path = path.as_slice();
     let role = Role::Parameters;
     let are_few = is_allowed_parameter_count(forms);
     push_fault_unless(walk, faults, path, role, are_few, FaultKind::OverLimit)?;
-    add_params_faults_after(walk, faults, path, forms)?;
+    add_each_parameter_faults(walk, faults, path, forms)?;
     Ok(())
 }

@@ -10,7 +10,7 @@ ghost use Rattle.pst_syntax.specs.Names.{is_free};
 ghost use Rattle.pst_syntax.specs.Shown.{shown};
 
 use crate::fault::Role;
-use crate::problem::below;
+use crate::problem::path_to_part;
 use crate::telling::{
     Added, DeclaredName, Faults, Walk, push_fault_unless, push_name_faults_at_part,
 };
@@ -62,7 +62,7 @@ pub fn add_tuple_place_faults(walk: Walk, faults: &mut Faults, path: &[usize], w
     ensures { OnOk result (faults.new ≡ keep walk.limit faults.old
         (part_at none_at none_at none_at (spec.below path.now 2) role.Place (Place word.now))) }
 {
-    let path = below(path, walk.alloc, 2)?;
+    let path = path_to_part(path, walk.alloc, 2)?;
     let path = path.as_slice();
     let fits = value_of(word).is_some();
     push_fault_unless(walk, faults, path, Role::Place, fits, FaultKind::OverLimit)
@@ -78,7 +78,7 @@ pub fn add_operation_name_faults(
     ensures { OnOk result (faults.new ≡ keep walk.limit faults.old
         (part_at none_at none_at none_at (spec.below path.now 1) role.Operation (Operation word.now))) }
 {
-    let path = below(path, walk.alloc, 1)?;
+    let path = path_to_part(path, walk.alloc, 1)?;
     let holds = is_usable_operation_name(word);
     push_fault_unless(
         walk,

@@ -49,7 +49,7 @@ impl Problem {
 }
 
 /// `path` with one more number at its end.
-pub fn below(path: &[usize], alloc: Global, number: usize) -> Result<Vec<usize>, AllocError>
+pub fn path_to_part(path: &[usize], alloc: Global, number: usize) -> Result<Vec<usize>, AllocError>
     ensures { IfOk result (λ longer. longer.items ≡ below path.now number) }
 {
     let mut longer = Vec::from_slice(alloc, path)?;

@@ -39,7 +39,11 @@ fn rewrite_with_operator_first(
 
 /// The trees of the node `form`, or of the node that has the word `form` as its second tree. `path` leads to
 /// `form`.
-fn trees_around<'a>(model: &'a Form, path: &[usize], form: &'a Form) -> Option<&'a [Form]> {
+fn parts_of_node_or_infix_parent<'a>(
+    model: &'a Form,
+    path: &[usize],
+    form: &'a Form,
+) -> Option<&'a [Form]> {
     if let Form::Node(parts) = form {
         return Some(parts.as_slice());
     }
@@ -189,7 +193,7 @@ pub fn with_expression_hint(
     if is_list_of_calls(model, path, form) {
         return with_note(alloc, found, CALLS);
     }
-    let Some(parts) = trees_around(model, path, form) else {
+    let Some(parts) = parts_of_node_or_infix_parent(model, path, form) else {
         return with_word_hint(alloc, form, found);
     };
     if assigned(false, parts).is_some() {

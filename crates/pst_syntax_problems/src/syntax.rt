@@ -11,7 +11,7 @@ use crate::items::{
     callback_problem, clause_problem, item_problem, missing_callbacks_problem, parameter_problem,
     too_many_parameters_problem,
 };
-use crate::model_faults::faults_of;
+use crate::model_faults::model_syntax_faults;
 use crate::names::{DidYouMean, NearestName, push_name};
 use crate::problem::{MOST_PROBLEMS, Problem};
 use crate::slips::{with_expression_hint, with_word_hint};
@@ -166,7 +166,12 @@ fn fault_problem(alloc: Global, model: &Form, form: &Form, fault: &FormFault) ->
 }
 
 /// The problem of `fault`, whose part is `form`, with a hint if it is written as in another language.
-fn hinted_problem(alloc: Global, model: &Form, form: &Form, fault: &FormFault) -> FoundProblem {
+fn fault_problem_with_hint(
+    alloc: Global,
+    model: &Form,
+    form: &Form,
+    fault: &FormFault,
+) -> FoundProblem {
     let found = fault_problem(alloc, model, form, fault)?;
     match (fault.kind, fault.role) {
         (FaultKind::UnknownForm, Role::Expression) => {
@@ -211,7 +216,7 @@ pub fn form_problems(alloc: Global, trees: &[Tree]) -> Result<Vec<Problem>, Allo
         return Ok(problems);
     };
     let model = tree.form();
-    let faults = faults_of(alloc, trees, MOST_PROBLEMS.saturating_add(1))?;
+    let faults = model_syntax_faults(alloc, trees, MOST_PROBLEMS.saturating_add(1))?;
     for (number, fault) in faults.as_slice().iter().enumerate() {
         let before = faults.as_slice().get(..number).unwrap_or(&[]);
         let path = fault.path.as_slice().get(1..).unwrap_or(&[]);
@@ -221,7 +226,7 @@ pub fn form_problems(alloc: Global, trees: &[Tree]) -> Result<Vec<Problem>, Allo
         if may_stem_from_earlier_fault(fault, before) {
             continue;
         }
-        if let Some(problem) = hinted_problem(alloc, model, form, fault)? {
+        if let Some(problem) = fault_problem_with_hint(alloc, model, form, fault)? {
             add_problem(&mut problems, problem)?;
         }
         if fault.role == Role::Model {

@@ -6,7 +6,7 @@ ghost use Rattle.pst_syntax_problems.specs.Placed.{below, placed, unless_at};
 ghost use Rattle.pst_syntax.specs.Faults.{name_faults};
 
 use crate::fault::{FormFault, Role};
-use crate::problem::below;
+use crate::problem::path_to_part;
 use pst_syntax::{FaultKind, is_short};
 use pst_value::{Items, Text};
 use std::alloc::{AllocError, Global};
@@ -109,6 +109,6 @@ pub fn push_name_faults_at_part(
     ensures { OnOk result (faults.new ≡ keep walk.limit faults.old
         (map (placed (below path.now number) role) (name_faults name.entry.is_lawful name.entry.is_taken name.entry.word.now))) }
 {
-    let path = below(path, walk.alloc, number)?;
+    let path = path_to_part(path, walk.alloc, number)?;
     push_name_faults(walk, faults, path.as_slice(), role, name)
 }

@@ -8,7 +8,7 @@ ghost use Rattle.pst_syntax.specs.Faults.{OfType, ty_fits};
 ghost use Rattle.pst_syntax.specs.Shown.{shown_ty};
 
 use crate::fault::Role;
-use crate::problem::below;
+use crate::problem::path_to_part;
 use crate::telling::{Added, Faults, Walk, push_fault, push_fault_unless};
 use pst_sexpr::Form;
 use pst_syntax::{FaultKind, MAX_PARTS, TyShape, ty_shape};
@@ -112,7 +112,7 @@ pub fn add_ty_part_faults(
     ensures { OnOk result (faults.new ≡ keep walk.limit faults.old
         (ty_faults_at walk.has_maps room role (spec.below path.now number) form.now)) }
 {
-    let path = below(path, walk.alloc, number)?;
+    let path = path_to_part(path, walk.alloc, number)?;
     add_ty_faults(walk, faults, role, path.as_slice(), form, room)
 }
 

@@ -3,14 +3,14 @@
 use crate::expressions::{
     map_keys_problem, part_count_problem, spells_value, too_many_items_problem,
 };
-use crate::forms::{hint_for_foreign_word, is_of_maps, type_form};
+use crate::forms::{hint_for_foreign_word, is_head_of_map_form, type_form};
 use crate::found_problem::{
     FoundProblem, foreign_word_problem, problem_at, problem_with_note, problem_with_note_at_part,
     with_note,
 };
 use crate::item_forms::{OPERATION, is_callback};
 use crate::names::{DidYouMean, NearestName};
-use crate::problem::{Problem, below};
+use crate::problem::{Problem, path_to_part};
 use crate::tree::has_head;
 use crate::writing::short_text;
 use pst_sexpr::{Form, node_of, tree_in, word_of};
@@ -46,13 +46,13 @@ fn type_node_problem(
     let Some(shown) = type_form(head) else {
         return unknown_type_head_problem(alloc, path, form, head);
     };
-    if is_of_maps(head) && !has_maps {
+    if is_head_of_map_form(head) && !has_maps {
         return maps_not_allowed_problem(alloc, path);
     }
     if rest.len() < shown.least || rest.len() > shown.most {
         return part_count_problem(alloc, path, shown, rest.len());
     }
-    map_keys_problem(alloc, below(path, alloc, 1)?.as_slice())
+    map_keys_problem(alloc, path_to_part(path, alloc, 1)?.as_slice())
 }
 
 /// The problem of a tree that is no type.

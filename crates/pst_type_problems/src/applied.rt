@@ -6,8 +6,9 @@ use crate::trees::tree_part_or_whole;
 use pst_model::{Fun, Item, Param};
 use pst_sexpr::word_of;
 use pst_syntax_problems::{
-    FoundProblem, Problem, Signature, below, counted, hint_for_foreign_word, is_of_maps,
-    nearest_head, operation_named, problem_at, problem_with_note_at_part, unknown_among, with_note,
+    FoundProblem, Problem, Signature, counted, hint_for_foreign_word, is_head_of_map_form,
+    nearest_head, operation_named, path_to_part, problem_at, problem_with_note_at_part,
+    unknown_operation_or_function_problem, with_note,
 };
 use pst_typing::Kind;
 use std::alloc::AllocError;
@@ -159,8 +160,8 @@ fn unknown_name_at_part_problem(
     name: &str,
     are_operations: bool,
 ) -> FoundProblem {
-    let path = below(leaf.path, leaf.alloc, part)?;
-    unknown_among(
+    let path = path_to_part(leaf.path, leaf.alloc, part)?;
+    unknown_operation_or_function_problem(
         leaf.alloc,
         leaf.context.items,
         path.as_slice(),
@@ -217,7 +218,7 @@ fn unknown_function_problem(leaf: &BlamedPart<'_>, name: &str) -> FoundProblem {
     if let Some(hint) = hint_for_foreign_word(name) {
         return unknown_function_problem_with_note(leaf, name, format_args!("hint: {hint}"));
     }
-    if is_of_maps(name) {
+    if is_head_of_map_form(name) {
         let hint = "hint: a model with maps begins with `(model2 NAME ..)`";
         return unknown_function_problem_with_note(leaf, name, hint);
     }

@@ -12,8 +12,8 @@ use crate::spelling::type_text_of_kind;
 use pst_model::{Expr, Op};
 use pst_sexpr::{Form, word_of};
 use pst_syntax_problems::{
-    FoundProblem, Listed, Problem, head_word, is_of_maps, key_type_word, nearest, operation_named,
-    problem_at, problem_at_part, problem_with_note, with_note,
+    FoundProblem, Listed, Problem, head_word, is_head_of_map_form, key_type_word, nearest,
+    operation_named, problem_at, problem_at_part, problem_with_note, with_note,
 };
 use pst_typing::{Context, Kind, KindForm, key_type};
 use pst_value::{Items, KeyTy, Text, Ty};
@@ -319,7 +319,7 @@ fn expression_form_type_problem(leaf: &BlamedPart<'_>, head: &str) -> FoundProbl
         "for" => comprehension_type_problem(leaf),
         "fold" => fold_type_problem(leaf),
         "call" => operation_call_type_problem(leaf),
-        _ if leaf.has_maps && is_of_maps(head) => map_form_type_problem(leaf, head),
+        _ if leaf.has_maps && is_head_of_map_form(head) => map_form_type_problem(leaf, head),
         _ => operator_type_problem(leaf, head),
     }
 }

@@ -3,7 +3,7 @@
 use crate::diagnose::BlamedPart;
 use crate::spelling::{type_text_of_kind, type_text_without_references};
 use pst_syntax_problems::{
-    FoundProblem, Problem, below, problem_at, problem_at_part, problem_with_note, with_note,
+    FoundProblem, Problem, path_to_part, problem_at, problem_at_part, problem_with_note, with_note,
 };
 use pst_typing::{Kind, KindForm};
 use std::alloc::{AllocError, Global};
@@ -111,7 +111,7 @@ pub fn operand_type_problem<D: Display + Drop>(
     if wanted.same(leaf.alloc, found)? {
         return Ok(None);
     }
-    let path = below(leaf.path, leaf.alloc, part)?;
+    let path = path_to_part(leaf.path, leaf.alloc, part)?;
     expected_type_problem(leaf.alloc, path.as_slice(), what, wanted, found)
 }
 

@@ -9,12 +9,12 @@ use std::alloc::{AllocError, Global};
 const MOST_REPEATS: u64 = 1_000_000;
 
 /// The file of a model.
-pub fn file_argument<'a>(alloc: Global) -> Arg<'a> {
+pub fn model_file_argument<'a>(alloc: Global) -> Arg<'a> {
     Arg::new(alloc, "FILE").help("The model; standard input if there is no FILE, or for `-`")
 }
 
 /// The files of a model and its items.
-pub fn files_argument<'a>(alloc: Global) -> Arg<'a> {
+pub fn model_and_items_files_argument<'a>(alloc: Global) -> Arg<'a> {
     Arg::new(alloc, "FILE").num_args(0..).help(
         "The model and then the items, in one file or several; standard input if there is no FILE, or for `-`",
     )
@@ -40,7 +40,7 @@ fn client_option<'a>(alloc: Global) -> Arg<'a> {
 }
 
 /// The option of the launcher that starts a client once for each worker.
-fn shared_option<'a>(alloc: Global) -> Result<Arg<'a>, AllocError> {
+fn shared_client_option<'a>(alloc: Global) -> Result<Arg<'a>, AllocError> {
     Arg::new(alloc, "shared")
         .long("shared")
         .action(ArgAction::SetTrue)
@@ -56,7 +56,7 @@ pub fn add_system_or_client_arguments<'a>(
     command
         .arg(system_argument(alloc)?)?
         .arg(client_option(alloc))?
-        .arg(shared_option(alloc)?)
+        .arg(shared_client_option(alloc)?)
 }
 
 /// The option of the launcher that says for how many branches of `run` a client is started.
@@ -71,7 +71,7 @@ pub fn branches_option<'a>(alloc: Global) -> Result<Arg<'a>, AllocError> {
 }
 
 /// Returns whether the arguments have a client, which the launcher starts and not the program.
-pub fn names_client(matches: &ArgMatches<'_>) -> bool {
+pub fn arguments_name_client(matches: &ArgMatches<'_>) -> bool {
     match matches.subcommand() {
         Some((_, words)) => words.get_str("client").is_some(),
         None => false,
@@ -93,7 +93,7 @@ pub fn format_option<'a>(alloc: Global) -> Arg<'a> {
 }
 
 /// Returns whether the arguments select JSON output.
-pub fn is_json(words: &ArgMatches<'_>) -> bool {
+pub fn arguments_select_json(words: &ArgMatches<'_>) -> bool {
     words.get_str("format") == Some("json")
 }
 
@@ -128,7 +128,7 @@ pub fn stream_option<'a>(alloc: Global) -> Result<Arg<'a>, AllocError> {
 }
 
 /// The option that leaves out the items that are explained or valid.
-pub fn failures_option<'a>(alloc: Global) -> Arg<'a> {
+pub fn only_failures_option<'a>(alloc: Global) -> Arg<'a> {
     Arg::new(alloc, "failures")
         .long("failures")
         .action(ArgAction::SetTrue)
@@ -164,7 +164,7 @@ pub fn stop_file_option<'a>(alloc: Global) -> Arg<'a> {
 }
 
 /// The option that saves failures.
-pub fn save_option<'a>(alloc: Global) -> Arg<'a> {
+pub fn save_failures_option<'a>(alloc: Global) -> Arg<'a> {
     Arg::new(alloc, "save")
         .long("save")
         .value_name("FOLDER")

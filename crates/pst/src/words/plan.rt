@@ -98,7 +98,7 @@ const TRIAL_NUMBERS: [PlanNumber; 2] = [
 ];
 
 /// The option that gives a number of a campaign's plan.
-fn plan_option<'a>(alloc: Global, number: &PlanNumber) -> Arg<'a> {
+fn plan_number_option<'a>(alloc: Global, number: &PlanNumber) -> Arg<'a> {
     Arg::new(alloc, number.name)
         .long(number.name)
         .value_name("N")
@@ -109,7 +109,7 @@ fn plan_option<'a>(alloc: Global, number: &PlanNumber) -> Arg<'a> {
 }
 
 /// Whether a number of a campaign's plan chooses the cases of its trials.
-fn chooses_cases(number: &PlanNumber) -> bool {
+fn plan_number_chooses_cases(number: &PlanNumber) -> bool {
     matches!(number.name, "seed" | "commands" | "branches" | "suffix")
 }
 
@@ -120,7 +120,7 @@ pub fn add_campaign_number_options<'a>(
 ) -> Result<Command<'a>, AllocError> {
     let mut command = command;
     for number in &PLAN_NUMBERS {
-        command = command.arg(plan_option(alloc, number))?;
+        command = command.arg(plan_number_option(alloc, number))?;
     }
     Ok(command)
 }
@@ -132,18 +132,18 @@ pub fn add_generate_number_options<'a>(
 ) -> Result<Command<'a>, AllocError> {
     let mut command = command;
     for number in &TRIAL_NUMBERS {
-        command = command.arg(plan_option(alloc, number))?;
+        command = command.arg(plan_number_option(alloc, number))?;
     }
     for number in &PLAN_NUMBERS {
-        if chooses_cases(number) {
-            command = command.arg(plan_option(alloc, number))?;
+        if plan_number_chooses_cases(number) {
+            command = command.arg(plan_number_option(alloc, number))?;
         }
     }
     Ok(command)
 }
 
 /// The number of an option.
-fn small_number(words: &ArgMatches<'_>, name: &str) -> Option<u32> {
+fn number_from_arguments(words: &ArgMatches<'_>, name: &str) -> Option<u32> {
     words.get_one(name)
 }
 
@@ -154,9 +154,9 @@ pub fn generate_settings_from_arguments(words: &ArgMatches<'_>) -> Option<Settin
     let settings = Settings {
         seed: words.get_one("seed")?,
         trials: 0,
-        commands: small_number(words, "commands")?,
-        branches: small_number(words, "branches")?,
-        suffix: small_number(words, "suffix")?,
+        commands: number_from_arguments(words, "commands")?,
+        branches: number_from_arguments(words, "branches")?,
+        suffix: number_from_arguments(words, "suffix")?,
         repeats: 1,
         limit: 0,
     };
@@ -173,12 +173,12 @@ pub fn campaign_settings_from_arguments(words: &ArgMatches<'_>) -> Option<Settin
 {
     let settings = Settings {
         seed: words.get_one("seed")?,
-        trials: small_number(words, "trials")?,
-        commands: small_number(words, "commands")?,
-        branches: small_number(words, "branches")?,
-        suffix: small_number(words, "suffix")?,
-        repeats: small_number(words, "repeats")?,
-        limit: small_number(words, "limit")?,
+        trials: number_from_arguments(words, "trials")?,
+        commands: number_from_arguments(words, "commands")?,
+        branches: number_from_arguments(words, "branches")?,
+        suffix: number_from_arguments(words, "suffix")?,
+        repeats: number_from_arguments(words, "repeats")?,
+        limit: number_from_arguments(words, "limit")?,
     };
     if settings.are_in_range() {
         Some(settings)

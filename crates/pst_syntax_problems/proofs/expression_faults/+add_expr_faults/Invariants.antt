@@ -25,8 +25,8 @@ decreases-add_ternary_faults l = 6 * l.room + 3
 abbrev pub decreases-add_let_faults : goal.decreases-add_let_faults
 decreases-add_let_faults l = 6 * l.room + 3
 
-abbrev pub decreases-add_at_faults : goal.decreases-add_at_faults
-decreases-add_at_faults l = 6 * l.room + 3
+abbrev pub decreases-add_tuple_item_faults : goal.decreases-add_tuple_item_faults
+decreases-add_tuple_item_faults l = 6 * l.room + 3
 
 abbrev pub decreases-add_list_faults : goal.decreases-add_list_faults
 decreases-add_list_faults l = 6 * l.room + 4

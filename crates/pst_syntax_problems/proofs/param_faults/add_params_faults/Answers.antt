@@ -13,5 +13,5 @@ returns c =
     let p : c.as_slice-path.result.now ≡ below c.args.path.now 2 = c.as_slice-path.ensures.value ∙ c.in_ok-path.ensures in
     both_unless c.args.walk.limit c.as_slice-path.result.now role.Parameters c.is_allowed_parameter_count-are_few.result (are_few c.args.forms.now) OverLimit
     (params_after_at c.args.walk.has_maps [] c.as_slice-path.result.now 0 c.args.forms.now)
-    c.args.faults.now c.push_fault_unless.new.faults c.add_params_faults_after.new.faults c.is_allowed_parameter_count-are_few.ensures c.in_ok-push_fault_unless.ensures c.in_ok-add_params_faults_after.ensures
+    c.args.faults.now c.push_fault_unless.new.faults c.add_each_parameter_faults.new.faults c.is_allowed_parameter_count-are_few.ensures c.in_ok-push_fault_unless.ensures c.in_ok-add_each_parameter_faults.ensures
     ∙ ap (λ (path : List ℕ). keep c.args.walk.limit c.args.faults.now (params_faults_at c.args.walk.has_maps path c.args.forms.now)) p

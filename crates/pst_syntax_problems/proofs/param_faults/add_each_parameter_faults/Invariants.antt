@@ -2,7 +2,7 @@ use Rattle.std.proofs.Common.{◌≡◌, [], drop}
 use Rattle.pst_syntax_problems.specs.Kept.{keep}
 use Rattle.pst_syntax_problems.specs.PlacedModel.{params_after_at}
 use Rattle.pst_syntax_problems.specs.SeenShapes.{params_in}
-use Rattle.pst_syntax_problems.proofs.param_faults.add_params_faults_after.Given as goal
+use Rattle.pst_syntax_problems.proofs.param_faults.add_each_parameter_faults.Given as goal
 
 abbrev pub invariant-loop-form : goal.invariant-loop-form
 invariant-loop-form l = record {

@@ -6,7 +6,7 @@ use Rattle.pst_syntax_problems.specs.SeenShapes.{params_in}
 use Rattle.pst_syntax_problems.specs.declared.fault.Role.TheVariants as role
 use Rattle.pst_syntax_problems.proofs.Keeping.{keep_none}
 use Rattle.pst_syntax_problems.proofs.Walks.{next, last}
-use Rattle.pst_syntax_problems.proofs.param_faults.add_params_faults_after.Goals as goal
+use Rattle.pst_syntax_problems.proofs.param_faults.add_each_parameter_faults.Goals as goal
 
 pub loop-form-preserved : goal.loop-form-preserved
 loop-form-preserved c = record {
