@@ -33,7 +33,11 @@ use std::alloc::{AllocError, Global};
 use std::thread::Threads;
 
 /// The object of an item: its verdict, or why it is refused.
-fn answer_object(alloc: Global, number: usize, answer: &ItemResult) -> Result<Vec<u8>, AllocError>
+fn item_result_json_line(
+    alloc: Global,
+    number: usize,
+    answer: &ItemResult,
+) -> Result<Vec<u8>, AllocError>
     ensures { IfOk result (λ line. line.items ≡ answer_object number answer.now) }
 {
     let fields = match answer {
@@ -56,7 +60,7 @@ fn add_shown_item_json_object(
     if shown == Shown::Failures && is_result_explained_or_valid(answer) {
         return Ok(());
     }
-    let line = answer_object(alloc, number, answer)?;
+    let line = item_result_json_line(alloc, number, answer)?;
     text.extend_from_slice(line.as_slice())
 }
 

@@ -72,7 +72,7 @@ fn hand_over_refused_lines<L: RefusedLines>(
 
 /// Hands over the refused lines among `ended`, if there are some. `begun` is the beginning of the first line, if
 /// `lines` takes further lines. Hands over none if an allocation fails.
-pub(crate) fn hand_over_refused_lines_if_wanted<L: RefusedLines>(
+pub(crate) fn hand_over_refused_stream_lines<L: RefusedLines>(
     lines: &mut L,
     begun: Result<Option<Vec<u8>>, AllocError>,
     ended: EndedLines<'_>,

@@ -11,7 +11,7 @@ use crate::keep::{add_item_result_line, answer_status};
 use crate::output::send;
 use crate::refusal::refusal_output;
 use crate::refused_lines::{
-    EndedLines, RefusedLines, copy_begun_line_if_wanted, hand_over_refused_lines_if_wanted,
+    EndedLines, RefusedLines, copy_begun_line_if_wanted, hand_over_refused_stream_lines,
 };
 use crate::sharing::may_share_compiled;
 use crate::status::Status;
@@ -167,7 +167,7 @@ fn write_stream<I: Read, W: Sink, R: Threads + Sync, L: RefusedLines>(
             read: bytes_read_for_lines_of_block(buffer.as_slice(), block.is_last),
             answers,
         };
-        hand_over_refused_lines_if_wanted(refused, begun, ended);
+        hand_over_refused_stream_lines(refused, begun, ended);
         if block.is_last {
             return Ok(written.status);
         }

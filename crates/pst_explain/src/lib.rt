@@ -40,7 +40,7 @@ pub use failures::{Evaluated, Expression, FailingPart, Failure};
 pub use graph::draw_search_as_graphviz;
 pub use places::{TreePlace, tree_places_in_input};
 pub use position::Position;
-pub use scripts::explain_why_script_has_no_case;
+pub use scripts::explain_fault_in_generation;
 pub use search::{Move, Search, Target, build_search_graph_if_small};
 pub use text::{
     append_colored_explanation_text, append_explanation_text, explanation_text_without_heading,

@@ -39,7 +39,7 @@ fn run_with_script_as_prefix(
 /// faults, its expression with the values of its names, the part of it that faults, and the states before. `commands`
 /// are those of the script so far; if `pre` or `next` faults, the last of them is its command. `None` if they are no
 /// script of the model.
-pub fn explain_why_script_has_no_case(
+pub fn explain_fault_in_generation(
     alloc: Global,
     typed: &Typed,
     commands: Items<Command>,

@@ -6,7 +6,7 @@ use crate::warning::{tree_number_of_item, warning_notice};
 use pst_case::Command;
 use pst_compile::{Compiled, compile};
 use pst_eval::{Callback, FaultPlace};
-use pst_explain::explain_why_script_has_no_case;
+use pst_explain::explain_fault_in_generation;
 use pst_model::{Item, Typed};
 use pst_sources::{Input, Notice};
 use pst_typing::load;
@@ -63,7 +63,7 @@ fn explain_script_fault(
     script: FaultyScript,
 ) -> Result<String, AllocError> {
     let FaultyScript { commands, place } = script;
-    let Some(text) = explain_why_script_has_no_case(alloc, typed, commands, place, WIDTH)? else {
+    let Some(text) = explain_fault_in_generation(alloc, typed, commands, place, WIDTH)? else {
         return Ok(String::new(alloc));
     };
     match std::str::from_utf8(text.as_slice()) {

@@ -262,7 +262,7 @@ fn subject_of_precondition_warnings<'a>(
 }
 
 /// No items.
-fn no_items_found(alloc: Global) -> FoundItems {
+fn no_false_preconditions(alloc: Global) -> FoundItems {
     FoundItems {
         first: Vec::new(alloc),
         count: 0,
@@ -289,7 +289,7 @@ pub fn precondition_warnings_on_runs<C: Callbacks>(
     let Some(subject) = subject_of_precondition_warnings(alloc, typed, input)? else {
         return Ok(None);
     };
-    let mut found = no_items_found(alloc);
+    let mut found = no_false_preconditions(alloc);
     add_false_preconditions_of_parts(&mut found, callbacks, alloc, &subject, parts, judged)?;
     if found.count == 0 {
         return Ok(None);
@@ -315,7 +315,7 @@ pub fn precondition_warnings_on_item_results<C: Callbacks>(
     let Some(subject) = subject_of_precondition_warnings(alloc, typed, input)? else {
         return Ok(None);
     };
-    let mut found = no_items_found(alloc);
+    let mut found = no_false_preconditions(alloc);
     for (index, answer) in answers.iter().enumerate() {
         let item = index.saturating_add(1);
         add_result_with_false_precondition(

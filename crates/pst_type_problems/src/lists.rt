@@ -63,7 +63,7 @@ pub fn first_list_item_type_problem(leaf: &BlamedPart<'_>) -> FoundProblem {
 }
 
 /// Whether a type is the one that the expression of a clause has to have.
-fn is_type_wanted_by_clause(
+fn has_type_wanted_by_comprehension_clause(
     leaf: &BlamedPart<'_>,
     clause: &Form,
     found: &Kind,
@@ -99,7 +99,7 @@ pub fn comprehension_type_problem(leaf: &BlamedPart<'_>) -> FoundProblem {
         let Some(found) = leaf.kinds.get(place) else {
             return Ok(None);
         };
-        if !is_type_wanted_by_clause(leaf, clause, found)? {
+        if !has_type_wanted_by_comprehension_clause(leaf, clause, found)? {
             return clause_type_problem(leaf, clause, place, found);
         }
     }
