@@ -100,6 +100,10 @@ fn fault_of_line_unless_one_item(
     if trees.is_empty() {
         return Ok(Some(line_fault_without_notes(alloc, first, "there is no item on this line")?));
     }
+    if line.get(first.start) == Some(&b'{') {
+        let what = "the `{` of an item as JSON has to be the first character of its line";
+        return Ok(Some(line_fault_without_notes(alloc, first, what)?));
+    }
     if trees.len() > 1 {
         let second = tree_at(line, first.end);
         let what = "a second item begins here: a line of a stream has one";
