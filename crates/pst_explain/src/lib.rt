@@ -1,10 +1,10 @@
 //! Explains verdicts: explanations as data, their text, and the graph of the search.
 //!
-//! `explain_item` explains one item, whose judgement is known. `explanation_text` writes the explanation in the form of
-//! `pst explain`. `first_places` finds where the trees of an input begin, `explain_script` explains why no case can be
-//! generated, and `broken_text` which reply makes a run broken. Cores and the states of interleavings are from
-//! `pst_reasons`, the interleavings from `pst_judge`. The rest of an explanation, and its text, is tested and not
-//! proved.
+//! `explain_item` explains one item, whose judgement is known. `append_explanation_text` writes the explanation in the
+//! form of `pst explain`. `tree_places_in_input` finds where the trees of an input begin, `explain_fault_in_generation`
+//! explains why no case can be generated, and `explain_broken_run` which reply makes a run broken. Cores and the states
+//! of interleavings are from `pst_reasons`, the interleavings from `pst_judge`. The rest of an explanation, and its text,
+//! is tested and not proved.
 //!
 //! `AllocError` means that an allocation failed.
 #![tactic(auto)]

@@ -2,8 +2,8 @@
 //! states along an interleaving, and why a command cannot come next on a state.
 //!
 //! It also evaluates expressions and their parts, for the false or faulting part of a callback. It serves `pst_explain`,
-//! whose output is tested and not proved: the contracts cover only `cut` and
-//! `scene_of`.
+//! whose output is tested and not proved: the contracts cover only `cut_in_middle`, `scene_of_run` and these
+//! evaluations.
 #![tactic(auto)]
 
 mod attempt;

@@ -1,6 +1,6 @@
-//! Problems of a refused input, as messages report them: where they are, what is wrong, and notes.
+//! What is wrong with the form of a model text: where it is, what it has to be, and notes.
 //!
-//! `faults_of` finds the faults of a model text, each with the path to the refused part and with what that
+//! `model_syntax_faults` finds the faults of a model text, each with the path to the refused part and with what that
 //! part has to be. Its contract says that it returns the faults of the definition, in their order, and `laws`
 //! says that the reader refuses the text for the first of them. `form_problems` words them. The words are
 //! tested, not proved: the proofs only say that the code terminates and does nothing unsafe.
