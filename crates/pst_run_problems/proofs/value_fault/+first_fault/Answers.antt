@@ -2,7 +2,7 @@ use Rattle.std.proofs.Common.{◌<◌, length, Some, refl, ap, sym, ◌∙◌, a
 use Rattle.std.proofs.lemmas.Option.{slice_get_read}
 use Rattle.pst_run_problems.proofs.Led.{entries_led, read_led, type_at}
 use Rattle.pst_run_problems.proofs.value_fault.+first_fault.Goals as goal
-use Rattle.pst_run_problems.proofs.value_fault.+first_fault.Goals.{fault_at-in-Same+in_ok-found-in-Same, fault_at-in-Items+in-Some+in_ok-found-in-Some, fault_at-in-Items+in-None, fault_at-in-Params+in-Some-get+in_ok-found-in-Some-get, fault_at-in-Params+in-None-get, fault_at-in-Entries+in_ok-found-in-Entries}
+use Rattle.pst_run_problems.proofs.value_fault.+first_fault.Goals.{value_fault_at_tree_number-in-Same+in_ok-found-in-Same, value_fault_at_tree_number-in-Items+in-Some+in_ok-found-in-Some, value_fault_at_tree_number-in-Items+in-None, value_fault_at_tree_number-in-Params+in-Some-get+in_ok-found-in-Some-get, value_fault_at_tree_number-in-Params+in-None-get, value_fault_at_tree_number-in-Entries+in_ok-found-in-Entries}
 use Rattle.pst_run_problems.specs.ValuePlaces as spec
 use Rattle.pst_run_problems.specs.declared.value_fault.Types.{Types}
 
@@ -23,20 +23,20 @@ value_fault_at_tree_number-returns-in_ok-prepend_tree_number_to_path-in-Some-fou
     let e = c.in_ok-prepend_tree_number_to_path-in-Some-found.ensures in
     let k = c.in-Some-found.is in
     elim c.match-types.branch [
-      | fault_at-in-Same+in_ok-found-in-Same w ↦
+      | value_fault_at_tree_number-in-Same+in_ok-found-in-Same w ↦
           led _ _ _ _ _ _ z l g (ap role w.in-Same.is) k w.found-is e w.in_ok-found-in-Same.ensures.place
-      | fault_at-in-Items+in-Some+in_ok-found-in-Some w ↦
+      | value_fault_at_tree_number-in-Items+in-Some+in_ok-found-in-Some w ↦
           led (spec.IsValue (Some w.in-Some.item.now)) _ _ _ _ _ z l g
           (let there = w.in-Some.ensures.lookup in ap role w.in-Items.is
           ∙ ap spec.some_value (slice_get_read w.in-Items.items.now _ _ _ refl there.3.0 there.1)) k w.found-is e
           w.in_ok-found-in-Some.ensures.place
-      | fault_at-in-Items+in-None w ↦ absurd (let h = sym k ∙ w.found-is in cc)
-      | fault_at-in-Params+in-Some-get+in_ok-found-in-Some-get w ↦
+      | value_fault_at_tree_number-in-Items+in-None w ↦ absurd (let h = sym k ∙ w.found-is in cc)
+      | value_fault_at_tree_number-in-Params+in-Some-get+in_ok-found-in-Some-get w ↦
           led (spec.IsValue (Some w.in-Some-get.param.now.ty)) _ _ _ _ _ z l g
           (let there = w.in-Some-get.ensures.lookup in ap role w.in-Params.is
           ∙ ap spec.some_value (type_at w.in-Params.params.now _ _ there.3.0 there.1)) k w.found-is e
           w.in_ok-found-in-Some-get.ensures.place
-      | fault_at-in-Params+in-None-get w ↦ absurd (let h = sym k ∙ w.found-is in cc)
-      | fault_at-in-Entries+in_ok-found-in-Entries w ↦
+      | value_fault_at_tree_number-in-Params+in-None-get w ↦ absurd (let h = sym k ∙ w.found-is in cc)
+      | value_fault_at_tree_number-in-Entries+in_ok-found-in-Entries w ↦
           led _ _ _ _ _ _ z l g (ap role w.in-Entries.is) k w.found-is e (w.in_ok-found-in-Entries.ensures _ _)
     ]
