@@ -148,7 +148,9 @@ pub fn parse_arguments<'a, R: Runtime + AllocGlobal>(
         Ok(matches) if matches.subcommand_name() == Some("verdicts") => {
             Err(print_to_standard_output(rt, help::VERDICTS))
         }
-        Ok(matches) if words::arguments_name_client(&matches) => Err(refuse_client_without_launcher(rt)),
+        Ok(matches) if words::arguments_name_client(&matches) => Err(refuse_client_without_launcher(
+            rt,
+        )),
         Ok(matches) => Ok(matches),
         Err(error) => Err(print_help_or_arguments_error(rt, started, &error)),
     }
