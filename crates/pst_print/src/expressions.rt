@@ -135,79 +135,34 @@ pub fn expr_form(alloc: Global, expr: &Expr) -> Result<Form, AllocError>
         Expr::Text(text) => Ok(Form::Text(text.copy(alloc)?)),
         Expr::Name(bound) => print_name(alloc, bound),
         Expr::Let(bound, value, body) => {
-            let_form(
-                alloc,
-                bound,
-                print_boxed_expression(alloc, value)?,
-                print_boxed_expression(alloc, body)?,
-            )
+            let_form(alloc, bound, form_of(alloc, value)?, form_of(alloc, body)?)
         }
         Expr::If(test, yes, no) => {
-            let (test, yes) = (
-                print_boxed_expression(alloc, test)?,
-                print_boxed_expression(alloc, yes)?,
-            );
-            ternary_form(alloc, "if", test, yes, print_boxed_expression(alloc, no)?)
+            let (test, yes) = (form_of(alloc, test)?, form_of(alloc, yes)?);
+            ternary_form(alloc, "if", test, yes, form_of(alloc, no)?)
         }
-        Expr::And(a, b) => binary_form(
-            alloc,
-            "and",
-            print_boxed_expression(alloc, a)?,
-            print_boxed_expression(alloc, b)?,
-        ),
-        Expr::Or(a, b) => binary_form(
-            alloc,
-            "or",
-            print_boxed_expression(alloc, a)?,
-            print_boxed_expression(alloc, b)?,
-        ),
-        Expr::Unary(operator, a) => unary_form(
-            alloc,
-            unary_word(*operator),
-            print_boxed_expression(alloc, a)?,
-        ),
+        Expr::And(a, b) => binary_form(alloc, "and", form_of(alloc, a)?, form_of(alloc, b)?),
+        Expr::Or(a, b) => binary_form(alloc, "or", form_of(alloc, a)?, form_of(alloc, b)?),
+        Expr::Unary(operator, a) => unary_form(alloc, unary_word(*operator), form_of(alloc, a)?),
         Expr::Binary(operator, a, b) => {
             let word = binary_word(*operator);
-            binary_form(
-                alloc,
-                word,
-                print_boxed_expression(alloc, a)?,
-                print_boxed_expression(alloc, b)?,
-            )
+            binary_form(alloc, word, form_of(alloc, a)?, form_of(alloc, b)?)
         }
         Expr::Tuple(parts) => headed(alloc, "tuple", each_expr(alloc, parts.as_slice())?),
-        Expr::At(tuple, number) => at_form(alloc, print_boxed_expression(alloc, tuple)?, *number),
+        Expr::At(tuple, number) => at_form(alloc, form_of(alloc, tuple)?, *number),
         Expr::List(ty, items) => list_form(alloc, ty, each_expr(alloc, items.as_slice())?),
         Expr::For(clauses, body) => {
             let clauses = Form::Node(each_clause(alloc, clauses.as_slice())?);
-            binary_form(alloc, "for", clauses, print_boxed_expression(alloc, body)?)
+            binary_form(alloc, "for", clauses, form_of(alloc, body)?)
         }
         Expr::Fold(bound, items, built, first, body) => {
-            let (items, first) = (
-                print_boxed_expression(alloc, items)?,
-                print_boxed_expression(alloc, first)?,
-            );
-            fold_form(
-                alloc,
-                (bound, built),
-                items,
-                first,
-                print_boxed_expression(alloc, body)?,
-            )
+            let (items, first) = (form_of(alloc, items)?, form_of(alloc, first)?);
+            fold_form(alloc, (bound, built), items, first, form_of(alloc, body)?)
         }
         Expr::Map(kind, ty) => print_empty_map(alloc, *kind, ty),
         Expr::Put(map, key, value) => {
-            let (map, key) = (
-                print_boxed_expression(alloc, map)?,
-                print_boxed_expression(alloc, key)?,
-            );
-            ternary_form(
-                alloc,
-                "put",
-                map,
-                key,
-                print_boxed_expression(alloc, value)?,
-            )
+            let (map, key) = (form_of(alloc, map)?, form_of(alloc, key)?);
+            ternary_form(alloc, "put", map, key, form_of(alloc, value)?)
         }
         Expr::Call(called, args) => call_form(alloc, called, each_expr(alloc, args.as_slice())?),
         Expr::Apply(called, args) => apply_form(alloc, called, each_expr(alloc, args.as_slice())?),
@@ -216,7 +171,7 @@ pub fn expr_form(alloc: Global, expr: &Expr) -> Result<Form, AllocError>
 
 /// The tree of a part of an expression.
 #[cycle(expr_form)]
-fn print_boxed_expression(alloc: Global, part: &Boxed<Expr>) -> Result<Form, AllocError>
+fn form_of(alloc: Global, part: &Boxed<Expr>) -> Result<Form, AllocError>
     ensures { IfOk result (λ form. form ≡ expr_form part.now) }
 {
     expr_form(alloc, part.get())
