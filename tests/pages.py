@@ -11,7 +11,8 @@ The words after the fence of a block say what it is:
   lisp items            items of a model, which has to be accepted
   LANGUAGE not-run      what no test runs; it is listed
   text                  no command and no output
-In a table a last cell "`EXPRESSION` is VALUE" is evaluated. Each named file of the repository has to be there.
+In a table a last cell "`EXPRESSION` is VALUE" is evaluated. Each named file of the repository has to be there. A table of crates has each crate of
+crates.txt once, and each type that it names is one of its crate.
 """
 import importlib.util, os, re, shutil, socket, subprocess, sys, tempfile
 from commands import TOP, fits
@@ -148,6 +149,32 @@ class Page:
                 at = os.path.join(os.path.dirname(self.path), name)
                 self.count(any(os.path.exists(os.path.join(top, name)) for top in (TOP, CRATES)) or os.path.exists(at), number, f"there is no {name}")
 
+    def crates(self):
+        """Compares a table with a column `Crate` and a column `Types` with crates.txt and with the sources."""
+        named, is_table = [], False
+        for number, line in enumerate(self.lines, 1):
+            cells = [cell.strip() for cell in line.strip("|").split("|")]
+            is_table = line.startswith("|") and (is_table or cells[1:2] + cells[-1:] == ["Crate", "Types"])
+            if is_table:
+                crates = re.findall(r"`(\w+)`", cells[1])
+                named += crates
+                for name in re.findall(r"`(\w+)`", cells[-1]):
+                    self.count(any(name in types_of(crate) for crate in crates), number, f"no {name} in {cells[1]}")
+        if named:
+            with open(os.path.join(TOP, "crates.txt"), encoding="utf-8") as lines:
+                listed = [line.split(":")[0].split()[0] for line in lines if ":" in line]
+            self.count(sorted(named) == sorted(listed), 1, *sorted(set(named) ^ set(listed)))
+
+
+def types_of(crate):
+    """Returns the names of the types and traits that a crate defines."""
+    texts = []
+    for folder, _, files in os.walk(os.path.join(CRATES, crate, "src")):
+        for name in files:
+            with open(os.path.join(folder, name), encoding="utf-8") as source:
+                texts.append(source.read())
+    return set(re.findall(r"^(?:pub(?:\([a-z]+\))? )?(?:struct|enum|trait|type) (\w+)", "\n".join(texts), re.M))
+
 
 def main(program, *pages):
     passed = failed = 0
@@ -163,6 +190,7 @@ def main(program, *pages):
                 page.block(words, number, lines)
             page.examples()
             page.files()
+            page.crates()
             passed, failed = passed + page.passed, failed + page.failed
     print(f"{passed} passed, {failed} failed")
     return 1 if failed else 0

@@ -105,7 +105,12 @@ fn print_help_or_arguments_error<R: Runtime + AllocGlobal>(
     if !error.use_stderr() {
         return match error.print(rt) {
             Ok(()) => Status::Accepted,
-            Err(error) => outputs::report_lost_output(rt, rt.alloc(), None, &error),
+            Err(error) => outputs::report_lost_output_unless_pipe_closed(
+                rt,
+                rt.alloc(),
+                None,
+                &error,
+            ),
         };
     }
     let Ok(text) = arguments_error_text(rt.alloc(), started, error) else {
@@ -121,7 +126,7 @@ fn print_help_or_arguments_error<R: Runtime + AllocGlobal>(
 fn print_to_standard_output<R: Runtime + AllocGlobal>(rt: &R, text: &str) -> Status {
     match print!(rt; "{text}") {
         Ok(()) => Status::Accepted,
-        Err(error) => outputs::report_lost_output(rt, rt.alloc(), None, &error),
+        Err(error) => outputs::report_lost_output_unless_pipe_closed(rt, rt.alloc(), None, &error),
     }
 }
 

@@ -3,7 +3,7 @@
 
 use crate::explained;
 use pst_case::{Case, Command, History, Reply};
-use pst_cli::explain_run;
+use pst_cli::explanation_of_run_unless_explained;
 use pst_value::Items;
 use std::alloc::{AllocError, Global};
 
@@ -40,7 +40,7 @@ const FAULT_NOTE: &str =
 
 /// Returns the command that is called before all others, and its reply: the first of the prefix, or of the only branch
 /// that has commands.
-fn first_command_and_reply<'a>(
+fn first_command_and_reply_if_certain<'a>(
     case: &'a Case,
     history: &'a History,
 ) -> Option<(&'a Command, &'a Reply)> {
@@ -111,7 +111,7 @@ fn run_of_one_command(
 }
 
 /// Returns the note on an explanation of a run of one command, in the initial state of the model.
-fn note_on_explanation_of_first_call(text: &str) -> &'static str {
+fn note_if_explanation_finds_call_wrong(text: &str) -> &'static str {
     if text.starts_with(POST_FAULT) {
         FAULT_NOTE
     } else if text.contains(ONE_WRONG) && !text.starts_with(FAULT) {
@@ -123,19 +123,19 @@ fn note_on_explanation_of_first_call(text: &str) -> &'static str {
 
 /// Returns the note on the first call of a run, in the initial state of the model. It is empty if the call is
 /// right there.
-fn note_on_first_call_of_run(
+fn note_if_first_call_is_wrong(
     alloc: Global,
     input: &[u8],
     case: &Case,
     history: &History,
 ) -> Result<&'static str, AllocError> {
-    let Some((command, reply)) = first_command_and_reply(case, history) else {
+    let Some((command, reply)) = first_command_and_reply_if_certain(case, history) else {
         return Ok("");
     };
     let (case, history) = run_of_one_command(alloc, command, reply)?;
-    match explain_run(alloc, input, case, history, WIDTH)? {
+    match explanation_of_run_unless_explained(alloc, input, case, history, WIDTH)? {
         Some(text) => match std::str::from_utf8(text.as_slice()) {
-            Ok(text) => Ok(note_on_explanation_of_first_call(text)),
+            Ok(text) => Ok(note_if_explanation_finds_call_wrong(text)),
             Err(_) => Ok(""),
         },
         None => Ok(""),
@@ -156,7 +156,7 @@ pub fn print_failure_explanation_to_stderr<R: Eprint>(
     } else {
         ""
     };
-    let note = note_on_first_call_of_run(alloc, input, &case, &history);
+    let note = note_if_first_call_is_wrong(alloc, input, &case, &history);
     explained::print_run_explanation_to_stderr(
         rt,
         alloc,

@@ -3,17 +3,18 @@
 ghost use Rattle.std.specs.Prelude.{◌≡◌, false};
 ghost use Rattle.pst_trial.specs.Settings.{AreInRange};
 
-use crate::page::CampaignPage;
+use crate::page::CampaignPageOptions;
 use crate::progress::ProgressDisplay;
-use crate::saving::Saving;
+use crate::saving::FailureSaver;
 use crate::watching::BothWatchers;
 use crate::{least, warned, words};
 use clap::ArgMatches;
 use pst_campaign::{EarlyStop, StopCondition};
 use pst_cli::{
-    Absence, CampaignNotes, MEMORY_OBJECT, Status, campaign_with_notes, check_json, refuse_text,
+    Absence, CampaignNotes, MEMORY_OBJECT, Status, check_json, refuse_text,
+    run_campaign_and_take_notes,
 };
-use pst_rejudge::{Field, object_line};
+use pst_rejudge::{Field, json_object_line};
 use pst_sexpr::{Out, Sink, put_all};
 use pst_sources::Input;
 use pst_system::BoxedSystem;
@@ -25,18 +26,18 @@ use std::thread::Threads;
 
 /// How a campaign is run, and what is written of it.
 #[derive(Clone, Copy, Drop)]
-struct How<'a> {
+struct CampaignOptions<'a> {
     ending: &'a EarlyStop,
     /// Whether standard error is a terminal.
     is_terminal: bool,
     arguments_select_json: bool,
     is_quiet: bool,
-    page: CampaignPage<'a>,
+    page: CampaignPageOptions<'a>,
     input: Input<'a>,
 }
 
 /// Runs a campaign. If standard error is a terminal, a line on it displays the progress, unless the arguments forbid it.
-fn run_campaign_with_progress_line<
+fn run_campaign_with_progress_on_terminal<
     W: Sink,
     R: Threads + Wait + Sync + Eprint + Copy + Drop + Send + 'static,
 >(
@@ -44,7 +45,7 @@ fn run_campaign_with_progress_line<
     alloc: Global,
     settings: Settings,
     systems: Vec<BoxedSystem>,
-    how: How<'_>,
+    how: CampaignOptions<'_>,
     notes: &mut CampaignNotes,
     out: &mut W,
 ) -> Status
@@ -58,18 +59,18 @@ fn run_campaign_with_progress_line<
                 first: display.progress(),
                 second: ending,
             };
-            let status = campaign_with_notes(
+            let status = run_campaign_and_take_notes(
                 rt, alloc, input, settings, systems, &both, notes, out,
             );
             display.end(rt);
             return status;
         }
     }
-    campaign_with_notes(rt, alloc, input, settings, systems, ending, notes, out)
+    run_campaign_and_take_notes(rt, alloc, input, settings, systems, ending, notes, out)
 }
 
 /// Writes the report of a campaign. `Err`: it is not written, and the status is the one that the program ends with.
-fn write_campaign_report<W: Sink>(
+fn write_campaign_report_or_memory_refusal<W: Sink>(
     report: &[u8],
     status: Status,
     out: &mut W,
@@ -87,7 +88,7 @@ fn write_campaign_report<W: Sink>(
 }
 
 /// Writes the JSON object of a campaign, or that of the refusal of its model or of a failed allocation.
-fn write_campaign_json_object<W: Sink>(
+fn write_campaign_or_refusal_json_object<W: Sink>(
     alloc: Global,
     status: Status,
     input: &[u8],
@@ -100,7 +101,7 @@ fn write_campaign_json_object<W: Sink>(
         return check_json(alloc, input, &[], out);
     }
     let line = match report {
-        Some(fields) => object_line(alloc, fields.as_slice()),
+        Some(fields) => json_object_line(alloc, fields.as_slice()),
         None => Err(AllocError),
     };
     match line {
@@ -118,7 +119,7 @@ fn write_campaign_json_object<W: Sink>(
 /// Runs a campaign and writes its report once it is complete. Unless the arguments forbid it, explanations of the least
 /// failure and of the first trial without a case follow on standard error; without such a trial also the warnings on the
 /// model.
-fn run_campaign_with_messages<
+fn run_campaign_with_page_and_messages<
     W: Sink,
     R: Threads + Wait + Sync + Eprint + Files + Copy + Drop + Send + 'static,
 >(
@@ -126,7 +127,7 @@ fn run_campaign_with_messages<
     alloc: Global,
     settings: Settings,
     systems: Vec<BoxedSystem>,
-    how: How<'_>,
+    how: CampaignOptions<'_>,
     notes: &mut CampaignNotes,
     out: &mut W,
 ) -> Status
@@ -135,11 +136,13 @@ fn run_campaign_with_messages<
 {
     let (page, input) = (how.page, how.input.bytes);
     if how.is_quiet && !how.arguments_select_json {
-        let status = run_campaign_with_progress_line(rt, alloc, settings, systems, how, notes, out);
+        let status = run_campaign_with_progress_on_terminal(
+            rt, alloc, settings, systems, how, notes, out,
+        );
         return status.or_worse(page.write(rt, alloc, input, notes));
     }
     let mut report = Out::new(Vec::new(alloc));
-    let status = run_campaign_with_progress_line(
+    let status = run_campaign_with_progress_on_terminal(
         rt,
         alloc,
         settings,
@@ -149,9 +152,9 @@ fn run_campaign_with_messages<
         &mut report,
     );
     let status = if how.arguments_select_json {
-        write_campaign_json_object(alloc, status, input, notes.report.as_ref(), out)
+        write_campaign_or_refusal_json_object(alloc, status, input, notes.report.as_ref(), out)
     } else {
-        match write_campaign_report(report.into_inner().as_slice(), status, out) {
+        match write_campaign_report_or_memory_refusal(report.into_inner().as_slice(), status, out) {
             Ok(status) => status,
             Err(status) => return status,
         }
@@ -167,9 +170,9 @@ fn run_campaign_with_messages<
 }
 
 /// Saves the failures of a campaign that has ended, if they were kept.
-fn save_campaign_failures<R: Eprint + Files + AllocGlobal>(
+fn save_campaign_failures_if_kept<R: Eprint + Files + AllocGlobal>(
     rt: &R,
-    saving: &Saving<'_>,
+    saving: &FailureSaver<'_>,
     notes: &CampaignNotes,
     is_quiet: bool,
 ) -> Status {
@@ -187,15 +190,15 @@ fn run_campaign_and_save_failures<
     rt: &R,
     settings: Settings,
     systems: Vec<BoxedSystem>,
-    saving: &Saving<'_>,
-    how: How<'_>,
+    saving: &FailureSaver<'_>,
+    how: CampaignOptions<'_>,
     out: &mut W,
 ) -> Status
     requires ranges { AreInRange settings }
     requires stands { W.broken out.old ≡ false }
 {
     let mut notes = CampaignNotes::keeping(how.page.is_written(), true);
-    let status = run_campaign_with_messages(
+    let status = run_campaign_with_page_and_messages(
         rt,
         rt.alloc(),
         settings,
@@ -204,11 +207,11 @@ fn run_campaign_and_save_failures<
         &mut notes,
         out,
     );
-    status.or_worse(save_campaign_failures(rt, saving, &notes, how.is_quiet))
+    status.or_worse(save_campaign_failures_if_kept(rt, saving, &notes, how.is_quiet))
 }
 
 /// Writes to standard error that the file that ends the campaign is there before it begins, if that is so.
-fn print_that_stop_file_exists<R: Eprint>(rt: &R, words: &ArgMatches<'_>, ending: &EarlyStop) {
+fn warn_if_stop_file_exists<R: Eprint>(rt: &R, words: &ArgMatches<'_>, ending: &EarlyStop) {
     if let Some(name) = words.get_str("stop-file") {
         if ending.is_over() {
             let _ = eprintln!(rt; "pst: {name} is there already: no trial was begun");
@@ -219,7 +222,7 @@ fn print_that_stop_file_exists<R: Eprint>(rt: &R, words: &ArgMatches<'_>, ending
 /// Runs a campaign with a worker for each of the systems, if there are some, and saves its failures if the arguments say
 /// so. Unless the arguments forbid it, a line on standard error displays the progress, if that is a terminal, and
 /// explanations and warnings follow after the report.
-pub fn campaign<
+pub fn run_campaign_subcommand<
     W: Sink,
     R: Threads + Wait + Sync + Eprint + Files + AllocGlobal + Copy + Drop + Send + 'static,
 >(
@@ -240,23 +243,23 @@ pub fn campaign<
     let Some(settings) = words::campaign_settings_from_arguments(words) else {
         return Status::Refused;
     };
-    let how = How {
+    let how = CampaignOptions {
         ending,
         is_terminal,
         arguments_select_json: words::arguments_select_json(words),
         is_quiet: words.get_flag("quiet"),
-        page: CampaignPage::from_arguments(words, input),
+        page: CampaignPageOptions::from_arguments(words, input),
         input,
     };
     if !how.is_quiet {
-        print_that_stop_file_exists(rt, words, ending);
+        warn_if_stop_file_exists(rt, words, ending);
     }
     if let Some(folder) = words.get_str("save") {
-        return match Saving::begin(rt, words, folder, settings.seed, name) {
+        return match FailureSaver::begin_by_making_folder(rt, words, folder, settings.seed, name) {
             Ok(saving) => run_campaign_and_save_failures(rt, settings, systems, &saving, how, out),
             Err(status) => status,
         };
     }
     let mut notes = CampaignNotes::keeping(how.page.is_written(), false);
-    run_campaign_with_messages(rt, rt.alloc(), settings, systems, how, &mut notes, out)
+    run_campaign_with_page_and_messages(rt, rt.alloc(), settings, systems, how, &mut notes, out)
 }

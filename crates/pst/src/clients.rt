@@ -1,9 +1,9 @@
 //! Clients that a campaign or a run calls in place of a known system.
 
 use crate::outputs::print_file_error_to_stderr;
-use crate::systems::Unmade;
+use crate::systems::SystemsError;
 use clap::ArgMatches;
-use pst_clients::{Clients, Folder, Notes, open_clients, result_types};
+use pst_clients::{ClientFolder, Clients, Notes, open_clients, result_types_of_operations};
 use pst_typing::load;
 use pst_value::{Items, Ty};
 use std::alloc::{AllocError, Global};
@@ -12,18 +12,21 @@ use std::rt::Files;
 use std::sync::{Arc, Wait};
 
 /// The notes of all clients, which their boxes and the program share.
-pub type SharedNotes = Arc<Notes, Global>;
+pub type SharedClientNotes = Arc<Notes, Global>;
 
 /// Returns an empty list of notes.
-pub fn empty_client_notes(alloc: Global) -> Result<SharedNotes, AllocError> {
+pub fn empty_client_notes(alloc: Global) -> Result<SharedClientNotes, AllocError> {
     Ok(Arc::new(alloc, Notes::new(alloc)?)?)
 }
 
 /// Returns the result types of the operations of the model at the beginning of `input`. There are no types if it cannot
 /// be loaded; such a model is refused before anything is called.
-fn operation_result_types_of_model(alloc: Global, input: &[u8]) -> Result<Items<Ty>, AllocError> {
+fn operation_result_types_if_model_loads(
+    alloc: Global,
+    input: &[u8],
+) -> Result<Items<Ty>, AllocError> {
     match load(alloc, input)? {
-        Ok(file) => result_types(alloc, file.typed.source().items.as_slice()),
+        Ok(file) => result_types_of_operations(alloc, file.typed.source().items.as_slice()),
         Err(_) => Ok(Items::new(alloc)),
     }
 }
@@ -33,27 +36,27 @@ fn operation_result_types_of_model(alloc: Global, input: &[u8]) -> Result<Items<
 pub fn open_clients_for_worker<H: Wait + Files + Drop, R: Files + AllocGlobal>(
     handle: H,
     rt: &R,
-    folder: Folder<'_>,
+    folder: ClientFolder<'_>,
     worker: u64,
     input: &[u8],
-    notes: &SharedNotes,
-) -> Result<Clients<H, BufReader<R::File>, R::File>, Unmade> {
+    notes: &SharedClientNotes,
+) -> Result<Clients<H, BufReader<R::File>, R::File>, SystemsError> {
     let (Ok(types), Ok(notes)) = (
-        operation_result_types_of_model(rt.alloc(), input),
+        operation_result_types_if_model_loads(rt.alloc(), input),
         Arc::try_clone(notes),
     ) else {
-        return Err(Unmade::NoMemory);
+        return Err(SystemsError::NoMemory);
     };
     match open_clients(handle, rt, folder, worker, types, notes) {
         Ok(clients) => Ok(clients),
-        Err(error) if error.kind() == ErrorKind::OutOfMemory => Err(Unmade::NoMemory),
-        Err(error) => Err(Unmade::NoPipes(error)),
+        Err(error) if error.kind() == ErrorKind::OutOfMemory => Err(SystemsError::NoMemory),
+        Err(error) => Err(SystemsError::NoPipes(error)),
     }
 }
 
 /// Writes to standard error that the pipes of the clients that the arguments name cannot be opened, and why, unless the
 /// arguments forbid it.
-pub fn report_unopened<R: Eprint + AllocGlobal>(
+pub fn report_unopened_pipes_unless_quiet<R: Eprint + AllocGlobal>(
     rt: &R,
     words: &ArgMatches<'_>,
     name: &str,
@@ -62,7 +65,7 @@ pub fn report_unopened<R: Eprint + AllocGlobal>(
     if words.get_flag("quiet") {
         return;
     }
-    let folder = match Folder::from_word(name) {
+    let folder = match ClientFolder::from_word(name) {
         Some(folder) => folder.name,
         None => name,
     };
@@ -76,7 +79,7 @@ pub fn report_unopened<R: Eprint + AllocGlobal>(
 }
 
 /// Writes what went wrong with clients to standard error, unless the arguments forbid it.
-pub fn print_client_notes_to_stderr<R: Eprint>(rt: &R, matches: &ArgMatches<'_>, notes: &Notes) {
+pub fn print_client_notes_unless_quiet<R: Eprint>(rt: &R, matches: &ArgMatches<'_>, notes: &Notes) {
     let Some((_, words)) = matches.subcommand() else {
         return;
     };

@@ -11,7 +11,7 @@ use std::alloc::{AllocError, Global};
 /// The forms of items.
 const FORMS: [&str; 2] = ["json", "trees"];
 
-/// `run_convert_subcommand`, with the files of a model and its items.
+/// The subcommand `convert`, with the files of a model and its items, and the form to write.
 pub fn clap_command_for_convert<'a>(alloc: Global) -> Result<Command<'a>, AllocError> {
     Command::new(alloc, "convert")
         .about("Writes cases and recorded runs as JSON, or as trees: one on each line")

@@ -7,8 +7,8 @@ use crate::{explained, overheard};
 use clap::ArgMatches;
 use pst_case::Run;
 use pst_cli::{
-    Absence, Counts, ProgressCounter, Status, refuse_text, run_json, run_repeatedly,
-    run_with_progress,
+    Absence, ItemResultCounts, ProgressCounter, Status, refuse_text, run_json, run_repeatedly,
+    run_text_with_progress,
 };
 use pst_driver::Misfits;
 use pst_sexpr::{Out, Sink, put_all};
@@ -18,11 +18,11 @@ use std::sync::Wait;
 use std::thread::Threads;
 
 /// Writes to standard error why the first broken run is broken, and how many other runs are broken.
-fn print_why_first_run_is_broken<R: Eprint>(
+fn explain_first_broken_run_and_count_rest<R: Eprint>(
     rt: &R,
     alloc: Global,
     input: &[u8],
-    counts: &mut Counts,
+    counts: &mut ItemResultCounts,
 ) {
     let Some((item, run)) = counts.first_broken.take() else {
         return;
@@ -66,7 +66,7 @@ fn drive_items_of_input<W: Sink, R: Threads + Wait>(
     system: &mut BoxedSystem,
     how: DriveOptions,
     input: &[u8],
-    counts: &mut Counts,
+    counts: &mut ItemResultCounts,
     steps: &ProgressCounter,
     out: &mut W,
 ) -> Status
@@ -79,13 +79,13 @@ fn drive_items_of_input<W: Sink, R: Threads + Wait>(
         Some(repeats) if repeats >= 1 => {
             run_repeatedly(rt, alloc, input, system, repeats, counts, steps, out)
         }
-        _ => run_with_progress(rt, alloc, input, system, counts, steps, out),
+        _ => run_text_with_progress(rt, alloc, input, system, counts, steps, out),
     }
 }
 
 /// Drives the items of the input, and writes the report once it is complete. Then it writes to standard error what the
 /// system answered for each reply `misfit`, and why a run is broken.
-fn drive_items_and_print_misfits<
+fn drive_items_with_progress_and_messages<
     W: Sink,
     R: Threads + Wait + Sync + Eprint + Copy + Drop + Send + 'static,
 >(
@@ -95,12 +95,12 @@ fn drive_items_and_print_misfits<
     how: DriveOptions,
     misfits: &Misfits,
     input: &[u8],
-    counts: &mut Counts,
+    counts: &mut ItemResultCounts,
     out: &mut W,
 ) -> Status
     requires { W.broken out.old ≡ false }
 {
-    overheard::compare_answers_with_model_of_input(alloc, misfits, input);
+    overheard::set_model_of_misfits_if_it_loads(alloc, misfits, input);
     let Ok(telling) = StepsDisplay::begin(rt, alloc, how.is_told, "run") else {
         return refuse_text(Absence::NoMemory, out);
     };
@@ -125,13 +125,13 @@ fn drive_items_and_print_misfits<
         return Status::Lost;
     }
     overheard::print_misfits_to_stderr(rt, alloc, misfits);
-    print_why_first_run_is_broken(rt, alloc, input, counts);
+    explain_first_broken_run_and_count_rest(rt, alloc, input, counts);
     status
 }
 
 /// Drives the items of the input on a system, if there is one. If there is a list of misfits, it then writes to
 /// standard error what is wrong with the runs; if `is_told`, a line of it says meanwhile how many items are run.
-pub fn drive_items_on_given_system<
+pub fn drive_items_on_system_or_refuse<
     W: Sink,
     R: Threads + Wait + Sync + Eprint + Copy + Drop + Send + 'static,
 >(
@@ -143,7 +143,7 @@ pub fn drive_items_on_given_system<
     misfits: Option<&Misfits>,
     is_told: bool,
     input: &[u8],
-    counts: &mut Counts,
+    counts: &mut ItemResultCounts,
     out: &mut W,
 ) -> Status
     requires { W.broken out.old ≡ false }
@@ -158,7 +158,16 @@ pub fn drive_items_on_given_system<
     };
     match misfits {
         Some(misfits) => {
-            drive_items_and_print_misfits(rt, alloc, &mut system, how, misfits, input, counts, out)
+            drive_items_with_progress_and_messages(
+                rt,
+                alloc,
+                &mut system,
+                how,
+                misfits,
+                input,
+                counts,
+                out,
+            )
         }
         None => drive_items_of_input(
             rt,

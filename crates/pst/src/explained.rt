@@ -1,7 +1,7 @@
 //! Explanations of runs that a command drove, on standard error.
 
 use pst_case::{Case, History};
-use pst_cli::explain_run;
+use pst_cli::explanation_of_run_unless_explained;
 use std::alloc::Global;
 
 /// The width of lines.
@@ -17,7 +17,8 @@ pub fn print_run_explanation_to_stderr<R: Eprint>(
     case: Case,
     history: History,
 ) {
-    let Ok(Some(text)) = explain_run(alloc, input, case, history, WIDTH) else {
+    let Ok(Some(text)) = explanation_of_run_unless_explained(alloc, input, case, history, WIDTH)
+    else {
         return;
     };
     if let Ok(text) = std::str::from_utf8(text.as_slice()) {

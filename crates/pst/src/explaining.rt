@@ -81,7 +81,7 @@ fn item_number_option<'a>(alloc: Global) -> Result<Arg<'a>, AllocError> {
         .conflicts_with("failures")
 }
 
-/// `run_explain_subcommand`, with files, the form of explanations and the width of lines.
+/// The subcommand `explain`, with files, the form of explanations and the width of lines.
 fn clap_command_for_explain_base<'a>(alloc: Global) -> Result<Command<'a>, AllocError> {
     Command::new(alloc, "explain")
         .about("Explains the verdicts on cases and recorded runs")
@@ -94,7 +94,7 @@ fn clap_command_for_explain_base<'a>(alloc: Global) -> Result<Command<'a>, Alloc
         .arg(terminal::color_option(alloc))
 }
 
-/// `run_explain_subcommand`, with files, the form of explanations, and the items that are explained.
+/// The subcommand `explain`, with files, the form of explanations, and the items that are explained.
 pub fn clap_command_for_explain<'a>(alloc: Global) -> Result<Command<'a>, AllocError> {
     clap_command_for_explain_base(alloc)?
         .arg(words::only_failures_option(alloc))?
@@ -137,7 +137,7 @@ fn arguments_select_dot_graph(words: &ArgMatches<'_>) -> bool {
 }
 
 /// The form of text: with colors, or without.
-fn text_form_by_color_option<R: Env + AllocGlobal>(
+fn colored_or_plain_text_form<R: Env + AllocGlobal>(
     rt: &R,
     words: &ArgMatches<'_>,
     is_terminal: bool,
@@ -164,7 +164,7 @@ fn explanation_form_from_arguments<R: Env + AllocGlobal>(
     match words.get_str("format") {
         Some("json") => ExplanationForm::Json,
         Some("html") => ExplanationForm::Html,
-        _ => text_form_by_color_option(rt, words, is_terminal),
+        _ => colored_or_plain_text_form(rt, words, is_terminal),
     }
 }
 

@@ -1,10 +1,10 @@
 //! `pst fmt`.
 
-use crate::input::{self, Reading, STANDARD_INPUT};
+use crate::input::{self, InputOptions, STANDARD_INPUT};
 use crate::{help, json_items, outputs, refused, words};
 use clap::{Arg, ArgAction, ArgMatches, Command};
 use pst_cli::{Status, refuse_text};
-use pst_messages::{Asked, input_error_messages_text};
+use pst_messages::{MessageScope, input_error_messages_text};
 use pst_print::format_file;
 use pst_sexpr::{FaultKind, Out, SexprFault, read};
 use pst_sources::SourceFile;
@@ -36,20 +36,20 @@ pub fn clap_command_for_fmt<'a>(alloc: Global) -> Result<Command<'a>, AllocError
 struct FormatOptions {
     /// Nothing is rewritten.
     only_checks: bool,
-    reading: Reading,
+    reading: InputOptions,
 }
 
 /// Prints a text on standard output. If it cannot be printed, standard error says so.
 fn print_formatted_model_text<R: Runtime + AllocGlobal>(rt: &R, text: &[u8]) -> Status {
     match io::writer(rt).write_all(text) {
         Ok(()) => Status::Accepted,
-        Err(error) => outputs::report_lost_output(rt, rt.alloc(), None, &error),
+        Err(error) => outputs::report_lost_output_unless_pipe_closed(rt, rt.alloc(), None, &error),
     }
 }
 
 /// Why a file was not rewritten. All but the first leave its bytes as they were.
 #[derive(Drop)]
-enum Unwritten {
+enum RewriteError {
     /// Its new bytes are in the copy alone, or it is rewritten and the copy is still there.
     Kept(io::Error),
     /// There was a file of the name of the copy, which is left as it is.
@@ -59,36 +59,40 @@ enum Unwritten {
 }
 
 /// Makes the copy, in which the bytes are before those of the file change: if the disk is full, nothing is lost.
-fn write_backup_copy_of_file<R: Files>(rt: &R, copy: &str, text: &[u8]) -> Result<(), Unwritten> {
+fn write_new_text_to_copy_file<R: Files>(
+    rt: &R,
+    copy: &str,
+    text: &[u8],
+) -> Result<(), RewriteError> {
     let mut file = match File::create_new(rt, copy) {
         Ok(file) => file,
-        Err(error) if error.kind() == ErrorKind::AlreadyExists => return Err(Unwritten::Taken),
-        Err(error) => return Err(Unwritten::NoCopy(error)),
+        Err(error) if error.kind() == ErrorKind::AlreadyExists => return Err(RewriteError::Taken),
+        Err(error) => return Err(RewriteError::NoCopy(error)),
     };
     match file.write_all(text) {
         Ok(()) => Ok(()),
         Err(error) => {
             let _ = remove_file(rt, copy);
-            Err(Unwritten::NoCopy(error))
+            Err(RewriteError::NoCopy(error))
         }
     }
 }
 
 /// Writes the bytes of a file, first to a copy, which is removed in the end.
-fn write_backup_copy_then_file<R: Files>(
+fn write_copy_then_file_then_remove_copy<R: Files>(
     rt: &R,
     name: &str,
     copy: &str,
     text: &[u8],
-) -> Result<(), Unwritten> {
-    write_backup_copy_of_file(rt, copy, text)?;
+) -> Result<(), RewriteError> {
+    write_new_text_to_copy_file(rt, copy, text)?;
     match write(rt, name, text) {
         Ok(()) => {}
-        Err(error) => return Err(Unwritten::Kept(error)),
+        Err(error) => return Err(RewriteError::Kept(error)),
     }
     match remove_file(rt, copy) {
         Ok(()) => Ok(()),
-        Err(error) => Err(Unwritten::Kept(error)),
+        Err(error) => Err(RewriteError::Kept(error)),
     }
 }
 
@@ -98,19 +102,21 @@ fn report_unwritten_file<R: Eprint>(
     alloc: Global,
     name: &str,
     copy: &str,
-    why: &Unwritten,
+    why: &RewriteError,
 ) {
     match why {
-        Unwritten::Kept(error) => {
+        RewriteError::Kept(error) => {
             outputs::print_unwritten_file_to_stderr(rt, alloc, name, error);
             let _ = eprintln!(rt; "  its new text is in {copy}");
         }
-        Unwritten::Taken => {
+        RewriteError::Taken => {
             let _ = eprintln!(rt;
                 "pst: cannot write {name}: there is a file {copy}, which would be lost"
             );
         }
-        Unwritten::NoCopy(error) => outputs::print_unwritten_file_to_stderr(rt, alloc, copy, error),
+        RewriteError::NoCopy(error) => outputs::print_unwritten_file_to_stderr(
+            rt, alloc, copy, error,
+        ),
     }
 }
 
@@ -119,7 +125,7 @@ fn rewrite_file<R: Runtime + AllocGlobal>(rt: &R, name: &str, text: &[u8]) -> St
     let Ok(copy) = format!(in rt.alloc(); "{name}.pst-fmt") else {
         return refused::report_out_of_memory(rt);
     };
-    match write_backup_copy_then_file(rt, name, copy.as_str(), text) {
+    match write_copy_then_file_then_remove_copy(rt, name, copy.as_str(), text) {
         Ok(()) => Status::Accepted,
         Err(why) => {
             report_unwritten_file(rt, rt.alloc(), name, copy.as_str(), &why);
@@ -130,7 +136,7 @@ fn rewrite_file<R: Runtime + AllocGlobal>(rt: &R, name: &str, text: &[u8]) -> St
 
 /// Handles the new text of a file. If `how` only checks, it prints the file's name if the text differs. Otherwise it
 /// prints the text, for standard input, or rewrites the file if the text differs.
-fn output_formatted_file<R: Runtime + AllocGlobal>(
+fn check_print_or_rewrite_file<R: Runtime + AllocGlobal>(
     rt: &R,
     file: &SourceFile<'_>,
     text: &[u8],
@@ -144,7 +150,12 @@ fn output_formatted_file<R: Runtime + AllocGlobal>(
         }
         return match println!(rt; "{name}") {
             Ok(()) => Status::Failed,
-            Err(error) => outputs::report_lost_output(rt, rt.alloc(), None, &error),
+            Err(error) => outputs::report_lost_output_unless_pipe_closed(
+                rt,
+                rt.alloc(),
+                None,
+                &error,
+            ),
         };
     }
     if name == STANDARD_INPUT {
@@ -169,14 +180,14 @@ fn print_refusal_of_unreadable_file<R: Runtime + AllocGlobal>(
     }
     let refusal = Refusal::Unread(fault);
     if let Err(error) = println!(rt; "refused {refusal}") {
-        return outputs::report_lost_output(rt, rt.alloc(), None, &error);
+        return outputs::report_lost_output_unless_pipe_closed(rt, rt.alloc(), None, &error);
     }
     if !how.reading.is_quiet {
         if let Ok(Some(message)) = input_error_messages_text(
             rt.alloc(),
             files,
             bytes,
-            Asked::Model,
+            MessageScope::Model,
         ) {
             let _ = eprint!(rt; "{message}");
         }
@@ -186,23 +197,27 @@ fn print_refusal_of_unreadable_file<R: Runtime + AllocGlobal>(
 
 /// The text of a file with items as JSON that has to be trees: up to the first of these items if that is refused, or
 /// else all of it with blanks in place of them.
-fn text_without_json_items(alloc: Global, bytes: &[u8]) -> Result<Vec<u8>, AllocError> {
+fn text_with_json_blanked_or_refused_head(
+    alloc: Global,
+    bytes: &[u8],
+) -> Result<Vec<u8>, AllocError> {
     let head = json_items::text_before_json_items(bytes);
     match read(alloc, head) {
-        Ok(_) => json_items::blank_json_items(alloc, bytes),
+        Ok(_) => json_items::text_with_json_items_blanked(alloc, bytes),
         Err(_) => Vec::from_slice(alloc, head),
     }
 }
 
-/// Leaves a file with items as JSON as it is, if the rest of it can be read.
-fn keep_file_with_json_items<R: Runtime + AllocGlobal>(
+/// Leaves a file with items as JSON as it is, if the rest of it can be read, and else refuses it. Prints the text of
+/// standard input as it is, unless `how` only checks.
+fn keep_or_refuse_file_with_json_items<R: Runtime + AllocGlobal>(
     rt: &R,
     file: &SourceFile<'_>,
     how: FormatOptions,
 ) -> Status {
     let alloc = rt.alloc();
     let name = file.name;
-    let Ok(text) = text_without_json_items(alloc, file.bytes.as_slice()) else {
+    let Ok(text) = text_with_json_blanked_or_refused_head(alloc, file.bytes.as_slice()) else {
         return refused::report_out_of_memory(rt);
     };
     if let Err(fault) = read(alloc, text.as_slice()) {
@@ -218,7 +233,7 @@ fn keep_file_with_json_items<R: Runtime + AllocGlobal>(
     if !how.reading.is_quiet {
         let _ = eprintln!(rt; "pst: there are items as JSON in {name}, so it stays as it is");
     }
-    output_formatted_file(rt, file, file.bytes.as_slice(), how)
+    check_print_or_rewrite_file(rt, file, file.bytes.as_slice(), how)
 }
 
 /// Lays out the file `name`.
@@ -232,10 +247,10 @@ fn format_file_by_name<R: Runtime + AllocGlobal>(rt: &R, name: &str, how: Format
     };
     let bytes = file.bytes.as_slice();
     if json_items::has_json_items(bytes) {
-        return keep_file_with_json_items(rt, file, how);
+        return keep_or_refuse_file_with_json_items(rt, file, how);
     }
     match format_file(rt.alloc(), bytes) {
-        Ok(text) => output_formatted_file(rt, file, text.as_slice(), how),
+        Ok(text) => check_print_or_rewrite_file(rt, file, text.as_slice(), how),
         Err(fault) => print_refusal_of_unreadable_file(rt, files.as_slice(), bytes, fault, how),
     }
 }
@@ -245,7 +260,7 @@ fn format_file_by_name<R: Runtime + AllocGlobal>(rt: &R, name: &str, how: Format
 pub fn run_fmt_subcommand<R: Runtime + AllocGlobal>(
     rt: &R,
     words: &ArgMatches<'_>,
-    reading: Reading,
+    reading: InputOptions,
 ) -> Status {
     let how = FormatOptions {
         only_checks: words.get_flag("check"),

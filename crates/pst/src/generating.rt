@@ -40,7 +40,7 @@ pub fn refuse_trial_numbers_beyond_64_bits<R: Eprint>(
 }
 
 /// Writes the cases of the trials that the arguments choose. It leaves out trials whose numbers do not fit 64 bits.
-pub fn generate<W: Sink, R: Threads + Sync + AllocGlobal>(
+pub fn run_generate_subcommand<W: Sink, R: Threads + Sync + AllocGlobal>(
     rt: &R,
     words: &ArgMatches<'_>,
     input: &[u8],

@@ -1,9 +1,9 @@
 //! Lines on standard error that say which client does not answer, and that resets fail.
 
-use crate::interrupting::stop_file;
+use crate::interrupting::stop_file_name_from_arguments;
 use crate::systems::{ChosenSystems, systems_from_arguments};
 use clap::ArgMatches;
-use pst_clients::{Notes, Waits};
+use pst_clients::{ClientWaits, Notes};
 use std::alloc::{AllocError, Global};
 use std::sync::atomic::{AtomicBool, Ordering};
 use std::sync::{Arc, Wait};
@@ -39,7 +39,7 @@ struct ClientWait {
 
 impl ClientWait {
     /// A client that was just asked a line, if there is one.
-    fn at(line: Option<u64>) -> ClientWait {
+    fn starting_at_line(line: Option<u64>) -> ClientWait {
         ClientWait {
             line,
             seconds: 0,
@@ -48,9 +48,9 @@ impl ClientWait {
     }
 
     /// Counts a second in which it may have answered. The answer is whether a line is to be written.
-    fn count_second_and_check_lateness(&mut self, line: Option<u64>) -> bool {
+    fn count_second_and_check_if_report_is_due(&mut self, line: Option<u64>) -> bool {
         if line.is_none() || line != self.line {
-            *self = ClientWait::at(line);
+            *self = ClientWait::starting_at_line(line);
             return false;
         }
         self.seconds = self.seconds.saturating_add(1);
@@ -66,12 +66,12 @@ impl ClientWait {
 fn report_silent_client<R: Eprint>(
     rt: &R,
     alloc: Global,
-    waits: &Waits,
+    waits: &ClientWaits,
     place: usize,
     seconds: u64,
 ) {
-    let (worker, branch) = Waits::client(place);
-    let Ok(line) = waits.last_line(alloc, place) else {
+    let (worker, branch) = ClientWaits::worker_and_branch_of_place(place);
+    let Ok(line) = waits.printable_last_line_at_place(alloc, place) else {
         let _ = eprintln!(rt;
             "pst: client {worker}-{branch} has not answered for {seconds} seconds"
         );
@@ -97,8 +97,9 @@ fn print_that_resets_fail_to_stderr<R: Eprint>(rt: &R, has_stop_file: bool) {
     let _ = eprintln!(rt; "pst: the reset failed {MANY} times in a row: is the server up?{advice}");
 }
 
-/// Looks each second which clients have not answered, until it is over.
-fn report_silent_clients_each_second<R: Wait + Eprint>(
+/// Looks each second which clients have not answered, until it is over, and reports those that are silent for long.
+/// Also reports, once, that resets fail, if `MANY` failed in a row.
+fn report_client_trouble_until_over<R: Wait + Eprint>(
     rt: &R,
     alloc: Global,
     watched: &WatchedClients,
@@ -106,7 +107,7 @@ fn report_silent_clients_each_second<R: Wait + Eprint>(
     let waits = watched.notes.waits();
     let mut clients = Vec::with_capacity(alloc, waits.len())?;
     for _ in 0..waits.len() {
-        clients.push(ClientWait::at(None))?;
+        clients.push(ClientWait::starting_at_line(None))?;
     }
     let mut is_said = false;
     for _ in rt.forever() {
@@ -115,11 +116,13 @@ fn report_silent_clients_each_second<R: Wait + Eprint>(
             return Ok(());
         }
         for place in 0..clients.len() {
-            if clients[place].count_second_and_check_lateness(waits.unanswered(place)) {
+            if clients[place].count_second_and_check_if_report_is_due(waits.unanswered_line_id(
+                place,
+            )) {
                 report_silent_client(rt, alloc, waits, place, clients[place].seconds);
             }
         }
-        if !is_said && watched.notes.failed_resets() >= MANY {
+        if !is_said && watched.notes.failed_resets_since_last_success() >= MANY {
             is_said = true;
             print_that_resets_fail_to_stderr(rt, watched.has_stop_file);
         }
@@ -153,7 +156,7 @@ impl ClientWatch {
         let own = Arc::try_clone(&watched).ok()?;
         let thread = Builder::new()
             .spawn(&rt, move || {
-                let _ = report_silent_clients_each_second(&rt, alloc, &own);
+                let _ = report_client_trouble_until_over(&rt, alloc, &own);
             })
             .ok()?;
         Some(ClientWatch { watched, thread })
@@ -169,7 +172,7 @@ impl ClientWatch {
 }
 
 /// Watches the clients that the arguments name, unless they name none or forbid messages.
-pub fn watch_clients<R: Threads + Wait + Eprint + Copy + Drop + Send + 'static>(
+pub fn start_client_watch_unless_quiet<R: Threads + Wait + Eprint + Copy + Drop + Send + 'static>(
     rt: R,
     alloc: Global,
     matches: &ArgMatches<'_>,
@@ -178,7 +181,12 @@ pub fn watch_clients<R: Threads + Wait + Eprint + Copy + Drop + Send + 'static>(
     let (_, words) = matches.subcommand()?;
     match systems_from_arguments(matches)? {
         (ChosenSystems::Clients(_), _) if !words.get_flag("quiet") => {
-            ClientWatch::start(rt, alloc, notes, stop_file(matches).is_some())
+            ClientWatch::start(
+                rt,
+                alloc,
+                notes,
+                stop_file_name_from_arguments(matches).is_some(),
+            )
         }
         _ => None,
     }

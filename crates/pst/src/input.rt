@@ -12,7 +12,7 @@ pub const STANDARD_INPUT: &str = "-";
 
 /// How the input is read.
 #[derive(Clone, Copy, Drop)]
-pub struct Reading {
+pub struct InputOptions {
     /// Nothing is written to standard error.
     pub is_quiet: bool,
     /// Standard input is a terminal.
@@ -21,7 +21,7 @@ pub struct Reading {
 
 /// A file that cannot be read: whether it could be opened, and the error.
 #[derive(Drop)]
-struct Unread {
+struct FileReadError {
     was_opened: bool,
     error: io::Error,
 }
@@ -31,15 +31,15 @@ struct Unread {
 fn read_standard_input<R: Input + Eprint + AllocGlobal>(
     rt: &R,
     limit: u64,
-    reading: Reading,
-) -> Result<Vec<u8>, Unread> {
+    reading: InputOptions,
+) -> Result<Vec<u8>, FileReadError> {
     if reading.is_terminal && !reading.is_quiet {
         let _ = eprintln!(rt; "pst: reading from the terminal (Ctrl-D ends the input)");
     }
     let mut bytes = Vec::new(rt.alloc());
     match rt.reader().take(limit).read_to_end(&mut bytes) {
         Ok(_) => Ok(bytes),
-        Err(error) => Err(Unread {
+        Err(error) => Err(FileReadError {
             was_opened: true,
             error,
         }),
@@ -47,11 +47,15 @@ fn read_standard_input<R: Input + Eprint + AllocGlobal>(
 }
 
 /// Reads at most `limit` bytes of the file `name`.
-fn read_file<R: Files + AllocGlobal>(rt: &R, name: &str, limit: u64) -> Result<Vec<u8>, Unread> {
+fn read_file<R: Files + AllocGlobal>(
+    rt: &R,
+    name: &str,
+    limit: u64,
+) -> Result<Vec<u8>, FileReadError> {
     let file = match std::fs::open(rt, name) {
         Ok(file) => file,
         Err(error) => {
-            return Err(Unread {
+            return Err(FileReadError {
                 was_opened: false,
                 error,
             });
@@ -60,7 +64,7 @@ fn read_file<R: Files + AllocGlobal>(rt: &R, name: &str, limit: u64) -> Result<V
     let mut bytes = Vec::new(rt.alloc());
     match file.take(limit).read_to_end(&mut bytes) {
         Ok(_) => Ok(bytes),
-        Err(error) => Err(Unread {
+        Err(error) => Err(FileReadError {
             was_opened: true,
             error,
         }),
@@ -71,7 +75,7 @@ fn read_file<R: Files + AllocGlobal>(rt: &R, name: &str, limit: u64) -> Result<V
 fn print_unread_file_to_stderr<R: Eprint + AllocGlobal>(
     rt: &R,
     name: &str,
-    unread: &Unread,
+    unread: &FileReadError,
     is_quiet: bool,
 ) {
     if is_quiet {
@@ -94,7 +98,7 @@ fn print_unread_file_to_stderr<R: Eprint + AllocGlobal>(
 fn print_unread_file_and_classify_absence<R: Eprint + AllocGlobal>(
     rt: &R,
     name: &str,
-    unread: &Unread,
+    unread: &FileReadError,
     is_quiet: bool,
 ) -> Absence<'static> {
     if unread.error.kind() == ErrorKind::OutOfMemory {
@@ -121,7 +125,7 @@ pub fn open_files_without_reading<R: Files + Eprint + AllocGlobal>(
             continue;
         }
         if let Err(error) = std::fs::open(rt, name) {
-            let unread = Unread {
+            let unread = FileReadError {
                 was_opened: false,
                 error,
             };
@@ -137,7 +141,7 @@ pub fn open_files_without_reading<R: Files + Eprint + AllocGlobal>(
 pub fn read_files<'a, R: Files + Input + Eprint + AllocGlobal>(
     rt: &R,
     names: &[&'a str],
-    reading: Reading,
+    reading: InputOptions,
 ) -> Result<Vec<SourceFile<'a>>, Absence<'static>> {
     let names = if names.is_empty() {
         &[STANDARD_INPUT]

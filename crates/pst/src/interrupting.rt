@@ -15,7 +15,7 @@ const PAUSE: u64 = 100;
 
 /// What the thread that looks for the file shares with the one that ends it.
 #[derive(Drop)]
-pub struct Watched {
+pub struct StopFileState {
     name: String,
     has_appeared: Arc<AtomicBool>,
     is_over: AtomicBool,
@@ -23,7 +23,7 @@ pub struct Watched {
 }
 
 /// Looks for the file until it is there or the campaign is over.
-pub fn watch_for_stop_file<R: Wait + Files>(rt: &R, watched: &Watched) {
+pub fn watch_for_stop_file<R: Wait + Files>(rt: &R, watched: &StopFileState) {
     for _ in rt.forever() {
         if input::can_be_opened(rt, watched.name.as_str()) {
             watched.has_appeared.store(true, Ordering::SeqCst);
@@ -40,13 +40,13 @@ pub fn watch_for_stop_file<R: Wait + Files>(rt: &R, watched: &Watched) {
 
 /// A thread that looks for the file.
 #[derive(Drop)]
-pub struct StopFile {
-    watched: Arc<Watched, Global>,
+pub struct StopFileWatch {
+    watched: Arc<StopFileState, Global>,
     thread: JoinHandle<()>,
 }
 
 /// The name of the file that ends a campaign, if the arguments give one.
-pub fn stop_file<'a>(matches: &ArgMatches<'a>) -> Option<&'a str> {
+pub fn stop_file_name_from_arguments<'a>(matches: &ArgMatches<'a>) -> Option<&'a str> {
     match matches.subcommand() {
         Some(("campaign", words)) => words.get_str("stop-file"),
         _ => None,
@@ -54,12 +54,12 @@ pub fn stop_file<'a>(matches: &ArgMatches<'a>) -> Option<&'a str> {
 }
 
 /// Whether the file is there that ends a campaign, in a place that threads share. None if the arguments name no file.
-pub fn initial_stop_flag<R: Files>(
+pub fn flag_whether_stop_file_is_there<R: Files>(
     rt: &R,
     alloc: Global,
     matches: &ArgMatches<'_>,
 ) -> Result<Option<Arc<AtomicBool>>, AllocError> {
-    let Some(name) = stop_file(matches) else {
+    let Some(name) = stop_file_name_from_arguments(matches) else {
         return Ok(None);
     };
     let is_there = input::can_be_opened(rt, name);
@@ -71,9 +71,9 @@ pub fn stop_file_watch_from_arguments(
     alloc: Global,
     matches: &ArgMatches<'_>,
     has_appeared: &Arc<AtomicBool>,
-) -> Option<Arc<Watched, Global>> {
-    let watched = Watched {
-        name: String::from_str(alloc, stop_file(matches)?).ok()?,
+) -> Option<Arc<StopFileState, Global>> {
+    let watched = StopFileState {
+        name: String::from_str(alloc, stop_file_name_from_arguments(matches)?).ok()?,
         has_appeared: Arc::try_clone(has_appeared).ok()?,
         is_over: AtomicBool::new(false),
         parker: Parker::new(),
@@ -81,15 +81,15 @@ pub fn stop_file_watch_from_arguments(
     Arc::new(alloc, watched).ok()
 }
 
-impl StopFile {
+impl StopFileWatch {
     /// The thread that looks for the file, which `main` starts: only there is the handle known that it takes along.
-    pub fn new(watched: Arc<Watched, Global>, thread: JoinHandle<()>) -> StopFile {
-        StopFile { watched, thread }
+    pub fn new(watched: Arc<StopFileState, Global>, thread: JoinHandle<()>) -> StopFileWatch {
+        StopFileWatch { watched, thread }
     }
 
     /// Ends the thread, and waits for it.
     pub fn end<R: Threads + Wait>(self, rt: &R) {
-        let StopFile { watched, thread } = self;
+        let StopFileWatch { watched, thread } = self;
         watched.is_over.store(true, Ordering::SeqCst);
         watched.parker.unpark();
         thread.join(rt)

@@ -20,7 +20,7 @@ pub fn text_before_json_items(text: &[u8]) -> &[u8] {
 }
 
 /// Returns a text with blanks in place of the bytes of its JSON items. All other bytes are where they were.
-pub fn blank_json_items(alloc: Global, text: &[u8]) -> Result<Vec<u8>, AllocError> {
+pub fn text_with_json_items_blanked(alloc: Global, text: &[u8]) -> Result<Vec<u8>, AllocError> {
     let mut blanked = Vec::new(alloc);
     let mut is_item = false;
     let mut is_begin = true;
@@ -35,7 +35,7 @@ pub fn blank_json_items(alloc: Global, text: &[u8]) -> Result<Vec<u8>, AllocErro
 }
 
 /// Returns the files with the first `count` bytes of their text.
-fn truncate_source_files<'a>(
+fn source_files_cut_to_byte_count<'a>(
     alloc: Global,
     count: usize,
     files: &[SourceFile<'a>],
@@ -55,7 +55,7 @@ fn truncate_source_files<'a>(
 /// Returns the files with each JSON item as its tree, or `None` if they have none. The model is a tree, before the first
 /// JSON item; if it is refused, no more than what is before this item is left. Files of more than `MAX_BYTES` stay as they
 /// are, and are refused.
-pub fn convert_json_items_to_trees<'a>(
+pub fn source_files_with_json_as_trees_or_cut<'a>(
     alloc: Global,
     files: &[SourceFile<'a>],
 ) -> Result<Option<Vec<SourceFile<'a>>>, AllocError> {
@@ -73,6 +73,6 @@ pub fn convert_json_items_to_trees<'a>(
             typed.source(),
             files,
         )?)),
-        Err(_) => Ok(Some(truncate_source_files(alloc, place, files)?)),
+        Err(_) => Ok(Some(source_files_cut_to_byte_count(alloc, place, files)?)),
     }
 }

@@ -6,10 +6,10 @@ use crate::telling::StepsDisplay;
 use crate::words::arguments_select_json;
 use clap::ArgMatches;
 use pst_cli::{
-    AnsweredFile, Counts, JudgedFile, MEMORY_OBJECT, ProgressCounter, Shown, Status, item_count,
-    judge_file, judge_file_keep_going, judge_file_keep_going_with_progress,
-    judge_file_with_progress, judge_json, judge_json_with_progress, judge_text,
-    judge_text_keep_going,
+    FileWithItemResults, ItemResultCounts, JudgedFile, MEMORY_OBJECT, ProgressCounter, Shown,
+    Status, count_items_of_input, judge_file, judge_file_keep_going,
+    judge_file_keep_going_with_progress, judge_file_with_progress, judge_json,
+    judge_json_with_progress, judge_text, judge_text_keep_going,
 };
 use pst_messages::{
     ItemInput, explain_first_broken_result, explain_first_broken_run,
@@ -33,7 +33,7 @@ fn print_messages_to_stderr<R: Eprint>(rt: &R, messages: Result<Option<String>, 
 ///
 /// The program ends after this, and the system frees its memory at once. So the items are not dropped one by one: with
 /// many small items that would take an eighth of the instructions of the whole run.
-fn print_warnings_on_judged_runs<R: Eprint>(
+fn print_messages_on_judged_runs<R: Eprint>(
     rt: &R,
     alloc: Global,
     input: ItemInput<'_>,
@@ -68,13 +68,13 @@ fn print_warnings_on_judged_runs<R: Eprint>(
 }
 
 /// Writes why the first broken item of the answered ones is broken, and the warnings on the answered items.
-fn print_warnings_on_item_results<R: Eprint>(
+fn print_messages_on_item_results<R: Eprint>(
     rt: &R,
     alloc: Global,
     input: ItemInput<'_>,
-    answered: Option<AnsweredFile>,
+    answered: Option<FileWithItemResults>,
 ) {
-    if let Some(AnsweredFile { file, answers }) = answered {
+    if let Some(FileWithItemResults { file, answers }) = answered {
         let typed = file.compiled.typed();
         let trees = file.trees.as_slice();
         print_messages_to_stderr(
@@ -103,17 +103,17 @@ fn shown_items_from_arguments(words: &ArgMatches<'_>) -> Shown {
 }
 
 /// Counts the answered items, and writes why the first broken one is broken and the warnings on them.
-fn count_item_results_and_print_warnings<R: Eprint>(
+fn count_item_results_and_print_messages<R: Eprint>(
     rt: &R,
     alloc: Global,
     input: ItemInput<'_>,
-    counts: &mut Counts,
-    answered: Option<AnsweredFile>,
+    counts: &mut ItemResultCounts,
+    answered: Option<FileWithItemResults>,
 ) {
     if let Some(answered) = &answered {
-        counts.add_answers(answered.answers.as_slice());
+        counts.add_item_results(answered.answers.as_slice());
     }
-    print_warnings_on_item_results(rt, alloc, input, answered);
+    print_messages_on_item_results(rt, alloc, input, answered);
 }
 
 /// Judges the items of the input without messages.
@@ -146,7 +146,7 @@ fn judge_all_items_despite_refusals<W: Sink, R: Threads + Sync>(
     input: &[u8],
     steps: &ProgressCounter,
     out: &mut W,
-) -> (Status, Option<AnsweredFile>)
+) -> (Status, Option<FileWithItemResults>)
     requires { W.broken out.old ≡ false }
 {
     let shown = shown_items_from_arguments(words);
@@ -158,7 +158,7 @@ fn judge_all_items_despite_refusals<W: Sink, R: Threads + Sync>(
 }
 
 /// Writes the lines of the items. There are none, with another status than `Accepted`, only if an allocation failed.
-fn write_lines_of_judged_items<W: Sink>(
+fn write_item_lines_or_memory_refusal<W: Sink>(
     words: &ArgMatches<'_>,
     lines: Out<Vec<u8>>,
     status: Status,
@@ -188,7 +188,9 @@ fn begin_judging_display<R: Threads + Wait + Eprint + Copy + Drop + Send + 'stat
 ) -> Result<StepsDisplay, AllocError> {
     let telling = StepsDisplay::begin(rt, alloc, is_told, "judged")?;
     if is_told {
-        telling.steps().set_total(item_count(alloc, input)?);
+        telling
+            .steps()
+            .set_total(count_items_of_input(alloc, input)?);
     }
     Ok(telling)
 }
@@ -205,7 +207,7 @@ pub fn run_judge_subcommand<
     words: &ArgMatches<'_>,
     is_told: bool,
     input: ItemInput<'_>,
-    counts: &mut Counts,
+    counts: &mut ItemResultCounts,
     out: &mut W,
 ) -> Status
     requires { W.broken out.old ≡ false }
@@ -216,7 +218,7 @@ pub fn run_judge_subcommand<
     }
     let mut lines = Out::new(Vec::new(alloc));
     let Ok(telling) = begin_judging_display(rt, alloc, is_told, bytes) else {
-        return write_lines_of_judged_items(words, lines, Status::Lost, out);
+        return write_item_lines_or_memory_refusal(words, lines, Status::Lost, out);
     };
     if arguments_select_json(words) || words.get_flag("keep-going") {
         let (status, answered) = judge_all_items_despite_refusals(
@@ -228,17 +230,17 @@ pub fn run_judge_subcommand<
             &mut lines,
         );
         telling.end(rt);
-        let status = write_lines_of_judged_items(words, lines, status, out);
-        count_item_results_and_print_warnings(rt, alloc, input, counts, answered);
+        let status = write_item_lines_or_memory_refusal(words, lines, status, out);
+        count_item_results_and_print_messages(rt, alloc, input, counts, answered);
         return status;
     }
     let (shown, steps) = (shown_items_from_arguments(words), telling.steps());
     let (status, judged) = judge_file_with_progress(rt, alloc, bytes, shown, steps, &mut lines);
     telling.end(rt);
-    let status = write_lines_of_judged_items(words, lines, status, out);
+    let status = write_item_lines_or_memory_refusal(words, lines, status, out);
     if let Some(judged) = &judged {
         counts.add_all(judged.judged.as_slice());
     }
-    print_warnings_on_judged_runs(rt, alloc, input, judged);
+    print_messages_on_judged_runs(rt, alloc, input, judged);
     status
 }

@@ -30,9 +30,9 @@ fn print_why_trial_has_no_case<R: Eprint>(
     }
 }
 
-/// Writes to standard error why no interleaving explains the least failure of a campaign, if it has a failure, and why
-/// its first trial without a case has no case, if it has such a trial. If an allocation fails or the text cannot be
-/// written, the report and the status remain without it.
+/// Writes to standard error why no interleaving explains the least failure of a campaign, if it has a failure; the
+/// failure with the fewest calls, if another one has fewer; and why the first trial without a case has none, if there
+/// is such a trial. If an allocation fails or the text cannot be written, the report and the status remain without it.
 pub fn print_why_campaign_failed_to_stderr<R: Eprint>(
     rt: &R,
     alloc: Global,
@@ -44,6 +44,17 @@ pub fn print_why_campaign_failed_to_stderr<R: Eprint>(
 {
     if let Some((case, history)) = notes.least.take() {
         beginning::print_failure_explanation_to_stderr(rt, alloc, input, case, history);
+    }
+    if let Some(shorter) = notes.shorter {
+        let calls = if shorter.commands == 1 {
+            "call"
+        } else {
+            "calls"
+        };
+        let _ = eprintln!(rt;
+            "trial {} failed with {} {calls}, fewer than these {}: --save keeps each failing case",
+            shorter.number, shorter.commands, shorter.commands_of_first
+        );
     }
     if let Some(number) = notes.first_genfault {
         print_why_trial_has_no_case(rt, alloc, settings, input, number);

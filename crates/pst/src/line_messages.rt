@@ -2,13 +2,17 @@
 
 use crate::input::STANDARD_INPUT;
 use pst_cli::RefusedLines;
-use pst_json_runs::has_json;
-use pst_messages::{Asked, input_error_notices};
+use pst_json_runs::is_json_item_line;
+use pst_messages::{MessageScope, input_error_notices};
 use pst_sexpr::{MAX_BYTES, read};
 use pst_sources::{
     Input, Notices, Place, SourceFile, Span, first_item, first_line, joined, place_on, tree_at,
 };
 use std::alloc::{AllocError, Global};
+
+/// What a line of a stream has to be.
+const NO_ITEM: &str =
+    "this begins no item: a line of a stream is `(run ..)`, `(case ..)` or an object of JSON, `{..}`";
 
 /// How many refused lines get messages, unless all of them do.
 pub const MOST_LINES: usize = 20;
@@ -23,7 +27,7 @@ struct LineFault {
 
 /// The messages on the refused lines of a stream. Each is written as soon as its line is judged, and none is kept.
 #[derive(Drop)]
-pub struct LineMessages<'a, R: Eprint + AllocGlobal> {
+pub struct RefusedLineMessages<'a, R: Eprint + AllocGlobal> {
     rt: &'a R,
     /// The name of the model's file.
     name: &'a str,
@@ -66,7 +70,7 @@ fn first_error_in_last_file(
         bytes: text.as_slice(),
     };
     let last = files.len().saturating_sub(1);
-    let Notices { all, more: _ } = input_error_notices(alloc, &input, Asked::FirstItem)?;
+    let Notices { all, more: _ } = input_error_notices(alloc, &input, MessageScope::FirstItem)?;
     for notice in all {
         let part = input.part_at(notice.span);
         if part.number == last {
@@ -105,6 +109,9 @@ fn fault_of_line_unless_one_item(
         return Ok(Some(line_fault_without_notes(alloc, first, what)?));
     }
     if trees.len() > 1 {
+        if line.get(first.start) != Some(&b'(') {
+            return Ok(Some(line_fault_without_notes(alloc, first, NO_ITEM)?));
+        }
         let second = tree_at(line, first.end);
         let what = "a second item begins here: a line of a stream has one";
         return Ok(Some(line_fault_without_notes(alloc, second, what)?));
@@ -117,14 +124,18 @@ fn fault_of_line_unless_one_item(
 }
 
 /// Returns a note on a file of one line as a note on line `number`.
-fn renumber_note_line(alloc: Global, number: usize, note: &str) -> Result<String, AllocError> {
+fn note_with_line_renumbered(
+    alloc: Global,
+    number: usize,
+    note: &str,
+) -> Result<String, AllocError> {
     let line = format!(in alloc; "line {number}")?;
     let place = format!(in alloc; " at {number}:")?;
     let note = note.replace(alloc, "line 1", line.as_str())?;
     note.as_str().replace(alloc, " at 1:", place.as_str())
 }
 
-impl<'a, R: Eprint + AllocGlobal> LineMessages<'a, R> {
+impl<'a, R: Eprint + AllocGlobal> RefusedLineMessages<'a, R> {
     /// The messages on lines whose model is the first tree of `input`, the text of the file `name`. There are at most
     /// `most`.
     pub fn new(
@@ -133,9 +144,9 @@ impl<'a, R: Eprint + AllocGlobal> LineMessages<'a, R> {
         input: &'a [u8],
         most: usize,
         has_progress: bool,
-    ) -> LineMessages<'a, R> {
+    ) -> RefusedLineMessages<'a, R> {
         let Span { start: _, end } = tree_at(input, 0);
-        LineMessages {
+        RefusedLineMessages {
             rt,
             name,
             model: input.get(..end).unwrap_or(input),
@@ -159,7 +170,7 @@ impl<'a, R: Eprint + AllocGlobal> LineMessages<'a, R> {
         if line.len() > MAX_BYTES {
             return line_fault_without_notes(alloc, start, "the line is longer than 1 MiB");
         }
-        if !has_json(line) {
+        if !is_json_item_line(line) {
             if let Some(found) = fault_of_line_unless_one_item(alloc, line)? {
                 return Ok(found);
             }
@@ -178,7 +189,7 @@ impl<'a, R: Eprint + AllocGlobal> LineMessages<'a, R> {
     }
 
     /// Returns the message on the refused line `number`.
-    fn message(&self, number: usize, line: &[u8]) -> Result<String, AllocError> {
+    fn message_on_refused_line(&self, number: usize, line: &[u8]) -> Result<String, AllocError> {
         let alloc = self.rt.alloc();
         let LineFault { span, what, notes } = self.fault_of_refused_line(alloc, line)?;
         let Place {
@@ -192,14 +203,14 @@ impl<'a, R: Eprint + AllocGlobal> LineMessages<'a, R> {
             message.push_str(format!(in alloc; "    {text}\n    {marks}\n")?.as_str())?;
         }
         for note in &notes {
-            let note = renumber_note_line(alloc, number, note.as_str())?;
+            let note = note_with_line_renumbered(alloc, number, note.as_str())?;
             message.push_str(format!(in alloc; "  {note}\n")?.as_str())?;
         }
         Ok(message)
     }
 }
 
-impl<'a, R: Eprint + AllocGlobal> RefusedLines for LineMessages<'a, R> {
+impl<'a, R: Eprint + AllocGlobal> RefusedLines for RefusedLineMessages<'a, R> {
     fn takes_more(&self) -> bool {
         self.left > 0
     }
@@ -211,7 +222,7 @@ impl<'a, R: Eprint + AllocGlobal> RefusedLines for LineMessages<'a, R> {
         self.left = self.left.saturating_sub(1);
         let rt = self.rt;
         let begin = if self.has_progress { "\r\x1b[K" } else { "" };
-        if let Ok(message) = self.message(number, line) {
+        if let Ok(message) = self.message_on_refused_line(number, line) {
             let _ = eprint!(rt; "{begin}{message}");
         }
     }

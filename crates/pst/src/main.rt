@@ -39,27 +39,27 @@ mod warned;
 mod watching;
 mod words;
 
-use interrupting::StopFile;
+use interrupting::StopFileWatch;
 use pst_cli::KnownSystem;
 use pst_driver::MisfitRecorder;
 use pst_samples::{Counter, Meet, Queue, Racy, Registry, Stuck};
 use pst_sources::{Input, joined};
 use pst_system::BoxedSystem;
-use running::{Systems, Work};
+use running::{SubcommandContext, SystemsResult};
 use std::io::IsTerminal;
 use std::process::ExitCode;
 use std::sync::Arc;
 use std::thread::Builder;
-use systems::{ChosenSystems, Unmade};
+use systems::{ChosenSystems, SystemsError};
 use terminal::Terminals;
 
 /// Adds a system to the systems.
-fn add_system(systems: Systems, system: Result<BoxedSystem, Unmade>) -> Systems {
+fn add_system(systems: SystemsResult, system: Result<BoxedSystem, SystemsError>) -> SystemsResult {
     let mut systems = systems?;
     let system = system?;
     match systems.push(system) {
         Ok(()) => Ok(systems),
-        Err(_) => Err(Unmade::NoMemory),
+        Err(_) => Err(SystemsError::NoMemory),
     }
 }
 
@@ -68,7 +68,7 @@ macro_rules! boxed {
     ($alloc:expr, $system:expr) => {
         match Box::new($alloc, $system) {
             Ok(system) => Ok(system),
-            Err(_) => Err(Unmade::NoMemory),
+            Err(_) => Err(SystemsError::NoMemory),
         }
     };
 }
@@ -121,7 +121,7 @@ fn main(rt: HostRuntime) -> ExitCode {
                 Ok(matches) => matches,
                 Err(status) => return status.code(),
             };
-            let files = match reading::prepare_input(&rt, &matches, terminals) {
+            let files = match reading::check_and_read_input_or_run_fmt(&rt, &matches, terminals) {
                 Ok(files) => files,
                 Err(status) => return status.code(),
             };
@@ -136,11 +136,11 @@ fn main(rt: HostRuntime) -> ExitCode {
                 bytes: text.as_slice(),
             };
             // Boxed systems are made here, since a function cannot return one.
-            let misfits = overheard::new_misfits_for_run(alloc, &matches);
-            let mut systems: Systems = Ok(Vec::new(alloc));
+            let misfits = overheard::empty_misfits_if_run_is_not_quiet(alloc, &matches);
+            let mut systems: SystemsResult = Ok(Vec::new(alloc));
             if let Some((wanted, count)) = systems::systems_from_arguments(&matches) {
                 for worker in 0..count {
-                    let system: Result<BoxedSystem, Unmade> = match wanted {
+                    let system: Result<BoxedSystem, SystemsError> = match wanted {
                         ChosenSystems::Known(known) => known_system!(rt, alloc, misfits, known),
                         ChosenSystems::Clients(folder) => match clients::open_clients_for_worker(
                             rt,
@@ -157,7 +157,9 @@ fn main(rt: HostRuntime) -> ExitCode {
                     systems = add_system(systems, system);
                 }
             }
-            let Ok(has_appeared) = interrupting::initial_stop_flag(&rt, alloc, &matches) else {
+            let Ok(has_appeared) = interrupting::flag_whether_stop_file_is_there(
+                &rt, alloc, &matches,
+            ) else {
                 return refused::report_out_of_memory(&rt).code();
             };
             let watched = match &has_appeared {
@@ -174,7 +176,7 @@ fn main(rt: HostRuntime) -> ExitCode {
                         .spawn(&rt, move || interrupting::watch_for_stop_file(&rt, &own))
                         .ok()
                     {
-                        Some(thread) => Some(StopFile::new(watched, thread)),
+                        Some(thread) => Some(StopFileWatch::new(watched, thread)),
                         None => None,
                     },
                     Err(_) => None,
@@ -182,22 +184,22 @@ fn main(rt: HostRuntime) -> ExitCode {
                 None => None,
             };
             let ending = interrupting::early_stop_from_arguments(&matches, has_appeared);
-            let work = Work {
+            let work = SubcommandContext {
                 matches: &matches,
                 files: files.as_read(),
                 misfits: misfits.as_deref(),
                 ending: &ending,
                 terminals,
             };
-            let watch = hangs::watch_clients(rt, alloc, &matches, &notes);
-            let status = running::run(&rt, work, input, systems);
+            let watch = hangs::start_client_watch_unless_quiet(rt, alloc, &matches, &notes);
+            let status = running::run_subcommand_to_chosen_output(&rt, work, input, systems);
             if let Some(watch) = watch {
                 watch.end(&rt);
             }
             if let Some(stop_file) = stop_file {
                 stop_file.end(&rt);
             }
-            clients::print_client_notes_to_stderr(&rt, &matches, &notes);
+            clients::print_client_notes_unless_quiet(&rt, &matches, &notes);
             status.code()
         });
     match worker {

@@ -2,8 +2,8 @@
 
 use crate::words::arguments_select_json;
 use clap::ArgMatches;
-use pst_messages::{Asked, input_error_notices, input_warning_notices};
-use pst_rejudge::{Field, Name, add_number_field, add_text_field, object_line};
+use pst_messages::{MessageScope, input_error_notices, input_warning_notices};
+use pst_rejudge::{Field, Name, add_number_field, add_text_field, json_object_line};
 use pst_sources::{Input, Notice, Notices, place_in};
 use pst_value::Text;
 use std::alloc::{AllocError, Global};
@@ -18,7 +18,11 @@ fn json_texts_of_strings(alloc: Global, strings: Vec<String>) -> Result<Vec<Text
 }
 
 /// Returns the object of an error or a warning: its severity, its place, what is wrong, and notes.
-fn notice_object(alloc: Global, input: &Input<'_>, notice: Notice) -> Result<Vec<u8>, AllocError> {
+fn json_line_of_notice(
+    alloc: Global,
+    input: &Input<'_>,
+    notice: Notice,
+) -> Result<Vec<u8>, AllocError> {
     let place = place_in(alloc, input, &notice)?;
     let severity = if notice.is_warning {
         "warning"
@@ -44,11 +48,11 @@ fn notice_object(alloc: Global, input: &Input<'_>, notice: Notice) -> Result<Vec
     if !lines.is_empty() {
         fields.push(Field::Words(Name::Explanation, Text::from_string(lines)))?;
     }
-    object_line(alloc, fields.as_slice())
+    json_object_line(alloc, fields.as_slice())
 }
 
 /// Returns the objects of errors and warnings on an input, a line each.
-fn notice_objects(
+fn json_lines_of_notices(
     alloc: Global,
     input: &Input<'_>,
     notices: Notices,
@@ -56,24 +60,27 @@ fn notice_objects(
     let mut text = Vec::new(alloc);
     let Notices { all, more } = notices;
     for notice in all {
-        text.extend_from_slice(notice_object(alloc, input, notice)?.as_slice())?;
+        text.extend_from_slice(json_line_of_notice(alloc, input, notice)?.as_slice())?;
     }
     if !more.is_empty() {
         let mut fields = Vec::new(alloc);
         add_text_field(alloc, &mut fields, Name::Severity, "error")?;
         add_text_field(alloc, &mut fields, Name::Message, more.as_str().trim())?;
-        text.extend_from_slice(object_line(alloc, fields.as_slice())?.as_slice())?;
+        text.extend_from_slice(json_object_line(alloc, fields.as_slice())?.as_slice())?;
     }
     Ok(text)
 }
 
 /// Returns the objects of the errors of a model, or of the warnings on it if it is accepted, a line each.
-fn model_notices(alloc: Global, input: &Input<'_>) -> Result<Vec<u8>, AllocError> {
-    let errors = input_error_notices(alloc, input, Asked::Model)?;
+fn json_lines_of_errors_else_warnings(
+    alloc: Global,
+    input: &Input<'_>,
+) -> Result<Vec<u8>, AllocError> {
+    let errors = input_error_notices(alloc, input, MessageScope::Model)?;
     if errors.all.is_empty() {
-        notice_objects(alloc, input, input_warning_notices(alloc, input)?)
+        json_lines_of_notices(alloc, input, input_warning_notices(alloc, input)?)
     } else {
-        notice_objects(alloc, input, errors)
+        json_lines_of_notices(alloc, input, errors)
     }
 }
 
@@ -84,7 +91,7 @@ pub fn output_includes_notices(word: &str, words: &ArgMatches<'_>) -> bool {
 
 /// Returns the objects of the errors and warnings on a model, a line each. There are no lines if the arguments forbid
 /// them, or if an allocation for them fails.
-pub fn notice_json_lines_on_model(
+pub fn json_lines_of_notices_unless_quiet(
     alloc: Global,
     words: &ArgMatches<'_>,
     input: &Input<'_>,
@@ -92,7 +99,7 @@ pub fn notice_json_lines_on_model(
     if words.get_flag("quiet") {
         return Vec::new(alloc);
     }
-    match model_notices(alloc, input) {
+    match json_lines_of_errors_else_warnings(alloc, input) {
         Ok(lines) => lines,
         Err(AllocError) => Vec::new(alloc),
     }

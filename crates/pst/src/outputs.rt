@@ -10,15 +10,15 @@ use std::rt::{Files, Runtime};
 
 /// A writer that keeps the last error of another writer.
 #[derive(Drop)]
-pub struct FailureKeeper<W> {
+pub struct WriteErrorKeeper<W> {
     writer: W,
     failure: Option<io::Error>,
 }
 
-impl<W: Write> FailureKeeper<W> {
+impl<W: Write> WriteErrorKeeper<W> {
     /// Writes to `writer`, which has had no error.
-    pub fn new(writer: W) -> FailureKeeper<W> {
-        FailureKeeper {
+    pub fn new(writer: W) -> WriteErrorKeeper<W> {
+        WriteErrorKeeper {
             writer,
             failure: None,
         }
@@ -30,7 +30,7 @@ impl<W: Write> FailureKeeper<W> {
     }
 }
 
-impl<W: Write> Write for FailureKeeper<W> {
+impl<W: Write> Write for WriteErrorKeeper<W> {
     fn write(&mut self, buf: &[u8]) -> io::Result<usize> {
         match self.writer.write(buf) {
             Ok(count) => Ok(count),
@@ -54,7 +54,8 @@ fn error_text_without_number(text: &str) -> &str {
     }
 }
 
-/// Returns what an error says, as `no space left on device`: in lower case, and without its number.
+/// Returns what an error says, as `no space left on device`: with its first letter in lower case, and without its
+/// number.
 fn error_reason(alloc: Global, error: &io::Error) -> Result<String, AllocError> {
     let whole = format!(in alloc; "{error}")?;
     let mut reason = String::new(alloc);
@@ -94,7 +95,7 @@ pub fn print_unwritten_file_to_stderr<R: Eprint>(
 
 /// Returns the status of a command whose output, to the file `name` or to standard output, cannot be written.
 /// Standard error says why, but not for a closed pipe, as in `pst judge c.runs | head -n 1`.
-pub fn report_lost_output<R: Eprint>(
+pub fn report_lost_output_unless_pipe_closed<R: Eprint>(
     rt: &R,
     alloc: Global,
     name: Option<&str>,

@@ -1,7 +1,7 @@
 //! Messages on misfits, on standard error: what a system answered for each reply `misfit`.
 
 use clap::ArgMatches;
-use pst_driver::{Misfits, misfits_text};
+use pst_driver::{Misfits, misfit_lines_text};
 use pst_typing::load;
 use std::alloc::Global;
 use std::sync::Arc;
@@ -11,7 +11,10 @@ pub type SharedMisfits = Arc<Misfits, Global>;
 
 /// Returns an empty list for the misfits of `run`. `None` for other commands, if the arguments forbid messages, and if
 /// an allocation fails.
-pub fn new_misfits_for_run(alloc: Global, matches: &ArgMatches<'_>) -> Option<SharedMisfits> {
+pub fn empty_misfits_if_run_is_not_quiet(
+    alloc: Global,
+    matches: &ArgMatches<'_>,
+) -> Option<SharedMisfits> {
     let (word, words) = matches.subcommand()?;
     if word != "run" || words.get_flag("quiet") {
         return None;
@@ -25,7 +28,7 @@ pub fn share_misfits(misfits: &Option<SharedMisfits>) -> Option<SharedMisfits> {
 }
 
 /// Compares answers from now on with the model at the beginning of `input`, if it can be loaded.
-pub fn compare_answers_with_model_of_input(alloc: Global, misfits: &Misfits, input: &[u8]) {
+pub fn set_model_of_misfits_if_it_loads(alloc: Global, misfits: &Misfits, input: &[u8]) {
     if let Ok(Ok(file)) = load(alloc, input) {
         misfits.set_model(file.typed);
     }
@@ -34,7 +37,7 @@ pub fn compare_answers_with_model_of_input(alloc: Global, misfits: &Misfits, inp
 /// Writes a line for each recorded misfit to standard error. If an allocation fails or the lines cannot be written, the
 /// runs and their verdicts remain without them.
 pub fn print_misfits_to_stderr<R: Eprint>(rt: &R, alloc: Global, misfits: &Misfits) {
-    if let Ok(text) = misfits_text(alloc, misfits) {
+    if let Ok(text) = misfit_lines_text(alloc, misfits) {
         let _ = eprint!(rt; "{text}");
     }
 }

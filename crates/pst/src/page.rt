@@ -3,7 +3,7 @@
 use crate::input::STANDARD_INPUT;
 use crate::outputs::print_unwritten_file_to_stderr;
 use clap::{Arg, ArgMatches};
-use pst_cli::{CampaignNotes, Status, campaign_page};
+use pst_cli::{CampaignNotes, Status, campaign_failures_html_page};
 use pst_sources::{Input, SourceFile};
 use std::alloc::Global;
 use std::fs::{File, OpenOptions, metadata, remove_file};
@@ -25,7 +25,7 @@ pub fn read_html_option<'a>(matches: &ArgMatches<'a>) -> Option<&'a str> {
 
 /// The page that the arguments of a campaign choose.
 #[derive(Clone, Copy, Drop)]
-pub struct CampaignPage<'a> {
+pub struct CampaignPageOptions<'a> {
     /// The name of its file; `None`: no page is written.
     name: Option<&'a str>,
     /// The files of the input.
@@ -72,11 +72,11 @@ pub fn refuse_unwritable_html_page<R: Files + Eprint + AllocGlobal>(
     }
 }
 
-impl<'a> CampaignPage<'a> {
+impl<'a> CampaignPageOptions<'a> {
     /// The page that the arguments choose.
-    pub fn from_arguments(words: &'a ArgMatches<'_>, input: Input<'a>) -> CampaignPage<'a> {
+    pub fn from_arguments(words: &'a ArgMatches<'_>, input: Input<'a>) -> CampaignPageOptions<'a> {
         let Input { files, bytes: _ } = input;
-        CampaignPage {
+        CampaignPageOptions {
             name: words.get_str("html"),
             files,
         }
@@ -99,7 +99,7 @@ impl<'a> CampaignPage<'a> {
         let (Some(name), Some(failures)) = (self.name, notes.explained.take()) else {
             return Status::Accepted;
         };
-        let Ok(page) = campaign_page(alloc, self.files, input, failures) else {
+        let Ok(page) = campaign_failures_html_page(alloc, self.files, input, failures) else {
             let _ = eprintln!(rt; "pst: cannot write {name}: memory allocation failed");
             return Status::Lost;
         };

@@ -1,6 +1,6 @@
 //! A line that displays the progress of a campaign, on a terminal.
 
-use crate::telling::Rate;
+use crate::telling::DisplayedRate;
 use pst_campaign::{Watch, did_not_pass};
 use pst_ledger::Cause;
 use pst_trial::{Record, ShrinkProgress};
@@ -16,7 +16,7 @@ const PAUSE: u64 = 250;
 
 /// The results of the trials so far, and which trial is shrunk.
 #[derive(Drop)]
-pub struct Progress {
+pub struct CampaignProgress {
     /// How many trials there are.
     all: u64,
     done: AtomicU64,
@@ -27,12 +27,12 @@ pub struct Progress {
 
 /// The trials that have ended at a time, in milliseconds after the beginning.
 #[derive(Clone, Copy, Drop)]
-struct EndedTrials {
+struct LastTrialEnd {
     count: u64,
     milliseconds: u64,
 }
 
-impl EndedTrials {
+impl LastTrialEnd {
     /// Returns how many seconds `left` trials take, `milliseconds` after the beginning, at the rate up to the
     /// last trial that ended. `None` if more time has passed since then.
     fn seconds_left(self, left: u64, milliseconds: u64) -> Option<u64> {
@@ -60,17 +60,17 @@ impl fmt::Display for TimeLeft {
 }
 
 /// The word for this number of candidates.
-fn candidates_word(driven: u64) -> &'static str {
+fn candidate_or_candidates(driven: u64) -> &'static str {
     match driven {
         1 => "candidate",
         _ => "candidates",
     }
 }
 
-impl Progress {
+impl CampaignProgress {
     /// Returns the progress of a campaign of `all` trials, none of which has ended.
-    fn new(all: u64) -> Progress {
-        Progress {
+    fn new(all: u64) -> CampaignProgress {
+        CampaignProgress {
             all,
             done: AtomicU64::new(0),
             failed: AtomicU64::new(0),
@@ -80,20 +80,20 @@ impl Progress {
     }
 
     /// Writes the line of a campaign in which no trial has ended. Nothing is known of the rate then.
-    fn write_first_line<R: Eprint>(&self, rt: &R) {
+    fn write_line_before_first_trial_ends<R: Eprint>(&self, rt: &R) {
         let all = self.all;
         let Some((trial, driven)) = self.shrinking.current() else {
             let _ = eprint!(rt; "\r\x1b[K0 of {all} done");
             return;
         };
-        let word = candidates_word(driven);
+        let word = candidate_or_candidates(driven);
         let _ = eprint!(rt;
             "\r\x1b[K\x1b[?7l0 of {all} done, shrinking trial {trial}: {driven} {word}\x1b[?7h"
         );
     }
 
     /// Returns how many trials have ended, also lost ones.
-    fn ended(&self) -> u64 {
+    fn count_of_ended_trials(&self) -> u64 {
         let done = self.done.load(Ordering::SeqCst);
         done.saturating_add(self.lost.load(Ordering::SeqCst))
     }
@@ -102,15 +102,15 @@ impl Progress {
     /// the line cannot be written, the campaign continues.
     ///
     /// While a trial is shrunk, the terminal cuts the line off where it would go on in a next row.
-    fn write_line<R: Eprint>(&self, rt: &R, last: EndedTrials, milliseconds: u64) {
+    fn write_line<R: Eprint>(&self, rt: &R, last: LastTrialEnd, milliseconds: u64) {
         if last.count == 0 {
-            return self.write_first_line(rt);
+            return self.write_line_before_first_trial_ends(rt);
         }
         let done = self.done.load(Ordering::SeqCst);
         let failed = self.failed.load(Ordering::SeqCst);
         let lost = self.lost.load(Ordering::SeqCst);
         let all = self.all;
-        let Rate { number, unit } = Rate::of(last.count, milliseconds);
+        let DisplayedRate { number, unit } = DisplayedRate::of(last.count, milliseconds);
         let left = TimeLeft {
             seconds: last.seconds_left(all.saturating_sub(last.count), milliseconds),
         };
@@ -120,14 +120,14 @@ impl Progress {
             );
             return;
         };
-        let word = candidates_word(driven);
+        let word = candidate_or_candidates(driven);
         let _ = eprint!(rt;
             "\r\x1b[K\x1b[?7l{done} of {all} done, {failed} failed, {lost} lost, shrinking trial {trial}: {driven} {word}, {number} {unit}{left}\x1b[?7h"
         );
     }
 }
 
-impl Watch for Progress {
+impl Watch for CampaignProgress {
     fn trial_ended(&self, ended: &Result<Record, Cause>) {
         match ended {
             Ok(record) => {
@@ -152,15 +152,15 @@ impl Watch for Progress {
 /// What the thread that writes the line shares with the campaign.
 #[derive(Drop)]
 struct DisplayedProgress {
-    progress: Progress,
+    progress: CampaignProgress,
     is_over: AtomicBool,
     parker: Parker,
 }
 
 /// Writes the line again and again until the campaign is over, and takes it away then.
-fn write_lines<R: Wait + Eprint>(rt: &R, displayed: &DisplayedProgress) {
+fn rewrite_progress_line_until_over<R: Wait + Eprint>(rt: &R, displayed: &DisplayedProgress) {
     let mut milliseconds = 0u64;
-    let mut last = EndedTrials {
+    let mut last = LastTrialEnd {
         count: 0,
         milliseconds,
     };
@@ -172,9 +172,9 @@ fn write_lines<R: Wait + Eprint>(rt: &R, displayed: &DisplayedProgress) {
             break;
         }
         milliseconds = milliseconds.saturating_add(PAUSE);
-        let count = displayed.progress.ended();
+        let count = displayed.progress.count_of_ended_trials();
         if count != last.count {
-            last = EndedTrials {
+            last = LastTrialEnd {
                 count,
                 milliseconds,
             };
@@ -201,7 +201,7 @@ impl ProgressDisplay {
         all: u64,
     ) -> Result<ProgressDisplay, AllocError> {
         let displayed = DisplayedProgress {
-            progress: Progress::new(all),
+            progress: CampaignProgress::new(all),
             is_over: AtomicBool::new(false),
             parker: Parker::new(),
         };
@@ -209,13 +209,13 @@ impl ProgressDisplay {
         let own = Arc::try_clone(&displayed)?;
         let rt = *rt;
         let thread = Builder::new()
-            .spawn(&rt, move || write_lines(&rt, &own))
+            .spawn(&rt, move || rewrite_progress_line_until_over(&rt, &own))
             .ok();
         Ok(ProgressDisplay { displayed, thread })
     }
 
     /// The progress, which watches the campaign.
-    pub fn progress(&self) -> &Progress {
+    pub fn progress(&self) -> &CampaignProgress {
         &self.displayed.progress
     }
 

@@ -1,6 +1,6 @@
 //! The reading of the input, and what is refused before it.
 
-use crate::input::{Reading, STANDARD_INPUT};
+use crate::input::{InputOptions, STANDARD_INPUT};
 use crate::terminal::Terminals;
 use crate::{
     formatting, generating, input, json_items, outputs, page, refused, saving, streaming, systems,
@@ -48,10 +48,12 @@ fn refuse_invalid_arguments<R: Runtime + AllocGlobal>(
     let is_quiet = is_quiet(matches);
     let inputs = input_files_from_arguments(matches);
     if let Some((command, name)) = systems::unknown_system_in_arguments(matches) {
-        return Err(systems::refuse_unknown_system(rt, command, name, inputs, is_quiet, &mut out));
+        return Err(systems::refuse_unopened_file_or_unknown_system(
+            rt, command, name, inputs, is_quiet, &mut out,
+        ));
     }
     if streaming::arguments_select_stream_of_items(matches)
-        && !streaming::leaves_standard_input_for_items(inputs)
+        && !streaming::is_model_file_alone(inputs)
     {
         return Err(streaming::refuse_stream(rt, inputs, is_quiet, &mut out));
     }
@@ -100,13 +102,13 @@ impl<'a> InputFiles<'a> {
 
 /// Reads the files that the arguments name. If that fails, or the arguments are refused, or files are only laid out, the
 /// error is the status that the program ends with.
-pub fn prepare_input<'a, R: Runtime + AllocGlobal>(
+pub fn check_and_read_input_or_run_fmt<'a, R: Runtime + AllocGlobal>(
     rt: &R,
     matches: &'a ArgMatches<'_>,
     terminals: Terminals,
 ) -> Result<InputFiles<'a>, Status> {
     refuse_invalid_arguments(rt, matches)?;
-    let reading = Reading {
+    let reading = InputOptions {
         is_quiet: is_quiet(matches),
         is_terminal: terminals.input,
     };
@@ -117,7 +119,7 @@ pub fn prepare_input<'a, R: Runtime + AllocGlobal>(
         Ok(read) => read,
         Err(why) => return Err(refuse_text(why, &mut Out::new(io::writer(rt)))),
     };
-    match json_items::convert_json_items_to_trees(rt.alloc(), read.as_slice()) {
+    match json_items::source_files_with_json_as_trees_or_cut(rt.alloc(), read.as_slice()) {
         Ok(trees) => Ok(InputFiles { read, trees }),
         Err(_) => Err(refused::report_out_of_memory(rt)),
     }

@@ -3,7 +3,7 @@
 use crate::words::arguments_select_json;
 use clap::ArgMatches;
 use pst_cli::{Absence, Status, refuse_text};
-use pst_messages::{Asked, input_error_messages_text};
+use pst_messages::{MessageScope, input_error_messages_text};
 use pst_sexpr::Out;
 use pst_sources::{SourceFile, joined};
 use std::io;
@@ -15,18 +15,18 @@ pub fn report_out_of_memory<R: Runtime>(rt: &R) -> Status {
 }
 
 /// Returns what to write messages for, by the command `word` and its arguments.
-fn messages_wanted_by_subcommand(word: &str, words: &ArgMatches<'_>) -> Asked {
+fn messages_wanted_by_subcommand(word: &str, words: &ArgMatches<'_>) -> MessageScope {
     match word {
-        "judge" if words.get_flag("stream") => Asked::Model,
+        "judge" if words.get_flag("stream") => MessageScope::Model,
         "judge" if words.get_flag("keep-going") || arguments_select_json(words) => {
             if words.get_flag("all-messages") {
-                Asked::AllItems
+                MessageScope::AllItems
             } else {
-                Asked::EachItem
+                MessageScope::EachItem
             }
         }
-        "judge" | "run" | "explain" | "convert" => Asked::FirstItem,
-        _ => Asked::Model,
+        "judge" | "run" | "explain" | "convert" => MessageScope::FirstItem,
+        _ => MessageScope::Model,
     }
 }
 

@@ -24,7 +24,7 @@ const REFUSED_VERDICT: &str = "\"verdict\":\"refused\"";
 
 /// The destination of the output.
 #[derive(Clone, Copy, PartialEq, Eq, Drop)]
-enum Route {
+enum OutputDestination {
     /// Nothing was written.
     Undecided,
     ToFile,
@@ -39,16 +39,16 @@ pub struct ResultFile<'a, R, F> {
     file: F,
     /// Whether an output has a line or an object for each item, also if items are refused.
     has_refused_items: bool,
-    route: Route,
+    route: OutputDestination,
 }
 
 /// Opens the file `name`, or makes it, and leaves what is in it.
-pub fn open_to_write<R: Files>(rt: &R, name: &str) -> io::Result<R::File> {
+pub fn open_to_write_without_emptying<R: Files>(rt: &R, name: &str) -> io::Result<R::File> {
     OpenOptions::new().write(true).create(true).open(rt, name)
 }
 
 /// Returns whether the arguments choose an output with a line or an object for each item, also if items are refused.
-pub fn writes_refused_items(matches: &ArgMatches<'_>) -> bool {
+pub fn are_refused_items_in_output(matches: &ArgMatches<'_>) -> bool {
     match matches.subcommand() {
         Some(("judge", words)) => {
             words.get_flag("keep-going") || words.get_flag("stream") || arguments_select_json(words)
@@ -72,7 +72,7 @@ fn begins_with_refused_item(bytes: &[u8]) -> bool {
 }
 
 /// Returns whether an output that begins with `bytes` is the refusal of the input.
-fn begins_refusal(bytes: &[u8], has_refused_items: bool) -> bool {
+fn begins_with_refusal_of_input(bytes: &[u8], has_refused_items: bool) -> bool {
     if begins_with_refused_item(bytes) {
         return !has_refused_items;
     }
@@ -86,18 +86,18 @@ impl<'a, R: Print, F: Write + OpenFile> ResultFile<'a, R, F> {
             rt,
             file,
             has_refused_items,
-            route: Route::Undecided,
+            route: OutputDestination::Undecided,
         }
     }
 
     /// Returns whether the output went to the file.
     pub fn is_in_file(&self) -> bool {
-        self.route == Route::ToFile
+        self.route == OutputDestination::ToFile
     }
 
     /// Returns whether the output, a refusal, went to standard output.
     pub fn is_on_standard_output(&self) -> bool {
-        self.route == Route::ToStandardOutput
+        self.route == OutputDestination::ToStandardOutput
     }
 
     /// Empties the file. Pipes and devices have nothing to remove.
@@ -109,20 +109,21 @@ impl<'a, R: Print, F: Write + OpenFile> ResultFile<'a, R, F> {
     }
 
     /// Chooses where an output goes that begins with `bytes`.
-    fn choose_route(&mut self, bytes: &[u8]) -> io::Result<()> {
-        if begins_refusal(bytes, self.has_refused_items) {
-            self.route = Route::ToStandardOutput;
+    fn choose_route_and_empty_chosen_file(&mut self, bytes: &[u8]) -> io::Result<()> {
+        if begins_with_refusal_of_input(bytes, self.has_refused_items) {
+            self.route = OutputDestination::ToStandardOutput;
         } else {
             self.empty_file()?;
-            self.route = Route::ToFile;
+            self.route = OutputDestination::ToFile;
         }
         Ok(())
     }
 
     /// Empties the file if a command that was not refused wrote nothing.
-    pub fn end(&mut self, status: Status) -> io::Result<()> {
+    pub fn empty_file_if_nothing_was_written(&mut self, status: Status) -> io::Result<()> {
         match (self.route, status) {
-            (Route::Undecided, Status::Accepted | Status::Failed) => self.choose_route(&[]),
+            (OutputDestination::Undecided, Status::Accepted | Status::Failed) =>
+                self.choose_route_and_empty_chosen_file(&[]),
             _ => Ok(()),
         }
     }
@@ -130,10 +131,10 @@ impl<'a, R: Print, F: Write + OpenFile> ResultFile<'a, R, F> {
 
 impl<R: Print, F: Write + OpenFile> Write for ResultFile<'_, R, F> {
     fn write(&mut self, buf: &[u8]) -> io::Result<usize> {
-        if self.route == Route::Undecided {
-            self.choose_route(buf)?;
+        if self.route == OutputDestination::Undecided {
+            self.choose_route_and_empty_chosen_file(buf)?;
         }
-        if self.route == Route::ToStandardOutput {
+        if self.route == OutputDestination::ToStandardOutput {
             io::writer(self.rt).write(buf)
         } else {
             self.file.write(buf)

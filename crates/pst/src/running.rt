@@ -2,13 +2,13 @@
 
 ghost use Rattle.std.specs.Prelude.{◌≡◌, false};
 
-use crate::campaigning::campaign;
-use crate::driving::drive_items_on_given_system;
+use crate::campaigning::run_campaign_subcommand;
+use crate::driving::drive_items_on_system_or_refuse;
 use crate::judging::run_judge_subcommand;
-use crate::outputs::FailureKeeper;
+use crate::outputs::WriteErrorKeeper;
 use crate::reading::output_file_from_arguments;
-use crate::result_file::{ResultFile, open_to_write, writes_refused_items};
-use crate::systems::Unmade;
+use crate::result_file::{ResultFile, are_refused_items_in_output, open_to_write_without_emptying};
+use crate::systems::SystemsError;
 use crate::terminal::Terminals;
 use crate::{
     clients, converting, explaining, generating, noticed, outputs, refused, streaming, summary,
@@ -16,7 +16,7 @@ use crate::{
 };
 use clap::ArgMatches;
 use pst_campaign::EarlyStop;
-use pst_cli::{Absence, Counts, Status, check_json, check_text, list_text, refuse_text};
+use pst_cli::{Absence, ItemResultCounts, Status, check_json, check_text, list_text, refuse_text};
 use pst_driver::Misfits;
 use pst_messages::ItemInput;
 use pst_sexpr::{Out, Sink};
@@ -32,7 +32,7 @@ use std::time::Clock;
 
 /// What a subcommand works on.
 #[derive(Clone, Copy, Drop)]
-pub struct Work<'a, 'm> {
+pub struct SubcommandContext<'a, 'm> {
     /// The arguments of the program.
     pub matches: &'a ArgMatches<'m>,
     /// The files of the input as they were read, with their JSON items.
@@ -46,7 +46,7 @@ pub struct Work<'a, 'm> {
 }
 
 /// The systems that the arguments name.
-pub type Systems = Result<Vec<BoxedSystem>, Unmade>;
+pub type SystemsResult = Result<Vec<BoxedSystem>, SystemsError>;
 
 /// Runs cases or trials on the systems, or refuses if they were not made.
 fn run_subcommand_on_systems<
@@ -54,12 +54,12 @@ fn run_subcommand_on_systems<
     R: Threads + Wait + Sync + Eprint + Files + Clock + AllocGlobal + Copy + Drop + Send + 'static,
 >(
     rt: &R,
-    work: Work<'_, '_>,
+    work: SubcommandContext<'_, '_>,
     word: &str,
     words: &ArgMatches<'_>,
     input: Input<'_>,
-    systems: Systems,
-    counts: &mut Counts,
+    systems: SystemsResult,
+    counts: &mut ItemResultCounts,
     out: &mut W,
 ) -> Status
     requires { W.broken out.old ≡ false }
@@ -68,19 +68,19 @@ fn run_subcommand_on_systems<
     let is_terminal = work.terminals.errors;
     let systems = match systems {
         Ok(systems) => systems,
-        Err(Unmade::NoMemory) => return refuse_text(Absence::NoMemory, out),
-        Err(Unmade::NoPipes(error)) => {
-            clients::report_unopened(rt, words, name, &error);
+        Err(SystemsError::NoMemory) => return refuse_text(Absence::NoMemory, out),
+        Err(SystemsError::NoPipes(error)) => {
+            clients::report_unopened_pipes_unless_quiet(rt, words, name, &error);
             return refuse_text(Absence::NoSystem(name), out);
         }
     };
     if word != "run" {
         let ending = work.ending;
-        return campaign(rt, words, name, systems, ending, is_terminal, input, out);
+        return run_campaign_subcommand(rt, words, name, systems, ending, is_terminal, input, out);
     }
     let (alloc, misfits) = (rt.alloc(), work.misfits);
     let Input { files: _, bytes } = input;
-    drive_items_on_given_system(
+    drive_items_on_system_or_refuse(
         rt,
         alloc,
         words,
@@ -100,10 +100,10 @@ fn run_subcommand<
     R: Runtime + Threads + Wait + Sync + AllocGlobal + Copy + Drop + Send + 'static,
 >(
     rt: &R,
-    work: Work<'_, '_>,
+    work: SubcommandContext<'_, '_>,
     input: Input<'_>,
-    systems: Systems,
-    counts: &mut Counts,
+    systems: SystemsResult,
+    counts: &mut ItemResultCounts,
     out: &mut W,
 ) -> Status
     requires { W.broken out.old ≡ false }
@@ -115,12 +115,12 @@ fn run_subcommand<
     let Input { files: _, bytes } = input;
     match word {
         "check" if noticed::output_includes_notices(word, words) => {
-            let notices = noticed::notice_json_lines_on_model(alloc, words, &input);
+            let notices = noticed::json_lines_of_notices_unless_quiet(alloc, words, &input);
             check_json(alloc, bytes, notices.as_slice(), out)
         }
         "check" => check_text(alloc, bytes, out),
         "list" => list_text(alloc, bytes, out),
-        "generate" => generating::generate(rt, words, bytes, out),
+        "generate" => generating::run_generate_subcommand(rt, words, bytes, out),
         "convert" => converting::run_convert_subcommand(alloc, words, bytes, out),
         "judge" if words.get_flag("stream") => {
             streaming::judge_standard_input(rt, words, terminals, bytes, counts, out)
@@ -139,10 +139,10 @@ fn run_subcommand<
 /// to standard error, unless the arguments forbid it.
 fn print_outcome_messages_to_stderr<R: Eprint + AllocGlobal>(
     rt: &R,
-    work: Work<'_, '_>,
+    work: SubcommandContext<'_, '_>,
     input: Input<'_>,
     status: Status,
-    counts: &Counts,
+    counts: &ItemResultCounts,
 ) {
     let Some((word, words)) = work.matches.subcommand() else {
         return;
@@ -159,26 +159,26 @@ fn print_outcome_messages_to_stderr<R: Eprint + AllocGlobal>(
             files,
             bytes,
         ),
-        _ => summary::print_that_input_has_no_items(rt, word, words, bytes, status, counts),
+        _ => summary::report_if_input_has_no_items(rt, word, words, bytes, status, counts),
     }
-    summary::print_summary_of_items_to_stderr(rt, counts);
+    summary::print_summary_if_several_items(rt, counts);
 }
 
 /// Runs the subcommand with its output to `writer`, and returns its status and the error of the writer, if it had one.
 /// Unless the arguments forbid it, standard error has a message on each refusal, and warnings on a model that `check`
-/// accepts and after the lines of `judge`. Its last line sums up the items of `judge` and `run`.
+/// accepts and after the lines of `judge`. Its last line sums up the items of `judge` and `run_subcommand_to_chosen_output`.
 fn run_subcommand_with_output_to_writer<
     W: Write + Drop,
     R: Runtime + AllocGlobal + Threads + Wait + Sync + Copy + Drop + Send + 'static,
 >(
     rt: &R,
-    work: Work<'_, '_>,
+    work: SubcommandContext<'_, '_>,
     input: Input<'_>,
-    systems: Systems,
+    systems: SystemsResult,
     writer: W,
 ) -> (Status, Option<io::Error>) {
-    let mut out = Out::new(FailureKeeper::new(writer));
-    let mut counts = Counts::new();
+    let mut out = Out::new(WriteErrorKeeper::new(writer));
+    let mut counts = ItemResultCounts::new();
     let status = run_subcommand(rt, work, input, systems, &mut counts, &mut out);
     print_outcome_messages_to_stderr(rt, work, input, status, &counts);
     if out.has_failed() {
@@ -190,35 +190,42 @@ fn run_subcommand_with_output_to_writer<
 
 /// Returns the status of a command with the status `status` whose output, to the file `name` or to standard output, had
 /// the error `failure`. Standard error says so if there is one.
-fn status_of_output<R: Eprint + AllocGlobal>(
+fn status_after_reporting_output_failure<R: Eprint + AllocGlobal>(
     rt: &R,
     status: Status,
     name: Option<&str>,
     failure: Option<io::Error>,
 ) -> Status {
     match failure {
-        Some(error) => outputs::report_lost_output(rt, rt.alloc(), name, &error),
+        Some(error) => outputs::report_lost_output_unless_pipe_closed(rt, rt.alloc(), name, &error),
         None => status,
     }
 }
 
 /// Runs the subcommand with its output to the file `name`. If the input is refused, its refusal goes to standard output,
 /// and the file stays as it was.
-fn run_to_file<R: Runtime + AllocGlobal + Threads + Wait + Sync + Copy + Drop + Send + 'static>(
+fn run_subcommand_to_file_unless_refused<
+    R: Runtime + AllocGlobal + Threads + Wait + Sync + Copy + Drop + Send + 'static,
+>(
     rt: &R,
-    work: Work<'_, '_>,
+    work: SubcommandContext<'_, '_>,
     input: Input<'_>,
-    systems: Systems,
+    systems: SystemsResult,
     name: &str,
 ) -> Status {
     let was_there = symlink_metadata(rt, name).is_ok();
-    let file = match open_to_write(rt, name) {
+    let file = match open_to_write_without_emptying(rt, name) {
         Ok(file) => file,
-        Err(error) => return outputs::report_lost_output(rt, rt.alloc(), Some(name), &error),
+        Err(error) => return outputs::report_lost_output_unless_pipe_closed(
+            rt,
+            rt.alloc(),
+            Some(name),
+            &error,
+        ),
     };
-    let mut result = ResultFile::new(rt, file, writes_refused_items(work.matches));
+    let mut result = ResultFile::new(rt, file, are_refused_items_in_output(work.matches));
     let terminals = work.terminals.with_output_in_a_file();
-    let work = Work { terminals, ..work };
+    let work = SubcommandContext { terminals, ..work };
     let (status, failure) = run_subcommand_with_output_to_writer(
         rt,
         work,
@@ -228,7 +235,7 @@ fn run_to_file<R: Runtime + AllocGlobal + Threads + Wait + Sync + Copy + Drop + 
     );
     let failure = match failure {
         Some(error) => Some(error),
-        None => result.end(status).err(),
+        None => result.empty_file_if_nothing_was_written(status).err(),
     };
     if !result.is_in_file() && !was_there {
         let _ = remove_file(rt, name);
@@ -238,18 +245,15 @@ fn run_to_file<R: Runtime + AllocGlobal + Threads + Wait + Sync + Copy + Drop + 
     } else {
         Some(name)
     };
-    status_of_output(rt, status, name, failure)
+    status_after_reporting_output_failure(rt, status, name, failure)
 }
 
 /// Runs the subcommand with its output to the file that the arguments name, or to standard output.
-pub fn run<R: Runtime + AllocGlobal + Threads + Wait + Sync + Copy + Drop + Send + 'static>(
-    rt: &R,
-    work: Work<'_, '_>,
-    input: Input<'_>,
-    systems: Systems,
-) -> Status {
+pub fn run_subcommand_to_chosen_output<
+    R: Runtime + AllocGlobal + Threads + Wait + Sync + Copy + Drop + Send + 'static,
+>(rt: &R, work: SubcommandContext<'_, '_>, input: Input<'_>, systems: SystemsResult) -> Status {
     if let Some(name) = output_file_from_arguments(work.matches) {
-        return run_to_file(rt, work, input, systems, name);
+        return run_subcommand_to_file_unless_refused(rt, work, input, systems, name);
     }
     let (status, failure) = run_subcommand_with_output_to_writer(
         rt,
@@ -258,5 +262,5 @@ pub fn run<R: Runtime + AllocGlobal + Threads + Wait + Sync + Copy + Drop + Send
         systems,
         io::writer(rt),
     );
-    status_of_output(rt, status, None, failure)
+    status_after_reporting_output_failure(rt, status, None, failure)
 }

@@ -5,7 +5,7 @@ use crate::outputs::print_file_error_to_stderr;
 use crate::quoting::push_shell_word;
 use clap::ArgMatches;
 use pst_cli::Status;
-use pst_clients::Folder;
+use pst_clients::ClientFolder;
 use pst_report::NumberedFailure;
 use std::alloc::{AllocError, Global};
 use std::io;
@@ -13,7 +13,7 @@ use std::rt::Files;
 
 /// The folder that the failures of a campaign are saved in, and the comments of each file.
 #[derive(Drop)]
-pub struct Saving<'a> {
+pub struct FailureSaver<'a> {
     folder: &'a str,
     seed: u64,
     /// The arguments of a command before the file that it drives.
@@ -30,9 +30,9 @@ fn fnv1a_hash(bytes: &[u8]) -> u64 {
 }
 
 /// The arguments that name clients: what the launcher wrote into their folder, or else a word in place of their command.
-fn client_arguments<R: Files + AllocGlobal>(
+fn client_arguments_or_placeholder<R: Files + AllocGlobal>(
     rt: &R,
-    folder: Folder<'_>,
+    folder: ClientFolder<'_>,
 ) -> Result<String, AllocError> {
     let alloc = rt.alloc();
     let name = folder.name;
@@ -43,16 +43,18 @@ fn client_arguments<R: Files + AllocGlobal>(
     }
 }
 
-/// The arguments of a command that drives cases on the systems of a campaign, before the file of the cases.
-fn arguments_to_drive_failure_again<R: Files + AllocGlobal>(
+/// The beginning of a command that drives cases on the systems of a campaign: `pst run`, the system or the clients,
+/// `--repeats 20` and the model. The file of the cases comes after it. `MODEL` is in the place of a model that is not
+/// in one named file.
+fn command_start_to_drive_failure_again<R: Files + AllocGlobal>(
     rt: &R,
     words: &ArgMatches<'_>,
     name: &str,
 ) -> Result<String, AllocError> {
     let alloc = rt.alloc();
     let mut command = String::from_str(alloc, "pst run ")?;
-    match Folder::from_word(name) {
-        Some(folder) => command.push_str(client_arguments(rt, folder)?.as_str())?,
+    match ClientFolder::from_word(name) {
+        Some(folder) => command.push_str(client_arguments_or_placeholder(rt, folder)?.as_str())?,
         None => command.push_str(name)?,
     }
     command.push_str(" --repeats 20 ")?;
@@ -66,7 +68,7 @@ fn arguments_to_drive_failure_again<R: Files + AllocGlobal>(
 /// The text of a file: comments that say where the failure is from and how its case is driven again, and the run.
 fn failure_file_text(
     alloc: Global,
-    saving: &Saving<'_>,
+    saving: &FailureSaver<'_>,
     file: &str,
     numbered: &NumberedFailure,
 ) -> Result<Vec<u8>, AllocError> {
@@ -112,22 +114,22 @@ pub fn refuse_file_as_save_folder<R: Files + Eprint>(
     }
 }
 
-impl<'a> Saving<'a> {
+impl<'a> FailureSaver<'a> {
     /// Makes the folder `folder`, unless it is there, for the failures of a campaign on the systems `name`. If it cannot be
     /// made, standard error says why.
-    pub fn begin<R: Files + Eprint + AllocGlobal>(
+    pub fn begin_by_making_folder<R: Files + Eprint + AllocGlobal>(
         rt: &R,
         words: &ArgMatches<'_>,
         folder: &'a str,
         seed: u64,
         name: &str,
-    ) -> Result<Saving<'a>, Status> {
+    ) -> Result<FailureSaver<'a>, Status> {
         if let Err(error) = std::fs::create_dir_all(rt, folder) {
             print_file_error_to_stderr(rt, rt.alloc(), "make", folder, &error);
             return Err(Status::Lost);
         }
-        match arguments_to_drive_failure_again(rt, words, name) {
-            Ok(command) => Ok(Saving {
+        match command_start_to_drive_failure_again(rt, words, name) {
+            Ok(command) => Ok(FailureSaver {
                 folder,
                 seed,
                 command,

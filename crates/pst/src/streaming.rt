@@ -2,11 +2,11 @@
 ghost use Rattle.std.specs.Prelude.{◌≡◌, false};
 
 use crate::input::STANDARD_INPUT;
-use crate::line_messages::{LineMessages, MOST_LINES};
+use crate::line_messages::{MOST_LINES, RefusedLineMessages};
 use crate::telling::StepsDisplay;
 use crate::terminal::Terminals;
 use clap::ArgMatches;
-use pst_cli::{Absence, Counts, Status, item_count, judge_stream, refuse_text};
+use pst_cli::{Absence, ItemResultCounts, Status, count_items_of_input, judge_stream, refuse_text};
 use pst_sexpr::Sink;
 use std::alloc::Global;
 use std::io::Input;
@@ -23,7 +23,7 @@ pub fn arguments_select_stream_of_items(matches: &ArgMatches<'_>) -> bool {
 
 /// Returns whether the file names are that of the model alone, which leaves standard input to the items of a
 /// stream.
-pub fn leaves_standard_input_for_items(names: &[&str]) -> bool {
+pub fn is_model_file_alone(names: &[&str]) -> bool {
     match names {
         [model] => *model != STANDARD_INPUT,
         _ => false,
@@ -54,8 +54,8 @@ pub fn refuse_stream<W: Sink, R: Eprint>(
 }
 
 /// Writes to standard error that the items after the model in its file are not judged, if there are some.
-fn print_that_file_items_are_not_judged<R: Eprint>(rt: &R, alloc: Global, input: &[u8]) {
-    if matches!(item_count(alloc, input), Ok(1..)) {
+fn warn_if_file_has_unjudged_items<R: Eprint>(rt: &R, alloc: Global, input: &[u8]) {
+    if matches!(count_items_of_input(alloc, input), Ok(1..)) {
         let _ = eprintln!(rt;
             "pst: the items after the model are not judged: with --stream they come on standard input"
         );
@@ -74,7 +74,7 @@ fn max_messages_from_arguments(words: &ArgMatches<'_>) -> usize {
 }
 
 /// Writes to standard error how many of the refused lines have no message, if there are some and others have one.
-fn print_count_of_unexplained_refusals<R: Eprint>(rt: &R, refused: usize, most: usize) {
+fn print_count_of_refusals_without_message<R: Eprint>(rt: &R, refused: usize, most: usize) {
     let more = refused.saturating_sub(most);
     if most > 0 && more > 0 {
         let items = if more == 1 { "item is" } else { "items are" };
@@ -82,10 +82,10 @@ fn print_count_of_unexplained_refusals<R: Eprint>(rt: &R, refused: usize, most: 
     }
 }
 
-/// Judges the items of standard input, one on each line, by the model at the beginning of `input`. If
-/// standard error is a terminal, and standard output, on which the verdicts come meanwhile, is none, a line
-/// says how many are judged. Unless the arguments forbid messages, standard error has a message on each of the
-/// first refused lines, and says if there are items after the model, which are not judged.
+/// Judges the items of standard input, one on each line, by the model at the beginning of `input`. If standard error is
+/// a terminal, and standard output, on which the verdicts come meanwhile, is none, a line says how many are judged.
+/// Unless the arguments forbid messages, standard error has a message on each of the first refused lines, says how many
+/// others are refused, and says if there are items after the model, which are not judged.
 pub fn judge_standard_input<
     W: Sink,
     R: Threads + Wait + Sync + Input + Eprint + AllocGlobal + Copy + Drop + Send + 'static,
@@ -94,7 +94,7 @@ pub fn judge_standard_input<
     words: &ArgMatches<'_>,
     terminals: Terminals,
     input: &[u8],
-    counts: &mut Counts,
+    counts: &mut ItemResultCounts,
     out: &mut W,
 ) -> Status
     requires { W.broken out.old ≡ false }
@@ -102,7 +102,7 @@ pub fn judge_standard_input<
     let alloc = rt.alloc();
     let is_quiet = words.get_flag("quiet");
     if !is_quiet {
-        print_that_file_items_are_not_judged(rt, alloc, input);
+        warn_if_file_has_unjudged_items(rt, alloc, input);
     }
     let is_told = terminals.errors && !terminals.output && !is_quiet;
     let Ok(telling) = StepsDisplay::begin(rt, alloc, is_told, "judged") else {
@@ -111,7 +111,7 @@ pub fn judge_standard_input<
     let steps = telling.steps();
     let most = max_messages_from_arguments(words);
     let name = words.get_str("FILE").unwrap_or(STANDARD_INPUT);
-    let mut messages = LineMessages::new(rt, name, input, most, is_told);
+    let mut messages = RefusedLineMessages::new(rt, name, input, most, is_told);
     let mut reader = rt.reader();
     let status = judge_stream(
         rt,
@@ -124,6 +124,6 @@ pub fn judge_standard_input<
         out,
     );
     telling.end(rt);
-    print_count_of_unexplained_refusals(rt, counts.refused, most);
+    print_count_of_refusals_without_message(rt, counts.refused, most);
     status
 }

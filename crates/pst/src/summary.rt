@@ -1,11 +1,11 @@
 //! The line that sums up the results of items, on standard error.
 
 use clap::ArgMatches;
-use pst_cli::{Counts, Status, item_count};
+use pst_cli::{ItemResultCounts, Status, count_items_of_input};
 use std::alloc::{AllocError, Global};
 
 /// Returns the number of items with each result, in the order of the line.
-fn counts_with_result_words(counts: &Counts) -> [(usize, &'static str); 9] {
+fn counts_with_result_words(counts: &ItemResultCounts) -> [(usize, &'static str); 9] {
     [
         (counts.explained, "explained"),
         (counts.unexplained, "unexplained"),
@@ -38,7 +38,7 @@ pub fn add_grouped_number(
 }
 
 /// Returns how many items there are.
-fn total_of_item_counts(counts: &Counts) -> usize {
+fn total_of_item_counts(counts: &ItemResultCounts) -> usize {
     let mut total = 0usize;
     for (count, _) in &counts_with_result_words(counts) {
         total = total.saturating_add(*count);
@@ -48,7 +48,10 @@ fn total_of_item_counts(counts: &Counts) -> usize {
 
 /// Returns the line for two or more items, as `pst: 3 items: 2 explained, 1 unexplained`. `None` for fewer
 /// items.
-fn summary_line(alloc: Global, counts: &Counts) -> Result<Option<String>, AllocError> {
+fn summary_line_for_two_or_more_items(
+    alloc: Global,
+    counts: &ItemResultCounts,
+) -> Result<Option<String>, AllocError> {
     let each = counts_with_result_words(counts);
     let total = total_of_item_counts(counts);
     if total < 2 {
@@ -72,8 +75,8 @@ fn summary_line(alloc: Global, counts: &Counts) -> Result<Option<String>, AllocE
 
 /// Writes a line to standard error that sums up the results of the items, if there is more than one item. It ignores
 /// failures.
-pub fn print_summary_of_items_to_stderr<R: Eprint + AllocGlobal>(rt: &R, counts: &Counts) {
-    if let Ok(Some(line)) = summary_line(rt.alloc(), counts) {
+pub fn print_summary_if_several_items<R: Eprint + AllocGlobal>(rt: &R, counts: &ItemResultCounts) {
+    if let Ok(Some(line)) = summary_line_for_two_or_more_items(rt.alloc(), counts) {
         let _ = eprintln!(rt; "{line}");
     }
 }
@@ -89,13 +92,13 @@ fn subcommand_takes_items(word: &str, words: &ArgMatches<'_>) -> bool {
 
 /// Writes to standard error that the command `word` had no items, if its input has none after the model.
 /// `status` is the status of the command.
-pub fn print_that_input_has_no_items<R: Eprint + AllocGlobal>(
+pub fn report_if_input_has_no_items<R: Eprint + AllocGlobal>(
     rt: &R,
     word: &str,
     words: &ArgMatches<'_>,
     input: &[u8],
     status: Status,
-    counts: &Counts,
+    counts: &ItemResultCounts,
 ) {
     if status != Status::Accepted
         || total_of_item_counts(counts) > 0
@@ -103,7 +106,7 @@ pub fn print_that_input_has_no_items<R: Eprint + AllocGlobal>(
     {
         return;
     }
-    if item_count(rt.alloc(), input) == Ok(0) {
+    if count_items_of_input(rt.alloc(), input) == Ok(0) {
         let _ = eprintln!(rt; "pst: no cases or runs after the model");
     }
 }

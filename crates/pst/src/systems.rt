@@ -5,9 +5,9 @@ ghost use Rattle.std.specs.Prelude.{◌≡◌, false};
 use crate::input;
 use clap::ArgMatches;
 use pst_cli::{Absence, KnownSystem, Status, refuse_text};
-use pst_clients::Folder;
+use pst_clients::ClientFolder;
 use pst_sexpr::Sink;
-use pst_syntax_problems::NearestName;
+use pst_syntax_problems::NearestNameSoFar;
 use std::alloc::AllocError;
 use std::io;
 use std::rt::Files;
@@ -21,12 +21,12 @@ pub enum ChosenSystems<'a> {
     /// Sample systems that the program makes.
     Known(KnownSystem),
     /// Clients, whose pipes are in a folder.
-    Clients(Folder<'a>),
+    Clients(ClientFolder<'a>),
 }
 
 /// Why a system was not made.
 #[derive(Drop)]
-pub enum Unmade {
+pub enum SystemsError {
     /// The pipes of clients cannot be opened.
     NoPipes(io::Error),
     /// An allocation failed.
@@ -35,7 +35,7 @@ pub enum Unmade {
 
 /// Returns the systems with the name `name`, if there are some.
 fn systems_of_name(name: &str) -> Option<ChosenSystems<'_>> {
-    if let Some(folder) = Folder::from_word(name) {
+    if let Some(folder) = ClientFolder::from_word(name) {
         return Some(ChosenSystems::Clients(folder));
     }
     Some(ChosenSystems::Known(KnownSystem::named(name)?))
@@ -86,7 +86,7 @@ fn unknown_system_hint<R: Files + AllocGlobal>(
         )?;
         return Ok(Some(hint));
     }
-    let mut near = NearestName::to(name);
+    let mut near = NearestNameSoFar::to(name);
     for known in SYSTEMS {
         near = near.or(alloc, known, name)?;
     }
@@ -97,7 +97,7 @@ fn unknown_system_hint<R: Files + AllocGlobal>(
 }
 
 /// Returns the first of `names` that is no file but the name of a system.
-fn misplaced_system<'a, R: Files>(rt: &R, names: &[&'a str]) -> Option<&'a str> {
+fn first_system_name_among_files<'a, R: Files>(rt: &R, names: &[&'a str]) -> Option<&'a str> {
     for name in names {
         if KnownSystem::named(name).is_some() && !input::can_be_opened(rt, name) {
             return Some(*name);
@@ -108,8 +108,13 @@ fn misplaced_system<'a, R: Files>(rt: &R, names: &[&'a str]) -> Option<&'a str> 
 
 /// Writes a hint to standard error if one of the files is no file but the name of a system. `name` is in the place of a
 /// system in the arguments of `command`.
-fn report_misplaced_system<R: Files + Eprint>(rt: &R, command: &str, name: &str, files: &[&str]) {
-    if let Some(system) = misplaced_system(rt, files) {
+fn hint_if_system_is_misplaced<R: Files + Eprint>(
+    rt: &R,
+    command: &str,
+    name: &str,
+    files: &[&str],
+) {
+    if let Some(system) = first_system_name_among_files(rt, files) {
         let _ = eprintln!(rt;
             "  hint: `{system}` is no file; a system's name comes first: pst {command} {system} {name}"
         );
@@ -119,7 +124,7 @@ fn report_misplaced_system<R: Files + Eprint>(rt: &R, command: &str, name: &str,
 /// Writes `refused system NAME`, or `refused file` if one of the files cannot be opened. It reads nothing. Unless
 /// `is_quiet`, a message on standard error says what is wrong with the arguments of `command`; for an unknown system it
 /// lists the known ones.
-pub fn refuse_unknown_system<W: Sink, R: Files + Eprint + AllocGlobal>(
+pub fn refuse_unopened_file_or_unknown_system<W: Sink, R: Files + Eprint + AllocGlobal>(
     rt: &R,
     command: &str,
     name: &str,
@@ -131,7 +136,7 @@ pub fn refuse_unknown_system<W: Sink, R: Files + Eprint + AllocGlobal>(
 {
     if let Err(why) = input::open_files_without_reading(rt, files, is_quiet) {
         if !is_quiet {
-            report_misplaced_system(rt, command, name, files);
+            hint_if_system_is_misplaced(rt, command, name, files);
         }
         return refuse_text(why, out);
     }

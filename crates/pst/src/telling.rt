@@ -23,25 +23,25 @@ struct DisplayedSteps {
 
 /// How fast something goes: how many a second, or how many seconds each one takes.
 #[derive(Clone, Copy, Drop)]
-pub struct Rate {
+pub struct DisplayedRate {
     pub number: u64,
     /// `a second` or `s each`.
     pub unit: &'static str,
 }
 
-impl Rate {
+impl DisplayedRate {
     /// The rate if `count` took `milliseconds`.
-    pub fn of(count: u64, milliseconds: u64) -> Rate {
+    pub fn of(count: u64, milliseconds: u64) -> DisplayedRate {
         let rate = count
             .saturating_mul(1000)
             .checked_div(milliseconds)
             .unwrap_or(0);
         match (milliseconds / 1000).checked_div(count) {
-            Some(each) if rate == 0 => Rate {
+            Some(each) if rate == 0 => DisplayedRate {
                 number: each,
                 unit: "s each",
             },
-            _ => Rate {
+            _ => DisplayedRate {
                 number: rate,
                 unit: "a second",
             },
@@ -74,7 +74,7 @@ fn progress_line(
 ) -> Result<String, AllocError> {
     let done = steps.done();
     let thousands = done.saturating_mul(1000);
-    let Rate { number, unit } = Rate::of(done, milliseconds);
+    let DisplayedRate { number, unit } = DisplayedRate::of(done, milliseconds);
     let mut line = String::new(alloc);
     add_grouped_number(&mut line, alloc, done as usize)?;
     if let Some(all) = steps.all() {

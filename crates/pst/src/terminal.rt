@@ -47,8 +47,8 @@ pub fn color_option<'a>(alloc: Global) -> Arg<'a> {
         .hide_possible_values(true)
 }
 
-/// Whether a variable of the environment has another text than the empty one.
-fn is_environment_variable_set<R: Env + AllocGlobal>(rt: &R, name: &str) -> bool {
+/// Whether a variable of the environment has another text than the empty one. False if its value is not UTF-8.
+fn is_environment_variable_nonempty<R: Env + AllocGlobal>(rt: &R, name: &str) -> bool {
     match env::var(rt, name) {
         Ok(text) => !text.is_empty(),
         Err(_) => false,
@@ -60,7 +60,7 @@ pub fn has_colors<R: Env + AllocGlobal>(rt: &R, words: &ArgMatches<'_>, is_termi
     match words.get_str("color") {
         Some("always") => true,
         Some("never") => false,
-        _ => is_terminal && !is_environment_variable_set(rt, "NO_COLOR"),
+        _ => is_terminal && !is_environment_variable_nonempty(rt, "NO_COLOR"),
     }
 }
 

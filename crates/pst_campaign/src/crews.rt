@@ -12,7 +12,7 @@ use crate::ending::StopCondition;
 use crate::plans::{Watched, loss_cause_of_trial_fault};
 use crate::runner::TrialRunner;
 use crate::working::work_with_own_seat_and_system;
-use pst_driver::{Crew, KeptSystem, Relations, Subject, start_crew};
+use pst_driver::{Crew, Relations, Subject, SystemWithRelations, start_crew};
 use pst_ledger::{Cause, Ledger, Seat};
 use pst_system::{BoxedSystem, System};
 use pst_trial::{Plan, Record, ShrinkProgress, may_share_records, run_trial_with_crew};
@@ -98,7 +98,7 @@ impl<'p, 'w, 'c, K: StopCondition, J: Relations, S: Subject> TrialRunner<Record,
 
 /// Works at a fresh seat with the threads of a crew until no number is left or the plan is over, and returns the
 /// seat.
-fn work_with_threads<K: StopCondition, J: Relations, S: Subject, H: Threads + Wait>(
+fn work_with_crew_threads<K: StopCondition, J: Relations, S: Subject, H: Threads + Wait>(
     rt: &H,
     alloc: Global,
     plan: &Arc<Plan>,
@@ -126,7 +126,7 @@ fn work_with_threads<K: StopCondition, J: Relations, S: Subject, H: Threads + Wa
 
 /// Starts the threads of a crew in a scope, and works at a fresh seat with them until no number is left or the
 /// plan is over. If they do not all start, it does no work and returns the seat as it is, as an `Err`.
-fn start_and_work<
+fn start_crew_and_work<
     's,
     E,
     K: StopCondition,
@@ -154,11 +154,11 @@ fn start_and_work<
     if !start_crew(rt, alloc, scope, plan.typed(), crew, branches) {
         return Err(seat);
     }
-    Ok(work_with_threads(rt, alloc, plan, watch, ledger, seat, crew))
+    Ok(work_with_crew_threads(rt, alloc, plan, watch, ledger, seat, crew))
 }
 
-/// Does what `start_and_work` does in a scope of its own, and sends the threads home.
-fn work_with_crew<
+/// Does what `start_crew_and_work` does in a scope of its own, and sends the threads home.
+fn start_crew_work_and_dismiss<
     K: StopCondition,
     J: Relations + Send + Sync,
     S: Subject + Send + Sync,
@@ -191,7 +191,7 @@ fn work_with_crew<
                 ledger.entry.now.table)
                 × IfErr result (IsFresh ledger.entry.now.table) }
         {
-            let ended = start_and_work(rt, alloc, scope, plan, watch, ledger, seat, crew);
+            let ended = start_crew_and_work(rt, alloc, scope, plan, watch, ledger, seat, crew);
             crew.dismiss();
             ended
         },
@@ -200,7 +200,7 @@ fn work_with_crew<
 
 /// Works at a fresh seat with a crew on the system, whose relations are those that `J` names. If the threads of
 /// the crew do not all start, it does no work and returns the seat and the system, as an `Err`.
-fn work_with_named_relations<
+fn work_with_new_crew<
     K: StopCondition,
     J: Relations + Send + Sync,
     S: Subject + Send + Sync + Drop,
@@ -225,8 +225,8 @@ fn work_with_named_relations<
     ensures kept { IfErr result (λ back. AreKept (S.may_answer back.1) J.answering
         (S.may_fail back.1) J.failing (S.may_refuse_reset back.1) J.resetting) }
 {
-    let crew: Crew<J, S> = Crew::new(KeptSystem::new(system));
-    match work_with_crew(rt, alloc, plan, watch, ledger, seat, &crew) {
+    let crew: Crew<J, S> = Crew::new(SystemWithRelations::new(system));
+    match start_crew_work_and_dismiss(rt, alloc, plan, watch, ledger, seat, &crew) {
         Ok(seat) => Ok(seat),
         Err(seat) => Err((seat, crew.into_system())),
     }
@@ -253,7 +253,7 @@ fn work_on_system_with_crew<K: StopCondition, S: Subject + Send + Sync + Drop, H
         (S.may_fail back.1) (S.may_fail system)
         (S.may_refuse_reset back.1) (S.may_refuse_reset system)) }
 {
-    work_with_named_relations::<K, Brand, S, H>(rt, alloc, plan, watch, ledger, seat, system)
+    work_with_new_crew::<K, Brand, S, H>(rt, alloc, plan, watch, ledger, seat, system)
 }
 
 /// Works at a fresh seat on the system in a box until no number is left or the plan is over, and returns the

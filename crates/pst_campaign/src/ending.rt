@@ -74,7 +74,7 @@ impl EarlyStop {
     }
 
     /// Whether enough trials did not pass for the campaign to be over.
-    fn has_enough(&self) -> bool
+    fn has_enough_failed_trials(&self) -> bool
         ensures { IsTrue result → IsSome self.now.most }
     {
         match self.most {
@@ -120,6 +120,6 @@ impl StopCondition for EarlyStop {
     ghost may_end = { λ e. IsSome e.most ⊎ IsSome e.interrupted };
 
     fn is_over(&self) -> bool {
-        self.has_enough() || self.is_interrupted()
+        self.has_enough_failed_trials() || self.is_interrupted()
     }
 }

@@ -15,4 +15,4 @@ pub use campaigns::{campaign, campaign_until};
 pub use ending::{EarlyStop, NeverStops, StopCondition, did_not_pass};
 pub use fault::CampaignFault;
 pub use watch::{Unwatched, Watch};
-pub use working::work;
+pub use working::run_trials_until_none_is_left;

@@ -30,7 +30,13 @@ impl<'a, S, P: Worker<S>> Promise<Seat<Record>> for WorkPromise<'a, S, P> {
 
 /// Starts the thread of each worker, from the last on, and joins it once the others have ended. A worker whose
 /// thread cannot be started works on this thread once the others have ended.
-fn work_in_threads<'s, E, S: Drop + Send + 's, P: Worker<S> + Sync + 's, H: Threads + Wait + Sync>(
+fn start_and_join_worker_threads<
+    's,
+    E,
+    S: Drop + Send + 's,
+    P: Worker<S> + Sync + 's,
+    H: Threads + Wait + Sync,
+>(
     rt: &'s H,
     scope: &Scope<'s, E>,
     alloc: Global,
@@ -67,14 +73,18 @@ fn work_in_threads<'s, E, S: Drop + Send + 's, P: Worker<S> + Sync + 's, H: Thre
     };
     match scope.spawn_with(promise, run) {
         Ok(child) => {
-            let mut worked = work_in_threads(rt, scope, alloc, plan, ledger, seats, systems);
+            let mut worked = start_and_join_worker_threads(
+                rt, scope, alloc, plan, ledger, seats, systems,
+            );
             let own = child.join(rt);
             worked.push_reserved(own);
             worked
         }
         Err(refused) => {
             let SpawnError { value: run } = refused;
-            let mut worked = work_in_threads(rt, scope, alloc, plan, ledger, seats, systems);
+            let mut worked = start_and_join_worker_threads(
+                rt, scope, alloc, plan, ledger, seats, systems,
+            );
             let own = run();
             worked.push_reserved(own);
             worked
@@ -108,6 +118,6 @@ pub(crate) fn run_workers_on_threads<S: Drop + Send, P: Worker<S> + Sync, H: Thr
             ensures { AllZip
                 (λ (s : S) (t : SeatView RecordView). IsWorked (P.may_end plan.entry.now) (P.may_give plan.entry.now s) ledger.entry.now.table t)
                 systems.items result.items }
-        { work_in_threads(rt, scope, alloc, plan, ledger, seats, systems) },
+        { start_and_join_worker_threads(rt, scope, alloc, plan, ledger, seats, systems) },
     )
 }

@@ -7,12 +7,12 @@ pub trait Watch {
     /// A trial has ended, with its record or lost for a cause. The thread that ran the trial calls this.
     fn trial_ended(&self, ended: &Result<Record, Cause>);
 
-    /// Counts the candidates of the trial that is shrunk, if the watcher displays them.
+    /// Returns the counter of the candidates of the trial that is shrunk, if the watcher displays them.
     fn shrinking(&self) -> Option<&ShrinkProgress> {
         None
     }
 
-    /// All trials have ended. The thread that began the campaign calls this.
+    /// The campaign is over, also if it ended early or never started. The thread that began the campaign calls this.
     fn campaign_ended(&self);
 }
 

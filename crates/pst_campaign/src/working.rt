@@ -73,7 +73,7 @@ pub(crate) fn work_with_own_seat_and_system<
 /// Works at a seat of a ledger until no number is left: claims a number, runs its trial of the plan on the
 /// system, and deposits the record. A number whose trial has a fault is given up for the cause of that name.
 /// The call waits for as long as the calls of the system do.
-pub fn work<H: Threads + Wait + Sync>(
+pub fn run_trials_until_none_is_left<H: Threads + Wait + Sync>(
     rt: &H,
     alloc: Global,
     plan: &Arc<Plan>,

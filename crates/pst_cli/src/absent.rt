@@ -4,7 +4,7 @@ ghost use Rattle.pst_cli.specs.Absent.{absence_line, absence_status};
 ghost use Rattle.pst_cli.specs.Sending.{Sends};
 ghost use Rattle.pst_sexpr.specs.Writing.{joined};
 
-use crate::output::send;
+use crate::output::write_with_status_or_lost;
 use crate::status::Status;
 use pst_sexpr::{Sink, put_each};
 
@@ -38,7 +38,7 @@ pub fn refuse_text<W: Sink>(why: Absence<'_>, sink: &mut W) -> Status
         (absence_status why.entry) }
 {
     match why {
-        Absence::NoFile => send(b"refused file\n", Status::Refused, sink),
+        Absence::NoFile => write_with_status_or_lost(b"refused file\n", Status::Refused, sink),
         Absence::NoSystem(name) => {
             let parts = [
                 b"refused system ".as_slice(),
@@ -47,6 +47,6 @@ pub fn refuse_text<W: Sink>(why: Absence<'_>, sink: &mut W) -> Status
             ];
             write_refusal_parts(&parts, sink)
         }
-        Absence::NoMemory => send(b"refused memory\n", Status::Lost, sink),
+        Absence::NoMemory => write_with_status_or_lost(b"refused memory\n", Status::Lost, sink),
     }
 }

@@ -14,7 +14,7 @@ ghost use Rattle.pst_report.specs.Text.{report_text};
 ghost use Rattle.pst_trial.specs.Settings.{AreInRange};
 
 use crate::notes::CampaignNotes;
-use crate::output::{Output, send};
+use crate::output::{Output, write_with_status_or_lost};
 use crate::refusal::refusal_output;
 use crate::status::Status;
 use pst_campaign::{CampaignFault, NeverStops, StopCondition, Watch, campaign_until};
@@ -124,7 +124,7 @@ fn run_campaign_on_model<K: StopCondition + Sync, R: Threads + Wait + Sync>(
 }
 
 /// The output for the model at the start of the input, or the first refusal.
-fn campaign_output<K: StopCondition + Sync, R: Threads + Wait + Sync>(
+fn run_campaign_on_model_of_input<K: StopCondition + Sync, R: Threads + Wait + Sync>(
     rt: &R,
     alloc: Global,
     input: &[u8],
@@ -174,7 +174,7 @@ pub fn campaign_text<W: Sink, K: Watch + Sync, R: Threads + Wait + Sync>(
         (W.taken sink.old) (W.taken sink.new) (W.broken sink.new) result }
 {
     let mut notes = CampaignNotes::new();
-    campaign_with_notes(
+    run_campaign_and_take_notes(
         rt,
         alloc,
         input,
@@ -189,7 +189,7 @@ pub fn campaign_text<W: Sink, K: Watch + Sync, R: Threads + Wait + Sync>(
 /// Does what [`campaign_text`] does until `watch` says that the campaign is over, and notes what is wanted beside the report.
 /// If the campaign ends early, the status is `Failed` if a trial did not pass and none is lost, and else `Lost`. If an
 /// allocation fails, notes may be missing.
-pub fn campaign_with_notes<W: Sink, K: StopCondition + Sync, R: Threads + Wait + Sync>(
+pub fn run_campaign_and_take_notes<W: Sink, K: StopCondition + Sync, R: Threads + Wait + Sync>(
     rt: &R,
     alloc: Global,
     input: &[u8],
@@ -206,8 +206,8 @@ pub fn campaign_with_notes<W: Sink, K: StopCondition + Sync, R: Threads + Wait +
         ((System-box s).reset_fails s.value)) settings systems.items input.now)
         (W.taken sink.old) (W.taken sink.new) (W.broken sink.new) result }
 {
-    match campaign_output(rt, alloc, input, settings, systems, watch, notes) {
-        Ok(output) => send(output.text.as_slice(), output.status, sink),
-        Err(AllocError) => send(b"refused memory\n", Status::Lost, sink),
+    match run_campaign_on_model_of_input(rt, alloc, input, settings, systems, watch, notes) {
+        Ok(output) => write_with_status_or_lost(output.text.as_slice(), output.status, sink),
+        Err(AllocError) => write_with_status_or_lost(b"refused memory\n", Status::Lost, sink),
     }
 }

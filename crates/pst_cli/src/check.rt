@@ -3,7 +3,7 @@ ghost use Rattle.std.specs.Prelude.{◌≡◌, false, IfOk, string_bytes};
 ghost use Rattle.pst_cli.specs.Output.{IsCheckOutput, ok_line};
 ghost use Rattle.pst_cli.specs.Sending.{Prints};
 
-use crate::output::{Output, send};
+use crate::output::{Output, write_with_status_or_lost};
 use crate::refusal::refusal_output;
 use crate::status::Status;
 use pst_model::Typed;
@@ -20,7 +20,7 @@ fn accepted_model_line(alloc: Global, typed: &Typed) -> Result<String, AllocErro
 }
 
 /// `ok NAME`, or the first refusal.
-fn check_output(alloc: Global, input: &[u8]) -> Result<Output, AllocError>
+fn output_of_check_command(alloc: Global, input: &[u8]) -> Result<Output, AllocError>
     ensures { IfOk result (λ output. IsCheckOutput input.now (output.text.items) output.status) }
 {
     match load(alloc, input)? {
@@ -36,8 +36,8 @@ pub fn check_text<W: Sink>(alloc: Global, input: &[u8], sink: &mut W) -> Status
     ensures { Prints (IsCheckOutput input.now) (W.taken sink.old) (W.taken sink.new) (W.broken sink.new)
         result }
 {
-    match check_output(alloc, input) {
-        Ok(output) => send(output.text.as_slice(), output.status, sink),
-        Err(AllocError) => send(b"refused memory\n", Status::Lost, sink),
+    match output_of_check_command(alloc, input) {
+        Ok(output) => write_with_status_or_lost(output.text.as_slice(), output.status, sink),
+        Err(AllocError) => write_with_status_or_lost(b"refused memory\n", Status::Lost, sink),
     }
 }

@@ -32,24 +32,28 @@ impl Chosen {
 }
 
 /// Whether the judged items have an item `number`, from 1.
-pub(crate) fn has_item(number: usize, all: &[Judged]) -> bool
+pub(crate) fn is_number_of_judged_item(number: usize, all: &[Judged]) -> bool
     ensures { IsTrue result ↔ IsItem number all.now }
 {
     1 <= number && number <= all.len()
 }
 
 /// `refused item N of COUNT`.
-fn no_item_line(alloc: Global, number: usize, count: usize) -> Result<String, AllocError>
+fn missing_item_line(alloc: Global, number: usize, count: usize) -> Result<String, AllocError>
     ensures { IfOk result (λ line. string_bytes line ≡ no_item_line number count) }
 {
     format!(in alloc; "refused item {number} of {count}\n")
 }
 
 /// The line for an item that does not exist, and the status.
-pub(crate) fn refused_item(alloc: Global, number: usize, count: usize) -> Result<Output, AllocError>
+pub(crate) fn output_of_missing_item(
+    alloc: Global,
+    number: usize,
+    count: usize,
+) -> Result<Output, AllocError>
     ensures text { IfOk result (λ output. output.text.items ≡ no_item_line number count) }
     ensures status { IfOk result (λ output. output.status ≡ Refused) }
 {
-    let line = no_item_line(alloc, number, count)?;
+    let line = missing_item_line(alloc, number, count)?;
     Ok(Output::new(line, Status::Refused))
 }

@@ -5,11 +5,11 @@ ghost use Rattle.pst_cli.specs.Sending.{Prints};
 ghost use Rattle.pst_runs.specs.Lawful.{AreLawful, IsLawful};
 
 use crate::items::{ModelAndRuns, read_model_and_runs_of_input};
-use crate::output::{Output, send};
-use crate::run::tree_line;
+use crate::output::{Output, write_with_status_or_lost};
+use crate::run::run_tree_line;
 use crate::status::Status;
 use pst_case::Run;
-use pst_json_runs::json_line;
+use pst_json_runs::run_json_line;
 use pst_model::Typed;
 use pst_sexpr::Sink;
 use std::alloc::{AllocError, Global};
@@ -34,8 +34,8 @@ pub(crate) fn item_line_in_form(
     ensures { IfOk result (λ line. line.items ≡ line_in form typed.now run.now) }
 {
     match form {
-        ItemForm::Trees => tree_line(alloc, typed, run),
-        ItemForm::Json => json_line(alloc, typed, run),
+        ItemForm::Trees => run_tree_line(alloc, typed, run),
+        ItemForm::Json => run_json_line(alloc, typed, run),
     }
 }
 
@@ -59,7 +59,11 @@ fn item_lines_in_form(
 }
 
 /// The items of an input in a form, or its first refusal.
-fn convert_output(alloc: Global, input: &[u8], form: ItemForm) -> Result<Output, AllocError>
+fn output_of_convert_command(
+    alloc: Global,
+    input: &[u8],
+    form: ItemForm,
+) -> Result<Output, AllocError>
     ensures { IfOk result (λ output. IsConvertOutput form input.now output.text.items output.status) }
 {
     let ModelAndRuns { compiled, runs } = match read_model_and_runs_of_input(alloc, input)? {
@@ -79,8 +83,8 @@ pub fn convert_text<W: Sink>(alloc: Global, input: &[u8], form: ItemForm, sink: 
     ensures { Prints (IsConvertOutput form input.now)
         (W.taken sink.old) (W.taken sink.new) (W.broken sink.new) result }
 {
-    match convert_output(alloc, input, form) {
-        Ok(output) => send(output.text.as_slice(), output.status, sink),
-        Err(AllocError) => send(b"refused memory\n", Status::Lost, sink),
+    match output_of_convert_command(alloc, input, form) {
+        Ok(output) => write_with_status_or_lost(output.text.as_slice(), output.status, sink),
+        Err(AllocError) => write_with_status_or_lost(b"refused memory\n", Status::Lost, sink),
     }
 }

@@ -6,7 +6,7 @@ use pst_rejudge::ItemResult;
 
 /// How many items had each result. The fields are named after the lines that the program writes.
 #[derive(Drop)]
-pub struct Counts {
+pub struct ItemResultCounts {
     /// Runs that some interleaving explains.
     pub explained: usize,
     /// Runs that no interleaving explains.
@@ -30,14 +30,14 @@ pub struct Counts {
 }
 
 /// Adds one.
-fn add_one(count: &mut usize) {
+fn increment_count(count: &mut usize) {
     *count = count.saturating_add(1);
 }
 
-impl Counts {
+impl ItemResultCounts {
     /// No items.
-    pub fn new() -> Counts {
-        Counts {
+    pub fn new() -> ItemResultCounts {
+        ItemResultCounts {
             explained: 0,
             unexplained: 0,
             fault: 0,
@@ -54,17 +54,17 @@ impl Counts {
     /// Counts a judged item.
     pub fn add(&mut self, judged: &Judged) {
         match judged {
-            Judged::Verdict(Verdict::Explained(_)) => add_one(&mut self.explained),
-            Judged::Verdict(Verdict::Unexplained(_)) => add_one(&mut self.unexplained),
-            Judged::Verdict(Verdict::Faulted(_)) => add_one(&mut self.fault),
-            Judged::Verdict(Verdict::Broken(_)) => add_one(&mut self.broken),
-            Judged::Valid => add_one(&mut self.valid),
-            Judged::Invalid(why) => self.add_invalid(why),
+            Judged::Verdict(Verdict::Explained(_)) => increment_count(&mut self.explained),
+            Judged::Verdict(Verdict::Unexplained(_)) => increment_count(&mut self.unexplained),
+            Judged::Verdict(Verdict::Faulted(_)) => increment_count(&mut self.fault),
+            Judged::Verdict(Verdict::Broken(_)) => increment_count(&mut self.broken),
+            Judged::Valid => increment_count(&mut self.valid),
+            Judged::Invalid(why) => self.add_invalid_or_lost(why),
         }
     }
 
     /// Keeps a driven run if it is the first with a reply that is no value.
-    pub(crate) fn keep_broken(&mut self, number: usize, run: Run, judged: &Judged) {
+    pub(crate) fn keep_run_if_first_broken(&mut self, number: usize, run: Run, judged: &Judged) {
         if let Judged::Verdict(Verdict::Broken(_)) = judged {
             if self.first_broken.is_none() {
                 self.first_broken = Some((number, run));
@@ -72,11 +72,11 @@ impl Counts {
         }
     }
 
-    /// Counts a case that is not valid.
-    pub(crate) fn add_invalid(&mut self, why: &Why) {
+    /// Counts a case that is not valid, by the reason `why`. If that is `Why::NoMemory`, counts the case as lost.
+    pub(crate) fn add_invalid_or_lost(&mut self, why: &Why) {
         match why {
-            Why::PreFalse { .. } => add_one(&mut self.prefalse),
-            Why::CallbackFault { .. } => add_one(&mut self.casefault),
+            Why::PreFalse { .. } => increment_count(&mut self.prefalse),
+            Why::CallbackFault { .. } => increment_count(&mut self.casefault),
             Why::NoMemory => self.add_lost(),
         }
     }
@@ -89,17 +89,17 @@ impl Counts {
     }
 
     /// Counts the items by their answers.
-    pub fn add_answers(&mut self, answers: &[ItemResult]) {
+    pub fn add_item_results(&mut self, answers: &[ItemResult]) {
         for answer in answers {
             match answer {
                 ItemResult::Judged(judged) => self.add(judged),
-                ItemResult::Refused { .. } => add_one(&mut self.refused),
+                ItemResult::Refused { .. } => increment_count(&mut self.refused),
             }
         }
     }
 
     /// Adds the counts of `other`, and takes its first broken run if this one has no broken run yet.
-    pub(crate) fn add_counts(&mut self, other: Counts) {
+    pub(crate) fn add_counts(&mut self, other: ItemResultCounts) {
         self.explained = self.explained.saturating_add(other.explained);
         self.unexplained = self.unexplained.saturating_add(other.unexplained);
         self.fault = self.fault.saturating_add(other.fault);
@@ -116,6 +116,6 @@ impl Counts {
 
     /// Counts an item that could not be driven.
     pub(crate) fn add_lost(&mut self) {
-        add_one(&mut self.lost);
+        increment_count(&mut self.lost);
     }
 }

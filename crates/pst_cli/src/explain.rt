@@ -6,12 +6,12 @@ ghost use Rattle.pst_cli.specs.Sending.{Prints};
 ghost use Rattle.pst_judge.specs.Judgement.{IsJudgement};
 ghost use Rattle.pst_runs.specs.Lawful.{AreLawful, IsLawful};
 
-use crate::chosen::{Chosen, has_item, refused_item};
+use crate::chosen::{Chosen, is_number_of_judged_item, output_of_missing_item};
 use crate::form::ExplanationForm;
 use crate::judge::status_of_judgements;
-use crate::judged::{JudgedFile, concatenate_run_lists, judged_file};
+use crate::judged::{JudgedFile, concatenate_run_lists, read_and_judge_file};
 use crate::kept::Keep;
-use crate::output::{Output, send};
+use crate::output::{Output, write_with_status_or_lost};
 use crate::status::Status;
 use pst_case::Run;
 use pst_compile::Compiled;
@@ -37,7 +37,7 @@ pub struct ExplainOptions<'a> {
 }
 
 /// `text` and after it the explanation of an item in a form. `number` is its number, and `place` where it begins.
-fn append_explained_item(
+fn append_explanation_or_graph_of_item(
     mut text: Vec<u8>,
     alloc: Global,
     compiled: &Compiled,
@@ -57,11 +57,11 @@ fn append_explained_item(
         return Ok(text);
     }
     let explanation = explain_item(compiled, alloc, typed, run, judged, number, place)?;
-    form.append_explanation_in_form(text, alloc, &explanation)
+    form.append_explanation_unless_graph(text, alloc, &explanation)
 }
 
 /// How many of the judged items are explained.
-fn chosen_count(asked: ExplainOptions<'_>, all: &[Judged]) -> usize {
+fn count_items_to_explain(asked: ExplainOptions<'_>, all: &[Judged]) -> usize {
     let mut count = 0usize;
     for (index, judged) in all.iter().enumerate() {
         if asked.chosen.includes(index + 1, judged) {
@@ -86,8 +86,8 @@ fn explanations_of_chosen_items(
 {
     let typed = compiled.typed();
     let form = asked.form;
-    steps.set_total(chosen_count(asked, all));
-    let mut text = form.start(alloc, asked.files, typed.source())?;
+    steps.set_total(count_items_to_explain(asked, all));
+    let mut text = form.text_before_items(alloc, asked.files, typed.source())?;
     let mut number: usize = 0;
     let mut count: usize = 0;
     let mut rest = runs;
@@ -102,19 +102,21 @@ fn explanations_of_chosen_items(
             if count > 0 {
                 text.extend_from_slice(form.separator_of_explanations().as_bytes())?;
             }
-            text = append_explained_item(text, alloc, compiled, form, run, judged, number, place)?;
+            text = append_explanation_or_graph_of_item(
+                text, alloc, compiled, form, run, judged, number, place,
+            )?;
             count = count.saturating_add(1);
             steps.add(1);
         }
         rest = later;
         left = others;
     }
-    form.add_end(&mut text, count)?;
+    form.add_text_after_items(&mut text, count)?;
     Ok(text)
 }
 
 /// The output for the chosen items: their explanations, or the refusal of an item that does not exist.
-fn output_of_chosen_explanations(
+fn output_of_explanations_or_missing_item(
     alloc: Global,
     compiled: &Compiled,
     asked: ExplainOptions<'_>,
@@ -128,8 +130,8 @@ fn output_of_chosen_explanations(
     ensures { IfOk result (λ output. IsExplanation asked.entry.chosen all.now output.text.items output.status) }
 {
     if let Chosen::Item(number) = asked.chosen {
-        if !has_item(number, all) {
-            return refused_item(alloc, number, all.len());
+        if !is_number_of_judged_item(number, all) {
+            return output_of_missing_item(alloc, number, all.len());
         }
     }
     Ok(Output {
@@ -139,7 +141,7 @@ fn output_of_chosen_explanations(
 }
 
 /// The explanations of the chosen items after the model, or the first refusal.
-fn explain_output<R: Threads + Sync>(
+fn output_of_explain_command<R: Threads + Sync>(
     rt: &R,
     alloc: Global,
     input: &[u8],
@@ -152,13 +154,13 @@ fn explain_output<R: Threads + Sync>(
         compiled,
         runs,
         judged,
-    } = match judged_file(rt, alloc, input, Keep::All, &ProgressCounter::new())? {
+    } = match read_and_judge_file(rt, alloc, input, Keep::All, &ProgressCounter::new())? {
         Ok(file) => file,
         Err(output) => return Ok(output),
     };
     let runs = concatenate_run_lists(alloc, runs)?;
     let places = tree_places_in_input(alloc, asked.files, input)?;
-    output_of_chosen_explanations(
+    output_of_explanations_or_missing_item(
         alloc,
         &compiled,
         asked,
@@ -202,8 +204,8 @@ pub fn explain_with_progress<W: Sink, R: Threads + Sync>(
     ensures { Prints (IsExplainOutput input.now asked.entry.chosen)
         (W.taken sink.old) (W.taken sink.new) (W.broken sink.new) result }
 {
-    match explain_output(rt, alloc, input, asked, steps) {
-        Ok(output) => send(output.text.as_slice(), output.status, sink),
-        Err(AllocError) => send(b"refused memory\n", Status::Lost, sink),
+    match output_of_explain_command(rt, alloc, input, asked, steps) {
+        Ok(output) => write_with_status_or_lost(output.text.as_slice(), output.status, sink),
+        Err(AllocError) => write_with_status_or_lost(b"refused memory\n", Status::Lost, sink),
     }
 }

@@ -2,7 +2,7 @@
 ghost use Rattle.std.specs.Prelude.{◌≡◌, IfOk, IfSome};
 ghost use Rattle.pst_runs.specs.Lawful.{IsLawful};
 
-use crate::compiled::load_compiled;
+use crate::compiled::compile_model_of_input;
 use crate::judge::is_explained_or_valid;
 use pst_case::{Case, CaseFaultKind, History, Run, Shaped, shape};
 use pst_explain::{explain_item, explanation_text_without_heading};
@@ -11,7 +11,7 @@ use pst_model::Typed;
 use std::alloc::{AllocError, Global};
 
 /// The run of a case of the model with its history, if the history matches the case.
-fn matching_run(typed: &Typed, shaped: Shaped, history: History) -> Option<Run>
+fn run_if_history_matches_case(typed: &Typed, shaped: Shaped, history: History) -> Option<Run>
     requires { shaped.model ≡ typed.now }
     ensures { IfSome result (IsLawful typed.now) }
 {
@@ -34,7 +34,7 @@ pub(crate) fn run_of_case_and_history(
     ensures { IfOk result (λ found. IfSome found (IsLawful typed.now)) }
 {
     match shape(alloc, typed, case) {
-        Ok(shaped) => Ok(matching_run(typed, shaped, history)),
+        Ok(shaped) => Ok(run_if_history_matches_case(typed, shaped, history)),
         Err((_, fault)) => match fault.kind {
             CaseFaultKind::NoMemory => Err(AllocError),
             _ => Ok(None),
@@ -44,14 +44,14 @@ pub(crate) fn run_of_case_and_history(
 
 /// Explains why no interleaving explains a recorded run on the model at the start of the input, in lines of at most
 /// `width` bytes. Returns `None` if the run is explained or is no run of the model, or the input is refused.
-pub fn explain_run(
+pub fn explanation_of_run_unless_explained(
     alloc: Global,
     input: &[u8],
     case: Case,
     history: History,
     width: usize,
 ) -> Result<Option<Vec<u8>>, AllocError> {
-    let Ok(file) = load_compiled(alloc, input)? else {
+    let Ok(file) = compile_model_of_input(alloc, input)? else {
         return Ok(None);
     };
     let compiled = &file.compiled;

@@ -2,7 +2,7 @@
 ghost use Rattle.pst_judge.specs.Judgement.{IsJudgement};
 ghost use Rattle.pst_runs.specs.Lawful.{IsLawful};
 
-use crate::compiled::load_compiled;
+use crate::compiled::compile_model_of_input;
 use crate::explained_run::run_of_case_and_history;
 use pst_case::{Case, History, Run};
 use pst_compile::Compiled;
@@ -49,7 +49,7 @@ fn has_failure_with_run(failures: &[TrialFailure], taken: &FailingCase<JudgedRun
 }
 
 /// The run that the case of a trial was shrunk to, if the trial failed.
-fn shrunk_run(entry: &Entry<Record>) -> Option<&FailingCase<JudgedRun>> {
+fn shrunk_run_of_failed_trial(entry: &Entry<Record>) -> Option<&FailingCase<JudgedRun>> {
     match entry {
         Entry::Done(record) => match record.outcome() {
             TrialOutcome::Failed { earlier: _, shrunk } => Some(&shrunk.last),
@@ -60,7 +60,8 @@ fn shrunk_run(entry: &Entry<Record>) -> Option<&FailingCase<JudgedRun>> {
 }
 
 impl CampaignFailures {
-    /// The failures of a campaign.
+    /// Returns the failures of a campaign: of those that were shrunk to the same run the first, and at most 100. The
+    /// facts count all failures.
     pub(crate) fn from_entries(
         alloc: Global,
         plan: &Plan,
@@ -69,7 +70,7 @@ impl CampaignFailures {
         let mut each: Vec<TrialFailure> = Vec::new(alloc);
         let mut failed = 0u64;
         for (trial, entry) in entries.iter().enumerate() {
-            let Some(taken) = shrunk_run(entry) else {
+            let Some(taken) = shrunk_run_of_failed_trial(entry) else {
                 continue;
             };
             failed = failed.saturating_add(1);
@@ -92,7 +93,7 @@ impl CampaignFailures {
 }
 
 /// The explanation of a judged run as JSON. `number` is its number on the page, and `trial` that of its trial.
-fn judged_json<'a>(
+fn judged_run_explanation_json<'a>(
     alloc: Global,
     compiled: &'a Compiled,
     run: &'a Run,
@@ -109,7 +110,7 @@ fn judged_json<'a>(
 }
 
 /// The explanation of a failure as JSON. `number` is its number on the page. `None`: it is no run of the model.
-fn failure_json(
+fn trial_failure_explanation_json(
     alloc: Global,
     compiled: &Compiled,
     number: usize,
@@ -124,11 +125,11 @@ fn failure_json(
         return Ok(None);
     };
     let judged = judge_one(compiled, alloc, &run)?;
-    Ok(Some(judged_json(alloc, compiled, &run, &judged, number, trial)?))
+    Ok(Some(judged_run_explanation_json(alloc, compiled, &run, &judged, number, trial)?))
 }
 
 /// Adds the explanations of failures, and the end of their document.
-fn add_failures(
+fn add_failure_explanations_json(
     text: &mut Vec<u8>,
     alloc: Global,
     compiled: &Compiled,
@@ -137,7 +138,7 @@ fn add_failures(
     let mut count = 0usize;
     for failure in failures {
         let number = count.saturating_add(1);
-        if let Some(json) = failure_json(alloc, compiled, number, failure)? {
+        if let Some(json) = trial_failure_explanation_json(alloc, compiled, number, failure)? {
             if count > 0 {
                 text.extend_from_slice(BETWEEN_ITEMS.as_bytes())?;
             }
@@ -155,13 +156,13 @@ fn add_failures(
 
 /// The page that explains the failures of a campaign on the model that the input begins with. `files` are the files of the
 /// input. `None`: the model is refused.
-pub fn campaign_page(
+pub fn campaign_failures_html_page(
     alloc: Global,
     files: &[SourceFile<'_>],
     input: &[u8],
     failures: CampaignFailures,
 ) -> Result<Option<Vec<u8>>, AllocError> {
-    let Ok(file) = load_compiled(alloc, input)? else {
+    let Ok(file) = compile_model_of_input(alloc, input)? else {
         return Ok(None);
     };
     let CampaignFailures { facts, each } = failures;
@@ -169,7 +170,7 @@ pub fn campaign_page(
     let start = json_campaign_document_start(alloc, files, facts, compiled.typed().source())?;
     let mut text = Vec::from_slice(alloc, BEFORE_DATA.as_bytes())?;
     text.extend_from_slice(start.as_slice())?;
-    add_failures(&mut text, alloc, compiled, each)?;
+    add_failure_explanations_json(&mut text, alloc, compiled, each)?;
     text.extend_from_slice(AFTER_DATA.as_bytes())?;
     Ok(Some(text))
 }

@@ -26,7 +26,7 @@ pub enum ExplanationForm {
 
 impl ExplanationForm {
     /// What comes before the items.
-    pub(crate) fn start(
+    pub(crate) fn text_before_items(
         self,
         alloc: Global,
         files: &[SourceFile<'_>],
@@ -54,7 +54,7 @@ impl ExplanationForm {
     }
 
     /// `text` and after it an item, but for a graph.
-    pub(crate) fn append_explanation_in_form(
+    pub(crate) fn append_explanation_unless_graph(
         self,
         mut text: Vec<u8>,
         alloc: Global,
@@ -82,7 +82,11 @@ impl ExplanationForm {
     }
 
     /// Adds what comes after `count` items.
-    pub(crate) fn add_end(self, text: &mut Vec<u8>, count: usize) -> Result<(), AllocError> {
+    pub(crate) fn add_text_after_items(
+        self,
+        text: &mut Vec<u8>,
+        count: usize,
+    ) -> Result<(), AllocError> {
         let end = if count == 0 {
             AFTER_NO_ITEM
         } else {

@@ -15,14 +15,14 @@ ghost use Rattle.pst_cli.specs.declared.status.Status.TheVariants.{Lost, Refused
 ghost use Rattle.pst_trial.specs.Settings.{AreInRange};
 
 use crate::convert::{ItemForm, item_line_in_form};
-use crate::objects::{MEMORY_OBJECT, refusal_object};
-use crate::output::{Output, joined, send};
+use crate::objects::{MEMORY_OBJECT, output_of_refusal_json_object};
+use crate::output::{Output, joined_outputs_with_worst_status, write_with_status_or_lost};
 use crate::refusal::refusal_output;
 use crate::status::Status;
 use crate::stream::Cut;
 use pst_case::Run;
 use pst_eval::FaultPlace;
-use pst_rejudge::{Field, Name, add_number_field, add_text_field, object_line};
+use pst_rejudge::{Field, Name, add_number_field, add_text_field, json_object_line};
 use pst_sexpr::{Sink, WriteFailed, put_all};
 use pst_trial::{Plan, Settings, may_share_records, trial_case};
 use pst_typing::{ModelFile, Refusal, load};
@@ -59,7 +59,7 @@ fn genfault_fields(alloc: Global, number: u64, place: &FaultPlace) -> Result<Vec
 }
 
 /// The line of a fault.
-fn fault_line(
+fn generation_fault_line_in_form(
     alloc: Global,
     form: ItemForm,
     number: u64,
@@ -71,14 +71,14 @@ fn fault_line(
         ItemForm::Trees => Ok(genfault_line(alloc, number, place)?.into_bytes()),
         ItemForm::Json => {
             let fields = genfault_fields(alloc, number, place)?;
-            object_line(alloc, fields.as_slice())
+            json_object_line(alloc, fields.as_slice())
         }
     }
 }
 
 /// The line of the case of trial `number`, or of the fault that leaves it without a case. The status is `Failed` at a
 /// fault.
-fn case_output(
+fn output_of_case_or_generation_fault(
     alloc: Global,
     plan: &Plan,
     form: ItemForm,
@@ -99,14 +99,14 @@ fn case_output(
             })
         }
         Err(place) => Ok(Output {
-            text: fault_line(alloc, form, number, &place)?,
+            text: generation_fault_line_in_form(alloc, form, number, &place)?,
             status: Status::Failed,
         }),
     }
 }
 
 /// The lines of the trials from `first` on, which several threads generate at once.
-fn case_outputs<R: Threads + Sync>(
+fn outputs_of_cases_or_generation_faults<R: Threads + Sync>(
     rt: &R,
     alloc: Global,
     plan: &Plan,
@@ -125,13 +125,13 @@ fn case_outputs<R: Threads + Sync>(
         .map(
             |number: u64| -> Result<Output, AllocError>
                 ensures { IfOk result (IsLineOf form plan.entry.now number) }
-            { case_output(alloc, plan, form, number) },
+            { output_of_case_or_generation_fault(alloc, plan, form, number) },
         )
         .collect::<Result<Vec<Output>, AllocError>>(rt, alloc)?
 }
 
 /// Writes the lines of the trials from `first` on, and returns the worst of `so_far` and their statuses.
-fn write_lines<W: Sink, R: Threads + Sync>(
+fn write_generated_case_lines<W: Sink, R: Threads + Sync>(
     rt: &R,
     alloc: Global,
     plan: &Plan,
@@ -146,10 +146,11 @@ fn write_lines<W: Sink, R: Threads + Sync>(
     ensures { EndsLines form plan.now first (behind - first) so_far
         (W.taken sink.old) (W.taken sink.new) (W.broken sink.new) result }
 {
-    let Ok(outputs) = case_outputs(rt, alloc, plan, form, first, behind) else {
+    let Ok(outputs) = outputs_of_cases_or_generation_faults(rt, alloc, plan, form, first, behind)
+    else {
         return Err(Cut::NoMemory);
     };
-    let Ok(output) = joined(alloc, so_far, outputs.as_slice()) else {
+    let Ok(output) = joined_outputs_with_worst_status(alloc, so_far, outputs.as_slice()) else {
         return Err(Cut::NoMemory);
     };
     match put_all(output.text.as_slice(), sink) {
@@ -159,7 +160,7 @@ fn write_lines<W: Sink, R: Threads + Sync>(
 }
 
 /// Writes the lines of the trials from `first` on, and returns the worst of their statuses.
-fn write_cases<W: Sink, R: Threads + Sync>(
+fn write_all_generated_cases<W: Sink, R: Threads + Sync>(
     rt: &R,
     alloc: Global,
     plan: &Plan,
@@ -177,7 +178,7 @@ fn write_cases<W: Sink, R: Threads + Sync>(
     let mut next = first;
     while next < behind {
         let end = next.saturating_add(BLOCK).min(behind);
-        status = match write_lines(rt, alloc, plan, form, next, end, status, sink) {
+        status = match write_generated_case_lines(rt, alloc, plan, form, next, end, status, sink) {
             Ok(status) => status,
             Err(cut) => return Err(cut),
         };
@@ -197,18 +198,18 @@ fn refusal_output_in_form(
 {
     match form {
         ItemForm::Trees => refusal_output(alloc, refusal),
-        ItemForm::Json => refusal_object(alloc, refusal),
+        ItemForm::Json => output_of_refusal_json_object(alloc, refusal),
     }
 }
 
 /// Writes that an allocation failed, and returns the status.
-fn send_out_of_memory<W: Sink>(form: ItemForm, sink: &mut W) -> Status
+fn write_out_of_memory_refusal<W: Sink>(form: ItemForm, sink: &mut W) -> Status
     requires { W.broken sink.old ≡ false }
     ensures { Sends (W.taken sink.old) (W.taken sink.new) (W.broken sink.new) result (memory_in form) Lost }
 {
     match form {
-        ItemForm::Trees => send(b"refused memory\n", Status::Lost, sink),
-        ItemForm::Json => send(MEMORY_OBJECT, Status::Lost, sink),
+        ItemForm::Trees => write_with_status_or_lost(b"refused memory\n", Status::Lost, sink),
+        ItemForm::Json => write_with_status_or_lost(MEMORY_OBJECT, Status::Lost, sink),
     }
 }
 
@@ -243,19 +244,23 @@ pub fn generate_text<W: Sink, R: Threads + Sync>(
         }
         Ok(Err(refusal)) => {
             return match refusal_output_in_form(alloc, form, &refusal) {
-                Ok(output) => send(output.text.as_slice(), output.status, sink),
-                Err(AllocError) => send_out_of_memory(form, sink),
+                Ok(output) => write_with_status_or_lost(
+                    output.text.as_slice(),
+                    output.status,
+                    sink,
+                ),
+                Err(AllocError) => write_out_of_memory_refusal(form, sink),
             };
         }
-        Err(AllocError) => return send_out_of_memory(form, sink),
+        Err(AllocError) => return write_out_of_memory_refusal(form, sink),
     };
     let Ok(plan) = Plan::new(alloc, typed, settings) else {
-        return send_out_of_memory(form, sink);
+        return write_out_of_memory_refusal(form, sink);
     };
-    match write_cases(rt, alloc, &plan, form, first, first + count, sink) {
+    match write_all_generated_cases(rt, alloc, &plan, form, first, first + count, sink) {
         Ok(status) => status,
-        Err(Cut::Unread) => send_out_of_memory(form, sink),
-        Err(Cut::NoMemory) => send_out_of_memory(form, sink),
+        Err(Cut::Unread) => write_out_of_memory_refusal(form, sink),
+        Err(Cut::NoMemory) => write_out_of_memory_refusal(form, sink),
         Err(Cut::Unwritten) => Status::Lost,
     }
 }

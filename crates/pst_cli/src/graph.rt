@@ -6,11 +6,11 @@ ghost use Rattle.pst_cli.specs.Output.{AreJudged};
 ghost use Rattle.pst_cli.specs.Sending.{Prints};
 ghost use Rattle.pst_runs.specs.Lawful.{AreLawful};
 
-use crate::chosen::refused_item;
+use crate::chosen::output_of_missing_item;
 use crate::judge::{is_explained_or_valid, status_of_judgements};
-use crate::judged::{JudgedFile, concatenate_run_lists, judged_file};
+use crate::judged::{JudgedFile, concatenate_run_lists, read_and_judge_file};
 use crate::kept::Keep;
-use crate::output::{Output, send};
+use crate::output::{Output, write_with_status_or_lost};
 use crate::status::Status;
 use pst_case::Run;
 use pst_compile::Compiled;
@@ -22,7 +22,7 @@ use std::alloc::{AllocError, Global};
 use std::thread::Threads;
 
 /// The number, from 1, of the first item that is neither explained nor valid; 1 if all are.
-fn number_of_first_failed_item(all: &[Judged]) -> usize
+fn first_failed_item_number_or_one(all: &[Judged]) -> usize
     ensures { result ≡ first_failed 1 all.now }
 {
     for (index, judged) in all.iter().enumerate() {
@@ -34,17 +34,17 @@ fn number_of_first_failed_item(all: &[Judged]) -> usize
 }
 
 /// The number of the item to draw: `item`, or else the first that is neither explained nor valid, or else 1.
-fn drawn_number(item: Option<usize>, all: &[Judged]) -> usize
+fn number_of_item_to_draw(item: Option<usize>, all: &[Judged]) -> usize
     ensures { result ≡ drawn_number item all.now }
 {
     match item {
         Some(number) => number,
-        None => number_of_first_failed_item(all),
+        None => first_failed_item_number_or_one(all),
     }
 }
 
 /// The graph of item `number`, from 1, if it exists.
-fn item_graph(
+fn graph_of_item_if_it_exists(
     alloc: Global,
     compiled: &Compiled,
     number: usize,
@@ -79,7 +79,7 @@ fn item_graph(
 }
 
 /// The graph of the chosen item, or the refusal of an item that does not exist.
-fn chosen_graph(
+fn output_of_graph_or_missing_item(
     alloc: Global,
     compiled: &Compiled,
     item: Option<usize>,
@@ -91,18 +91,18 @@ fn chosen_graph(
     requires judged { AreJudged compiled.now runs.now all.now }
     ensures { IfOk result (λ output. IsGraphOf item all.now output.text.items output.status) }
 {
-    let number = drawn_number(item, all);
-    match item_graph(alloc, compiled, number, whole, runs, all)? {
+    let number = number_of_item_to_draw(item, all);
+    match graph_of_item_if_it_exists(alloc, compiled, number, whole, runs, all)? {
         Some(text) => Ok(Output {
             text,
             status: status_of_judgements(all),
         }),
-        None => refused_item(alloc, number, all.len()),
+        None => output_of_missing_item(alloc, number, all.len()),
     }
 }
 
 /// The graph of the chosen item, or the first refusal.
-fn graph_output<R: Threads + Sync>(
+fn output_of_graph_command<R: Threads + Sync>(
     rt: &R,
     alloc: Global,
     input: &[u8],
@@ -115,12 +115,12 @@ fn graph_output<R: Threads + Sync>(
         compiled,
         runs,
         judged,
-    } = match judged_file(rt, alloc, input, Keep::All, &ProgressCounter::new())? {
+    } = match read_and_judge_file(rt, alloc, input, Keep::All, &ProgressCounter::new())? {
         Ok(file) => file,
         Err(output) => return Ok(output),
     };
     let runs = concatenate_run_lists(alloc, runs)?;
-    chosen_graph(
+    output_of_graph_or_missing_item(
         alloc,
         &compiled,
         item,
@@ -148,8 +148,8 @@ pub fn graph_text<W: Sink, R: Threads + Sync>(
     ensures { Prints (IsGraphOutput input.now item)
         (W.taken sink.old) (W.taken sink.new) (W.broken sink.new) result }
 {
-    match graph_output(rt, alloc, input, item, whole) {
-        Ok(output) => send(output.text.as_slice(), output.status, sink),
-        Err(AllocError) => send(b"refused memory\n", Status::Lost, sink),
+    match output_of_graph_command(rt, alloc, input, item, whole) {
+        Ok(output) => write_with_status_or_lost(output.text.as_slice(), output.status, sink),
+        Err(AllocError) => write_with_status_or_lost(b"refused memory\n", Status::Lost, sink),
     }
 }

@@ -6,10 +6,10 @@ ghost use Rattle.pst_cli.specs.Output.{item_line};
 ghost use Rattle.pst_cli.specs.RunOutput.{lost_line, run_with};
 ghost use Rattle.pst_system.specs.Kept.{AreKept};
 
-use crate::counts::Counts;
-use crate::lines::item_line;
+use crate::counts::ItemResultCounts;
+use crate::lines::item_verdict_line;
 use crate::output::Output;
-use crate::run::{status_of_judgement, tree_line};
+use crate::run::{run_tree_line, status_of_judgement};
 use crate::status::Status;
 use pst_case::{History, Run, Shaped};
 use pst_compile::Compiled;
@@ -31,14 +31,15 @@ pub(crate) enum ItemReport {
     Lost(DriveFault),
 }
 
-/// The report of a driven case.
-fn judge_driven_run(
+/// Judges a driven case, and returns its report. Adds the verdict to `counts`, which also keep the run if it is the
+/// first with a reply that is no value.
+fn judge_and_report_driven_run(
     alloc: Global,
     compiled: &Compiled,
     number: usize,
     shaped: Shaped,
     history: History,
-    counts: &mut Counts,
+    counts: &mut ItemResultCounts,
 ) -> Result<ItemReport, AllocError>
     requires model { shaped.model ≡ compiled.now }
     requires matches { matches compiled.now shaped.case history ≡ true }
@@ -48,22 +49,22 @@ fn judge_driven_run(
         shaped,
         history: Some(history),
     };
-    let line = tree_line(alloc, compiled.typed(), &run)?;
+    let line = run_tree_line(alloc, compiled.typed(), &run)?;
     let judged = judge_one(compiled, alloc, &run)?;
     counts.add(&judged);
-    counts.keep_broken(number, run, &judged);
+    counts.keep_run_if_first_broken(number, run, &judged);
     Ok(ItemReport::Driven { line, judged })
 }
 
 /// Drives a valid case once, and returns the report of its item.
-pub(crate) fn drive_item<R: Threads + Wait>(
+pub(crate) fn drive_case_and_report_item<R: Threads + Wait>(
     rt: &R,
     alloc: Global,
     compiled: &Compiled,
     system: &mut BoxedSystem,
     number: usize,
     valid: Valid,
-    counts: &mut Counts,
+    counts: &mut ItemResultCounts,
 ) -> Result<ItemReport, AllocError>
     requires model { valid.model ≡ compiled.now }
     ensures report { IfOk result
@@ -75,7 +76,7 @@ pub(crate) fn drive_item<R: Threads + Wait>(
     match pst_driver::run(rt, alloc, compiled.typed(), system, &valid) {
         Ok(history) => {
             let shaped = valid.into_shaped();
-            judge_driven_run(alloc, compiled, number, shaped, history, counts)
+            judge_and_report_driven_run(alloc, compiled, number, shaped, history, counts)
         }
         Err(fault) => {
             counts.add_lost();
@@ -95,7 +96,7 @@ fn lost_item_line(alloc: Global, number: usize, fault: DriveFault) -> Result<Str
 }
 
 /// The status of a report.
-pub(crate) fn report_status(report: &ItemReport) -> Status
+pub(crate) fn status_of_item_report(report: &ItemReport) -> Status
     ensures { result ≡ report_status report.now }
 {
     match report {
@@ -106,7 +107,7 @@ pub(crate) fn report_status(report: &ItemReport) -> Status
 }
 
 /// The run and the line of its verdict.
-fn driven_text(
+fn driven_run_and_verdict_text(
     alloc: Global,
     number: usize,
     line: Vec<u8>,
@@ -115,7 +116,7 @@ fn driven_text(
     ensures { IfOk result (λ text. text.items ≡ line.items ++ item_line number judged.now) }
 {
     let mut text = line;
-    let verdict = item_line(alloc, number, judged)?;
+    let verdict = item_verdict_line(alloc, number, judged)?;
     text.extend_from_slice(verdict.as_bytes())?;
     Ok(text)
 }
@@ -129,14 +130,14 @@ pub(crate) fn output_of_item_report(
     ensures text { IfOk result (λ output. output.text.items ≡ report_text number report) }
     ensures status { IfOk result (λ output. output.status ≡ report_status report) }
 {
-    let status = report_status(&report);
+    let status = status_of_item_report(&report);
     match report {
         ItemReport::Driven { line, judged } => Ok(Output {
-            text: driven_text(alloc, number, line, &judged)?,
+            text: driven_run_and_verdict_text(alloc, number, line, &judged)?,
             status,
         }),
         ItemReport::Invalid(why) => {
-            let line = item_line(alloc, number, &Judged::Invalid(why))?;
+            let line = item_verdict_line(alloc, number, &Judged::Invalid(why))?;
             Ok(Output::new(line, status))
         }
         ItemReport::Lost(fault) => Ok(Output::new(lost_item_line(alloc, number, fault)?, status)),

@@ -2,8 +2,8 @@
 ghost use Rattle.std.specs.Prelude.{◌≡◌, IfOk, MatchResult};
 ghost use Rattle.pst_cli.specs.Output.{HoldsRuns, IsFirstRefusal};
 
-use crate::compiled::{CompiledFile, load_compiled};
-use crate::judge::{read_runs_of_trees, refused_run};
+use crate::compiled::{CompiledModelAndTrees, compile_model_of_input};
+use crate::judge::{output_of_refused_run, read_runs_of_trees};
 use crate::output::Output;
 use crate::refusal::refusal_output;
 use pst_case::Run;
@@ -22,7 +22,7 @@ pub struct ModelAndRuns {
 }
 
 /// Returns how many items an input has after its model. The input must be read without a fault.
-pub fn item_count(alloc: Global, input: &[u8]) -> Result<usize, AllocError> {
+pub fn count_items_of_input(alloc: Global, input: &[u8]) -> Result<usize, AllocError> {
     let trees = tree_places_in_input(alloc, &[], input)?;
     Ok(trees.len().saturating_sub(1))
 }
@@ -37,12 +37,12 @@ pub fn read_model_and_runs_of_input(
         (λ file. HoldsRuns input.now file.compiled file.runs.items)
         (λ output. IsFirstRefusal input.now output.text.items output.status)) }
 {
-    let CompiledFile { compiled, trees } = match load_compiled(alloc, input)? {
+    let CompiledModelAndTrees { compiled, trees } = match compile_model_of_input(alloc, input)? {
         Ok(file) => file,
         Err(refusal) => return Ok(Err(refusal_output(alloc, &refusal)?)),
     };
     match read_runs_of_trees(alloc, compiled.typed(), trees_after_model(trees.as_slice()))? {
         Ok(runs) => Ok(Ok(ModelAndRuns { compiled, runs })),
-        Err(fault) => Ok(Err(refused_run(alloc, &fault)?)),
+        Err(fault) => Ok(Err(output_of_refused_run(alloc, &fault)?)),
     }
 }

@@ -9,10 +9,10 @@ ghost use Rattle.pst_rejudge.specs.Parts.{joined};
 ghost use Rattle.pst_runs.specs.Items.{runs_of};
 ghost use Rattle.pst_runs.specs.Lawful.{AreLawful};
 
-use crate::judged::{JudgedFile, judged_file};
+use crate::judged::{JudgedFile, read_and_judge_file};
 use crate::kept::Keep;
-use crate::lines::shown_lines;
-use crate::output::{Output, send};
+use crate::lines::shown_item_verdict_lines;
+use crate::output::{Output, write_with_status_or_lost};
 use crate::shown::Shown;
 use crate::status::Status;
 use pst_case::{CaseFaultKind, Run};
@@ -81,7 +81,7 @@ pub fn refused_run_line(alloc: Global, fault: &RunFault) -> Result<String, Alloc
 }
 
 /// The line of a refused item, and the status.
-pub fn refused_run(alloc: Global, fault: &RunFault) -> Result<Output, AllocError>
+pub fn output_of_refused_run(alloc: Global, fault: &RunFault) -> Result<Output, AllocError>
     ensures text { IfOk result (λ output. output.text.items ≡ run_line fault.now) }
     ensures status { IfOk result (λ output. output.status ≡ Refused) }
 {
@@ -103,11 +103,11 @@ fn output_of_judge_command<R: Threads + Sync>(
     ensures lawful { IfOk result
         (λ r. IfSome r.1 (λ judged. All (λ runs. AreLawful judged.compiled runs.items) judged.runs.items)) }
 {
-    let file = match judged_file(rt, alloc, input, keep, steps)? {
+    let file = match read_and_judge_file(rt, alloc, input, keep, steps)? {
         Ok(file) => file,
         Err(output) => return Ok((output, None)),
     };
-    let text = shown_lines(rt, alloc, shown, file.judged.as_slice())?;
+    let text = shown_item_verdict_lines(rt, alloc, shown, file.judged.as_slice())?;
     let output = Output::new(text, status_of_judgements(file.judged.as_slice()));
     Ok((output, Some(file)))
 }
@@ -131,8 +131,14 @@ fn judge_file_and_keep_items<W: Sink, R: Threads + Sync>(
         (λ judged. All (λ runs. AreLawful judged.compiled runs.items) judged.runs.items) }
 {
     match output_of_judge_command(rt, alloc, input, shown, keep, steps) {
-        Ok((output, judged)) => (send(output.text.as_slice(), output.status, sink), judged),
-        Err(AllocError) => (send(b"refused memory\n", Status::Lost, sink), None),
+        Ok((output, judged)) => (
+            write_with_status_or_lost(output.text.as_slice(), output.status, sink),
+            judged,
+        ),
+        Err(AllocError) => (
+            write_with_status_or_lost(b"refused memory\n", Status::Lost, sink),
+            None,
+        ),
     }
 }
 

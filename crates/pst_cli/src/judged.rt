@@ -4,7 +4,7 @@ ghost use Rattle.pst_cli.specs.Kept.{HoldsJudged, keeps_all};
 ghost use Rattle.pst_cli.specs.Output.{IsFirstRefusal};
 ghost use Rattle.pst_rejudge.specs.Parts.{joined};
 
-use crate::compiled::{CompiledFile, load_compiled};
+use crate::compiled::{CompiledModelAndTrees, compile_model_of_input};
 use crate::items::{ModelAndRuns, read_model_and_runs_of_input};
 use crate::kept::Keep;
 use crate::output::Output;
@@ -35,7 +35,7 @@ pub struct JudgedFile {
 /// `keep` says. Returns `None`, which says nothing about the input, if the input is over `MAX_BYTES`, if it does not
 /// begin with a well-typed model alone before the next line that begins with a bracket, or if some part of the rest
 /// cannot be read by itself.
-fn read_and_judge_in_parallel<R: Threads + Sync>(
+fn read_and_judge_in_parallel_if_possible<R: Threads + Sync>(
     rt: &R,
     alloc: Global,
     input: &[u8],
@@ -51,14 +51,14 @@ fn read_and_judge_in_parallel<R: Threads + Sync>(
     let Some((head, rest)) = split_before_second_bracket_line(input) else {
         return Ok(None);
     };
-    let Ok(CompiledFile { compiled, trees }) = load_compiled(alloc, head)? else {
+    let Ok(CompiledModelAndTrees { compiled, trees }) = compile_model_of_input(alloc, head)? else {
         return Ok(None);
     };
     if trees.len() != 1 {
         return Ok(None);
     }
     may_share_compiled();
-    let keeps = keep.keeps(compiled.typed());
+    let keeps = keep.keeps_runs_of_model(compiled.typed());
     match judge_in_parts(rt, &compiled, alloc, compiled.typed(), rest, keeps, steps)? {
         Some(JudgedParts { runs, judged }) => Ok(Some(JudgedFile {
             compiled,
@@ -118,7 +118,7 @@ fn read_in_order_then_judge<R: Threads + Sync>(
 
 /// The judgements on the items of an input, several judged at once, or the output for the first refusal. `keep` says
 /// which items to keep; more may be kept. `steps` counts the items that are judged.
-pub fn judged_file<R: Threads + Sync>(
+pub fn read_and_judge_file<R: Threads + Sync>(
     rt: &R,
     alloc: Global,
     input: &[u8],
@@ -129,7 +129,7 @@ pub fn judged_file<R: Threads + Sync>(
         (λ file. HoldsJudged (keeps_all keep) input.now file.compiled (joined file.runs.items) file.judged.items)
         (λ output. IsFirstRefusal input.now output.text.items output.status)) }
 {
-    match read_and_judge_in_parallel(rt, alloc, input, keep, steps)? {
+    match read_and_judge_in_parallel_if_possible(rt, alloc, input, keep, steps)? {
         Some(file) => Ok(Ok(file)),
         None => read_in_order_then_judge(rt, alloc, input, steps),
     }

@@ -16,16 +16,16 @@ ghost use Rattle.pst_cli.specs.KeepingOn.{
 ghost use Rattle.pst_cli.specs.Sending.{Prints};
 ghost use Rattle.pst_cli.specs.declared.status.Status.TheVariants.{Accepted};
 
-use crate::compiled::{CompiledFile, load_compiled};
+use crate::compiled::{CompiledModelAndTrees, compile_model_of_input};
 use crate::judge::{is_explained_or_valid, refused_run_line};
-use crate::lines::add_item_line;
-use crate::output::{Output, send};
+use crate::lines::add_item_verdict_line;
+use crate::output::{Output, write_with_status_or_lost};
 use crate::refusal::refusal_output;
 use crate::run::status_of_judgement;
 use crate::sharing::may_share_compiled;
 use crate::shown::Shown;
 use crate::status::Status;
-use pst_rejudge::{ItemResult, ProgressCounter, judge_each};
+use pst_rejudge::{ItemResult, ProgressCounter, read_and_judge_each_tree};
 use pst_runs::RunFault;
 use pst_sexpr::Sink;
 use pst_typing::trees_after_model;
@@ -42,7 +42,7 @@ pub(crate) fn add_item_result_line(
     ensures { OnOk result (string_bytes text.new ≡ string_bytes text.old ++ answer_line number answer.now) }
 {
     match answer {
-        ItemResult::Judged(judged) => add_item_line(text, number, judged),
+        ItemResult::Judged(judged) => add_item_verdict_line(text, number, judged),
         ItemResult::Refused { kind, command } => {
             let fault = RunFault {
                 run: number,
@@ -56,7 +56,7 @@ pub(crate) fn add_item_result_line(
 }
 
 /// The lines of all items, numbered from 1.
-fn answer_lines(alloc: Global, answers: &[ItemResult]) -> Result<String, AllocError>
+fn item_result_lines(alloc: Global, answers: &[ItemResult]) -> Result<String, AllocError>
     ensures { IfOk result (λ text. string_bytes text ≡ answer_lines 1 answers.now) }
 {
     let mut text = String::new(alloc);
@@ -77,7 +77,7 @@ pub fn is_result_explained_or_valid(answer: &ItemResult) -> bool
 }
 
 /// Adds the line of an item to a text, unless it is explained or valid.
-fn add_failed_line(
+fn add_result_line_if_item_failed(
     alloc: Global,
     text: &mut String,
     number: usize,
@@ -93,28 +93,32 @@ fn add_failed_line(
 }
 
 /// The lines of the items that are neither explained nor valid, each with its number among all of them, from 1.
-fn failed_lines(alloc: Global, answers: &[ItemResult]) -> Result<String, AllocError>
+fn failed_item_result_lines(alloc: Global, answers: &[ItemResult]) -> Result<String, AllocError>
     ensures { IfOk result (λ text. string_bytes text ≡ failed_answer_lines 1 answers.now) }
 {
     let mut text = String::new(alloc);
     for (index, answer) in answers.iter().enumerate() {
-        add_failed_line(alloc, &mut text, index + 1, answer)?;
+        add_result_line_if_item_failed(alloc, &mut text, index + 1, answer)?;
     }
     Ok(text)
 }
 
 /// The lines of the displayed items, numbered from 1.
-fn shown_lines(alloc: Global, shown: Shown, answers: &[ItemResult]) -> Result<String, AllocError>
+fn shown_item_result_lines(
+    alloc: Global,
+    shown: Shown,
+    answers: &[ItemResult],
+) -> Result<String, AllocError>
     ensures { IfOk result (λ text. string_bytes text ≡ shown_answer_lines shown answers.now) }
 {
     match shown {
-        Shown::All => answer_lines(alloc, answers),
-        Shown::Failures => failed_lines(alloc, answers),
+        Shown::All => item_result_lines(alloc, answers),
+        Shown::Failures => failed_item_result_lines(alloc, answers),
     }
 }
 
 /// `Refused` if the item is refused, else the status of its judgement.
-pub(crate) fn answer_status(answer: &ItemResult) -> Status
+pub(crate) fn status_of_item_result(answer: &ItemResult) -> Status
     ensures { result ≡ answer_status answer.now }
 {
     match answer {
@@ -124,45 +128,45 @@ pub(crate) fn answer_status(answer: &ItemResult) -> Status
 }
 
 /// The worst of the statuses of all items.
-pub fn worst_status(answers: &[ItemResult]) -> Status
+pub fn worst_status_of_item_results(answers: &[ItemResult]) -> Status
     ensures { result ≡ worst_status Accepted answers.now }
 {
     let mut status = Status::Accepted;
     for answer in answers {
-        status = status.or_worse(answer_status(answer));
+        status = status.or_worse(status_of_item_result(answer));
     }
     status
 }
 
 /// A file, and the answer to each item after its model.
 #[derive(Drop)]
-pub struct AnsweredFile {
+pub struct FileWithItemResults {
     /// The model, and all trees of the input.
-    pub file: CompiledFile,
+    pub file: CompiledModelAndTrees,
     /// The answers, in the order of the items.
     pub answers: Vec<ItemResult>,
 }
 
 /// The lines of the displayed items after the model, and all answers; or the refusal of the model.
-fn keep_going_output<R: Threads + Sync>(
+fn output_of_judge_command_keep_going<R: Threads + Sync>(
     rt: &R,
     alloc: Global,
     input: &[u8],
     shown: Shown,
     steps: &ProgressCounter,
-) -> Result<(Output, Option<AnsweredFile>), AllocError>
+) -> Result<(Output, Option<FileWithItemResults>), AllocError>
     ensures output { IfOk result (λ r. IsShownKeepingOn shown input.now r.0.text.items r.0.status) }
     ensures held { IfOk result (λ r. IfSome r.1 (λ answered. HoldsAnswers input.now answered.file.compiled
         answered.file.trees.items answered.answers.items)) }
 {
-    let file = match load_compiled(alloc, input)? {
+    let file = match compile_model_of_input(alloc, input)? {
         Ok(file) => file,
         Err(refusal) => return Ok((refusal_output(alloc, &refusal)?, None)),
     };
     let items = trees_after_model(file.trees.as_slice());
     may_share_compiled();
     steps.set_total(items.len());
-    let answers = judge_each(
+    let answers = read_and_judge_each_tree(
         rt,
         &file.compiled,
         alloc,
@@ -170,9 +174,9 @@ fn keep_going_output<R: Threads + Sync>(
         items,
         steps,
     )?;
-    let text = shown_lines(alloc, shown, answers.as_slice())?;
-    let output = Output::new(text, worst_status(answers.as_slice()));
-    Ok((output, Some(AnsweredFile { file, answers })))
+    let text = shown_item_result_lines(alloc, shown, answers.as_slice())?;
+    let output = Output::new(text, worst_status_of_item_results(answers.as_slice()));
+    Ok((output, Some(FileWithItemResults { file, answers })))
 }
 
 /// Does what [`judge_text_keep_going`] does, but with [`Shown::Failures`] writes only the lines of items that are
@@ -183,7 +187,7 @@ pub fn judge_file_keep_going<W: Sink, R: Threads + Sync>(
     input: &[u8],
     shown: Shown,
     sink: &mut W,
-) -> (Status, Option<AnsweredFile>)
+) -> (Status, Option<FileWithItemResults>)
     requires { W.broken sink.old ≡ false }
     ensures prints { Prints (IsShownKeepingOn shown input.now)
         (W.taken sink.old) (W.taken sink.new) (W.broken sink.new) result.0 }
@@ -201,16 +205,22 @@ pub fn judge_file_keep_going_with_progress<W: Sink, R: Threads + Sync>(
     shown: Shown,
     steps: &ProgressCounter,
     sink: &mut W,
-) -> (Status, Option<AnsweredFile>)
+) -> (Status, Option<FileWithItemResults>)
     requires { W.broken sink.old ≡ false }
     ensures prints { Prints (IsShownKeepingOn shown input.now)
         (W.taken sink.old) (W.taken sink.new) (W.broken sink.new) result.0 }
     ensures held { IfSome result.1 (λ answered. HoldsAnswers input.now answered.file.compiled
         answered.file.trees.items answered.answers.items) }
 {
-    match keep_going_output(rt, alloc, input, shown, steps) {
-        Ok((output, answered)) => (send(output.text.as_slice(), output.status, sink), answered),
-        Err(AllocError) => (send(b"refused memory\n", Status::Lost, sink), None),
+    match output_of_judge_command_keep_going(rt, alloc, input, shown, steps) {
+        Ok((output, answered)) => (
+            write_with_status_or_lost(output.text.as_slice(), output.status, sink),
+            answered,
+        ),
+        Err(AllocError) => (
+            write_with_status_or_lost(b"refused memory\n", Status::Lost, sink),
+            None,
+        ),
     }
 }
 

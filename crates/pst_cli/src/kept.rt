@@ -16,7 +16,7 @@ pub(crate) enum Keep {
 }
 
 /// Whether the precondition of an operation is another expression than `true`.
-fn has_precondition(item: &Item) -> bool {
+fn has_nontrivial_precondition(item: &Item) -> bool {
     match item {
         Item::Op(op) => !matches!(&op.pre, Expr::Bool(true)),
         _ => false,
@@ -25,14 +25,14 @@ fn has_precondition(item: &Item) -> bool {
 
 impl Keep {
     /// Whether to keep runs over a model.
-    pub(crate) fn keeps(self, typed: &Typed) -> bool
+    pub(crate) fn keeps_runs_of_model(self, typed: &Typed) -> bool
         ensures { keeps_all self ≡ true → result ≡ true }
     {
         match self {
             Keep::All => true,
             Keep::ForWarnings => {
                 let items = typed.source().items.as_slice();
-                items.iter().any(|item| has_precondition(item))
+                items.iter().any(|item| has_nontrivial_precondition(item))
             }
             Keep::Nothing => false,
         }

@@ -38,33 +38,37 @@ mod status;
 mod stream;
 
 pub use absent::{Absence, refuse_text};
-pub use campaign::{campaign_text, campaign_with_notes};
+pub use campaign::{campaign_text, run_campaign_and_take_notes};
 pub use check::check_text;
 pub use chosen::Chosen;
-pub use compiled::CompiledFile;
+pub use compiled::CompiledModelAndTrees;
 pub use convert::{ItemForm, convert_text};
-pub use counts::Counts;
+pub use counts::ItemResultCounts;
 pub use explain::{ExplainOptions, explain_text, explain_with_progress};
-pub use explained_run::explain_run;
-pub use failure_page::{CampaignFailures, campaign_page};
+pub use explained_run::explanation_of_run_unless_explained;
+pub use failure_page::{CampaignFailures, campaign_failures_html_page};
 pub use form::ExplanationForm;
 pub use generate::generate_text;
 pub use graph::graph_text;
-pub use items::item_count;
+pub use items::count_items_of_input;
 pub use judge::{judge_file, judge_file_with_progress, judge_text};
 pub use judged::JudgedFile;
 pub use keep::{
-    AnsweredFile, judge_file_keep_going, judge_file_keep_going_with_progress, judge_text_keep_going,
+    FileWithItemResults, judge_file_keep_going, judge_file_keep_going_with_progress,
+    judge_text_keep_going,
 };
 pub use known::{KnownSystem, is_known_system};
-pub use laws::{keeps_judgements, output_is_unique, streams_are_files};
+pub use laws::{
+    check_and_judge_outputs_are_unique, keep_going_keeps_judgements,
+    stream_verdicts_are_file_verdicts,
+};
 pub use list::list_text;
 pub use notes::CampaignNotes;
 pub use objects::{MEMORY_OBJECT, check_json, judge_json, judge_json_with_progress};
 pub use pst_rejudge::ProgressCounter;
 pub use refused_lines::RefusedLines;
 pub use repeat::run_repeatedly;
-pub use run::{run_text, run_with_progress};
+pub use run::{run_text, run_text_with_progress};
 pub use run_objects::run_json;
 pub use shown::Shown;
 pub use status::Status;

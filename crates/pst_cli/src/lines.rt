@@ -15,23 +15,31 @@ use std::thread::Threads;
 const ROW: usize = 512;
 
 /// Adds the line `NUMBER VERDICT` to a text.
-pub fn add_item_line(text: &mut String, number: usize, judged: &Judged) -> Result<(), AllocError>
+pub fn add_item_verdict_line(
+    text: &mut String,
+    number: usize,
+    judged: &Judged,
+) -> Result<(), AllocError>
     ensures { OnOk result (string_bytes text.new ≡ string_bytes text.old ++ item_line number judged.now) }
 {
     write!(text, "{number} {judged}\n")
 }
 
 /// `NUMBER VERDICT`.
-pub fn item_line(alloc: Global, number: usize, judged: &Judged) -> Result<String, AllocError>
+pub fn item_verdict_line(
+    alloc: Global,
+    number: usize,
+    judged: &Judged,
+) -> Result<String, AllocError>
     ensures { IfOk result (λ line. string_bytes line ≡ item_line number judged.now) }
 {
     let mut line = String::new(alloc);
-    add_item_line(&mut line, number, judged)?;
+    add_item_verdict_line(&mut line, number, judged)?;
     Ok(line)
 }
 
 /// How many of `count` items come before `row`, counted from 0.
-fn items_before_row(row: usize, count: usize) -> usize
+fn items_before_block(row: usize, count: usize) -> usize
     ensures { result ≡ first_of row count }
 {
     row.saturating_mul(ROW).min(count)
@@ -43,14 +51,14 @@ fn verdict_lines_of_row(alloc: Global, all: &[Judged], row: usize) -> Result<Str
 {
     let mut text = String::new(alloc);
     let count = all.len();
-    for index in items_before_row(row, count)..items_before_row(row.saturating_add(1), count) {
-        add_item_line(&mut text, index + 1, &all[index])?;
+    for index in items_before_block(row, count)..items_before_block(row.saturating_add(1), count) {
+        add_item_verdict_line(&mut text, index + 1, &all[index])?;
     }
     Ok(text)
 }
 
 /// The lines of all items, numbered from 1. Several threads write rows at once.
-fn item_lines<R: Threads + Sync>(
+fn item_verdict_lines<R: Threads + Sync>(
     rt: &R,
     alloc: Global,
     all: &[Judged],
@@ -72,28 +80,32 @@ fn item_lines<R: Threads + Sync>(
 }
 
 /// Adds the line of an item to a text, unless it is explained or valid.
-fn add_failure_line(text: &mut String, number: usize, judged: &Judged) -> Result<(), AllocError>
+fn add_verdict_line_if_item_failed(
+    text: &mut String,
+    number: usize,
+    judged: &Judged,
+) -> Result<(), AllocError>
     ensures { OnOk result (string_bytes text.new ≡ string_bytes text.old ++ failure_line number judged.now) }
 {
     if is_explained_or_valid(judged) {
         return Ok(());
     }
-    add_item_line(text, number, judged)
+    add_item_verdict_line(text, number, judged)
 }
 
 /// The lines of the items that are neither explained nor valid, each with its number among all of them, from 1.
-fn failure_lines(alloc: Global, all: &[Judged]) -> Result<String, AllocError>
+fn failed_item_verdict_lines(alloc: Global, all: &[Judged]) -> Result<String, AllocError>
     ensures { IfOk result (λ text. string_bytes text ≡ failure_lines 1 all.now) }
 {
     let mut text = String::new(alloc);
     for (index, judged) in all.iter().enumerate() {
-        add_failure_line(&mut text, index + 1, judged)?;
+        add_verdict_line_if_item_failed(&mut text, index + 1, judged)?;
     }
     Ok(text)
 }
 
 /// The lines of the displayed items, numbered from 1.
-pub fn shown_lines<R: Threads + Sync>(
+pub fn shown_item_verdict_lines<R: Threads + Sync>(
     rt: &R,
     alloc: Global,
     shown: Shown,
@@ -102,7 +114,7 @@ pub fn shown_lines<R: Threads + Sync>(
     ensures { IfOk result (λ text. string_bytes text ≡ shown_lines shown all.now) }
 {
     match shown {
-        Shown::All => item_lines(rt, alloc, all),
-        Shown::Failures => failure_lines(alloc, all),
+        Shown::All => item_verdict_lines(rt, alloc, all),
+        Shown::Failures => failed_item_verdict_lines(alloc, all),
     }
 }

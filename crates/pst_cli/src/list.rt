@@ -3,8 +3,8 @@ ghost use Rattle.std.specs.Prelude.{◌≡◌, false, IfOk};
 ghost use Rattle.pst_cli.specs.ListOutput.{IsListOutput};
 ghost use Rattle.pst_cli.specs.Sending.{Prints};
 
-use crate::compiled::load_compiled;
-use crate::output::{Output, send};
+use crate::compiled::compile_model_of_input;
+use crate::output::{Output, write_with_status_or_lost};
 use crate::refusal::refusal_output;
 use crate::status::Status;
 use pst_compile::listing;
@@ -12,10 +12,10 @@ use pst_sexpr::Sink;
 use std::alloc::{AllocError, Global};
 
 /// The listing of the model, or the first refusal.
-fn list_output(alloc: Global, input: &[u8]) -> Result<Output, AllocError>
+fn output_of_list_command(alloc: Global, input: &[u8]) -> Result<Output, AllocError>
     ensures { IfOk result (λ output. IsListOutput input.now output.text.items output.status) }
 {
-    match load_compiled(alloc, input)? {
+    match compile_model_of_input(alloc, input)? {
         Ok(file) => {
             let text = listing(alloc, &file.compiled)?;
             Ok(Output {
@@ -34,8 +34,8 @@ pub fn list_text<W: Sink>(alloc: Global, input: &[u8], sink: &mut W) -> Status
     ensures { Prints (IsListOutput input.now)
         (W.taken sink.old) (W.taken sink.new) (W.broken sink.new) result }
 {
-    match list_output(alloc, input) {
-        Ok(output) => send(output.text.as_slice(), output.status, sink),
-        Err(AllocError) => send(b"refused memory\n", Status::Lost, sink),
+    match output_of_list_command(alloc, input) {
+        Ok(output) => write_with_status_or_lost(output.text.as_slice(), output.status, sink),
+        Err(AllocError) => write_with_status_or_lost(b"refused memory\n", Status::Lost, sink),
     }
 }

@@ -4,20 +4,33 @@ ghost use Rattle.pst_report.specs.InOrder.{AreOf};
 
 use crate::failure_page::CampaignFailures;
 use pst_case::{Case, History};
-use pst_ledger::Closed;
+use pst_ledger::{Closed, Entry};
 use pst_rejudge::Field;
 use pst_report::{
-    NumberedFailure, add_losses_and_least_failure, distinct_failures, least_failure, least_fault,
-    report_fields, status_of_early_ended_campaign,
+    NumberedFailure, add_losses_and_least_failure, distinct_failures, first_campaign_report_fields,
+    first_failed_trial, first_trial_with_generation_fault, status_of_early_ended_campaign,
 };
-use pst_trial::{Plan, Record};
+use pst_trial::{Plan, Record, TrialOutcome};
 use std::alloc::{AllocError, Global};
+
+/// A failed trial whose shrunk case has fewer commands than that of the first failed trial.
+#[derive(Clone, Copy, Drop)]
+pub struct ShorterFailure {
+    /// The number of the trial, from 0.
+    pub number: usize,
+    /// How many commands its shrunk case has.
+    pub commands: usize,
+    /// How many commands the shrunk case of the first failed trial has.
+    pub commands_of_first: usize,
+}
 
 /// What `pst campaign` keeps beside its report.
 #[derive(Drop)]
 pub struct CampaignNotes {
     /// The case and the history to which the first failure was shrunk.
     pub least: Option<(Case, History)>,
+    /// The first of the failures with the fewest commands, if `least` has more.
+    pub shorter: Option<ShorterFailure>,
     /// The number of the first trial whose case could not be generated, from 0.
     pub first_genfault: Option<usize>,
     /// The members of the report as a JSON object; none if no trial began.
@@ -32,6 +45,46 @@ pub struct CampaignNotes {
     for_files: bool,
 }
 
+/// How many commands a case has.
+fn count_commands(case: &Case) -> usize {
+    let mut count = case.prefix.len().saturating_add(case.suffix.len());
+    for branch in case.branches.as_slice() {
+        count = count.saturating_add(branch.len());
+    }
+    count
+}
+
+/// How many commands the shrunk case of a trial has, if the trial failed.
+fn count_commands_of_failure(record: &Record) -> Option<usize> {
+    match record.outcome() {
+        TrialOutcome::Failed { shrunk, .. } => Some(count_commands(&shrunk.last.case)),
+        TrialOutcome::GenFaulted(_) | TrialOutcome::Passed { .. } => None,
+    }
+}
+
+/// The first of the failures with the fewest commands, if these are fewer than `commands_of_first`.
+fn shortest_failure_below(
+    entries: &[Entry<Record>],
+    commands_of_first: usize,
+) -> Option<ShorterFailure> {
+    let mut fewest = commands_of_first;
+    let mut shorter = None;
+    for (number, entry) in entries.iter().enumerate() {
+        if let Entry::Done(record) = entry
+            && let Some(commands) = count_commands_of_failure(record)
+            && commands < fewest
+        {
+            fewest = commands;
+            shorter = Some(ShorterFailure {
+                number,
+                commands,
+                commands_of_first,
+            });
+        }
+    }
+    shorter
+}
+
 impl CampaignNotes {
     /// The notes before the first trial.
     pub fn new() -> CampaignNotes {
@@ -42,6 +95,7 @@ impl CampaignNotes {
     pub fn keeping(for_page: bool, for_files: bool) -> CampaignNotes {
         CampaignNotes {
             least: None,
+            shorter: None,
             first_genfault: None,
             report: None,
             explained: None,
@@ -61,7 +115,7 @@ impl CampaignNotes {
         requires { AreOf plan.now 0 closed.now }
     {
         let entries = closed.entries();
-        let mut fields = report_fields(
+        let mut fields = first_campaign_report_fields(
             alloc,
             plan,
             closed,
@@ -75,13 +129,14 @@ impl CampaignNotes {
         if self.for_files {
             self.saved = Some(distinct_failures(alloc, entries)?);
         }
-        if let Some((number, _)) = least_fault(entries) {
+        if let Some((number, _)) = first_trial_with_generation_fault(entries) {
             self.first_genfault = Some(number);
         }
-        if let Some((_, shrunk)) = least_failure(plan, entries) {
+        if let Some((_, shrunk)) = first_failed_trial(plan, entries) {
             let last = &shrunk.last;
             let case = last.case.copy(alloc)?;
             self.least = Some((case, last.history.history.copy(alloc)?));
+            self.shorter = shortest_failure_below(entries, count_commands(&last.case));
         }
         Ok(())
     }

@@ -16,16 +16,18 @@ ghost use Rattle.pst_cli.specs.declared.status.Status.TheVariants.{Refused};
 ghost use Rattle.pst_rejudge.specs.Objects.{object_line};
 ghost use Rattle.pst_rejudge.specs.Verdicts.{accepted_fields};
 
-use crate::compiled::load_compiled;
-use crate::keep::{AnsweredFile, is_result_explained_or_valid, worst_status};
-use crate::output::{Output, send};
+use crate::compiled::compile_model_of_input;
+use crate::keep::{
+    FileWithItemResults, is_result_explained_or_valid, worst_status_of_item_results,
+};
+use crate::output::{Output, write_with_status_or_lost};
 use crate::sharing::may_share_compiled;
 use crate::shown::Shown;
 use crate::status::Status;
 use pst_model::Typed;
 use pst_rejudge::{
-    ItemResult, ProgressCounter, accepted_fields, judge_each, judged_fields, object_line,
-    refusal_fields, refused_fields,
+    ItemResult, ProgressCounter, accepted_model_fields, json_object_line, judged_item_fields,
+    read_and_judge_each_tree, refused_item_fields, refused_model_fields,
 };
 use pst_sexpr::Sink;
 use pst_typing::{Refusal, load, model_name, trees_after_model};
@@ -41,14 +43,16 @@ fn item_result_json_line(
     ensures { IfOk result (λ line. line.items ≡ answer_object number answer.now) }
 {
     let fields = match answer {
-        ItemResult::Judged(judged) => judged_fields(alloc, number, judged)?,
-        ItemResult::Refused { kind, command } => refused_fields(alloc, number, *kind, *command)?,
+        ItemResult::Judged(judged) => judged_item_fields(alloc, number, judged)?,
+        ItemResult::Refused { kind, command } => refused_item_fields(
+            alloc, number, *kind, *command,
+        )?,
     };
-    object_line(alloc, fields.as_slice())
+    json_object_line(alloc, fields.as_slice())
 }
 
 /// Adds the object of an item, if `shown` includes it.
-fn add_shown_item_json_object(
+fn add_item_json_object_if_shown(
     alloc: Global,
     text: &mut Vec<u8>,
     shown: Shown,
@@ -65,24 +69,31 @@ fn add_shown_item_json_object(
 }
 
 /// The objects of the displayed items, numbered from 1.
-fn shown_objects(alloc: Global, shown: Shown, answers: &[ItemResult]) -> Result<Vec<u8>, AllocError>
+fn shown_item_json_objects(
+    alloc: Global,
+    shown: Shown,
+    answers: &[ItemResult],
+) -> Result<Vec<u8>, AllocError>
     ensures { IfOk result (λ text. text.items ≡ shown_objects shown 1 answers.now) }
 {
     let mut text = Vec::new(alloc);
     for (index, answer) in answers.iter().enumerate() {
-        add_shown_item_json_object(alloc, &mut text, shown, index + 1, answer)?;
+        add_item_json_object_if_shown(alloc, &mut text, shown, index + 1, answer)?;
     }
     Ok(text)
 }
 
 /// The object of a refusal, and the status.
-pub(crate) fn refusal_object(alloc: Global, refusal: &Refusal) -> Result<Output, AllocError>
+pub(crate) fn output_of_refusal_json_object(
+    alloc: Global,
+    refusal: &Refusal,
+) -> Result<Output, AllocError>
     ensures text { IfOk result (λ output. output.text.items ≡ refusal_object refusal.now) }
     ensures status { IfOk result (λ output. output.status ≡ Refused) }
 {
-    let fields = refusal_fields(alloc, refusal)?;
+    let fields = refused_model_fields(alloc, refusal)?;
     Ok(Output {
-        text: object_line(alloc, fields.as_slice())?,
+        text: json_object_line(alloc, fields.as_slice())?,
         status: Status::Refused,
     })
 }
@@ -94,19 +105,19 @@ fn json_output_of_judge_command<R: Threads + Sync>(
     input: &[u8],
     shown: Shown,
     steps: &ProgressCounter,
-) -> Result<(Output, Option<AnsweredFile>), AllocError>
+) -> Result<(Output, Option<FileWithItemResults>), AllocError>
     ensures output { IfOk result (λ r. IsJudgeJson shown input.now r.0.text.items r.0.status) }
     ensures held { IfOk result (λ r. IfSome r.1 (λ answered. HoldsAnswers input.now answered.file.compiled
         answered.file.trees.items answered.answers.items)) }
 {
-    let file = match load_compiled(alloc, input)? {
+    let file = match compile_model_of_input(alloc, input)? {
         Ok(file) => file,
-        Err(refusal) => return Ok((refusal_object(alloc, &refusal)?, None)),
+        Err(refusal) => return Ok((output_of_refusal_json_object(alloc, &refusal)?, None)),
     };
     let items = trees_after_model(file.trees.as_slice());
     may_share_compiled();
     steps.set_total(items.len());
-    let answers = judge_each(
+    let answers = read_and_judge_each_tree(
         rt,
         &file.compiled,
         alloc,
@@ -114,10 +125,10 @@ fn json_output_of_judge_command<R: Threads + Sync>(
         items,
         steps,
     )?;
-    let text = shown_objects(alloc, shown, answers.as_slice())?;
-    let status = worst_status(answers.as_slice());
+    let text = shown_item_json_objects(alloc, shown, answers.as_slice())?;
+    let status = worst_status_of_item_results(answers.as_slice());
     let output = Output { text, status };
-    Ok((output, Some(AnsweredFile { file, answers })))
+    Ok((output, Some(FileWithItemResults { file, answers })))
 }
 
 /// Judges each item after the model at the start of the input, several at once, and writes a line with an object for
@@ -134,7 +145,7 @@ pub fn judge_json<W: Sink, R: Threads + Sync>(
     input: &[u8],
     shown: Shown,
     sink: &mut W,
-) -> (Status, Option<AnsweredFile>)
+) -> (Status, Option<FileWithItemResults>)
     requires { W.broken sink.old ≡ false }
     ensures prints { PrintsElse memory_object (IsJudgeJson shown input.now)
         (W.taken sink.old) (W.taken sink.new) (W.broken sink.new) result.0 }
@@ -152,7 +163,7 @@ pub fn judge_json_with_progress<W: Sink, R: Threads + Sync>(
     shown: Shown,
     steps: &ProgressCounter,
     sink: &mut W,
-) -> (Status, Option<AnsweredFile>)
+) -> (Status, Option<FileWithItemResults>)
     requires { W.broken sink.old ≡ false }
     ensures prints { PrintsElse memory_object (IsJudgeJson shown input.now)
         (W.taken sink.old) (W.taken sink.new) (W.broken sink.new) result.0 }
@@ -160,8 +171,14 @@ pub fn judge_json_with_progress<W: Sink, R: Threads + Sync>(
         answered.file.trees.items answered.answers.items) }
 {
     match json_output_of_judge_command(rt, alloc, input, shown, steps) {
-        Ok((output, answered)) => (send(output.text.as_slice(), output.status, sink), answered),
-        Err(AllocError) => (send(MEMORY_OBJECT, Status::Lost, sink), None),
+        Ok((output, answered)) => (
+            write_with_status_or_lost(output.text.as_slice(), output.status, sink),
+            answered,
+        ),
+        Err(AllocError) => (
+            write_with_status_or_lost(MEMORY_OBJECT, Status::Lost, sink),
+            None,
+        ),
     }
 }
 
@@ -169,23 +186,23 @@ pub fn judge_json_with_progress<W: Sink, R: Threads + Sync>(
 pub const MEMORY_OBJECT: &[u8] = b"{\"verdict\":\"refused\",\"stage\":\"memory\"}\n";
 
 /// The object of an accepted model.
-fn accepted_object(alloc: Global, typed: &Typed) -> Result<Vec<u8>, AllocError>
+fn accepted_model_json_object(alloc: Global, typed: &Typed) -> Result<Vec<u8>, AllocError>
     ensures { IfOk result (λ line. line.items ≡ object_line (accepted_fields typed.now.name)) }
 {
-    let fields = accepted_fields(alloc, model_name(typed).as_str())?;
-    object_line(alloc, fields.as_slice())
+    let fields = accepted_model_fields(alloc, model_name(typed).as_str())?;
+    json_object_line(alloc, fields.as_slice())
 }
 
 /// The object of a well-typed model, or of its first refusal.
-fn model_object(alloc: Global, input: &[u8]) -> Result<Output, AllocError>
+fn output_of_model_or_refusal_json(alloc: Global, input: &[u8]) -> Result<Output, AllocError>
     ensures { IfOk result (λ output. IsModelObject input.now output.text.items output.status) }
 {
     match load(alloc, input)? {
         Ok(file) => Ok(Output {
-            text: accepted_object(alloc, &file.typed)?,
+            text: accepted_model_json_object(alloc, &file.typed)?,
             status: Status::Accepted,
         }),
-        Err(refusal) => refusal_object(alloc, &refusal),
+        Err(refusal) => output_of_refusal_json_object(alloc, &refusal),
     }
 }
 
@@ -197,7 +214,7 @@ fn json_output_of_check_command(
 ) -> Result<Output, AllocError>
     ensures { IfOk result (λ output. IsCheckJson input.now notices.now output.text.items output.status) }
 {
-    let Output { mut text, status } = model_object(alloc, input)?;
+    let Output { mut text, status } = output_of_model_or_refusal_json(alloc, input)?;
     text.extend_from_slice(notices)?;
     Ok(Output { text, status })
 }
@@ -211,7 +228,7 @@ pub fn check_json<W: Sink>(alloc: Global, input: &[u8], notices: &[u8], sink: &m
         (W.taken sink.old) (W.taken sink.new) (W.broken sink.new) result }
 {
     match json_output_of_check_command(alloc, input, notices) {
-        Ok(output) => send(output.text.as_slice(), output.status, sink),
-        Err(AllocError) => send(MEMORY_OBJECT, Status::Lost, sink),
+        Ok(output) => write_with_status_or_lost(output.text.as_slice(), output.status, sink),
+        Err(AllocError) => write_with_status_or_lost(MEMORY_OBJECT, Status::Lost, sink),
     }
 }

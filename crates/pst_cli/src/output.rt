@@ -26,7 +26,7 @@ impl Output {
 }
 
 /// Writes the text and returns its status, or `Lost` if the writer failed.
-pub fn send<W: Sink>(text: &[u8], status: Status, sink: &mut W) -> Status
+pub fn write_with_status_or_lost<W: Sink>(text: &[u8], status: Status, sink: &mut W) -> Status
     requires { W.broken sink.old ≡ false }
     ensures { Sends (W.taken sink.old) (W.taken sink.new) (W.broken sink.new) result text.now status }
 {
@@ -37,7 +37,7 @@ pub fn send<W: Sink>(text: &[u8], status: Status, sink: &mut W) -> Status
 }
 
 /// The texts of the outputs, one after another, and the worst of `so_far` and their statuses.
-pub(crate) fn joined(
+pub(crate) fn joined_outputs_with_worst_status(
     alloc: Global,
     so_far: Status,
     outputs: &[Output],

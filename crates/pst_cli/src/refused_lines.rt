@@ -39,7 +39,7 @@ pub(crate) fn copy_begun_line_if_wanted<L: RefusedLines>(
 }
 
 /// Returns the place of the first line end from `from` on, or the end of the bytes.
-fn line_end(bytes: &[u8], from: usize) -> usize {
+fn place_of_newline_or_end(bytes: &[u8], from: usize) -> usize {
     for at in from..bytes.len() {
         if bytes.get(at) == Some(&b'\n') {
             return at;
@@ -59,7 +59,7 @@ fn hand_over_refused_lines<L: RefusedLines>(
     let mut number = ended.before;
     for answer in ended.answers {
         number = number.saturating_add(1);
-        let end = line_end(ended.read, start);
+        let end = place_of_newline_or_end(ended.read, start);
         if let ItemResult::Refused { .. } = answer {
             line.extend_from_slice(ended.read.get(start..end).unwrap_or(&[]))?;
             lines.take(number, line.as_slice());
@@ -72,7 +72,7 @@ fn hand_over_refused_lines<L: RefusedLines>(
 
 /// Hands over the refused lines among `ended`, if there are some. `begun` is the beginning of the first line, if
 /// `lines` takes further lines. Hands over none if an allocation fails.
-pub(crate) fn hand_over_refused_stream_lines<L: RefusedLines>(
+pub(crate) fn hand_over_refused_lines_if_wanted<L: RefusedLines>(
     lines: &mut L,
     begun: Result<Option<Vec<u8>>, AllocError>,
     ended: EndedLines<'_>,

@@ -5,10 +5,10 @@ ghost use Rattle.pst_cli.specs.Sending.{Prints};
 ghost use Rattle.pst_runs.specs.Lawful.{AreLawful};
 ghost use Rattle.pst_system.specs.Kept.{AreKept};
 
-use crate::compiled::load_compiled;
-use crate::counts::Counts;
-use crate::judge::{read_runs_of_trees, refused_run};
-use crate::output::{Output, joined, send};
+use crate::compiled::compile_model_of_input;
+use crate::counts::ItemResultCounts;
+use crate::judge::{output_of_refused_run, read_runs_of_trees};
+use crate::output::{Output, joined_outputs_with_worst_status, write_with_status_or_lost};
 use crate::refusal::refusal_output;
 use crate::run::{drive_and_report_valid_case, invalid_case_line};
 use crate::status::Status;
@@ -62,7 +62,11 @@ fn failed_drives_after_drive(failed: u32, status: Status) -> u32
 }
 
 /// The counts of the displayed report after one more drive: `drive` if no earlier drive failed, else `own`.
-pub(crate) fn counts_to_show_after_drive(failed: u32, own: Counts, drive: Counts) -> Counts {
+pub(crate) fn counts_to_show_after_drive(
+    failed: u32,
+    own: ItemResultCounts,
+    drive: ItemResultCounts,
+) -> ItemResultCounts {
     if failed == 0 { drive } else { own }
 }
 
@@ -93,7 +97,7 @@ fn drive_and_report_case_repeatedly<R: Threads + Wait>(
     number: usize,
     valid: &Valid,
     repeats: u32,
-    counts: &mut Counts,
+    counts: &mut ItemResultCounts,
 ) -> Result<Output, AllocError>
     requires model { valid.now.model ≡ compiled.now }
     requires some { 1 ≤ repeats }
@@ -105,11 +109,11 @@ fn drive_and_report_case_repeatedly<R: Threads + Wait>(
 {
     let _shaped = valid.shaped();
     let mut shown: Option<Output> = None;
-    let mut own = Counts::new();
+    let mut own = ItemResultCounts::new();
     let mut failed = 0;
     for _drive in 0..repeats {
         let copy = valid.copy(alloc, compiled.typed().source())?;
-        let mut drive = Counts::new();
+        let mut drive = ItemResultCounts::new();
         let output = drive_and_report_valid_case(
             rt, alloc, compiled, system, number, copy, &mut drive,
         )?;
@@ -137,7 +141,7 @@ fn drive_and_report_item_repeatedly<R: Threads + Wait>(
     number: usize,
     shaped: &Shaped,
     repeats: u32,
-    counts: &mut Counts,
+    counts: &mut ItemResultCounts,
 ) -> Result<Output, AllocError>
     requires model { shaped.now.model ≡ compiled.now }
     requires some { 1 ≤ repeats }
@@ -155,7 +159,7 @@ fn drive_and_report_item_repeatedly<R: Threads + Wait>(
             )
         }
         Err(refused) => {
-            counts.add_invalid(&refused.1);
+            counts.add_invalid_or_lost(&refused.1);
             let line = invalid_case_line(alloc, number, refused.1)?;
             Ok(Output::new(line, Status::Failed))
         }
@@ -163,14 +167,14 @@ fn drive_and_report_item_repeatedly<R: Threads + Wait>(
 }
 
 /// The reports of all items, numbered from 1. `steps` counts the items.
-fn item_reports<R: Threads + Wait>(
+fn drive_and_report_items_repeatedly<R: Threads + Wait>(
     rt: &R,
     alloc: Global,
     compiled: &Compiled,
     system: &mut BoxedSystem,
     runs: &[Run],
     repeats: u32,
-    counts: &mut Counts,
+    counts: &mut ItemResultCounts,
     steps: &ProgressCounter,
 ) -> Result<Vec<Output>, AllocError>
     requires lawful { AreLawful compiled.now runs.now }
@@ -208,7 +212,7 @@ fn drive_and_join_all_reports<R: Threads + Wait>(
     system: &mut BoxedSystem,
     runs: &[Run],
     repeats: u32,
-    counts: &mut Counts,
+    counts: &mut ItemResultCounts,
     steps: &ProgressCounter,
 ) -> Result<Output, AllocError>
     requires lawful { AreLawful compiled.now runs.now }
@@ -219,18 +223,20 @@ fn drive_and_join_all_reports<R: Threads + Wait>(
     ensures kept { AreKept (answers system.new) (answers system.old) (fails system.new) (fails system.old)
         (reset_fails system.new) (reset_fails system.old) }
 {
-    let reports = item_reports(rt, alloc, compiled, system, runs, repeats, counts, steps)?;
-    joined(alloc, Status::Accepted, reports.as_slice())
+    let reports = drive_and_report_items_repeatedly(
+        rt, alloc, compiled, system, runs, repeats, counts, steps,
+    )?;
+    joined_outputs_with_worst_status(alloc, Status::Accepted, reports.as_slice())
 }
 
 /// The reports of the items after the model, or the first refusal.
-fn repeat_output<R: Threads + Wait>(
+fn read_and_drive_items_repeatedly<R: Threads + Wait>(
     rt: &R,
     alloc: Global,
     input: &[u8],
     system: &mut BoxedSystem,
     repeats: u32,
-    counts: &mut Counts,
+    counts: &mut ItemResultCounts,
     steps: &ProgressCounter,
 ) -> Result<Output, AllocError>
     requires { 1 ≤ repeats }
@@ -240,7 +246,7 @@ fn repeat_output<R: Threads + Wait>(
     ensures kept { AreKept (answers system.new) (answers system.old) (fails system.new) (fails system.old)
         (reset_fails system.new) (reset_fails system.old) }
 {
-    let file = match load_compiled(alloc, input)? {
+    let file = match compile_model_of_input(alloc, input)? {
         Ok(file) => file,
         Err(refusal) => return refusal_output(alloc, &refusal),
     };
@@ -258,7 +264,7 @@ fn repeat_output<R: Threads + Wait>(
                 steps,
             )
         }
-        Err(fault) => refused_run(alloc, &fault),
+        Err(fault) => output_of_refused_run(alloc, &fault),
     }
 }
 
@@ -275,7 +281,7 @@ pub fn run_repeatedly<W: Sink, R: Threads + Wait>(
     input: &[u8],
     system: &mut BoxedSystem,
     repeats: u32,
-    counts: &mut Counts,
+    counts: &mut ItemResultCounts,
     steps: &ProgressCounter,
     sink: &mut W,
 ) -> Status
@@ -287,11 +293,11 @@ pub fn run_repeatedly<W: Sink, R: Threads + Wait>(
     ensures kept { AreKept (answers system.new) (answers system.old) (fails system.new) (fails system.old)
         (reset_fails system.new) (reset_fails system.old) }
 {
-    match repeat_output(rt, alloc, input, system, repeats, counts, steps) {
-        Ok(output) => send(output.text.as_slice(), output.status, sink),
+    match read_and_drive_items_repeatedly(rt, alloc, input, system, repeats, counts, steps) {
+        Ok(output) => write_with_status_or_lost(output.text.as_slice(), output.status, sink),
         Err(AllocError) => {
-            *counts = Counts::new();
-            send(b"refused memory\n", Status::Lost, sink)
+            *counts = ItemResultCounts::new();
+            write_with_status_or_lost(b"refused memory\n", Status::Lost, sink)
         }
     }
 }

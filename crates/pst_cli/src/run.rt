@@ -12,12 +12,12 @@ ghost use Rattle.pst_runs.specs.Written.{run_form};
 ghost use Rattle.pst_sexpr.specs.Writing.{Writes};
 ghost use Rattle.pst_system.specs.Kept.{AreKept};
 
-use crate::compiled::load_compiled;
-use crate::counts::Counts;
-use crate::item_report::{drive_item, output_of_item_report};
-use crate::judge::{is_explained_or_valid, read_runs_of_trees, refused_run};
-use crate::lines::item_line;
-use crate::output::{Output, send};
+use crate::compiled::compile_model_of_input;
+use crate::counts::ItemResultCounts;
+use crate::item_report::{drive_case_and_report_item, output_of_item_report};
+use crate::judge::{is_explained_or_valid, output_of_refused_run, read_runs_of_trees};
+use crate::lines::item_verdict_line;
+use crate::output::{Output, write_with_status_or_lost};
 use crate::refusal::refusal_output;
 use crate::status::Status;
 use pst_case::{Run, Shaped};
@@ -34,7 +34,7 @@ use std::sync::Wait;
 use std::thread::Threads;
 
 /// Writes a tree and a line end.
-fn write_line<W: Sink>(tree: &Tree, sink: &mut W) -> Result<(), WriteFailed>
+fn write_tree_line<W: Sink>(tree: &Tree, sink: &mut W) -> Result<(), WriteFailed>
     requires { W.broken sink.old ≡ false }
     ensures { Writes (W.taken sink.old) (W.taken sink.new) (W.broken sink.new) result (line_of tree.now) }
 {
@@ -43,13 +43,13 @@ fn write_line<W: Sink>(tree: &Tree, sink: &mut W) -> Result<(), WriteFailed>
 }
 
 /// The tree of a run in its one spelling, and a line end.
-pub(crate) fn tree_line(alloc: Global, typed: &Typed, run: &Run) -> Result<Vec<u8>, AllocError>
+pub(crate) fn run_tree_line(alloc: Global, typed: &Typed, run: &Run) -> Result<Vec<u8>, AllocError>
     requires { IsLawful typed.now run.now }
     ensures { IfOk result (λ line. line.items ≡ line_of (run_form typed.now run.now)) }
 {
     let tree = run_tree(alloc, typed, run)?;
     let mut out = Out::new(Vec::new(alloc));
-    match write_line(&tree, &mut out) {
+    match write_tree_line(&tree, &mut out) {
         Ok(()) => Ok(out.into_inner()),
         Err(WriteFailed) => Err(AllocError),
     }
@@ -77,7 +77,7 @@ pub(crate) fn invalid_case_line(
 {
     match why {
         Why::NoMemory => Err(AllocError),
-        why => item_line(alloc, number, &Judged::Invalid(why)),
+        why => item_verdict_line(alloc, number, &Judged::Invalid(why)),
     }
 }
 
@@ -89,7 +89,7 @@ pub(crate) fn drive_and_report_valid_case<R: Threads + Wait>(
     system: &mut BoxedSystem,
     number: usize,
     valid: Valid,
-    counts: &mut Counts,
+    counts: &mut ItemResultCounts,
 ) -> Result<Output, AllocError>
     requires model { valid.model ≡ compiled.now }
     ensures reported { IfOk result (λ output.
@@ -98,7 +98,7 @@ pub(crate) fn drive_and_report_valid_case<R: Threads + Wait>(
     ensures kept { AreKept (answers system.new) (answers system.old) (fails system.new) (fails system.old)
         (reset_fails system.new) (reset_fails system.old) }
 {
-    let report = drive_item(rt, alloc, compiled, system, number, valid, counts)?;
+    let report = drive_case_and_report_item(rt, alloc, compiled, system, number, valid, counts)?;
     output_of_item_report(alloc, number, report)
 }
 
@@ -110,7 +110,7 @@ fn drive_and_report_item<R: Threads + Wait>(
     system: &mut BoxedSystem,
     number: usize,
     shaped: &Shaped,
-    counts: &mut Counts,
+    counts: &mut ItemResultCounts,
 ) -> Result<Output, AllocError>
     requires model { shaped.now.model ≡ compiled.now }
     ensures reported { IfOk result (λ output.
@@ -125,7 +125,7 @@ fn drive_and_report_item<R: Threads + Wait>(
             rt, alloc, compiled, system, number, valid, counts,
         ),
         Err(refused) => {
-            counts.add_invalid(&refused.1);
+            counts.add_invalid_or_lost(&refused.1);
             let line = invalid_case_line(alloc, number, refused.1)?;
             Ok(Output::new(line, Status::Failed))
         }
@@ -133,13 +133,13 @@ fn drive_and_report_item<R: Threads + Wait>(
 }
 
 /// The reports of all items, numbered from 1, and the worst of their statuses. `steps` counts the items.
-fn item_reports<R: Threads + Wait>(
+fn drive_and_report_items<R: Threads + Wait>(
     rt: &R,
     alloc: Global,
     compiled: &Compiled,
     system: &mut BoxedSystem,
     runs: &[Run],
-    counts: &mut Counts,
+    counts: &mut ItemResultCounts,
     steps: &ProgressCounter,
 ) -> Result<Output, AllocError>
     requires { AreLawful compiled.now runs.now }
@@ -170,12 +170,12 @@ fn item_reports<R: Threads + Wait>(
 }
 
 /// The reports of the items after the model, or the first refusal.
-fn run_output<R: Threads + Wait>(
+fn read_and_drive_items_of_input<R: Threads + Wait>(
     rt: &R,
     alloc: Global,
     input: &[u8],
     system: &mut BoxedSystem,
-    counts: &mut Counts,
+    counts: &mut ItemResultCounts,
     steps: &ProgressCounter,
 ) -> Result<Output, AllocError>
     ensures output { IfOk result (λ output.
@@ -184,13 +184,13 @@ fn run_output<R: Threads + Wait>(
     ensures kept { AreKept (answers system.new) (answers system.old) (fails system.new) (fails system.old)
         (reset_fails system.new) (reset_fails system.old) }
 {
-    let file = match load_compiled(alloc, input)? {
+    let file = match compile_model_of_input(alloc, input)? {
         Ok(file) => file,
         Err(refusal) => return refusal_output(alloc, &refusal),
     };
     let items = trees_after_model(file.trees.as_slice());
     match read_runs_of_trees(alloc, file.compiled.typed(), items)? {
-        Ok(runs) => item_reports(
+        Ok(runs) => drive_and_report_items(
             rt,
             alloc,
             &file.compiled,
@@ -199,7 +199,7 @@ fn run_output<R: Threads + Wait>(
             counts,
             steps,
         ),
-        Err(fault) => refused_run(alloc, &fault),
+        Err(fault) => output_of_refused_run(alloc, &fault),
     }
 }
 
@@ -226,12 +226,12 @@ pub fn run_text<W: Sink, R: Threads + Wait>(
     ensures kept { AreKept (answers system.new) (answers system.old) (fails system.new) (fails system.old)
         (reset_fails system.new) (reset_fails system.old) }
 {
-    run_with_progress(
+    run_text_with_progress(
         rt,
         alloc,
         input,
         system,
-        &mut Counts::new(),
+        &mut ItemResultCounts::new(),
         &ProgressCounter::new(),
         sink,
     )
@@ -239,12 +239,12 @@ pub fn run_text<W: Sink, R: Threads + Wait>(
 
 /// Does what [`run_text`] does, counts the items that are driven in `steps`, and adds the result of each reported item
 /// to `counts`. If an allocation outside the driver fails, sets all counts to zero.
-pub fn run_with_progress<W: Sink, R: Threads + Wait>(
+pub fn run_text_with_progress<W: Sink, R: Threads + Wait>(
     rt: &R,
     alloc: Global,
     input: &[u8],
     system: &mut BoxedSystem,
-    counts: &mut Counts,
+    counts: &mut ItemResultCounts,
     steps: &ProgressCounter,
     sink: &mut W,
 ) -> Status
@@ -255,11 +255,11 @@ pub fn run_with_progress<W: Sink, R: Threads + Wait>(
     ensures kept { AreKept (answers system.new) (answers system.old) (fails system.new) (fails system.old)
         (reset_fails system.new) (reset_fails system.old) }
 {
-    match run_output(rt, alloc, input, system, counts, steps) {
-        Ok(output) => send(output.text.as_slice(), output.status, sink),
+    match read_and_drive_items_of_input(rt, alloc, input, system, counts, steps) {
+        Ok(output) => write_with_status_or_lost(output.text.as_slice(), output.status, sink),
         Err(AllocError) => {
-            *counts = Counts::new();
-            send(b"refused memory\n", Status::Lost, sink)
+            *counts = ItemResultCounts::new();
+            write_with_status_or_lost(b"refused memory\n", Status::Lost, sink)
         }
     }
 }

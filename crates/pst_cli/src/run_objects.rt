@@ -2,20 +2,20 @@
 ghost use Rattle.std.specs.Prelude.{◌≡◌, false};
 ghost use Rattle.pst_runs.specs.Lawful.{AreLawful};
 
-use crate::compiled::load_compiled;
-use crate::counts::Counts;
-use crate::item_report::{ItemReport, drive_item, report_status};
+use crate::compiled::compile_model_of_input;
+use crate::counts::ItemResultCounts;
+use crate::item_report::{ItemReport, drive_case_and_report_item, status_of_item_report};
 use crate::judge::read_runs_of_trees;
-use crate::objects::{MEMORY_OBJECT, refusal_object};
-use crate::output::{Output, send};
+use crate::objects::{MEMORY_OBJECT, output_of_refusal_json_object};
+use crate::output::{Output, write_with_status_or_lost};
 use crate::repeat::counts_to_show_after_drive;
 use crate::status::Status;
 use pst_case::{Run, Shaped};
 use pst_compile::Compiled;
 use pst_judge::{Judged, Valid, Why, valid};
 use pst_rejudge::{
-    Field, Name, ProgressCounter, add_number_field, add_text_field, judged_fields, object_line,
-    refused_fields,
+    Field, Name, ProgressCounter, add_number_field, add_text_field, json_object_line,
+    judged_item_fields, refused_item_fields,
 };
 use pst_runs::RunFault;
 use pst_sexpr::Sink;
@@ -35,14 +35,14 @@ struct Drives {
 
 /// The report of an item, and of its drives if it was driven several times.
 #[derive(Drop)]
-struct Reported {
+struct ReportWithDriveCounts {
     report: ItemReport,
     drives: Option<Drives>,
 }
 
 /// The displayed report of a case after one more drive: the first that failed, or else the last. `failed` drives failed
 /// before.
-fn item_report_after_drive(
+fn report_to_show_after_drive(
     shown: Option<ItemReport>,
     failed: u32,
     report: ItemReport,
@@ -53,8 +53,9 @@ fn item_report_after_drive(
     }
 }
 
-/// Drives a valid case `repeats` times, unless a drive is lost.
-fn drive_repeatedly<R: Threads + Wait>(
+/// Drives a valid case `repeats` times, or until a drive is lost, and returns the report to show. Adds to `counts` only
+/// the drive of this report. Returns `AllocError` if `repeats` is 0.
+fn drive_valid_case_repeatedly<R: Threads + Wait>(
     rt: &R,
     alloc: Global,
     compiled: &Compiled,
@@ -62,32 +63,34 @@ fn drive_repeatedly<R: Threads + Wait>(
     number: usize,
     valid: &Valid,
     repeats: u32,
-    counts: &mut Counts,
-) -> Result<Reported, AllocError>
+    counts: &mut ItemResultCounts,
+) -> Result<ReportWithDriveCounts, AllocError>
     requires { valid.now.model ≡ compiled.now }
 {
     let mut shown: Option<ItemReport> = None;
-    let mut own = Counts::new();
+    let mut own = ItemResultCounts::new();
     let mut failed = 0u32;
     for _drive in 0..repeats {
         let copy = valid.copy(alloc, compiled.typed().source())?;
-        let mut drive = Counts::new();
-        let report = drive_item(rt, alloc, compiled, system, number, copy, &mut drive)?;
+        let mut drive = ItemResultCounts::new();
+        let report = drive_case_and_report_item(
+            rt, alloc, compiled, system, number, copy, &mut drive,
+        )?;
         if let ItemReport::Lost(_) = report {
             counts.add_counts(drive);
-            return Ok(Reported {
+            return Ok(ReportWithDriveCounts {
                 report,
                 drives: None,
             });
         }
-        let has_failed = report_status(&report) != Status::Accepted;
+        let has_failed = status_of_item_report(&report) != Status::Accepted;
         own = counts_to_show_after_drive(failed, own, drive);
-        shown = Some(item_report_after_drive(shown, failed, report));
+        shown = Some(report_to_show_after_drive(shown, failed, report));
         failed = failed.saturating_add(u32::from(has_failed));
     }
     counts.add_counts(own);
     match shown {
-        Some(report) => Ok(Reported {
+        Some(report) => Ok(ReportWithDriveCounts {
             report,
             drives: Some(Drives {
                 all: repeats,
@@ -99,7 +102,7 @@ fn drive_repeatedly<R: Threads + Wait>(
 }
 
 /// Drives a valid case, once or as often as `repeats` says.
-fn drive_valid<R: Threads + Wait>(
+fn drive_valid_case_as_often_as_asked<R: Threads + Wait>(
     rt: &R,
     alloc: Global,
     compiled: &Compiled,
@@ -107,27 +110,33 @@ fn drive_valid<R: Threads + Wait>(
     number: usize,
     valid: Valid,
     repeats: Option<u32>,
-    counts: &mut Counts,
-) -> Result<Reported, AllocError>
+    counts: &mut ItemResultCounts,
+) -> Result<ReportWithDriveCounts, AllocError>
     requires { valid.model ≡ compiled.now }
 {
     match repeats {
         Some(repeats) if repeats > 0 => {
-            drive_repeatedly(rt, alloc, compiled, system, number, &valid, repeats, counts)
+            drive_valid_case_repeatedly(
+                rt, alloc, compiled, system, number, &valid, repeats, counts,
+            )
         }
-        _ => Ok(Reported {
-            report: drive_item(rt, alloc, compiled, system, number, valid, counts)?,
+        _ => Ok(ReportWithDriveCounts {
+            report: drive_case_and_report_item(rt, alloc, compiled, system, number, valid, counts)?,
             drives: None,
         }),
     }
 }
 
-/// The report of an item whose case is not valid.
-fn report_invalid(why: Why, counts: &mut Counts) -> Result<Reported, AllocError> {
-    counts.add_invalid(&why);
+/// Counts a case that is not valid, and returns the report of its item. If `why` is `Why::NoMemory`, counts the case as
+/// lost, and returns `AllocError`.
+fn report_invalid_case(
+    why: Why,
+    counts: &mut ItemResultCounts,
+) -> Result<ReportWithDriveCounts, AllocError> {
+    counts.add_invalid_or_lost(&why);
     match why {
         Why::NoMemory => Err(AllocError),
-        why => Ok(Reported {
+        why => Ok(ReportWithDriveCounts {
             report: ItemReport::Invalid(why),
             drives: None,
         }),
@@ -143,14 +152,16 @@ fn drive_and_report_any_case<R: Threads + Wait>(
     number: usize,
     shaped: &Shaped,
     repeats: Option<u32>,
-    counts: &mut Counts,
-) -> Result<Reported, AllocError>
+    counts: &mut ItemResultCounts,
+) -> Result<ReportWithDriveCounts, AllocError>
     requires { shaped.now.model ≡ compiled.now }
 {
     let copy = shaped.copy(alloc, compiled.typed().source())?;
     match valid(compiled, alloc, copy) {
-        Ok(valid) => drive_valid(rt, alloc, compiled, system, number, valid, repeats, counts),
-        Err(refused) => report_invalid(refused.1, counts),
+        Ok(valid) => drive_valid_case_as_often_as_asked(
+            rt, alloc, compiled, system, number, valid, repeats, counts,
+        ),
+        Err(refused) => report_invalid_case(refused.1, counts),
     }
 }
 
@@ -175,11 +186,11 @@ fn item_report_fields(
 ) -> Result<Vec<Field>, AllocError> {
     match report {
         ItemReport::Driven { line, judged } => {
-            let mut fields = judged_fields(alloc, number, &judged)?;
+            let mut fields = judged_item_fields(alloc, number, &judged)?;
             add_run_tree_field(&mut fields, line)?;
             Ok(fields)
         }
-        ItemReport::Invalid(why) => judged_fields(alloc, number, &Judged::Invalid(why)),
+        ItemReport::Invalid(why) => judged_item_fields(alloc, number, &Judged::Invalid(why)),
         ItemReport::Lost(fault) => {
             let mut fields = Vec::new(alloc);
             add_number_field(&mut fields, Name::Item, number as u64)?;
@@ -191,29 +202,29 @@ fn item_report_fields(
 }
 
 /// The object of an item, on its line.
-fn item_report_object(
+fn item_report_json_line(
     alloc: Global,
     number: usize,
-    reported: Reported,
+    reported: ReportWithDriveCounts,
 ) -> Result<Vec<u8>, AllocError> {
-    let Reported { report, drives } = reported;
+    let ReportWithDriveCounts { report, drives } = reported;
     let mut fields = item_report_fields(alloc, number, report)?;
     if let Some(drives) = drives {
         add_number_field(&mut fields, Name::Drives, drives.all as u64)?;
         add_number_field(&mut fields, Name::Failed, drives.failed as u64)?;
     }
-    object_line(alloc, fields.as_slice())
+    json_object_line(alloc, fields.as_slice())
 }
 
 /// The objects of all items, numbered from 1, and the worst of their statuses. `steps` counts the items.
-fn item_objects<R: Threads + Wait>(
+fn drive_items_and_join_json_objects<R: Threads + Wait>(
     rt: &R,
     alloc: Global,
     compiled: &Compiled,
     system: &mut BoxedSystem,
     runs: &[Run],
     repeats: Option<u32>,
-    counts: &mut Counts,
+    counts: &mut ItemResultCounts,
     steps: &ProgressCounter,
 ) -> Result<Output, AllocError>
     requires { AreLawful compiled.now runs.now }
@@ -233,8 +244,8 @@ fn item_objects<R: Threads + Wait>(
             repeats,
             counts,
         )?;
-        status = status.or_worse(report_status(&reported.report));
-        let object = item_report_object(alloc, number, reported)?;
+        status = status.or_worse(status_of_item_report(&reported.report));
+        let object = item_report_json_line(alloc, number, reported)?;
         text.extend_from_slice(object.as_slice())?;
         steps.add(1);
     }
@@ -242,31 +253,34 @@ fn item_objects<R: Threads + Wait>(
 }
 
 /// The object of an item that is refused.
-fn refused_object(alloc: Global, fault: &RunFault) -> Result<Output, AllocError> {
-    let fields = refused_fields(alloc, fault.run, fault.kind, fault.command)?;
+fn output_of_refused_run_json_object(
+    alloc: Global,
+    fault: &RunFault,
+) -> Result<Output, AllocError> {
+    let fields = refused_item_fields(alloc, fault.run, fault.kind, fault.command)?;
     Ok(Output {
-        text: object_line(alloc, fields.as_slice())?,
+        text: json_object_line(alloc, fields.as_slice())?,
         status: Status::Refused,
     })
 }
 
 /// The objects of the items after the model, or that of the first refusal.
-fn json_output<R: Threads + Wait>(
+fn read_and_drive_items_for_json<R: Threads + Wait>(
     rt: &R,
     alloc: Global,
     input: &[u8],
     system: &mut BoxedSystem,
     repeats: Option<u32>,
-    counts: &mut Counts,
+    counts: &mut ItemResultCounts,
     steps: &ProgressCounter,
 ) -> Result<Output, AllocError> {
-    let file = match load_compiled(alloc, input)? {
+    let file = match compile_model_of_input(alloc, input)? {
         Ok(file) => file,
-        Err(refusal) => return refusal_object(alloc, &refusal),
+        Err(refusal) => return output_of_refusal_json_object(alloc, &refusal),
     };
     let items = trees_after_model(file.trees.as_slice());
     match read_runs_of_trees(alloc, file.compiled.typed(), items)? {
-        Ok(runs) => item_objects(
+        Ok(runs) => drive_items_and_join_json_objects(
             rt,
             alloc,
             &file.compiled,
@@ -276,7 +290,7 @@ fn json_output<R: Threads + Wait>(
             counts,
             steps,
         ),
-        Err(fault) => refused_object(alloc, &fault),
+        Err(fault) => output_of_refused_run_json_object(alloc, &fault),
     }
 }
 
@@ -290,17 +304,17 @@ pub fn run_json<W: Sink, R: Threads + Wait>(
     input: &[u8],
     system: &mut BoxedSystem,
     repeats: Option<u32>,
-    counts: &mut Counts,
+    counts: &mut ItemResultCounts,
     steps: &ProgressCounter,
     sink: &mut W,
 ) -> Status
     requires { W.broken sink.old ≡ false }
 {
-    match json_output(rt, alloc, input, system, repeats, counts, steps) {
-        Ok(output) => send(output.text.as_slice(), output.status, sink),
+    match read_and_drive_items_for_json(rt, alloc, input, system, repeats, counts, steps) {
+        Ok(output) => write_with_status_or_lost(output.text.as_slice(), output.status, sink),
         Err(AllocError) => {
-            *counts = Counts::new();
-            send(MEMORY_OBJECT, Status::Lost, sink)
+            *counts = ItemResultCounts::new();
+            write_with_status_or_lost(MEMORY_OBJECT, Status::Lost, sink)
         }
     }
 }

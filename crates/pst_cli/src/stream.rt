@@ -5,13 +5,13 @@ ghost use Rattle.pst_cli.specs.Sending.{Prints};
 ghost use Rattle.pst_cli.specs.Streaming.{EndsBlock, EndsStream, cut_of};
 ghost use Rattle.pst_cli.specs.StreamOutput.{IsStreamOutput};
 
-use crate::compiled::load_compiled;
-use crate::counts::Counts;
-use crate::keep::{add_item_result_line, answer_status};
-use crate::output::send;
+use crate::compiled::compile_model_of_input;
+use crate::counts::ItemResultCounts;
+use crate::keep::{add_item_result_line, status_of_item_result};
+use crate::output::write_with_status_or_lost;
 use crate::refusal::refusal_output;
 use crate::refused_lines::{
-    EndedLines, RefusedLines, copy_begun_line_if_wanted, hand_over_refused_stream_lines,
+    EndedLines, RefusedLines, copy_begun_line_if_wanted, hand_over_refused_lines_if_wanted,
 };
 use crate::sharing::may_share_compiled;
 use crate::status::Status;
@@ -64,18 +64,18 @@ fn numbered_item_result_lines(
 }
 
 /// The worst of `so_far` and the statuses of the answers.
-fn worst_after(so_far: Status, answers: &[ItemResult]) -> Status
+fn worst_status_after_item_results(so_far: Status, answers: &[ItemResult]) -> Status
     ensures { result ≡ worst_status so_far answers.now }
 {
     let mut status = so_far;
     for answer in answers {
-        status = status.or_worse(answer_status(answer));
+        status = status.or_worse(status_of_item_result(answer));
     }
     status
 }
 
 /// Writes the lines of the answers to a block, after the lines so far.
-fn write_block<W: Sink>(
+fn write_item_result_lines_of_block<W: Sink>(
     alloc: Global,
     written: Written,
     answers: &[ItemResult],
@@ -94,19 +94,19 @@ fn write_block<W: Sink>(
     match put_all(text.as_bytes(), sink) {
         Ok(()) => Ok(Written {
             count,
-            status: worst_after(written.status, answers),
+            status: worst_status_after_item_results(written.status, answers),
         }),
         Err(WriteFailed) => Err(Cut::Unwritten),
     }
 }
 
 /// The bytes that the lines of a block end in: those that were read, or none if the stream has ended.
-fn bytes_read_for_lines_of_block(buffer: &[u8], is_last: bool) -> &[u8] {
+fn bytes_read_unless_stream_ended(buffer: &[u8], is_last: bool) -> &[u8] {
     if is_last { &[] } else { buffer }
 }
 
 /// Why the lines end if no block can be read.
-fn end_of_lines_by_stream_fault(fault: StreamFault) -> Cut
+fn cut_for_stream_fault(fault: StreamFault) -> Cut
     ensures { result ≡ cut_of fault }
 {
     match fault {
@@ -117,12 +117,12 @@ fn end_of_lines_by_stream_fault(fault: StreamFault) -> Cut
 
 /// Writes the line of each item of the reader as it comes, and returns the worst of their statuses; or why the lines
 /// end before the reader does. `refused` gets the refused lines.
-fn write_stream<I: Read, W: Sink, R: Threads + Sync, L: RefusedLines>(
+fn judge_stream_and_write_lines<I: Read, W: Sink, R: Threads + Sync, L: RefusedLines>(
     rt: &R,
     alloc: Global,
     compiled: &Compiled,
     reader: &mut I,
-    counts: &mut Counts,
+    counts: &mut ItemResultCounts,
     steps: &ProgressCounter,
     refused: &mut L,
     sink: &mut W,
@@ -152,22 +152,22 @@ fn write_stream<I: Read, W: Sink, R: Threads + Sync, L: RefusedLines>(
             &mut kept,
         ) {
             Ok(block) => block,
-            Err(fault) => return Err(end_of_lines_by_stream_fault(fault)),
+            Err(fault) => return Err(cut_for_stream_fault(fault)),
         };
         let answers = block.answers.as_slice();
         let before = written.count;
-        counts.add_answers(answers);
+        counts.add_item_results(answers);
         steps.add(answers.len());
-        written = match write_block(alloc, written, answers, sink) {
+        written = match write_item_result_lines_of_block(alloc, written, answers, sink) {
             Ok(written) => written,
             Err(cut) => return Err(cut),
         };
         let ended = EndedLines {
             before,
-            read: bytes_read_for_lines_of_block(buffer.as_slice(), block.is_last),
+            read: bytes_read_unless_stream_ended(buffer.as_slice(), block.is_last),
             answers,
         };
-        hand_over_refused_stream_lines(refused, begun, ended);
+        hand_over_refused_lines_if_wanted(refused, begun, ended);
         if block.is_last {
             return Ok(written.status);
         }
@@ -190,7 +190,7 @@ pub fn judge_stream<I: Read, W: Sink, R: Threads + Sync, L: RefusedLines>(
     alloc: Global,
     input: &[u8],
     reader: &mut I,
-    counts: &mut Counts,
+    counts: &mut ItemResultCounts,
     steps: &ProgressCounter,
     refused: &mut L,
     sink: &mut W,
@@ -199,17 +199,29 @@ pub fn judge_stream<I: Read, W: Sink, R: Threads + Sync, L: RefusedLines>(
     ensures { (bytes : List ℕ) → I.remaining reader.old ≡ Some bytes → Prints (IsStreamOutput input.now bytes)
         (W.taken sink.old) (W.taken sink.new) (W.broken sink.new) result }
 {
-    let file = match load_compiled(alloc, input) {
+    let file = match compile_model_of_input(alloc, input) {
         Ok(Ok(file)) => file,
         Ok(Err(refusal)) => {
             return match refusal_output(alloc, &refusal) {
-                Ok(output) => send(output.text.as_slice(), output.status, sink),
-                Err(AllocError) => send(b"refused memory\n", Status::Lost, sink),
+                Ok(output) => write_with_status_or_lost(
+                    output.text.as_slice(),
+                    output.status,
+                    sink,
+                ),
+                Err(AllocError) => write_with_status_or_lost(
+                    b"refused memory\n",
+                    Status::Lost,
+                    sink,
+                ),
             };
         }
-        Err(AllocError) => return send(b"refused memory\n", Status::Lost, sink),
+        Err(AllocError) => return write_with_status_or_lost(
+            b"refused memory\n",
+            Status::Lost,
+            sink,
+        ),
     };
-    match write_stream(
+    match judge_stream_and_write_lines(
         rt,
         alloc,
         &file.compiled,
@@ -220,8 +232,8 @@ pub fn judge_stream<I: Read, W: Sink, R: Threads + Sync, L: RefusedLines>(
         sink,
     ) {
         Ok(status) => status,
-        Err(Cut::Unread) => send(b"refused file\n", Status::Refused, sink),
-        Err(Cut::NoMemory) => send(b"refused memory\n", Status::Lost, sink),
+        Err(Cut::Unread) => write_with_status_or_lost(b"refused file\n", Status::Refused, sink),
+        Err(Cut::NoMemory) => write_with_status_or_lost(b"refused memory\n", Status::Lost, sink),
         Err(Cut::Unwritten) => Status::Lost,
     }
 }

@@ -2,10 +2,10 @@
 ghost use Rattle.std.specs.Prelude.{◌≡◌, ⊤, IfOk};
 ghost use Rattle.pst_clients.specs.Answering.{Answered};
 
-use crate::ahead::Ahead;
+use crate::ahead::ReadAhead;
 use crate::answers::{ClientAnswer, client_answer_of_line};
-use crate::calls::call_line;
-use crate::connection::{Connection, LostAnswer, State};
+use crate::calls::client_call_line;
+use crate::connection::{ClientState, Connection, LostAnswer};
 use crate::notes::{BadLine, ClientId, NoteKind, Notes};
 use pst_system::{CallFault, RealCall, System};
 use pst_value::{Items, Ty, Value};
@@ -19,6 +19,9 @@ use std::time::Duration;
 /// The line that makes a client reset the system to its initial state.
 const RESET: &str = "[\"reset\"]\n";
 
+/// Why a line with the mark of a client's end is no answer.
+const END_MARK: &str = "the client printed a line with the byte 0x18, which no answer may have";
+
 /// What to mend in a client that prints a line too many.
 const STRAY_HINT: &str = "; print one line for each line, and log lines to standard error";
 
@@ -26,7 +29,7 @@ const STRAY_HINT: &str = "; print one line for each line, and log lines to stand
 const LATE: u64 = 100;
 
 /// Whether a line begins as a JSON number does.
-fn begins_number(answer: &str) -> bool {
+fn begins_like_json_number(answer: &str) -> bool {
     match answer.as_bytes().first() {
         Some(byte) => byte.is_ascii_digit() || *byte == b'-',
         None => false,
@@ -34,12 +37,12 @@ fn begins_number(answer: &str) -> bool {
 }
 
 /// What to answer in place of a line that is no value.
-fn value_hint(answer: &str) -> &'static str {
+fn hint_on_answer_without_value(answer: &str) -> &'static str {
     match answer.trim() {
         "null" => "; for an option answer [] or [x] (docs/language.md, Patterns)",
         "" => "(an empty line)",
         "True" | "False" | "None" => "; print JSON, as json.dumps does: true, false",
-        number if begins_number(number) => {
+        number if begins_like_json_number(number) => {
             "; a number is an integer from -9223372036854775808 to 9223372036854775807"
         }
         _ => "",
@@ -47,7 +50,7 @@ fn value_hint(answer: &str) -> &'static str {
 }
 
 /// What to answer where a type is wanted.
-fn type_hint(ty: &Ty) -> &'static str {
+fn hint_on_answer_of_wrong_type(ty: &Ty) -> &'static str {
     match ty {
         Ty::Int => "; type int is a number such as 7",
         Ty::Bool => "; type bool is true or false",
@@ -78,9 +81,9 @@ pub struct Clients<R: Wait, I: Read, O: Write> {
 }
 
 /// Whether some client is in a state.
-fn has_client_in_state<I: Read + Ahead, O: Write>(
+fn has_client_in_state<I: Read + ReadAhead, O: Write>(
     connections: &mut Vec<Mutex<Connection<I, O>>>,
-    state: State,
+    state: ClientState,
 ) -> bool {
     for connection in connections {
         if connection.get_mut().state() == state {
@@ -92,28 +95,28 @@ fn has_client_in_state<I: Read + Ahead, O: Write>(
 
 /// Has the clients restarted that are known to have ended. If one process has them all, this waits until all
 /// are known to have ended, and is impossible once a pipe is closed.
-fn restart_ended_clients<I: Read + Ahead, O: Write>(
+fn restart_ended_clients<I: Read + ReadAhead, O: Write>(
     connections: &mut Vec<Mutex<Connection<I, O>>>,
     is_shared: bool,
 ) {
-    if !has_client_in_state(connections, State::Ended)
-        || is_shared && has_client_in_state(connections, State::Closed)
+    if !has_client_in_state(connections, ClientState::Ended)
+        || is_shared && has_client_in_state(connections, ClientState::Closed)
     {
         return;
     }
     for connection in &mut *connections {
         let connection = connection.get_mut();
         if is_shared {
-            connection.await_end();
+            connection.await_client_end();
         }
-        connection.ask_revival();
+        connection.ask_launcher_to_restart_ended_client();
     }
     for connection in connections {
-        connection.get_mut().await_revival();
+        connection.get_mut().await_restart_of_ended_client();
     }
 }
 
-impl<R: Wait + Files, I: Read + Ahead + Drop, O: Write + Drop> Clients<R, I, O> {
+impl<R: Wait + Files, I: Read + ReadAhead + Drop, O: Write + Drop> Clients<R, I, O> {
     /// No clients. A value is answered only as some line spells it at its type in `results`.
     pub fn new(
         rt: R,
@@ -145,7 +148,7 @@ impl<R: Wait + Files, I: Read + Ahead + Drop, O: Write + Drop> Clients<R, I, O> 
     }
 
     /// A branch's client.
-    fn client(&self, branch: u32) -> ClientId {
+    fn client_id(&self, branch: u32) -> ClientId {
         ClientId {
             worker: self.worker,
             branch,
@@ -153,26 +156,34 @@ impl<R: Wait + Files, I: Read + Ahead + Drop, O: Write + Drop> Clients<R, I, O> 
     }
 
     /// Notes what went wrong with a line for a branch's client.
-    fn note(&self, branch: u32, kind: NoteKind, line: &[u8], answer: &str, hint: &'static str) {
+    fn note_bad_line(
+        &self,
+        branch: u32,
+        kind: NoteKind,
+        line: &[u8],
+        answer: &str,
+        hint: &'static str,
+    ) {
         let wrong = BadLine {
             kind,
             line,
             answer,
             hint,
         };
-        self.notes.note(self.client(branch), &wrong)
+        self.notes.note_bad_line(self.client_id(branch), &wrong)
     }
 
     /// Notes why a line was not answered.
-    fn note_lost(&self, branch: u32, line: &[u8], lost: &LostAnswer) {
+    fn note_lost_answer_of_client(&self, branch: u32, line: &[u8], lost: &LostAnswer) {
         let (kind, why) = match lost {
             LostAnswer::NoClient => (NoteKind::NotAsked, "this branch has no client (--branches)"),
+            LostAnswer::Ended(how) if how.is_empty() => (NoteKind::NotAnswered, END_MARK),
             LostAnswer::Ended(how) => (NoteKind::NotAnswered, how.as_str()),
             LostAnswer::Closed => (NoteKind::NotAnswered, "the client has gone"),
             LostAnswer::TooLong => (NoteKind::NotAnswered, "the line is longer than 1 MiB"),
-            LostAnswer::NoText => (NoteKind::NoValue, "no UTF-8"),
+            LostAnswer::NoText => (NoteKind::NoValue, "bytes that are not UTF-8"),
             LostAnswer::MoreLines(first) => {
-                return self.note(
+                return self.note_bad_line(
                     branch,
                     NoteKind::MoreLines,
                     line,
@@ -182,7 +193,7 @@ impl<R: Wait + Files, I: Read + Ahead + Drop, O: Write + Drop> Clients<R, I, O> 
             }
             LostAnswer::NoMemory => return,
         };
-        self.note(branch, kind, line, why, "")
+        self.note_bad_line(branch, kind, line, why, "")
     }
 
     /// The line with which a branch's client answers a line.
@@ -190,7 +201,7 @@ impl<R: Wait + Files, I: Read + Ahead + Drop, O: Write + Drop> Clients<R, I, O> 
         let Some(connection) = self.connections.get(branch as usize) else {
             return Err(LostAnswer::NoClient);
         };
-        let client = self.client(branch);
+        let client = self.client_id(branch);
         self.notes.waits().begin(client, line);
         let answer = connection.lock(&self.rt).ask(line);
         self.notes.waits().end(client);
@@ -204,7 +215,7 @@ impl<R: Wait + Files, I: Read + Ahead + Drop, O: Write + Drop> Clients<R, I, O> 
             Ok(answer) => Ok(answer),
             Err(LostAnswer::NoMemory) => Err(CallFault::NoMemory),
             Err(lost) => {
-                self.note_lost(branch, line, &lost);
+                self.note_lost_answer_of_client(branch, line, &lost);
                 Err(CallFault::Refused)
             }
         }
@@ -215,12 +226,12 @@ impl<R: Wait + Files, I: Read + Ahead + Drop, O: Write + Drop> Clients<R, I, O> 
         let last = self
             .notes
             .waits()
-            .last_line_of(self.alloc, self.client(branch));
+            .printable_last_line_of_client(self.alloc, self.client_id(branch));
         let line = match &last {
             Ok(last) if !last.is_empty() => last.as_str(),
             _ => RESET,
         };
-        self.note(branch, NoteKind::Stray, line.as_bytes(), text, STRAY_HINT)
+        self.note_bad_line(branch, NoteKind::Stray, line.as_bytes(), text, STRAY_HINT)
     }
 
     /// Drops what a branch's client has printed that answers nothing, and notes it. Returns whether a line too
@@ -229,10 +240,10 @@ impl<R: Wait + Files, I: Read + Ahead + Drop, O: Write + Drop> Clients<R, I, O> 
         let Some(connection) = self.connections.get(branch as usize) else {
             return false;
         };
-        let client = self.client(branch);
-        self.notes.waits().begin_again(client);
+        let client = self.client_id(branch);
+        self.notes.waits().begin_wait_for_more_output(client);
         let mut connection = connection.lock(&self.rt);
-        let stray = connection.drop_printed(&self.rt);
+        let stray = connection.drop_unread_lines_and_return_first(&self.rt);
         let is_astray = connection.take_extra_line_flag();
         self.notes.waits().end(client);
         if let Some(text) = stray {
@@ -256,9 +267,11 @@ impl<R: Wait + Files, I: Read + Ahead + Drop, O: Write + Drop> Clients<R, I, O> 
     }
 
     /// Whether the answer of a branch's client to a reset is another than before.
-    fn is_unusual(&self, branch: u32, answer: &str) -> bool {
+    fn is_reset_answer_worth_a_wait(&self, branch: u32, answer: &str) -> bool {
         match self.connections.get(branch as usize) {
-            Some(connection) => connection.lock(&self.rt).is_unusual(answer),
+            Some(connection) => connection
+                .lock(&self.rt)
+                .is_reset_answer_worth_a_wait(answer),
             None => false,
         }
     }
@@ -266,7 +279,7 @@ impl<R: Wait + Files, I: Read + Ahead + Drop, O: Write + Drop> Clients<R, I, O> 
     /// Ends the reset of a branch's client. If the client answered as it did not before, this waits for another
     /// line, and if one comes the reset fails: the answer was that of an earlier line.
     fn end_reset(&self, branch: u32, answer: String) -> Result<(), CallFault> {
-        if self.is_unusual(branch, answer.as_str()) {
+        if self.is_reset_answer_worth_a_wait(branch, answer.as_str()) {
             Parker::new().park_timeout(&self.rt, Duration::from_millis(LATE));
             if self.drop_stray_lines_of_client(branch) {
                 return Err(CallFault::Refused);
@@ -280,11 +293,15 @@ impl<R: Wait + Files, I: Read + Ahead + Drop, O: Write + Drop> Clients<R, I, O> 
 
     /// Asks a branch's client for a reset after it gave no answer, once it is started again. One that printed
     /// several lines is not asked again.
-    fn ask_again(&mut self, branch: u32, lost: &LostAnswer) -> Result<String, CallFault>
+    fn retry_reset_after_lost_answer(
+        &mut self,
+        branch: u32,
+        lost: &LostAnswer,
+    ) -> Result<String, CallFault>
         ensures { self.new.results ≡ self.old.results }
     {
         if let LostAnswer::MoreLines(_) = lost {
-            self.note_lost(branch, RESET.as_bytes(), lost);
+            self.note_lost_answer_of_client(branch, RESET.as_bytes(), lost);
             let _ = self.drop_stray_lines_of_client(branch);
             return Err(CallFault::Refused);
         }
@@ -299,29 +316,42 @@ impl<R: Wait + Files, I: Read + Ahead + Drop, O: Write + Drop> Clients<R, I, O> 
         let line = RESET.as_bytes();
         let answer = match self.ask_client(branch, line) {
             Ok(answer) => answer,
-            Err(lost) => self.ask_again(branch, &lost)?,
+            Err(lost) => self.retry_reset_after_lost_answer(branch, &lost)?,
         };
         if answer.as_bytes().starts_with(b"failed") {
-            self.note(branch, NoteKind::Failed, line, answer.as_str(), "");
+            self.note_bad_line(branch, NoteKind::Failed, line, answer.as_str(), "");
             return Err(CallFault::Refused);
         }
         self.end_reset(branch, answer)
     }
 
     /// Notes an answer that has not the result type of its operation.
-    fn note_misfit(&self, branch: u32, line: &[u8], text: &str, value: &Value, ty: Option<&Ty>) {
+    fn note_answer_if_misfit(
+        &self,
+        branch: u32,
+        line: &[u8],
+        text: &str,
+        value: &Value,
+        ty: Option<&Ty>,
+    ) {
         if let Some(ty) = ty {
             if !value.has_type(ty, &[], &[]) {
-                self.note(branch, NoteKind::Misfit, line, text, type_hint(ty))
+                self.note_bad_line(
+                    branch,
+                    NoteKind::Misfit,
+                    line,
+                    text,
+                    hint_on_answer_of_wrong_type(ty),
+                )
             }
         }
     }
 
     /// What a branch's client answers to a call.
-    fn answer(&self, branch: u32, call: &RealCall) -> Result<Value, CallFault>
+    fn call_client(&self, branch: u32, call: &RealCall) -> Result<Value, CallFault>
         ensures { IfOk result (λ v. Answered self.now.results call.now v) }
     {
-        let Ok(line) = call_line(self.alloc, call) else {
+        let Ok(line) = client_call_line(self.alloc, call) else {
             return Err(CallFault::NoMemory);
         };
         let text = self.ask(branch, line.as_slice())?;
@@ -329,15 +359,21 @@ impl<R: Wait + Files, I: Read + Ahead + Drop, O: Write + Drop> Clients<R, I, O> 
         let ty = self.results.get(call.op as usize);
         match client_answer_of_line(self.alloc, ty, text) {
             Ok(ClientAnswer::Value(value)) => {
-                self.note_misfit(branch, line, text, &value, ty);
+                self.note_answer_if_misfit(branch, line, text, &value, ty);
                 Ok(value)
             }
             Ok(ClientAnswer::Failed) => {
-                self.note(branch, NoteKind::Failed, line, text, "");
+                self.note_bad_line(branch, NoteKind::Failed, line, text, "");
                 Err(CallFault::Refused)
             }
             Ok(ClientAnswer::NoValue) => {
-                self.note(branch, NoteKind::NoValue, line, text, value_hint(text));
+                self.note_bad_line(
+                    branch,
+                    NoteKind::NoValue,
+                    line,
+                    text,
+                    hint_on_answer_without_value(text),
+                );
                 Err(CallFault::Refused)
             }
             Err(AllocError) => Err(CallFault::NoMemory),
@@ -347,7 +383,7 @@ impl<R: Wait + Files, I: Read + Ahead + Drop, O: Write + Drop> Clients<R, I, O> 
 
 impl<
     R: Wait + Files + Drop + Send + Sync,
-    I: Read + Ahead + Drop + Send,
+    I: Read + ReadAhead + Drop + Send,
     O: Write + Drop + Send,
 > System for Clients<R, I, O> {
     ghost answers = { λ s c v. Answered s.results c v };
@@ -376,10 +412,10 @@ impl<
     }
 
     fn call(&self, call: &RealCall) -> Result<Value, CallFault> {
-        self.answer(0, call)
+        self.call_client(0, call)
     }
 
     fn call_from(&self, branch: u32, call: &RealCall) -> Result<Value, CallFault> {
-        self.answer(branch, call)
+        self.call_client(branch, call)
     }
 }

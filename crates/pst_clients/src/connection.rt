@@ -2,7 +2,7 @@
 ghost use Rattle.std.specs.Prelude.{◌≡◌, ◌≢◌, ◌≤◌, [], ◌∷◌, ◌++◌, All, IfOk, OnOk, Err, length, string_bytes};
 ghost use Rattle.std.specs.Io.KnownBytes.{Appends, Consumes};
 
-use crate::ahead::Ahead;
+use crate::ahead::ReadAhead;
 use crate::printed::{LAST_LINE, Printed};
 use std::alloc::Global;
 use std::fs::OpenOptions;
@@ -43,7 +43,7 @@ pub enum LostAnswer {
 
 /// What is known of a client.
 #[derive(Clone, Copy, Debug, PartialEq, Eq, Drop)]
-pub enum State {
+pub enum ClientState {
     /// It runs, as far as is known.
     Open,
     /// It has ended, and may be started again.
@@ -58,7 +58,7 @@ pub struct Connection<I: Read, O: Write> {
     alloc: Global,
     answers: I,
     calls: O,
-    state: State,
+    state: ClientState,
     /// The name of the pipe of the answers, if they come from one.
     pipe: Option<String>,
     /// Whether a line was sent since the last reset was done.
@@ -72,7 +72,7 @@ pub struct Connection<I: Read, O: Write> {
 }
 
 /// The next byte.
-fn next_byte<I: Read>(reader: &mut I) -> io::Result<u8>
+fn read_byte_of_client<I: Read>(reader: &mut I) -> io::Result<u8>
     ensures { IfOk result (λ byte. Consumes (I.remaining reader.old) (I.remaining reader.new)
         (byte ∷ [])) }
 {
@@ -90,7 +90,7 @@ fn read_line_of_client<I: Read>(alloc: Global, reader: &mut I) -> Result<Vec<u8>
 {
     let mut line = Vec::new(alloc);
     for _ in 0..=MAX_LINE {
-        let Ok(byte) = next_byte(reader) else {
+        let Ok(byte) = read_byte_of_client(reader) else {
             return Err(LostAnswer::Closed);
         };
         if byte == b'\n' {
@@ -103,14 +103,14 @@ fn read_line_of_client<I: Read>(alloc: Global, reader: &mut I) -> Result<Vec<u8>
     Err(LostAnswer::TooLong)
 }
 
-impl<I: Read + Ahead, O: Write> Connection<I, O> {
+impl<I: Read + ReadAhead, O: Write> Connection<I, O> {
     /// A client whose answers come from `answers`, and which reads its calls from `calls`.
     pub fn new(alloc: Global, answers: I, calls: O) -> Connection<I, O> {
         Connection {
             alloc,
             answers,
             calls,
-            state: State::Open,
+            state: ClientState::Open,
             pipe: None,
             is_asked: false,
             is_astray: false,
@@ -127,7 +127,7 @@ impl<I: Read + Ahead, O: Write> Connection<I, O> {
     }
 
     /// What is known of the client.
-    pub fn state(&self) -> State {
+    pub fn state(&self) -> ClientState {
         self.state
     }
 
@@ -140,7 +140,7 @@ impl<I: Read + Ahead, O: Write> Connection<I, O> {
         match self.calls.write_all(line) {
             Ok(()) => Ok(()),
             Err(_) => {
-                self.state = State::Closed;
+                self.state = ClientState::Closed;
                 Err(LostAnswer::Closed)
             }
         }
@@ -156,7 +156,7 @@ impl<I: Read + Ahead, O: Write> Connection<I, O> {
             Ok(line) => line,
             Err(lost) => {
                 if lost != LostAnswer::NoMemory {
-                    self.state = State::Closed;
+                    self.state = ClientState::Closed;
                 }
                 return Err(lost);
             }
@@ -167,15 +167,16 @@ impl<I: Read + Ahead, O: Write> Connection<I, O> {
         let Some((_, how)) = text.as_str().split_once(MARK) else {
             return Ok(text);
         };
-        self.state = State::Ended;
+        self.state = ClientState::Ended;
         match String::from_str(self.alloc, how.trim()) {
             Ok(how) => Err(LostAnswer::Ended(how)),
             Err(_) => Err(LostAnswer::NoMemory),
         }
     }
 
-    /// Whether the client has printed more than was read. What the launcher says of it does not count.
-    fn has_more(&self) -> bool {
+    /// Whether bytes that the client printed have been read ahead. False if its answers come from no pipe with a name.
+    /// What the launcher says of the client does not count.
+    fn has_buffered_client_output(&self) -> bool {
         match self.answers.next_ahead() {
             Some(byte) => self.pipe.is_some() && byte != MARK as u8,
             None => false,
@@ -191,13 +192,13 @@ impl<I: Read + Ahead, O: Write> Connection<I, O> {
         ensures received { IfOk result (λ text. Consumes (I.remaining self.old.answers)
             (I.remaining self.new.answers) (string_bytes text ++ 10 ∷ [])) }
     {
-        if self.state != State::Open {
+        if self.state != ClientState::Open {
             return Err(LostAnswer::Closed);
         }
         self.is_asked = true;
         self.send(line)?;
         let text = self.receive()?;
-        if self.has_more() {
+        if self.has_buffered_client_output() {
             self.is_astray = true;
             return Err(LostAnswer::MoreLines(text));
         }
@@ -205,7 +206,7 @@ impl<I: Read + Ahead, O: Write> Connection<I, O> {
     }
 
     /// Writes a line after all that the client has printed. Returns whether this could be done.
-    fn write_end_mark_line<R: Files>(&self, files: &R) -> bool {
+    fn write_end_mark_after_client_output<R: Files>(&self, files: &R) -> bool {
         let Some(name) = &self.pipe else {
             return false;
         };
@@ -221,7 +222,7 @@ impl<I: Read + Ahead, O: Write> Connection<I, O> {
         for _ in 0..u64::MAX {
             let line = read_line_of_client(self.alloc, &mut self.answers)?;
             let text = std::str::from_utf8(line.as_slice()).unwrap_or("no UTF-8");
-            if printed.add(self.alloc, text).is_err() {
+            if printed.record_line_or_mark(self.alloc, text).is_err() {
                 return Err(LostAnswer::NoMemory);
             }
             if printed.is_whole {
@@ -233,16 +234,16 @@ impl<I: Read + Ahead, O: Write> Connection<I, O> {
 
     /// Drops what the client has printed and nothing has read, without waiting for more. Returns the first line
     /// of it, if there is one. If its answers come from no pipe with a name, it drops nothing.
-    pub fn drop_printed<R: Files>(&mut self, files: &R) -> Option<String> {
-        if self.state != State::Open || !self.write_end_mark_line(files) {
+    pub fn drop_unread_lines_and_return_first<R: Files>(&mut self, files: &R) -> Option<String> {
+        if self.state != ClientState::Open || !self.write_end_mark_after_client_output(files) {
             return None;
         }
         let Ok(printed) = self.read_to_end_mark_line() else {
-            self.state = State::Closed; // the last line may not be read
+            self.state = ClientState::Closed; // the last line may not be read
             return None;
         };
         if printed.has_ended {
-            self.state = State::Ended;
+            self.state = ClientState::Ended;
         }
         if printed.first.is_some() && self.is_asked {
             self.is_astray = true;
@@ -261,7 +262,7 @@ impl<I: Read + Ahead, O: Write> Connection<I, O> {
 
     /// Whether the answer to a reset is another than before, so that it may be worth while to wait for another
     /// line.
-    pub fn is_unusual(&self, answer: &str) -> bool {
+    pub fn is_reset_answer_worth_a_wait(&self, answer: &str) -> bool {
         match &self.reset_answer {
             Some(usual) => self.waits > 0 && usual.as_str() != answer,
             None => false,
@@ -270,7 +271,7 @@ impl<I: Read + Ahead, O: Write> Connection<I, O> {
 
     /// Counts that a reset was answered and is done.
     pub fn end_reset(&mut self, answer: String) {
-        if self.is_unusual(answer.as_str()) {
+        if self.is_reset_answer_worth_a_wait(answer.as_str()) {
             self.waits = self.waits.saturating_sub(1);
         }
         self.reset_answer = Some(answer);
@@ -279,9 +280,9 @@ impl<I: Read + Ahead, O: Write> Connection<I, O> {
     }
 
     /// Waits until the client is known to have ended.
-    pub fn await_end(&mut self) {
+    pub fn await_client_end(&mut self) {
         for _ in 0..u64::MAX {
-            if self.state != State::Open {
+            if self.state != ClientState::Open {
                 return;
             }
             let _ = self.receive();
@@ -289,17 +290,17 @@ impl<I: Read + Ahead, O: Write> Connection<I, O> {
     }
 
     /// Asks the launcher to start a client again that has ended.
-    pub fn ask_revival(&mut self) {
-        if self.state == State::Ended {
+    pub fn ask_launcher_to_restart_ended_client(&mut self) {
+        if self.state == ClientState::Ended {
             let _ = self.send(REVIVE.as_bytes());
         }
     }
 
     /// Waits until a client that has ended runs again.
-    pub fn await_revival(&mut self) {
-        if self.state == State::Ended {
+    pub fn await_restart_of_ended_client(&mut self) {
+        if self.state == ClientState::Ended {
             if let Err(LostAnswer::Ended(_)) = self.receive() {
-                self.state = State::Open;
+                self.state = ClientState::Open;
             }
         }
     }

@@ -15,12 +15,12 @@ mod printed;
 mod types;
 mod waits;
 
-pub use ahead::Ahead;
+pub use ahead::ReadAhead;
 pub use answers::{ClientAnswer, client_answer_of_line};
-pub use calls::call_line;
+pub use calls::client_call_line;
 pub use clients::Clients;
-pub use connection::{Connection, LostAnswer, MAX_LINE, State};
+pub use connection::{ClientState, Connection, LostAnswer, MAX_LINE};
 pub use notes::{MOST_NOTES, Notes};
-pub use opening::{Folder, open_clients};
-pub use types::result_types;
-pub use waits::Waits;
+pub use opening::{ClientFolder, open_clients};
+pub use types::result_types_of_operations;
+pub use waits::ClientWaits;

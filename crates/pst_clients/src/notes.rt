@@ -1,6 +1,6 @@
 //! Notes of what went wrong with clients, for people to read.
 
-use crate::waits::Waits;
+use crate::waits::ClientWaits;
 use std::alloc::{AllocError, Global};
 use std::sync::OnceLock;
 use std::sync::atomic::{AtomicU64, Ordering};
@@ -59,7 +59,7 @@ struct Note {
 
 /// The notes of one kind.
 #[derive(Drop)]
-struct Kept {
+struct KeptNotes {
     /// How many there were.
     count: AtomicU64,
     /// How many places are taken, and how many notes came when none was left.
@@ -84,14 +84,14 @@ pub(crate) struct BadLine<'a> {
 #[derive(Drop)]
 pub struct Notes {
     alloc: Global,
-    not_asked: Kept,
-    not_answered: Kept,
-    failed: Kept,
-    no_value: Kept,
-    misfit: Kept,
-    more_lines: Kept,
-    stray: Kept,
-    waits: Waits,
+    not_asked: KeptNotes,
+    not_answered: KeptNotes,
+    failed: KeptNotes,
+    no_value: KeptNotes,
+    misfit: KeptNotes,
+    more_lines: KeptNotes,
+    stray: KeptNotes,
+    waits: ClientWaits,
     /// How many resets failed since the last one that did not.
     failed_resets: AtomicU64,
 }
@@ -103,7 +103,7 @@ pub(crate) struct ClientId {
     pub(crate) branch: u32,
 }
 
-/// The beginning of a line, with control characters as `\x1b`.
+/// The beginning of a line without the white space around it, with control characters as `\x1b`.
 pub(crate) fn printable_beginning(alloc: Global, line: &str) -> Result<String, AllocError> {
     let mut shown = String::new(alloc);
     for (place, character) in line.trim().chars().enumerate() {
@@ -121,13 +121,13 @@ pub(crate) fn printable_beginning(alloc: Global, line: &str) -> Result<String, A
     Ok(shown)
 }
 
-impl Kept {
-    fn new(alloc: Global) -> Result<Kept, AllocError> {
+impl KeptNotes {
+    fn new(alloc: Global) -> Result<KeptNotes, AllocError> {
         let mut notes = Vec::new(alloc);
         for _ in 0..MOST_NOTES {
             notes.push(OnceLock::new())?;
         }
-        Ok(Kept {
+        Ok(KeptNotes {
             count: AtomicU64::new(0),
             taken: AtomicU64::new(0),
             notes,
@@ -152,7 +152,7 @@ impl Kept {
     }
 
     /// Keeps a note, if a place is left and no other is on its topic.
-    fn keep(&self, note: Note) {
+    fn keep_note_if_topic_is_new(&self, note: Note) {
         if self.has_topic(note.topic.as_str()) {
             return;
         }
@@ -165,7 +165,11 @@ impl Kept {
     }
 
     /// Adds the notes to `text`, and how many others there were.
-    fn add_to(&self, alloc: Global, text: &mut String) -> Result<(), AllocError> {
+    fn add_notes_and_count_of_others(
+        &self,
+        alloc: Global,
+        text: &mut String,
+    ) -> Result<(), AllocError> {
         let mut others = self.count.load(Ordering::SeqCst);
         for place in &self.notes {
             if let Some(note) = place.get() {
@@ -185,25 +189,25 @@ impl Notes {
     pub fn new(alloc: Global) -> Result<Notes, AllocError> {
         Ok(Notes {
             alloc,
-            not_asked: Kept::new(alloc)?,
-            not_answered: Kept::new(alloc)?,
-            failed: Kept::new(alloc)?,
-            no_value: Kept::new(alloc)?,
-            misfit: Kept::new(alloc)?,
-            more_lines: Kept::new(alloc)?,
-            stray: Kept::new(alloc)?,
-            waits: Waits::new(alloc)?,
+            not_asked: KeptNotes::new(alloc)?,
+            not_answered: KeptNotes::new(alloc)?,
+            failed: KeptNotes::new(alloc)?,
+            no_value: KeptNotes::new(alloc)?,
+            misfit: KeptNotes::new(alloc)?,
+            more_lines: KeptNotes::new(alloc)?,
+            stray: KeptNotes::new(alloc)?,
+            waits: ClientWaits::new(alloc)?,
             failed_resets: AtomicU64::new(0),
         })
     }
 
     /// Which clients have a line that they have not answered yet.
-    pub fn waits(&self) -> &Waits {
+    pub fn waits(&self) -> &ClientWaits {
         &self.waits
     }
 
     /// How many resets failed since the last one that did not.
-    pub fn failed_resets(&self) -> u64 {
+    pub fn failed_resets_since_last_success(&self) -> u64 {
         self.failed_resets.load(Ordering::SeqCst)
     }
 
@@ -217,7 +221,7 @@ impl Notes {
         self.failed_resets.store(0, Ordering::SeqCst);
     }
 
-    fn of_kind(&self, kind: NoteKind) -> &Kept {
+    fn of_kind(&self, kind: NoteKind) -> &KeptNotes {
         match kind {
             NoteKind::NotAsked => &self.not_asked,
             NoteKind::NotAnswered => &self.not_answered,
@@ -229,7 +233,7 @@ impl Notes {
         }
     }
 
-    fn note_of(&self, client: ClientId, wrong: &BadLine<'_>) -> Result<Note, AllocError> {
+    fn bad_line_note(&self, client: ClientId, wrong: &BadLine<'_>) -> Result<Note, AllocError> {
         let line = printable_beginning(self.alloc, std::str::from_utf8(wrong.line).unwrap_or(""))?;
         let answer = printable_beginning(self.alloc, wrong.answer)?;
         let (operation, _) = line.as_str().split_once(',').unwrap_or((line.as_str(), ""));
@@ -245,14 +249,14 @@ impl Notes {
     }
 
     /// Notes what went wrong with a client's line.
-    pub(crate) fn note(&self, client: ClientId, wrong: &BadLine<'_>) {
+    pub(crate) fn note_bad_line(&self, client: ClientId, wrong: &BadLine<'_>) {
         let kept = self.of_kind(wrong.kind);
         kept.count.fetch_add(1, Ordering::SeqCst);
         if kept.is_full() {
             return;
         }
-        if let Ok(note) = self.note_of(client, wrong) {
-            kept.keep(note)
+        if let Ok(note) = self.bad_line_note(client, wrong) {
+            kept.keep_note_if_topic_is_new(note)
         }
     }
 
@@ -260,7 +264,8 @@ impl Notes {
     pub fn text(&self) -> Result<String, AllocError> {
         let mut text = String::new(self.alloc);
         for kind in KINDS {
-            self.of_kind(kind).add_to(self.alloc, &mut text)?;
+            self.of_kind(kind)
+                .add_notes_and_count_of_others(self.alloc, &mut text)?;
         }
         Ok(text)
     }

@@ -12,23 +12,23 @@ use std::sync::{Arc, Wait};
 
 /// A folder with the pipes of clients.
 #[derive(Clone, Copy, Debug, PartialEq, Eq, Drop)]
-pub struct Folder<'a> {
+pub struct ClientFolder<'a> {
     pub name: &'a str,
     /// Whether one process has all the clients of a worker.
     pub is_shared: bool,
 }
 
-impl<'a> Folder<'a> {
+impl<'a> ClientFolder<'a> {
     /// The folder that a word such as `clients:FOLDER` or `shared:FOLDER` names.
-    pub fn from_word(word: &'a str) -> Option<Folder<'a>> {
+    pub fn from_word(word: &'a str) -> Option<ClientFolder<'a>> {
         if let Some(name) = word.strip_prefix("clients:") {
-            return Some(Folder {
+            return Some(ClientFolder {
                 name,
                 is_shared: false,
             });
         }
         let name = word.strip_prefix("shared:")?;
-        Some(Folder {
+        Some(ClientFolder {
             name,
             is_shared: true,
         })
@@ -61,7 +61,7 @@ fn open_client<R: Files + AllocGlobal>(
 pub fn open_clients<H: Wait + Files + Drop, R: Files + AllocGlobal>(
     handle: H,
     rt: &R,
-    folder: Folder<'_>,
+    folder: ClientFolder<'_>,
     worker: u64,
     results: Items<Ty>,
     notes: Arc<Notes, Global>,

@@ -31,10 +31,15 @@ impl Printed {
         }
     }
 
-    /// Adds a line.
-    pub(crate) fn add(&mut self, alloc: Global, line: &str) -> Result<(), AllocError> {
+    /// Keeps the text of a line if it is the first one. In a line with a mark, the text is what comes before the mark,
+    /// if that is not empty, and the mark sets `is_whole` if this program wrote it, or else `has_ended`.
+    pub(crate) fn record_line_or_mark(
+        &mut self,
+        alloc: Global,
+        line: &str,
+    ) -> Result<(), AllocError> {
         let Some((text, how)) = line.split_once(MARK) else {
-            return self.add_text(alloc, line);
+            return self.keep_text_if_first(alloc, line);
         };
         if how == LAST {
             self.is_whole = true;
@@ -44,12 +49,12 @@ impl Printed {
         if text.is_empty() {
             Ok(())
         } else {
-            self.add_text(alloc, text)
+            self.keep_text_if_first(alloc, text)
         }
     }
 
-    /// Adds a line, or the beginning of one, that the client printed.
-    fn add_text(&mut self, alloc: Global, text: &str) -> Result<(), AllocError> {
+    /// Keeps a line, or the beginning of one, that the client printed, if it is the first.
+    fn keep_text_if_first(&mut self, alloc: Global, text: &str) -> Result<(), AllocError> {
         if self.first.is_none() {
             self.first = Some(String::from_str(alloc, text)?);
         }

@@ -7,7 +7,7 @@ use pst_value::{Items, Ty};
 use std::alloc::{AllocError, Global};
 
 /// The result types of the operations of a model with these items, in their order.
-pub fn result_types(alloc: Global, items: &[Item]) -> Result<Items<Ty>, AllocError>
+pub fn result_types_of_operations(alloc: Global, items: &[Item]) -> Result<Items<Ty>, AllocError>
     ensures { IfOk result (λ types. types ≡ map (λ o. o.result) (operations_of items.now)) }
 {
     let mut types = Items::new(alloc);

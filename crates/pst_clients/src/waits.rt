@@ -15,7 +15,7 @@ const MOST_KEPT: usize = 128;
 
 /// The lines of a client.
 #[derive(Drop)]
-struct Lines {
+struct LastLine {
     /// How many it got and how many of them it is done with, added up. The sum is odd while it has a line that it
     /// has not answered.
     sum: AtomicU64,
@@ -23,28 +23,28 @@ struct Lines {
     kept: Vec<AtomicU64>,
 }
 
-impl Lines {
+impl LastLine {
     /// No lines.
-    fn new(alloc: Global) -> Result<Lines, AllocError> {
+    fn new(alloc: Global) -> Result<LastLine, AllocError> {
         let mut kept = Vec::with_capacity(alloc, MOST_KEPT)?;
         for _ in 0..MOST_KEPT {
             kept.push(AtomicU64::new(b'\n' as u64))?;
         }
-        Ok(Lines {
+        Ok(LastLine {
             sum: AtomicU64::new(0),
             kept,
         })
     }
 
     /// Keeps the beginning of a line. A line end ends it.
-    fn keep(&self, line: &[u8]) {
+    fn keep_beginning_as_last_line(&self, line: &[u8]) {
         for (place, byte) in self.kept.iter().zip(line) {
             place.store(*byte as u64, Ordering::SeqCst);
         }
     }
 
     /// The beginning of the last line, up to its end, with `?` in the place of bytes that are not ASCII.
-    fn last(&self, alloc: Global) -> Result<Vec<u8>, AllocError> {
+    fn ascii_beginning_of_last_line(&self, alloc: Global) -> Result<Vec<u8>, AllocError> {
         let mut line = Vec::new(alloc);
         for place in &self.kept {
             let byte = (place.load(Ordering::SeqCst) & 0xff) as u8;
@@ -57,30 +57,30 @@ impl Lines {
     }
 
     /// The beginning of the last line, as it is shown.
-    fn shown(&self, alloc: Global) -> Result<String, AllocError> {
-        let line = self.last(alloc)?;
+    fn printable_beginning_of_last_line(&self, alloc: Global) -> Result<String, AllocError> {
+        let line = self.ascii_beginning_of_last_line(alloc)?;
         printable_beginning(alloc, std::str::from_utf8(line.as_slice()).unwrap_or(""))
     }
 }
 
 /// The lines of each client.
 #[derive(Drop)]
-pub struct Waits {
-    clients: Vec<Lines>,
+pub struct ClientWaits {
+    clients: Vec<LastLine>,
 }
 
-impl Waits {
+impl ClientWaits {
     /// No client has got a line.
-    pub(crate) fn new(alloc: Global) -> Result<Waits, AllocError> {
+    pub(crate) fn new(alloc: Global) -> Result<ClientWaits, AllocError> {
         let mut clients = Vec::with_capacity(alloc, MOST_CLIENTS)?;
         for _ in 0..MOST_CLIENTS {
-            clients.push(Lines::new(alloc)?)?;
+            clients.push(LastLine::new(alloc)?)?;
         }
-        Ok(Waits { clients })
+        Ok(ClientWaits { clients })
     }
 
     /// The lines of a client, if it is watched.
-    fn lines_of(&self, client: ClientId) -> Option<&Lines> {
+    fn lines_of(&self, client: ClientId) -> Option<&LastLine> {
         let worker = usize::try_from(client.worker).ok()?;
         let branch = client.branch as usize;
         if branch >= MOST_BRANCHES {
@@ -93,13 +93,13 @@ impl Waits {
     /// Counts that a client gets a line.
     pub(crate) fn begin(&self, client: ClientId, line: &[u8]) {
         if let Some(lines) = self.lines_of(client) {
-            lines.keep(line);
+            lines.keep_beginning_as_last_line(line);
             lines.sum.fetch_add(1, Ordering::SeqCst);
         }
     }
 
     /// Counts that more is read of what a client answered to its last line.
-    pub(crate) fn begin_again(&self, client: ClientId) {
+    pub(crate) fn begin_wait_for_more_output(&self, client: ClientId) {
         if let Some(lines) = self.lines_of(client) {
             lines.sum.fetch_add(1, Ordering::SeqCst);
         }
@@ -119,33 +119,37 @@ impl Waits {
 
     /// A number that tells the current line of the client at `place` from its other lines, if the client has
     /// not answered that line.
-    pub fn unanswered(&self, place: usize) -> Option<u64> {
+    pub fn unanswered_line_id(&self, place: usize) -> Option<u64> {
         let sum = self.clients.get(place)?.sum.load(Ordering::SeqCst);
         if sum % 2 == 1 { Some(sum) } else { None }
     }
 
     /// The beginning of the last line that the client at `place` got, as it is shown.
-    pub fn last_line(&self, alloc: Global, place: usize) -> Result<String, AllocError> {
+    pub fn printable_last_line_at_place(
+        &self,
+        alloc: Global,
+        place: usize,
+    ) -> Result<String, AllocError> {
         match self.clients.get(place) {
-            Some(lines) => lines.shown(alloc),
+            Some(lines) => lines.printable_beginning_of_last_line(alloc),
             None => Ok(String::new(alloc)),
         }
     }
 
     /// The beginning of the last line that a client got, as it is shown. It is empty if the client got none.
-    pub(crate) fn last_line_of(
+    pub(crate) fn printable_last_line_of_client(
         &self,
         alloc: Global,
         client: ClientId,
     ) -> Result<String, AllocError> {
         match self.lines_of(client) {
-            Some(lines) => lines.shown(alloc),
+            Some(lines) => lines.printable_beginning_of_last_line(alloc),
             None => Ok(String::new(alloc)),
         }
     }
 
     /// The numbers of the worker and of the branch whose client has the place, both from 1.
-    pub fn client(place: usize) -> (usize, usize) {
+    pub fn worker_and_branch_of_place(place: usize) -> (usize, usize) {
         let worker = (place / MOST_BRANCHES).saturating_add(1);
         (worker, place % MOST_BRANCHES + 1)
     }

@@ -69,7 +69,12 @@ pub fn append_instruction(code: Items<Instr>, instr: Instr) -> Block
 }
 
 /// The code, with a jump at `place` that skips it if the register is false.
-pub fn skipped_unless(alloc: Global, register: u32, code: Items<Instr>, place: usize) -> Block
+pub fn code_skipped_unless_true(
+    alloc: Global,
+    register: u32,
+    code: Items<Instr>,
+    place: usize,
+) -> Block
     ensures { IfOk result (λ all. all ≡ spec.skipped_unless register code place) }
 {
     let after = place_after(place_after(place, 1)?, code.len())?;

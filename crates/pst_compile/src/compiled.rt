@@ -101,7 +101,7 @@ fn run_function(code: &Code, alloc: Global, fun: usize, first: &[&Value], rest: 
 
 /// The number of a callback's function: `init` and `command` come after the functions, and then three for each
 /// operation.
-fn function_number(base: usize, op: u32, callback: usize) -> Result<usize, AllocError>
+fn callback_function_number(base: usize, op: u32, callback: usize) -> Result<usize, AllocError>
     ensures { IfOk result (λ number. number ≡ base + 3 * op + callback) }
 {
     let Some(first) = base.checked_add((op as usize) * 3) else {
@@ -122,19 +122,19 @@ impl Callbacks for Compiled {
 
     fn init(&self, alloc: Global) -> Answer {
         let _model = self.typed.source();
-        let place = function_number(self.base, 0, 0)?;
+        let place = callback_function_number(self.base, 0, 0)?;
         run_function(&self.code, alloc, place, &[], &[])
     }
 
     fn command(&self, alloc: Global, state: &Value) -> Answer {
         let _model = self.typed.source();
-        let place = function_number(self.base, 0, 1)?;
+        let place = callback_function_number(self.base, 0, 1)?;
         run_function(&self.code, alloc, place, &[state], &[])
     }
 
     fn pre(&self, alloc: Global, op: u32, state: &Value, arguments: &[Value]) -> Answer {
         let _model = self.typed.source();
-        let place = function_number(self.base, op, 2)?;
+        let place = callback_function_number(self.base, op, 2)?;
         run_function(&self.code, alloc, place, &[state], arguments)
     }
 
@@ -147,7 +147,7 @@ impl Callbacks for Compiled {
         r: &Value,
     ) -> Answer {
         let _model = self.typed.source();
-        let place = function_number(self.base, op, 3)?;
+        let place = callback_function_number(self.base, op, 3)?;
         run_function(&self.code, alloc, place, &[state, r], arguments)
     }
 
@@ -160,7 +160,7 @@ impl Callbacks for Compiled {
         r: &Value,
     ) -> Answer {
         let _model = self.typed.source();
-        let place = function_number(self.base, op, 4)?;
+        let place = callback_function_number(self.base, op, 4)?;
         run_function(&self.code, alloc, place, &[state, r], arguments)
     }
 }

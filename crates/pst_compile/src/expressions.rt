@@ -6,12 +6,14 @@ ghost use Rattle.pst_compile.specs.Scopes.{scope_of, code_in, numbers_in};
 ghost use Rattle.pst_model.specs.Parts.{operation_number};
 
 use crate::blocks::{
-    Block, append_instruction, concat_code, empty_map, if_else_code, single_instruction,
-    skipped_unless,
+    Block, append_instruction, code_skipped_unless_true, concat_code, empty_map, if_else_code,
+    single_instruction,
 };
 use crate::loops::{fold_code, for_code};
 use crate::names::Names;
-use crate::operands::{Operand, Operands, apply_to, call_to, name_code, own_register};
+use crate::operands::{
+    Operand, Operands, apply_instruction_code, call_instruction_code, name_code, own_register,
+};
 use crate::target::Target;
 use pst_eval::Context;
 use pst_machine::Instr;
@@ -249,7 +251,7 @@ fn and_code(
     let code = expression_code(first.get(), context, names, target)?;
     let jump = target.after(code.len())?;
     let inner = expression_code(second.get(), context, names, jump.after(1)?)?;
-    let rest = skipped_unless(context.alloc, target.register, inner, jump.place)?;
+    let rest = code_skipped_unless_true(context.alloc, target.register, inner, jump.place)?;
     concat_code(code, rest)
 }
 
@@ -292,7 +294,7 @@ fn call_code(
     let next = target.after(operands.code.len())?;
     concat_code(
         operands.code,
-        call_to(name, context, next, operands.registers)?,
+        call_instruction_code(name, context, next, operands.registers)?,
     )
 }
 
@@ -311,6 +313,6 @@ fn apply_code(
     let next = target.after(operands.code.len())?;
     concat_code(
         operands.code,
-        apply_to(name, context, next, operands.registers)?,
+        apply_instruction_code(name, context, next, operands.registers)?,
     )
 }

@@ -5,7 +5,8 @@ ghost use Rattle.pst_compile.specs.Code as spec;
 ghost use Rattle.pst_compile.specs.Scopes.{scope_of, code_in, part_in};
 
 use crate::blocks::{
-    Block, append_instruction, concat_code, loop_code, prepend_instruction, skipped_unless,
+    Block, append_instruction, code_skipped_unless_true, concat_code, loop_code,
+    prepend_instruction,
 };
 use crate::expressions::{expression_code, operand_code};
 use crate::names::Names;
@@ -139,6 +140,6 @@ fn when_clause_code(
     let operand = operand_code(test, context, names, target)?;
     let jump = target.after(operand.code.len())?;
     let inner = clauses_code(rest, body, context, names, built, jump.after(1)?)?;
-    let code = skipped_unless(context.alloc, operand.register, inner, jump.place)?;
+    let code = code_skipped_unless_true(context.alloc, operand.register, inner, jump.place)?;
     concat_code(operand.code, code)
 }

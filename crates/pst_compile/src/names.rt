@@ -82,7 +82,7 @@ pub fn count_functions(items: &[Item]) -> usize
 
 /// The number of the last function called `name`, if there is one.
 #[tactic(auto, using(crate::proofs::Earlier::earlier_next))]
-pub fn function_called(items: &[Item], name: &[u8]) -> Option<usize>
+pub fn number_of_function_called(items: &[Item], name: &[u8]) -> Option<usize>
     ensures { result ≡ spec.number (reverse items.now) name.now }
 {
     let mut count = 0;

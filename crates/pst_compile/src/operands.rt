@@ -6,7 +6,7 @@ ghost use Rattle.pst_compile.specs.Scopes.{scope_of, code_in, numbers_in};
 ghost use Rattle.pst_model.specs.Parts.{operation_number};
 
 use crate::blocks::{Block, single_instruction};
-use crate::names::{Names, function_called, register_of};
+use crate::names::{Names, number_of_function_called, register_of};
 use crate::target::Target;
 use pst_eval::Context;
 use pst_machine::Instr;
@@ -71,7 +71,12 @@ pub fn name_code(name: &Text, alloc: Global, names: &Names<'_>, target: Target) 
 }
 
 /// A call of the operation of the name, as a value.
-pub fn call_to(name: &Text, context: &Context<'_>, target: Target, from: Items<u32>) -> Block
+pub fn call_instruction_code(
+    name: &Text,
+    context: &Context<'_>,
+    target: Target,
+    from: Items<u32>,
+) -> Block
     ensures { IfOk result (λ code. code ≡
         spec.call_to target.register (operation_number context.now.items.now name.now) from target.place) }
 {
@@ -86,11 +91,16 @@ pub fn call_to(name: &Text, context: &Context<'_>, target: Target, from: Items<u
 }
 
 /// An application of the function of the name.
-pub fn apply_to(name: &Text, context: &Context<'_>, target: Target, from: Items<u32>) -> Block
+pub fn apply_instruction_code(
+    name: &Text,
+    context: &Context<'_>,
+    target: Target,
+    from: Items<u32>,
+) -> Block
     ensures { IfOk result (λ code. code ≡
         spec.apply_to target.register (numbers_in context.now name.now) from target.place) }
 {
-    match function_called(context.earlier, name.as_bytes()) {
+    match number_of_function_called(context.earlier, name.as_bytes()) {
         Some(fun) => single_instruction(context.alloc, Instr::Apply(target.register, fun, from)),
         None => single_instruction(context.alloc, Instr::Move(target.register, target.register)),
     }

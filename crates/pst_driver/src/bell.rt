@@ -1,6 +1,6 @@
 //! Waiting for another thread's word.
 
-use crate::waiter::Waiter;
+use crate::waiter::WaitHandle;
 use std::hint::spin_loop;
 use std::sync::Wait;
 use std::sync::atomic::{AtomicU64, Ordering};
@@ -47,7 +47,7 @@ impl Bell {
             spin_loop();
         }
         self.asleep.fetch_add(1, Ordering::SeqCst);
-        let count = self.sleep_past(&Waiter::<R>::new(), seen);
+        let count = self.sleep_past(&WaitHandle::<R>::new(), seen);
         self.asleep.fetch_sub(1, Ordering::SeqCst);
         count
     }

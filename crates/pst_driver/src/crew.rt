@@ -5,13 +5,13 @@ ghost use Rattle.pst_driver.specs.Progress.{all_known};
 ghost use Rattle.pst_system.specs.Kept.{AreKept};
 
 use crate::arrivals::StartBarrier;
-use crate::branches::{STACK_BYTES, copy_known, may_share_model};
+use crate::branches::{STACK_BYTES, copy_known_results, may_share_model};
 use crate::desk::{Delivery, Desk, Order};
 use crate::fault::DriveFault;
-use crate::part::call_commands_in_order;
-use crate::relations::{KeptSystem, Relations};
+use crate::part::call_commands_while_replies_are_values;
+use crate::relations::{Relations, SystemWithRelations};
 use crate::subject::Subject;
-use crate::waiter::Waiter;
+use crate::waiter::WaitHandle;
 use core::thread::{Anything, Stack};
 use pst_case::Command;
 use pst_model::{Typed, operation_of};
@@ -47,7 +47,7 @@ impl<J: Relations> Desks<J> {
 /// to drive.
 #[derive(Drop)]
 pub struct Crew<J: Relations, S: Subject> {
-    pub(crate) system: RwLock<KeptSystem<J, S>>,
+    pub(crate) system: RwLock<SystemWithRelations<J, S>>,
     pub(crate) arrivals: StartBarrier,
     /// How many threads have started.
     started: AtomicU64,
@@ -56,7 +56,7 @@ pub struct Crew<J: Relations, S: Subject> {
 
 impl<J: Relations, S: Subject> Crew<J, S> {
     /// A crew with no thread yet.
-    pub fn new(system: KeptSystem<J, S>) -> Crew<J, S> {
+    pub fn new(system: SystemWithRelations<J, S>) -> Crew<J, S> {
         Crew {
             system: RwLock::new(system),
             arrivals: StartBarrier::new(0),
@@ -71,7 +71,7 @@ impl<J: Relations, S: Subject> Crew<J, S> {
     }
 
     /// The place of the thread of branch `number`, if that thread has started.
-    pub(crate) fn desk(&self, number: u32) -> Option<&Desk<J>> {
+    pub(crate) fn desk_if_thread_has_started(&self, number: u32) -> Option<&Desk<J>> {
         if (number as u64) < self.started.load(Ordering::SeqCst) {
             self.desks.get(number)
         } else {
@@ -114,17 +114,17 @@ fn are_known_operations(typed: &Typed, commands: &[Command]) -> bool
 fn copy_results_before_order(alloc: Global, order: &Order) -> Result<Vec<Option<Value>>, AllocError>
     ensures { IfOk result (λ known. known.items ≡ order.now.known) }
 {
-    let mut known = copy_known(alloc, order.known.as_slice())?;
+    let mut known = copy_known_results(alloc, order.known.as_slice())?;
     known.reserve(order.commands.len())?;
     Ok(known)
 }
 
 /// Runs an order from `branch`, with a copy of the results that are known before it. `NoThread`: the model does
 /// not have an operation that it calls. `NoMemory`: an allocation failed.
-fn run_order<J: Relations, S: Subject>(
+fn run_order_of_branch<J: Relations, S: Subject>(
     alloc: Global,
     typed: &Typed,
-    system: &KeptSystem<J, S>,
+    system: &SystemWithRelations<J, S>,
     branch: u32,
     order: Order,
     known: Result<Vec<Option<Value>>, AllocError>,
@@ -136,22 +136,29 @@ fn run_order<J: Relations, S: Subject>(
         return Err(DriveFault::NoThread);
     }
     let commands = order.commands.as_slice();
-    let replies = call_commands_in_order(alloc, typed, system.system(), branch, commands, known?)?;
+    let replies = call_commands_while_replies_are_values(
+        alloc,
+        typed,
+        system.system(),
+        branch,
+        commands,
+        known?,
+    )?;
     Ok(Delivery::new(order, replies))
 }
 
 /// Runs an order after each ring, and ends at a ring without an order.
-fn run_orders<J: Relations, S: Subject, R: Wait>(
+fn run_orders_until_dismissed<J: Relations, S: Subject, R: Wait>(
     alloc: Global,
     typed: &Typed,
-    system: &RwLock<KeptSystem<J, S>>,
+    system: &RwLock<SystemWithRelations<J, S>>,
     arrivals: &StartBarrier,
     desk: &Desk<J>,
     branch: u32,
 )
     requires { typed.now ≡ J.model }
 {
-    let waiter = Waiter::<R>::new();
+    let waiter = WaitHandle::<R>::new();
     let mut seen = 0;
     for _ in waiter.forever() {
         seen = desk.asked.wait_past::<R>(seen);
@@ -161,8 +168,8 @@ fn run_orders<J: Relations, S: Subject, R: Wait>(
         };
         let known = copy_results_before_order(alloc, &order);
         let held = system.read(&waiter);
-        arrivals.arrive::<R>();
-        let done = run_order(alloc, typed, &*held, branch, order, known);
+        arrivals.arrive_and_wait::<R>();
+        let done = run_order_of_branch(alloc, typed, &*held, branch, order, known);
         drop(held);
         *desk.done.lock(&waiter) = Some(done);
         desk.answered.ring();
@@ -198,9 +205,9 @@ fn start_thread<'s, E, J: Relations + Send + Sync, S: Subject + Send + Sync, R: 
     may_share::<Mutex<Option<Order>>>();
     may_share::<Mutex<Option<Result<Delivery<J>, DriveFault>>>>();
     may_share::<Desk<J>>();
-    may_send::<KeptSystem<J, S>>();
-    may_share::<KeptSystem<J, S>>();
-    may_share::<RwLock<KeptSystem<J, S>>>();
+    may_send::<SystemWithRelations<J, S>>();
+    may_share::<SystemWithRelations<J, S>>();
+    may_share::<RwLock<SystemWithRelations<J, S>>>();
     let Some(desk) = crew.desks.get(number) else {
         return false;
     };
@@ -208,7 +215,7 @@ fn start_thread<'s, E, J: Relations + Send + Sync, S: Subject + Send + Sync, R: 
     let arrivals = &crew.arrivals;
     let run = move ||
         requires { typed.now ≡ J.model }
-    { run_orders::<J, S, R>(alloc, typed, system, arrivals, desk, number) };
+    { run_orders_until_dismissed::<J, S, R>(alloc, typed, system, arrivals, desk, number) };
     let stack = Stack::new().stack_size(STACK_BYTES);
     stack.spawn_scoped_with(scope, Anything, run).is_ok()
 }

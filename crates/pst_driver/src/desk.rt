@@ -99,7 +99,7 @@ impl<J: Relations> Desk<J> {
     }
 
     /// Leaves an order, and rings. Returns the number of rings of the thread before the order.
-    pub(crate) fn give<R: Wait>(&self, rt: &R, order: Order) -> u64 {
+    pub(crate) fn give_order<R: Wait>(&self, rt: &R, order: Order) -> u64 {
         let seen = self.answered.count();
         *self.order.lock(rt) = Some(order);
         self.asked.ring();
@@ -108,7 +108,7 @@ impl<J: Relations> Desk<J> {
 
     /// Waits until the thread has rung more than `seen` times, and takes the replies to these commands.
     /// `NoThread`: the thread ran other ones, or none. `NoMemory`: an allocation of the thread failed.
-    pub(crate) fn collect<R: Wait>(
+    pub(crate) fn await_and_take_replies<R: Wait>(
         &self,
         rt: &R,
         seen: u64,

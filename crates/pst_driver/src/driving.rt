@@ -10,7 +10,7 @@ ghost use Rattle.pst_system.specs.Kept.{AreKept};
 
 use crate::branches::run_branches_on_threads;
 use crate::fault::DriveFault;
-use crate::part::{add_not_run_replies, call_commands_in_order};
+use crate::part::{add_not_run_replies, call_commands_while_replies_are_values};
 use crate::subject::Subject;
 use pst_case::{Case, Command, History, Reply, results_of};
 use pst_judge::Valid;
@@ -33,7 +33,7 @@ pub(crate) fn are_all_replies_values(replies: &[Reply]) -> bool
     true
 }
 
-fn split_first(branches: &[Items<Reply>]) -> Option<(&Items<Reply>, &[Items<Reply>])>
+fn split_first_branch(branches: &[Items<Reply>]) -> Option<(&Items<Reply>, &[Items<Reply>])>
     ensures { MatchOption result (branches.now ≡ []) (λ p. branches.now ≡ p.0.now ∷ p.1.now) }
 {
     branches.split_first()
@@ -41,13 +41,13 @@ fn split_first(branches: &[Items<Reply>]) -> Option<(&Items<Reply>, &[Items<Repl
 
 /// Whether each reply of the branches is a value.
 #[tactic(auto, using(crate::proofs::Answering::answering))]
-fn branches_answer(branches: &[Items<Reply>]) -> bool
+fn are_all_branch_replies_values(branches: &[Items<Reply>]) -> bool
     ensures { result ≡ all_answers (joined branches.now) }
 {
-    let Some((branch, branches)) = split_first(branches) else {
+    let Some((branch, branches)) = split_first_branch(branches) else {
         return true;
     };
-    are_all_replies_values(branch.as_slice()) && branches_answer(branches)
+    are_all_replies_values(branch.as_slice()) && are_all_branch_replies_values(branches)
 }
 
 /// Whether each reply of the history is a value.
@@ -56,7 +56,7 @@ fn has_only_value_replies(history: &History) -> bool
     ensures { result ≡ all_answers (replies_of history.now) }
 {
     are_all_replies_values(history.prefix.as_slice())
-        && branches_answer(history.branches.as_slice())
+        && are_all_branch_replies_values(history.branches.as_slice())
         && are_all_replies_values(history.suffix.as_slice())
 }
 
@@ -100,7 +100,7 @@ fn run_branches_if_prefix_has_values<S: Subject + Sync, R: Threads + Wait>(
 }
 
 /// The replies of the suffix, which runs if each reply before it is a value, and else not at all.
-pub(crate) fn run_suffix<S: Subject>(
+pub(crate) fn run_suffix_if_replies_are_values<S: Subject>(
     alloc: Global,
     typed: &Typed,
     system: &S,
@@ -119,11 +119,11 @@ pub(crate) fn run_suffix<S: Subject>(
         return Ok(replies);
     }
     let known = so_far.recorded(alloc)?;
-    call_commands_in_order(alloc, typed, system, 0, suffix, known)
+    call_commands_while_replies_are_values(alloc, typed, system, 0, suffix, known)
 }
 
 /// Drives a case that has the shape of the model.
-fn drive_shaped<S: Subject + Sync, R: Threads + Wait>(
+fn drive_shaped_case<S: Subject + Sync, R: Threads + Wait>(
     rt: &R,
     alloc: Global,
     typed: &Typed,
@@ -142,7 +142,7 @@ fn drive_shaped<S: Subject + Sync, R: Threads + Wait>(
         return Err(DriveFault::ResetFailed);
     }
     let system = &*system;
-    let prefix = call_commands_in_order(
+    let prefix = call_commands_while_replies_are_values(
         alloc,
         typed,
         system,
@@ -164,7 +164,13 @@ fn drive_shaped<S: Subject + Sync, R: Threads + Wait>(
         branches,
         suffix: Items::new(alloc),
     };
-    let suffix = run_suffix(alloc, typed, system, case.suffix.as_slice(), &so_far)?;
+    let suffix = run_suffix_if_replies_are_values(
+        alloc,
+        typed,
+        system,
+        case.suffix.as_slice(),
+        &so_far,
+    )?;
     let History {
         prefix,
         branches,
@@ -204,5 +210,5 @@ pub fn run<R: Threads + Wait>(
     ensures kept { AreKept (answers system.new) (answers system.old) (fails system.new) (fails system.old)
         (reset_fails system.new) (reset_fails system.old) }
 {
-    drive_shaped(rt, alloc, typed, system, valid.shaped().case())
+    drive_shaped_case(rt, alloc, typed, system, valid.shaped().case())
 }

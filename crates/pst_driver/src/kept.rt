@@ -7,12 +7,16 @@ ghost use Rattle.pst_case.specs.Shape.{IsShaped};
 ghost use Rattle.pst_driver.specs.Driven.{IsDriven, IsDriveFault, all_answers, none_run};
 ghost use Rattle.pst_driver.specs.Progress.{BranchesRun, IsBranchFault};
 
-use crate::branches::{add_unknown_results, copy_known, count_threads};
+use crate::branches::{
+    add_unknown_results_of_commands, copy_known_results, count_branches_with_commands,
+};
 use crate::crew::Crew;
 use crate::desk::Order;
-use crate::driving::{are_all_replies_values, not_run_replies_of_branches, run_suffix};
+use crate::driving::{
+    are_all_replies_values, not_run_replies_of_branches, run_suffix_if_replies_are_values,
+};
 use crate::fault::DriveFault;
-use crate::part::call_commands_in_order;
+use crate::part::call_commands_while_replies_are_values;
 use crate::relations::Relations;
 use crate::subject::Subject;
 use pst_case::{Case, Command, History, Reply, copy_commands, results_of};
@@ -32,7 +36,7 @@ fn order_for_commands(
 {
     Ok(Order {
         commands: copy_commands(alloc, commands)?,
-        known: Items::from_vec(copy_known(alloc, known)?),
+        known: Items::from_vec(copy_known_results(alloc, known)?),
     })
 }
 
@@ -55,8 +59,8 @@ fn run_branches_with_crew<J: Relations, S: Subject, R: Wait>(
     let Some((first, others)) = branches.split_first() else {
         return Ok(replies);
     };
-    let before = Items::from_vec(copy_known(alloc, known.as_slice())?);
-    add_unknown_results(&mut known, first.as_slice())?;
+    let before = Items::from_vec(copy_known_results(alloc, known.as_slice())?);
+    add_unknown_results_of_commands(&mut known, first.as_slice())?;
     let next = number.saturating_add(1);
     if first.is_empty() {
         let more = run_branches_with_crew(rt, alloc, crew, next, others, known)?;
@@ -64,16 +68,16 @@ fn run_branches_with_crew<J: Relations, S: Subject, R: Wait>(
         replies.append(more)?;
         return Ok(replies);
     }
-    let Some(desk) = crew.desk(number) else {
+    let Some(desk) = crew.desk_if_thread_has_started(number) else {
         return Err(DriveFault::NoThread);
     };
     let order = order_for_commands(alloc, first.as_slice(), before.as_slice())?;
-    let seen = desk.give(rt, order);
+    let seen = desk.give_order(rt, order);
     let more = run_branches_with_crew(rt, alloc, crew, next, others, known);
     if more.is_err() {
         crew.arrivals.release();
     }
-    let own = desk.collect(rt, seen, first, &before);
+    let own = desk.await_and_take_replies(rt, seen, first, &before);
     let more = match more {
         Ok(more) => more,
         Err(fault) => return Err(fault),
@@ -88,7 +92,7 @@ fn run_branches_with_crew<J: Relations, S: Subject, R: Wait>(
 }
 
 /// The replies of the branches, which run at once if the whole prefix has values, and else not at all.
-fn run_branches_with_crew_after_prefix<J: Relations, S: Subject, R: Wait>(
+fn run_crew_branches_if_prefix_has_values<J: Relations, S: Subject, R: Wait>(
     rt: &R,
     alloc: Global,
     crew: &Crew<J, S>,
@@ -104,7 +108,8 @@ fn run_branches_with_crew_after_prefix<J: Relations, S: Subject, R: Wait>(
         return Ok(not_run_replies_of_branches(alloc, branches)?);
     }
     let known = results_of(alloc, prefix)?;
-    crew.arrivals.set_expected(count_threads(branches));
+    crew.arrivals
+        .set_expected(count_branches_with_commands(branches));
     run_branches_with_crew(rt, alloc, crew, 0, branches, known)
 }
 
@@ -126,7 +131,7 @@ fn drive_with_crew<J: Relations, S: Subject, R: Wait>(
     }
     let held = crew.system.read(rt);
     let system = held.system();
-    let prefix = call_commands_in_order(
+    let prefix = call_commands_while_replies_are_values(
         alloc,
         typed,
         system,
@@ -134,7 +139,7 @@ fn drive_with_crew<J: Relations, S: Subject, R: Wait>(
         case.prefix.as_slice(),
         Vec::new(alloc),
     )?;
-    let branches = run_branches_with_crew_after_prefix(
+    let branches = run_crew_branches_if_prefix_has_values(
         rt,
         alloc,
         crew,
@@ -146,7 +151,13 @@ fn drive_with_crew<J: Relations, S: Subject, R: Wait>(
         branches,
         suffix: Items::new(alloc),
     };
-    let suffix = run_suffix(alloc, typed, system, case.suffix.as_slice(), &so_far)?;
+    let suffix = run_suffix_if_replies_are_values(
+        alloc,
+        typed,
+        system,
+        case.suffix.as_slice(),
+        &so_far,
+    )?;
     let History {
         prefix,
         branches,

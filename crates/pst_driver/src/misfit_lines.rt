@@ -13,8 +13,8 @@ use std::alloc::{AllocError, Global};
 /// How many characters of a call or of an answer a line shows at most.
 const MOST_SHOWN: usize = 60;
 
-/// The beginning of a spelling on one line, with control characters as `\x0a`.
-fn shorten_spelling(alloc: Global, spelling: &[u8]) -> Result<String, AllocError> {
+/// The beginning of a spelling on one line, with control characters as `\x0a`. Empty if the spelling is not UTF-8.
+fn printable_beginning_of_spelling(alloc: Global, spelling: &[u8]) -> Result<String, AllocError> {
     let mut shown = String::new(alloc);
     let Ok(text) = std::str::from_utf8(spelling) else {
         return Ok(shown);
@@ -47,7 +47,7 @@ fn call_text(alloc: Global, model: &Source, call: &RealCall) -> Result<Vec<u8>, 
 }
 
 /// The type as models spell it.
-fn type_text(alloc: Global, ty: &Ty) -> Result<Vec<u8>, AllocError> {
+fn wanted_type_text(alloc: Global, ty: &Ty) -> Result<Vec<u8>, AllocError> {
     let mut text = Vec::new(alloc);
     add_tree_spelling(&mut text, &ty_form(alloc, ty)?)?;
     Ok(text)
@@ -55,11 +55,20 @@ fn type_text(alloc: Global, ty: &Ty) -> Result<Vec<u8>, AllocError> {
 
 /// `misfit: (get) answered "x", wanted int`, and a line end.
 fn misfit_line(alloc: Global, model: &Source, misfit: &Misfit) -> Result<String, AllocError> {
-    let call = shorten_spelling(alloc, call_text(alloc, model, &misfit.call)?.as_slice())?;
-    let answer = shorten_spelling(alloc, value_text(alloc, model, &misfit.answer)?.as_slice())?;
+    let call = printable_beginning_of_spelling(
+        alloc,
+        call_text(alloc, model, &misfit.call)?.as_slice(),
+    )?;
+    let answer = printable_beginning_of_spelling(
+        alloc,
+        value_text(alloc, model, &misfit.answer)?.as_slice(),
+    )?;
     match operation_of(model.items.as_slice(), misfit.call.op as usize) {
         Some(operation) => {
-            let wanted = shorten_spelling(alloc, type_text(alloc, &operation.result)?.as_slice())?;
+            let wanted = printable_beginning_of_spelling(
+                alloc,
+                wanted_type_text(alloc, &operation.result)?.as_slice(),
+            )?;
             format!(in alloc; "misfit: {call} answered {answer}, wanted {wanted}\n")
         }
         None => format!(in alloc; "misfit: {call} answered {answer}\n"),
@@ -68,7 +77,7 @@ fn misfit_line(alloc: Global, model: &Source, misfit: &Misfit) -> Result<String,
 
 /// A line such as `misfit: (get) answered "x", wanted int` for each misfit in `misfits`. If there were others,
 /// a line such as `misfit: 3 more` follows. The text is empty if there were none.
-pub fn misfits_text(alloc: Global, misfits: &Misfits) -> Result<String, AllocError> {
+pub fn misfit_lines_text(alloc: Global, misfits: &Misfits) -> Result<String, AllocError> {
     let mut text = String::new(alloc);
     let Some(model) = misfits.model() else {
         return Ok(text);

@@ -1,7 +1,7 @@
 //! Misfits: answers of a system that are not of the result type of the called operation.
 //!
 //! A driver replies `misfit` to such an answer and does not keep it. A system in `MisfitRecorder` answers as
-//! before, and `Misfits` keeps the first of these answers, for lines that people read (`misfits_text`).
+//! before, and `Misfits` keeps the first of these answers, for lines that people read (`misfit_lines_text`).
 ghost use Rattle.std.specs.Prelude.{◌≡◌, [], IfOk};
 ghost use Rattle.pst_case.specs.Shape.{result_type};
 ghost use Rattle.pst_model.specs.Fitting.{fits_in};
@@ -101,7 +101,7 @@ impl Misfits {
         }
     }
 
-    /// Keeps a copy of an answer and of its call, if a place is left and no allocation fails.
+    /// Counts a misfit. Keeps a copy of the answer and of its call, if a place is left and no allocation fails.
     fn count_misfit_and_keep_if_room(&self, call: &RealCall, answer: &Value) {
         let before = self.count.fetch_add(1, Ordering::SeqCst);
         let Ok(place) = usize::try_from(before) else {

@@ -39,12 +39,12 @@ impl Relations for Brand {
 
 /// A system with the relations that `J` names.
 #[derive(Drop)]
-pub struct KeptSystem<J: Relations, S: Subject> {
+pub struct SystemWithRelations<J: Relations, S: Subject> {
     system: S,
     of: PhantomData<J>,
 }
 
-impl<J: Relations, S: Subject> Model for KeptSystem<J, S> {
+impl<J: Relations, S: Subject> Model for SystemWithRelations<J, S> {
     ghost use Rattle.pst_system.specs.Kept.{AreKept};
 
     ghost Value = { S };
@@ -55,14 +55,14 @@ impl<J: Relations, S: Subject> Model for KeptSystem<J, S> {
         (S.may_refuse_reset k.system) J.resetting };
 }
 
-impl<J: Relations, S: Subject> KeptSystem<J, S> {
+impl<J: Relations, S: Subject> SystemWithRelations<J, S> {
     /// A system that has these relations.
-    pub fn new(system: S) -> KeptSystem<J, S>
+    pub fn new(system: S) -> SystemWithRelations<J, S>
         requires { AreKept (S.may_answer system) J.answering (S.may_fail system) J.failing
             (S.may_refuse_reset system) J.resetting }
         ensures { result ≡ system }
     {
-        KeptSystem {
+        SystemWithRelations {
             system,
             of: PhantomData,
         }
@@ -81,7 +81,7 @@ impl<J: Relations, S: Subject> KeptSystem<J, S> {
         ensures { AreKept (S.may_answer result) J.answering (S.may_fail result) J.failing
             (S.may_refuse_reset result) J.resetting }
     {
-        let KeptSystem { system, of: _ } = self;
+        let SystemWithRelations { system, of: _ } = self;
         system
     }
 

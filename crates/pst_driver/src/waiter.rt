@@ -5,15 +5,15 @@ use std::sync::Wait;
 
 /// Lets a thread wait where `R` may. It holds no `R`, so each thread makes its own and shares none.
 #[derive(Drop)]
-pub(crate) struct Waiter<R: Wait> {
+pub(crate) struct WaitHandle<R: Wait> {
     of: PhantomData<R>,
 }
 
-impl<R: Wait> Waiter<R> {
+impl<R: Wait> WaitHandle<R> {
     /// Makes one.
-    pub(crate) fn new() -> Waiter<R> {
-        Waiter { of: PhantomData }
+    pub(crate) fn new() -> WaitHandle<R> {
+        WaitHandle { of: PhantomData }
     }
 }
 
-impl<R: Wait> Wait for Waiter<R> {}
+impl<R: Wait> Wait for WaitHandle<R> {}

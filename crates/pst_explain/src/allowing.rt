@@ -4,11 +4,12 @@ ghost use Rattle.pst_case.specs.Matches.{matches};
 ghost use Rattle.pst_case.specs.Recorded.{recorded};
 ghost use Rattle.pst_judge.specs.Verdict.{first_broken};
 
-use crate::bounded::Bounded;
+use crate::bounded::StepLimitedCallbacks;
 use pst_case::{History, Reply};
 use pst_eval::{Callbacks, Env};
 use pst_reasons::{
-    AllowedValues, Candidates, append_numbers_without, find_allowed_values, interleaving_beyond,
+    AllowedValues, Candidates, append_numbers_without, find_allowed_values,
+    interleaving_where_answers_are_wrong,
 };
 use pst_scene::{
     Call, Falsity, Scene, falsity_of_postcondition, operation_of_call, recorded_arguments,
@@ -32,8 +33,8 @@ pub struct WrongAnswer<'a> {
 
 /// Proposes, for an interleaving, the reply that the postcondition of a command requires there.
 #[derive(Drop)]
-struct RequiredReply<'s, 'a, C> {
-    callbacks: &'s Bounded<'s, C>,
+struct ReplyProposer<'s, 'a, C> {
+    callbacks: &'s StepLimitedCallbacks<'s, C>,
     scene: &'s Scene<'a>,
     call: &'s Call<'a>,
 }
@@ -65,7 +66,7 @@ fn candidate_reply_on_state(
     }
 }
 
-impl<'s, 'a, C: Callbacks> Candidates for RequiredReply<'s, 'a, C> {
+impl<'s, 'a, C: Callbacks> Candidates for ReplyProposer<'s, 'a, C> {
     fn candidate(&self, alloc: Global, word: &[usize]) -> Result<Option<Value>, AllocError> {
         self.callbacks.take_steps_of_calls(self.scene.all.len())?;
         match state_before_call_in_interleaving(alloc, self.scene, word, self.call)? {
@@ -77,7 +78,7 @@ impl<'s, 'a, C: Callbacks> Candidates for RequiredReply<'s, 'a, C> {
 
 /// Returns why the postcondition of a command is not true in the interleaving `word`. `None` if a callback faults
 /// before the command.
-fn wrong_answer_in_interleaving<'a>(
+fn wrong_answer_unless_fault_before_call<'a>(
     alloc: Global,
     scene: &Scene<'a>,
     call: &Call<'_>,
@@ -97,7 +98,7 @@ fn wrong_answer_in_interleaving<'a>(
 /// Returns why the postcondition of a command is not true in the lexicographically first interleaving in which the rest
 /// of the core is right and it is not, if there is one. `AllocError` too if `callbacks` have no steps left.
 pub fn wrong_answer_if_rest_is_right<'a, C: Callbacks>(
-    callbacks: &Bounded<'_, C>,
+    callbacks: &StepLimitedCallbacks<'_, C>,
     alloc: Global,
     scene: &Scene<'a>,
     history: &History,
@@ -114,7 +115,7 @@ pub fn wrong_answer_if_rest_is_right<'a, C: Callbacks>(
     let shaped = &scene.run.shaped;
     let others = append_numbers_without(number, core, Vec::new(alloc))?;
     let others = others.as_slice();
-    let merge = interleaving_beyond(
+    let merge = interleaving_where_answers_are_wrong(
         callbacks,
         alloc,
         scene.model,
@@ -126,7 +127,7 @@ pub fn wrong_answer_if_rest_is_right<'a, C: Callbacks>(
     )?;
     callbacks.take_steps_of_calls(scene.all.len())?;
     match merge {
-        Some(word) => wrong_answer_in_interleaving(alloc, scene, call, word),
+        Some(word) => wrong_answer_unless_fault_before_call(alloc, scene, call, word),
         None => Ok(None),
     }
 }
@@ -135,7 +136,7 @@ pub fn wrong_answer_if_rest_is_right<'a, C: Callbacks>(
 /// of the core is right. It evaluates the postcondition by recursion: the deepest valid model takes some tens of MiB of
 /// stack. `AllocError` too if `callbacks` have no steps left.
 pub fn allowed_answers_for_explanation<C: Callbacks>(
-    callbacks: &Bounded<'_, C>,
+    callbacks: &StepLimitedCallbacks<'_, C>,
     alloc: Global,
     scene: &Scene<'_>,
     history: &History,
@@ -148,7 +149,7 @@ pub fn allowed_answers_for_explanation<C: Callbacks>(
         ≡ true }
     requires answered { first_broken 1 (recorded history.now) ≡ None }
 {
-    let wanted = RequiredReply {
+    let wanted = ReplyProposer {
         callbacks,
         scene,
         call,

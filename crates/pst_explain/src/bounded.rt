@@ -19,7 +19,7 @@ const VALUES_IN_A_STEP: u64 = 16;
 /// more for every 16 values in the last state. If no steps are left, a call returns `AllocError`, which ends what calls
 /// it, and `has_run_out` is true from then on.
 #[derive(Drop)]
-pub struct Bounded<'a, C> {
+pub struct StepLimitedCallbacks<'a, C> {
     callbacks: &'a C,
     steps_left: Cell<u64>,
     /// The steps that each call takes for the size of the last state.
@@ -65,12 +65,12 @@ fn count_nested_values_of_all(values: &[Value]) -> u64 {
     sum
 }
 
-impl<'a, C: Callbacks> Bounded<'a, C> {
+impl<'a, C: Callbacks> StepLimitedCallbacks<'a, C> {
     /// The callbacks `callbacks`, which may take `steps` steps.
-    pub fn new(callbacks: &'a C, steps: u64) -> Bounded<'a, C>
+    pub fn new(callbacks: &'a C, steps: u64) -> StepLimitedCallbacks<'a, C>
         ensures { result.callbacks.now ≡ callbacks.now }
     {
-        Bounded {
+        StepLimitedCallbacks {
             callbacks,
             steps_left: Cell::new(steps),
             steps_of_state: Cell::new(0),
@@ -90,7 +90,7 @@ impl<'a, C: Callbacks> Bounded<'a, C> {
         self.has_run_out.get()
     }
 
-    /// Begins a call. Returns `AllocError` if no steps are left.
+    /// Returns `AllocError` if no steps are left, and `has_run_out_of_steps` is true from then on. Takes no steps.
     pub fn fail_if_out_of_steps(&self) -> Result<(), AllocError> {
         if self.steps_left.get() == 0 {
             self.has_run_out.set(true);
@@ -119,8 +119,9 @@ impl<'a, C: Callbacks> Bounded<'a, C> {
         self.further_calls.set(calls);
     }
 
-    /// Takes the steps of a call that ended.
-    fn take_steps_of_ended_call(&self, ended: &Result<(Value, u32), Fault>) {
+    /// Takes the steps of a call that ended, with those for the size of the last state. Keeps their number if it is the
+    /// greatest of a call so far.
+    fn take_steps_and_note_longest_call(&self, ended: &Result<(Value, u32), Fault>) {
         let steps = count_steps_of_ended_callback(ended).saturating_add(self.steps_of_state.get());
         if steps > self.most_of_a_call.get() {
             self.most_of_a_call.set(steps);
@@ -128,13 +129,14 @@ impl<'a, C: Callbacks> Bounded<'a, C> {
         self.take_steps(steps);
     }
 
-    /// Takes the steps of a call that ended, and whose value, if it does not fault, is a state.
+    /// Takes the steps of a call that ended, and whose value, if it does not fault, is a state: this call and those
+    /// after it take the steps for its size. Then takes the steps of the further calls.
     fn take_steps_and_measure_state(&self, ended: &Result<(Value, u32), Fault>) {
         if let Ok((state, _)) = ended {
             self.steps_of_state
                 .set(count_nested_values(state) / VALUES_IN_A_STEP);
         }
-        self.take_steps_of_ended_call(ended);
+        self.take_steps_and_note_longest_call(ended);
         let further = self.further_calls.get();
         self.take_steps(further.saturating_mul(self.most_of_a_call.get()));
     }
@@ -157,7 +159,7 @@ impl<'a, C: Callbacks> Bounded<'a, C> {
     }
 }
 
-impl<'a, C: Callbacks> Callbacks for Bounded<'a, C> {
+impl<'a, C: Callbacks> Callbacks for StepLimitedCallbacks<'a, C> {
     ghost model = { λ b. C.model b.callbacks.now };
 
     fn init(&self, alloc: Global) -> Answer {
@@ -170,14 +172,14 @@ impl<'a, C: Callbacks> Callbacks for Bounded<'a, C> {
     fn command(&self, alloc: Global, state: &Value) -> Answer {
         self.fail_if_out_of_steps()?;
         let answer = self.callbacks.command(alloc, state)?;
-        self.take_steps_of_ended_call(&answer);
+        self.take_steps_and_note_longest_call(&answer);
         Ok(answer)
     }
 
     fn pre(&self, alloc: Global, op: u32, state: &Value, arguments: &[Value]) -> Answer {
         self.fail_if_out_of_steps()?;
         let answer = self.callbacks.pre(alloc, op, state, arguments)?;
-        self.take_steps_of_ended_call(&answer);
+        self.take_steps_and_note_longest_call(&answer);
         Ok(answer)
     }
 
@@ -205,7 +207,7 @@ impl<'a, C: Callbacks> Callbacks for Bounded<'a, C> {
     ) -> Answer {
         self.fail_if_out_of_steps()?;
         let answer = self.callbacks.post(alloc, op, state, arguments, r)?;
-        self.take_steps_of_ended_call(&answer);
+        self.take_steps_and_note_longest_call(&answer);
         Ok(answer)
     }
 }

@@ -11,7 +11,7 @@ use std::alloc::{AllocError, Global};
 
 /// A reply that is not a value.
 #[derive(Drop)]
-pub struct BrokenReply<'a> {
+pub struct CallWithBrokenReply<'a> {
     /// The number of the command.
     pub number: u32,
     /// The command, if there is one with this number.
@@ -21,7 +21,7 @@ pub struct BrokenReply<'a> {
 }
 
 /// Returns the reply of command `number`, which is not a value.
-pub fn broken_reply<'a>(scene: &Scene<'a>, number: u32) -> BrokenReply<'a> {
+pub fn broken_reply<'a>(scene: &Scene<'a>, number: u32) -> CallWithBrokenReply<'a> {
     let call = call_numbered(scene.all.as_slice(), number);
     let wanted = match &call {
         Some(call) => match operation_of_call(scene, call) {
@@ -30,7 +30,7 @@ pub fn broken_reply<'a>(scene: &Scene<'a>, number: u32) -> BrokenReply<'a> {
         },
         None => None,
     };
-    BrokenReply {
+    CallWithBrokenReply {
         number,
         call,
         wanted,
@@ -52,7 +52,7 @@ fn broken_reply_meaning(reply: &Reply) -> &'static str {
 pub fn broken_reply_sentence(
     alloc: Global,
     model: &Source,
-    broken: &BrokenReply<'_>,
+    broken: &CallWithBrokenReply<'_>,
 ) -> Result<Option<Vec<u8>>, AllocError> {
     let Some(call) = &broken.call else {
         return Ok(None);
@@ -71,11 +71,11 @@ pub fn broken_reply_sentence(
 }
 
 /// Returns a sentence on the reply of command `number` that makes a recorded run broken, and the expected type. `None`
-/// if the run has no such reply.
+/// if the run has no such command or no reply to it. A reply that is a value gets a sentence too.
 ///
 /// `P1 (inc) has the reply failed: it failed, or its answer is not a value, instead of a value of type int` is an
 /// example.
-pub fn explain_broken_run(
+pub fn broken_reply_sentence_of_run(
     alloc: Global,
     typed: &Typed,
     run: &Run,

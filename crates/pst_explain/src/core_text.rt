@@ -27,7 +27,7 @@ fn call_and_answer_text(
 }
 
 /// The postcondition of a command.
-fn postcondition_text(
+fn labelled_postcondition_text(
     alloc: Global,
     scene: &Scene<'_>,
     call: &Call<'_>,
@@ -78,7 +78,7 @@ fn add_cell_for_each_allowed_value(
 }
 
 /// Adds a cell of the allowed values, if there are some, or a cell for each if one has more bytes than a line.
-fn add_cells_of_allowed_values(
+fn add_allowed_values_cell_or_cells(
     row: &mut Vec<Cell>,
     alloc: Global,
     model: &Source,
@@ -120,7 +120,7 @@ fn core_answer_row(
 ) -> Result<Vec<Cell>, AllocError> {
     let model = scene.model;
     let left = call_and_answer_text(alloc, model, &answer.call)?;
-    let post = postcondition_text(alloc, scene, &answer.call)?;
+    let post = labelled_postcondition_text(alloc, scene, &answer.call)?;
     let mut row = Vec::new(alloc);
     row.push(Cell::styled(Style::Wrong, left))?;
     row.push(Cell::plain(post))?;
@@ -130,7 +130,7 @@ fn core_answer_row(
             None => Vec::new(alloc),
         }))?;
     }
-    add_cells_of_allowed_values(&mut row, alloc, model, &answer.allowed, line)?;
+    add_allowed_values_cell_or_cells(&mut row, alloc, model, &answer.allowed, line)?;
     Ok(row)
 }
 
@@ -179,7 +179,7 @@ fn add_core_and_marked_run_text(
         }
         page.add_sentence(alloc, 2, b"The run, with * before what is reported above:")?;
     }
-    let numbers = core.numbers(alloc)?;
+    let numbers = core.command_numbers(alloc)?;
     add_marked_run_text(page, alloc, scene, numbers.as_slice())
 }
 

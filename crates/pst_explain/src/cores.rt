@@ -8,7 +8,7 @@ ghost use Rattle.pst_reasons.specs.Reasons.{IsUnexplained};
 use crate::allowing::{
     WrongAnswer, allowed_answers_for_explanation, wrong_answer_if_rest_is_right,
 };
-use crate::bounded::Bounded;
+use crate::bounded::StepLimitedCallbacks;
 use pst_case::History;
 use pst_eval::Callbacks;
 use pst_reasons::{AllowedValues, minimal_core};
@@ -56,7 +56,7 @@ impl<'a> CoreAnswer<'a> {
 
 impl<'a> Core<'a> {
     /// The numbers of the commands.
-    pub fn numbers(&self, alloc: Global) -> Result<Vec<u32>, AllocError> {
+    pub fn command_numbers(&self, alloc: Global) -> Result<Vec<u32>, AllocError> {
         let mut numbers = Vec::new(alloc);
         for answer in &self.answers {
             numbers.push(answer.call.number)?;
@@ -90,7 +90,7 @@ fn postcondition_requires_single_reply(
 /// Searches what the model allows in place of an answer of a core, and why it is wrong if the explanation has to say so.
 /// `AllocError` too if `callbacks` have no steps left.
 fn complete_core_answer<'a, C: Callbacks>(
-    callbacks: &Bounded<'_, C>,
+    callbacks: &StepLimitedCallbacks<'_, C>,
     alloc: Global,
     scene: &Scene<'a>,
     history: &History,
@@ -132,7 +132,7 @@ fn core_answer_without_allowed_values<'a>(
 
 /// Returns the answer of a command of a core. If `callbacks` have no steps left, what the model allows is unknown.
 fn core_answer_of_call<'a, C: Callbacks>(
-    callbacks: &Bounded<'_, C>,
+    callbacks: &StepLimitedCallbacks<'_, C>,
     alloc: Global,
     scene: &Scene<'a>,
     history: &History,
@@ -156,7 +156,7 @@ fn core_answer_of_call<'a, C: Callbacks>(
 /// Returns a core of the item, with what the model allows in place of each answer as far as the steps of `callbacks` last.
 /// `AllocError` too if they do not last for the core.
 pub fn find_core_for_explanation<'a, C: Callbacks>(
-    callbacks: &Bounded<'_, C>,
+    callbacks: &StepLimitedCallbacks<'_, C>,
     alloc: Global,
     scene: &Scene<'a>,
     history: &History,

@@ -1,8 +1,10 @@
 //! Writes a search in the language of Graphviz.
 
-use crate::labels::{add_graphviz_label, add_graphviz_node_name, add_graphviz_quoted_text};
+use crate::labels::{
+    add_graphviz_label_cut_if_long, add_graphviz_node_name, add_graphviz_quoted_text,
+};
 use crate::position::Position;
-use crate::search::{Move, Search, Target};
+use crate::search::{GraphMove, MoveTarget, SearchGraph};
 use pst_scene::{Scene, add_str, copy_explanation_text, dead_end_text, value_text};
 use std::alloc::{AllocError, Global};
 
@@ -11,9 +13,9 @@ const STYLE: &str =
     "  node [shape=box, fontname=monospace];\n  edge [fontname=monospace];\n  fontname=monospace;\n";
 
 /// Whether a command may come next at position `number`, and the search has not expanded it.
-fn is_search_position_unexpanded(
+fn can_position_still_be_expanded(
     scene: &Scene<'_>,
-    search: &Search<'_>,
+    search: &SearchGraph<'_>,
     number: usize,
     position: &Position,
 ) -> bool {
@@ -21,9 +23,9 @@ fn is_search_position_unexpanded(
 }
 
 /// Whether the search stopped before its end.
-fn is_search_cut_short(scene: &Scene<'_>, search: &Search<'_>) -> bool {
+fn is_search_cut_short(scene: &Scene<'_>, search: &SearchGraph<'_>) -> bool {
     for (number, position) in search.positions.iter().enumerate() {
-        if is_search_position_unexpanded(scene, search, number, position) {
+        if can_position_still_be_expanded(scene, search, number, position) {
             return true;
         }
     }
@@ -35,7 +37,7 @@ fn add_graph_title(
     out: &mut Vec<u8>,
     alloc: Global,
     scene: &Scene<'_>,
-    search: &Search<'_>,
+    search: &SearchGraph<'_>,
     title: &str,
 ) -> Result<(), AllocError> {
     let mut text = copy_explanation_text(alloc, title)?;
@@ -55,7 +57,7 @@ fn add_position_node(
     out: &mut Vec<u8>,
     alloc: Global,
     scene: &Scene<'_>,
-    search: &Search<'_>,
+    search: &SearchGraph<'_>,
     number: usize,
     position: &Position,
 ) -> Result<(), AllocError> {
@@ -63,8 +65,8 @@ fn add_position_node(
     add_str(out, "  ")?;
     add_graphviz_node_name(out, "p", number)?;
     add_str(out, " [")?;
-    add_graphviz_label(out, alloc, state.as_slice())?;
-    if is_search_position_unexpanded(scene, search, number, position) {
+    add_graphviz_label_cut_if_long(out, alloc, state.as_slice())?;
+    if can_position_still_be_expanded(scene, search, number, position) {
         add_str(out, ", style=dashed")?;
     }
     add_str(out, "];\n")
@@ -74,7 +76,7 @@ fn add_position_node(
 fn align_positions_of_level(
     out: &mut Vec<u8>,
     alloc: Global,
-    search: &Search<'_>,
+    search: &SearchGraph<'_>,
     level: usize,
 ) -> Result<(), AllocError> {
     add_str(out, "  { rank=same;")?;
@@ -89,7 +91,7 @@ fn align_positions_of_level(
 }
 
 /// How many levels have positions.
-fn count_search_levels(search: &Search<'_>) -> usize {
+fn count_search_levels(search: &SearchGraph<'_>) -> usize {
     let mut levels = 0usize;
     for position in &search.positions {
         levels = levels.max(position.number_of_calls_before().saturating_add(1));
@@ -102,7 +104,7 @@ fn add_graphviz_edge(
     out: &mut Vec<u8>,
     alloc: Global,
     scene: &Scene<'_>,
-    step: &Move<'_>,
+    step: &GraphMove<'_>,
     letter: &str,
     to: usize,
     style: &str,
@@ -113,7 +115,7 @@ fn add_graphviz_edge(
     add_str(out, " -> ")?;
     add_graphviz_node_name(out, letter, to)?;
     add_str(out, " [")?;
-    add_graphviz_label(out, alloc, text.as_slice())?;
+    add_graphviz_label_cut_if_long(out, alloc, text.as_slice())?;
     add_str(out, style)?;
     add_str(out, "];\n")
 }
@@ -129,7 +131,7 @@ fn add_graphviz_dead_end(
     add_str(out, "  ")?;
     add_graphviz_node_name(out, "d", number)?;
     add_str(out, " [")?;
-    add_graphviz_label(out, alloc, why)?;
+    add_graphviz_label_cut_if_long(out, alloc, why)?;
     add_str(out, style)?;
     add_str(out, "];\n")
 }
@@ -138,7 +140,7 @@ fn add_graphviz_dead_end(
 const RED: &str = ", color=red, fontcolor=red";
 
 /// The style of the edge for move `number`, which leads to a position.
-fn edge_style_of_move(search: &Search<'_>, number: usize) -> &'static str {
+fn edge_style_of_move(search: &SearchGraph<'_>, number: usize) -> &'static str {
     if search.shown.iter().any(|shown| *shown == number) {
         ", style=bold"
     } else {
@@ -151,12 +153,12 @@ fn add_graphviz_move(
     out: &mut Vec<u8>,
     alloc: Global,
     scene: &Scene<'_>,
-    search: &Search<'_>,
+    search: &SearchGraph<'_>,
     number: usize,
-    step: &Move<'_>,
+    step: &GraphMove<'_>,
 ) -> Result<(), AllocError> {
     match &step.target {
-        Target::Position(to) => {
+        MoveTarget::Position(to) => {
             add_graphviz_edge(
                 out,
                 alloc,
@@ -167,7 +169,7 @@ fn add_graphviz_move(
                 edge_style_of_move(search, number),
             )
         }
-        Target::DeadEnd(dead_end) => {
+        MoveTarget::DeadEnd(dead_end) => {
             let why = dead_end_text(alloc, scene.model, dead_end)?;
             add_graphviz_dead_end(out, alloc, number, why.as_slice(), RED)?;
             add_graphviz_edge(out, alloc, scene, step, "d", number, RED)
@@ -180,7 +182,7 @@ fn add_graphviz_positions(
     out: &mut Vec<u8>,
     alloc: Global,
     scene: &Scene<'_>,
-    search: &Search<'_>,
+    search: &SearchGraph<'_>,
 ) -> Result<(), AllocError> {
     for (number, position) in search.positions.iter().enumerate() {
         add_position_node(out, alloc, scene, search, number, position)?;
@@ -195,7 +197,7 @@ fn add_graphviz_positions(
 pub fn search_as_graphviz_text(
     alloc: Global,
     scene: &Scene<'_>,
-    search: &Search<'_>,
+    search: &SearchGraph<'_>,
     title: &str,
 ) -> Result<Vec<u8>, AllocError> {
     let mut out = copy_explanation_text(alloc, "digraph search {\n")?;

@@ -7,15 +7,15 @@ ghost use Rattle.pst_judge.specs.Verdict.{IsVerdict, first_broken};
 ghost use Rattle.pst_judge.specs.declared.verdicts.Verdict.TheVariants as verdict;
 ghost use Rattle.pst_reasons.specs.Reasons.{IsUnexplained};
 
-use crate::bounded::Bounded;
-use crate::breaking::{BrokenReply, broken_reply};
+use crate::bounded::StepLimitedCallbacks;
+use crate::breaking::{CallWithBrokenReply, broken_reply};
 use crate::cores::{Core, find_core_for_explanation};
 use crate::failures::{
     Failure, failure_at_fault_place, failure_in_unknown_interleaving,
     failure_of_call_in_interleaving,
 };
 use crate::places::TreePlace;
-use crate::walks::{Walk, explaining_walk, furthest_walk};
+use crate::walks::{InterleavingStates, explaining_walk, furthest_walk};
 use pst_case::{History, Run};
 use pst_eval::{Callback, Callbacks, FaultPlace};
 use pst_judge::{Judged, Verdict, Why, verdict_with_interleaving};
@@ -23,14 +23,14 @@ use pst_model::Typed;
 use pst_scene::{CasePart, Scene, call_numbered, scene_of_run};
 use std::alloc::{AllocError, Global};
 
-/// The steps that the searches for the explanation of an item may take, as `Bounded` counts them.
+/// The steps that the searches for the explanation of an item may take, as `StepLimitedCallbacks` counts them.
 pub const MOST_STEPS: u64 = 2_000_000;
 
 /// The reason of the judgement of an item.
 #[derive(Drop)]
-pub enum Reason<'a> {
+pub enum JudgementReason<'a> {
     /// The interleaving explains it.
-    Explained(Walk<'a>),
+    Explained(InterleavingStates<'a>),
     /// No interleaving explains it, and none faults.
     Unexplained {
         /// How many commands are right before a wrong one, in the interleaving that gets furthest.
@@ -38,7 +38,7 @@ pub enum Reason<'a> {
         /// `None` if its search takes too many steps.
         core: Option<Core<'a>>,
         /// The interleaving that gets furthest; `None` if its search takes too many steps.
-        furthest: Option<Walk<'a>>,
+        furthest: Option<InterleavingStates<'a>>,
     },
     /// No interleaving explains it, and a callback faults in one.
     Faulted {
@@ -47,18 +47,19 @@ pub enum Reason<'a> {
         core: Option<Core<'a>>,
     },
     /// A reply is not a value.
-    Broken(BrokenReply<'a>),
+    Broken(CallWithBrokenReply<'a>),
     /// A case is not valid.
     Invalid(Failure<'a>),
     /// There is nothing to explain, as for a valid case.
     Nothing,
 }
 
-impl<'a> Reason<'a> {
+impl<'a> JudgementReason<'a> {
     /// The answers that cannot all be right, if no interleaving explains the item and they are known.
     pub fn core(&self) -> Option<&Core<'a>> {
         match self {
-            Reason::Unexplained { core, .. } | Reason::Faulted { core, .. } => core.as_ref(),
+            JudgementReason::Unexplained { core, .. } | JudgementReason::Faulted { core, .. } =>
+                core.as_ref(),
             _ => None,
         }
     }
@@ -66,10 +67,11 @@ impl<'a> Reason<'a> {
     /// Whether a part of the explanation is left out, because its search takes too many steps.
     pub fn has_part_left_out(&self) -> bool {
         match self {
-            Reason::Unexplained { core, .. } | Reason::Faulted { core, .. } => match core {
-                Some(core) => core.is_cut || self.walk().is_none(),
-                None => true,
-            },
+            JudgementReason::Unexplained { core, .. } | JudgementReason::Faulted { core, .. } =>
+                match core {
+                    Some(core) => core.is_cut || self.walk().is_none(),
+                    None => true,
+                },
             _ => false,
         }
     }
@@ -77,17 +79,21 @@ impl<'a> Reason<'a> {
     /// The callback that fails, if one does.
     pub fn failure(&self) -> Option<&Failure<'a>> {
         match self {
-            Reason::Faulted { failure, .. } | Reason::Invalid(failure) => Some(failure),
+            JudgementReason::Faulted { failure, .. } | JudgementReason::Invalid(failure) => Some(
+                failure,
+            ),
             _ => None,
         }
     }
 
     /// The interleaving of the verdict, if there is one and it is known.
-    pub fn walk(&self) -> Option<&Walk<'a>> {
+    pub fn walk(&self) -> Option<&InterleavingStates<'a>> {
         match self {
-            Reason::Explained(walk) => Some(walk),
-            Reason::Unexplained { furthest, .. } => furthest.as_ref(),
-            Reason::Faulted { failure, .. } | Reason::Invalid(failure) => failure.walk.as_ref(),
+            JudgementReason::Explained(walk) => Some(walk),
+            JudgementReason::Unexplained { furthest, .. } => furthest.as_ref(),
+            JudgementReason::Faulted { failure, .. } | JudgementReason::Invalid(failure) => failure
+                .walk
+                .as_ref(),
             _ => None,
         }
     }
@@ -103,12 +109,12 @@ pub struct Explanation<'a> {
     pub judged: &'a Judged,
     /// The item and its model.
     pub scene: Scene<'a>,
-    pub reason: Reason<'a>,
+    pub reason: JudgementReason<'a>,
 }
 
 /// Returns a core, unless the steps of `callbacks` do not last for it.
 fn core_within_step_limit<'a, C: Callbacks>(
-    callbacks: &Bounded<'_, C>,
+    callbacks: &StepLimitedCallbacks<'_, C>,
     alloc: Global,
     scene: &Scene<'a>,
     history: &History,
@@ -130,7 +136,7 @@ fn core_within_step_limit<'a, C: Callbacks>(
 /// Returns the fault at `place` in the lexicographically first interleaving that has it. `AllocError` too if
 /// `callbacks` have no steps left.
 fn failure_in_first_faulting_interleaving<'a, C: Callbacks>(
-    callbacks: &Bounded<'_, C>,
+    callbacks: &StepLimitedCallbacks<'_, C>,
     alloc: Global,
     scene: &Scene<'a>,
     history: &History,
@@ -154,12 +160,12 @@ fn failure_in_first_faulting_interleaving<'a, C: Callbacks>(
 
 /// Returns the first fault of an item that no interleaving explains, and a core.
 fn explain_fault_verdict<'a, C: Callbacks>(
-    callbacks: &Bounded<'_, C>,
+    callbacks: &StepLimitedCallbacks<'_, C>,
     alloc: Global,
     scene: &Scene<'a>,
     history: &History,
     place: FaultPlace,
-) -> Result<Reason<'a>, AllocError>
+) -> Result<JudgementReason<'a>, AllocError>
     requires model { scene.now.model.now ≡ C.model callbacks.now.callbacks.now }
     requires shaped { scene.now.run.now.shaped.model ≡ C.model callbacks.now.callbacks.now }
     requires matches { matches (C.model callbacks.now.callbacks.now) scene.now.run.now.shaped.case history.now
@@ -173,17 +179,17 @@ fn explain_fault_verdict<'a, C: Callbacks>(
         None => failure_in_unknown_interleaving(alloc, scene, place)?,
     };
     let core = core_within_step_limit(callbacks, alloc, scene, history)?;
-    Ok(Reason::Faulted { failure, core })
+    Ok(JudgementReason::Faulted { failure, core })
 }
 
 /// Returns a core of an item that no interleaving explains, and the interleaving that gets furthest.
 fn explain_unexplained_verdict<'a, C: Callbacks>(
-    callbacks: &Bounded<'_, C>,
+    callbacks: &StepLimitedCallbacks<'_, C>,
     alloc: Global,
     scene: &Scene<'a>,
     history: &History,
     far: usize,
-) -> Result<Reason<'a>, AllocError>
+) -> Result<JudgementReason<'a>, AllocError>
     requires model { scene.now.model.now ≡ C.model callbacks.now.callbacks.now }
     requires shaped { scene.now.run.now.shaped.model ≡ C.model callbacks.now.callbacks.now }
     requires matches { matches (C.model callbacks.now.callbacks.now) scene.now.run.now.shaped.case history.now
@@ -195,7 +201,7 @@ fn explain_unexplained_verdict<'a, C: Callbacks>(
         callbacks, alloc, scene, history, far,
     ))?;
     let core = core_within_step_limit(callbacks, alloc, scene, history)?;
-    Ok(Reason::Unexplained {
+    Ok(JudgementReason::Unexplained {
         far,
         core,
         furthest,
@@ -209,24 +215,24 @@ fn explain_verdict<'a, C: Callbacks>(
     scene: &Scene<'a>,
     history: &History,
     verdict: &Verdict,
-) -> Result<Reason<'a>, AllocError>
+) -> Result<JudgementReason<'a>, AllocError>
     requires model { scene.now.model.now ≡ C.model callbacks.now }
     requires shaped { scene.now.run.now.shaped.model ≡ C.model callbacks.now }
     requires matches { matches (C.model callbacks.now) scene.now.run.now.shaped.case history.now ≡ true }
     requires verdict { IsVerdict (C.model callbacks.now) scene.now.run.now.shaped.case history.now
         verdict.now }
 {
-    let bounded = Bounded::new(callbacks, MOST_STEPS);
+    let bounded = StepLimitedCallbacks::new(callbacks, MOST_STEPS);
     match verdict {
         Verdict::Explained(word) => {
             let walk = explaining_walk(callbacks, alloc, scene, history, word.as_slice())?;
-            Ok(Reason::Explained(walk))
+            Ok(JudgementReason::Explained(walk))
         }
         Verdict::Faulted(place) => explain_fault_verdict(&bounded, alloc, scene, history, *place),
         Verdict::Unexplained(far) => explain_unexplained_verdict(
             &bounded, alloc, scene, history, *far,
         ),
-        Verdict::Broken(number) => Ok(Reason::Broken(broken_reply(scene, *number))),
+        Verdict::Broken(number) => Ok(JudgementReason::Broken(broken_reply(scene, *number))),
     }
 }
 
@@ -235,11 +241,11 @@ fn explain_invalid_case<'a>(
     alloc: Global,
     scene: &Scene<'a>,
     why: &Why,
-) -> Result<Reason<'a>, AllocError> {
+) -> Result<JudgementReason<'a>, AllocError> {
     match why {
         Why::PreFalse { command, merge } => {
             let Some(call) = call_numbered(scene.all.as_slice(), *command) else {
-                return Ok(Reason::Nothing);
+                return Ok(JudgementReason::Nothing);
             };
             let word = merge.as_slice();
             let failure = failure_of_call_in_interleaving(
@@ -250,13 +256,13 @@ fn explain_invalid_case<'a>(
                 call,
                 None,
             )?;
-            Ok(Reason::Invalid(failure))
+            Ok(JudgementReason::Invalid(failure))
         }
         Why::CallbackFault { place, merge } => {
             let failure = failure_at_fault_place(alloc, scene, merge.as_slice(), *place)?;
-            Ok(Reason::Invalid(failure))
+            Ok(JudgementReason::Invalid(failure))
         }
-        Why::NoMemory => Ok(Reason::Nothing),
+        Why::NoMemory => Ok(JudgementReason::Nothing),
     }
 }
 
@@ -280,9 +286,9 @@ pub fn explain_item<'a, C: Callbacks>(
     let reason = match judged {
         Judged::Verdict(verdict) => match &run.history {
             Some(history) => explain_verdict(callbacks, alloc, &scene, history, verdict)?,
-            None => Reason::Nothing,
+            None => JudgementReason::Nothing,
         },
-        Judged::Valid => Reason::Nothing,
+        Judged::Valid => JudgementReason::Nothing,
         Judged::Invalid(why) => explain_invalid_case(alloc, &scene, why)?,
     };
     Ok(Explanation {

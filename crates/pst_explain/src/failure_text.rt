@@ -1,6 +1,6 @@
 //! The text of callbacks that fault, and of preconditions that are false.
 
-use crate::failures::{Evaluated, Expression, FailingPart, Failure};
+use crate::failures::{ExpressionWithFailingPart, ExpressionWithNameValues, FailingPart, Failure};
 use crate::walk_text::add_states_along_walk_text;
 use pst_eval::Callback;
 use pst_model::Source;
@@ -19,7 +19,7 @@ fn add_expression_and_values_of_names(
     page: &mut Page,
     alloc: Global,
     model: &Source,
-    evaluated: &Evaluated<'_>,
+    evaluated: &ExpressionWithNameValues<'_>,
 ) -> Result<(), AllocError> {
     let text = expression_text(alloc, evaluated.expr)?;
     page.add_line(alloc, 4, text.as_slice())?;
@@ -62,7 +62,7 @@ fn add_expression_and_failing_part(
     page: &mut Page,
     alloc: Global,
     model: &Source,
-    expression: &Expression<'_>,
+    expression: &ExpressionWithFailingPart<'_>,
 ) -> Result<(), AllocError> {
     add_expression_and_values_of_names(page, alloc, model, &expression.whole)?;
     match &expression.part {
@@ -72,7 +72,7 @@ fn add_expression_and_failing_part(
 }
 
 /// The place and the spelling of a command, and its reply if there is one.
-fn add_call_with_reply(
+fn add_call_with_reply_if_any(
     out: &mut Vec<u8>,
     alloc: Global,
     model: &Source,
@@ -126,7 +126,7 @@ fn fault_sentence_of_call(
     let mut text = copy_explanation_text(alloc, "The callback ")?;
     add_str(&mut text, failure.callback.name())?;
     add_str(&mut text, " of ")?;
-    add_call_with_reply(&mut text, alloc, scene.model, call)?;
+    add_call_with_reply_if_any(&mut text, alloc, scene.model, call)?;
     add_str(&mut text, " faults with ")?;
     add_str(&mut text, fault.name())?;
     if call.part != CasePart::Prefix {

@@ -1,6 +1,8 @@
 //! Callbacks that fault, and preconditions that are false.
 
-use crate::walks::{Walk, blocked_calls_after, walk_along_calls, walk_without_states};
+use crate::walks::{
+    InterleavingStates, blocked_calls_after, walk_along_calls, walk_without_states,
+};
 use pst_case::Reply;
 use pst_eval::{Callback, Env, FaultPlace};
 use pst_model::{Expr, calls_of, initial_state_of};
@@ -14,7 +16,7 @@ use std::alloc::{AllocError, Global};
 
 /// An expression with the values of its names.
 #[derive(Drop)]
-pub struct Evaluated<'a> {
+pub struct ExpressionWithNameValues<'a> {
     pub expr: &'a Expr,
     /// The names in it that have a value, in the order in which it has them.
     pub names: Vec<Binding>,
@@ -25,13 +27,13 @@ pub struct Evaluated<'a> {
 pub struct FailingPart<'a> {
     /// The name of the function in whose body it is, if it is in one.
     pub function: Option<&'a str>,
-    pub evaluated: Evaluated<'a>,
+    pub evaluated: ExpressionWithNameValues<'a>,
 }
 
 /// An expression of a callback, and the part of it that faults, if it is not the whole.
 #[derive(Drop)]
-pub struct Expression<'a> {
-    pub whole: Evaluated<'a>,
+pub struct ExpressionWithFailingPart<'a> {
+    pub whole: ExpressionWithNameValues<'a>,
     pub part: Option<FailingPart<'a>>,
 }
 
@@ -44,9 +46,9 @@ pub struct Failure<'a> {
     /// Its fault; `None` if it is a precondition that is false.
     pub fault: Option<Fault>,
     /// Its expression. `None` if the model has none, or there is no state before the command.
-    pub expression: Option<Expression<'a>>,
+    pub expression: Option<ExpressionWithFailingPart<'a>>,
     /// The interleaving up to there; `None` if its search takes too many steps.
-    pub walk: Option<Walk<'a>>,
+    pub walk: Option<InterleavingStates<'a>>,
 }
 
 /// Returns the value of `name`, the inner one if it has several.
@@ -64,7 +66,7 @@ fn expression_with_bound_values<'a>(
     alloc: Global,
     expr: &'a Expr,
     bindings: &[Binding],
-) -> Result<Evaluated<'a>, AllocError> {
+) -> Result<ExpressionWithNameValues<'a>, AllocError> {
     let mut names = Vec::new(alloc);
     let words = words_of_expression(alloc, expr)?;
     for word in &words {
@@ -75,11 +77,11 @@ fn expression_with_bound_values<'a>(
             })?;
         }
     }
-    Ok(Evaluated { expr, names })
+    Ok(ExpressionWithNameValues { expr, names })
 }
 
 /// Returns the part of an expression that faults, if it is not the whole.
-fn failing_part<'a>(
+fn failing_part_unless_whole<'a>(
     alloc: Global,
     whole: &Expr,
     found: &FaultyPart<'a>,
@@ -99,33 +101,34 @@ fn expression_with_failing_part<'a>(
     scene: &Scene<'a>,
     expr: &'a Expr,
     env: &Env<'_>,
-) -> Result<Option<Expression<'a>>, AllocError> {
+) -> Result<Option<ExpressionWithFailingPart<'a>>, AllocError> {
     let names = bindings_of_environment(alloc, env)?;
     let whole = expression_with_bound_values(alloc, expr, names.as_slice())?;
     let part = match faulty_part_of_expression(alloc, scene.model, expr, env)? {
-        Some(found) => failing_part(alloc, expr, &found)?,
+        Some(found) => failing_part_unless_whole(alloc, expr, &found)?,
         None => None,
     };
-    Ok(Some(Expression { whole, part }))
+    Ok(Some(ExpressionWithFailingPart { whole, part }))
 }
 
-/// Returns the expression of the initial state.
+/// Returns the expression of the initial state, and the part of it that faults. `None` if the model has none.
 fn init_expression<'a>(
     alloc: Global,
     scene: &Scene<'a>,
-) -> Result<Option<Expression<'a>>, AllocError> {
+) -> Result<Option<ExpressionWithFailingPart<'a>>, AllocError> {
     match initial_state_of(scene.model.items.as_slice()) {
         Some(expr) => expression_with_failing_part(alloc, scene, expr, &Env::Frame(&[], &[])),
         None => Ok(None),
     }
 }
 
-/// Returns the expression of the calls to pick from in `state`.
-fn command_expression<'a>(
+/// Returns the expression of the calls to pick from in `state`, and the part of it that faults. `None` if the model has
+/// none.
+fn command_callback_expression<'a>(
     alloc: Global,
     scene: &Scene<'a>,
     state: &Value,
-) -> Result<Option<Expression<'a>>, AllocError> {
+) -> Result<Option<ExpressionWithFailingPart<'a>>, AllocError> {
     match calls_of(scene.model.items.as_slice()) {
         Some(expr) => {
             let frame = Env::Frame(&[], &[]);
@@ -135,14 +138,15 @@ fn command_expression<'a>(
     }
 }
 
-/// Returns the expression of a callback of a command on `state`, the state before it.
+/// Returns the expression of a callback of a command on `state`, the state before it, and the part of it that faults.
+/// `None` for `init` and `command`, for `post` if the reply is no value, and if the model has no such operation.
 fn callback_expression<'a>(
     alloc: Global,
     scene: &Scene<'a>,
     callback: Callback,
     call: &Call<'_>,
     state: &Value,
-) -> Result<Option<Expression<'a>>, AllocError> {
+) -> Result<Option<ExpressionWithFailingPart<'a>>, AllocError> {
     let Some(operation) = operation_of_call(scene, call) else {
         return Ok(None);
     };
@@ -222,7 +226,7 @@ fn callback_expression_without_values<'a>(
     scene: &Scene<'a>,
     callback: Callback,
     call: &Call<'_>,
-) -> Option<Expression<'a>> {
+) -> Option<ExpressionWithFailingPart<'a>> {
     let operation = operation_of_call(scene, call)?;
     let expr = match callback {
         Callback::Init | Callback::Command => return None,
@@ -231,8 +235,8 @@ fn callback_expression_without_values<'a>(
         Callback::Post => &operation.post,
     };
     let names = Vec::new(alloc);
-    let whole = Evaluated { expr, names };
-    Some(Expression { whole, part: None })
+    let whole = ExpressionWithNameValues { expr, names };
+    Some(ExpressionWithFailingPart { whole, part: None })
 }
 
 /// Returns the failure at `place` in an interleaving that is not known.
@@ -254,7 +258,7 @@ pub fn failure_in_unknown_interleaving<'a>(
 }
 
 /// Returns the failure of the calls to pick from after a script, whose commands are all commands of the item.
-pub fn script_failure<'a>(
+pub fn command_callback_failure_after_script<'a>(
     alloc: Global,
     scene: &Scene<'a>,
     fault: Fault,
@@ -263,7 +267,7 @@ pub fn script_failure<'a>(
     let states = states_along_calls(alloc, scene, calls)?;
     let states = states.as_slice();
     let expression = match states.get(calls.len()) {
-        Some(state) => command_expression(alloc, scene, state)?,
+        Some(state) => command_callback_expression(alloc, scene, state)?,
         None => None,
     };
     Ok(Failure {

@@ -2,7 +2,7 @@
 ghost use Rattle.std.specs.Prelude.{◌≡◌};
 ghost use Rattle.pst_judge.specs.Judgement.{HistoryMatches, IsJudgement};
 
-use crate::bounded::Bounded;
+use crate::bounded::StepLimitedCallbacks;
 use crate::drawing::search_as_graphviz_text;
 use crate::explanation::MOST_STEPS;
 use crate::path::calls_of_highlighted_interleaving;
@@ -57,7 +57,7 @@ pub fn draw_search_as_graphviz<C: Callbacks>(
     requires judged { IsJudgement (C.model callbacks.now) run.now judged.now }
 {
     let scene = scene_of_run(alloc, typed, run)?;
-    let bounded = Bounded::new(callbacks, MOST_STEPS);
+    let bounded = StepLimitedCallbacks::new(callbacks, MOST_STEPS);
     let shown = bounded.none_if_out_of_steps(calls_of_highlighted_interleaving(
         &bounded, alloc, &scene, judged,
     ))?;

@@ -31,7 +31,11 @@ pub fn add_graphviz_quoted_text(out: &mut Vec<u8>, text: &[u8]) -> Result<(), Al
 }
 
 /// Adds a label, cut in the middle if it is long.
-pub fn add_graphviz_label(out: &mut Vec<u8>, alloc: Global, text: &[u8]) -> Result<(), AllocError> {
+pub fn add_graphviz_label_cut_if_long(
+    out: &mut Vec<u8>,
+    alloc: Global,
+    text: &[u8],
+) -> Result<(), AllocError> {
     let text = cut_in_middle(alloc, text, MOST_BYTES)?;
     add_str(out, "label=")?;
     add_graphviz_quoted_text(out, text.as_slice())

@@ -32,17 +32,17 @@ mod walk_text;
 mod walks;
 
 pub use allowing::WrongAnswer;
-pub use bounded::Bounded;
-pub use breaking::{BrokenReply, explain_broken_run};
+pub use bounded::StepLimitedCallbacks;
+pub use breaking::{CallWithBrokenReply, broken_reply_sentence_of_run};
 pub use cores::{Core, CoreAnswer};
-pub use explanation::{Explanation, Reason, explain_item};
-pub use failures::{Evaluated, Expression, FailingPart, Failure};
+pub use explanation::{Explanation, JudgementReason, explain_item};
+pub use failures::{ExpressionWithFailingPart, ExpressionWithNameValues, FailingPart, Failure};
 pub use graph::draw_search_as_graphviz;
 pub use places::{TreePlace, tree_places_in_input};
 pub use position::Position;
 pub use scripts::explain_fault_in_generation;
-pub use search::{Move, Search, Target, build_search_graph_if_small};
+pub use search::{GraphMove, MoveTarget, SearchGraph, build_search_graph_if_small};
 pub use text::{
     append_colored_explanation_text, append_explanation_text, explanation_text_without_heading,
 };
-pub use walks::{BlockedCall, Step, Walk};
+pub use walks::{BlockedCall, InterleavingStates, InterleavingStep};

@@ -4,7 +4,7 @@ use std::alloc::{AllocError, Global};
 
 /// What the bytes of a comment or a text are part of.
 #[derive(Clone, Copy, Debug, Drop, PartialEq, Eq)]
-enum Mode {
+enum LexerMode {
     /// Between trees or in a word.
     Plain,
     /// In a text.
@@ -16,18 +16,18 @@ enum Mode {
 }
 
 /// Returns the mode after `byte` of a text or a comment.
-fn text_or_comment_mode_after_byte(mode: Mode, byte: u8) -> Mode {
+fn text_or_comment_mode_after_byte(mode: LexerMode, byte: u8) -> LexerMode {
     match mode {
-        Mode::Plain => Mode::Plain,
-        Mode::Quoted => match byte {
-            b'"' => Mode::Plain,
-            b'\\' => Mode::Escaped,
-            _ => Mode::Quoted,
+        LexerMode::Plain => LexerMode::Plain,
+        LexerMode::Quoted => match byte {
+            b'"' => LexerMode::Plain,
+            b'\\' => LexerMode::Escaped,
+            _ => LexerMode::Quoted,
         },
-        Mode::Escaped => Mode::Quoted,
-        Mode::Comment => match byte {
-            b'\n' => Mode::Plain,
-            _ => Mode::Comment,
+        LexerMode::Escaped => LexerMode::Quoted,
+        LexerMode::Comment => match byte {
+            b'\n' => LexerMode::Plain,
+            _ => LexerMode::Comment,
         },
     }
 }
@@ -35,7 +35,7 @@ fn text_or_comment_mode_after_byte(mode: Mode, byte: u8) -> Mode {
 /// Returns the line, from 1, on which each top-level node begins. The file must have no fault.
 pub fn tree_start_lines(alloc: Global, bytes: &[u8]) -> Result<Vec<usize>, AllocError> {
     let mut lines = Vec::new(alloc);
-    let mut mode = Mode::Plain;
+    let mut mode = LexerMode::Plain;
     let mut line = 1usize;
     let mut open = 0usize;
     for byte in bytes {
@@ -44,7 +44,7 @@ pub fn tree_start_lines(alloc: Global, bytes: &[u8]) -> Result<Vec<usize>, Alloc
             line = line.saturating_add(1);
         }
         match mode {
-            Mode::Plain => match byte {
+            LexerMode::Plain => match byte {
                 b'(' => {
                     if open == 0 {
                         lines.push(line)?;
@@ -52,8 +52,8 @@ pub fn tree_start_lines(alloc: Global, bytes: &[u8]) -> Result<Vec<usize>, Alloc
                     open = open.saturating_add(1);
                 }
                 b')' => open = open.saturating_sub(1),
-                b'"' => mode = Mode::Quoted,
-                b';' => mode = Mode::Comment,
+                b'"' => mode = LexerMode::Quoted,
+                b';' => mode = LexerMode::Comment,
                 _ => {}
             },
             other => mode = text_or_comment_mode_after_byte(other, byte),

@@ -77,7 +77,7 @@ fn longest_branch_length(scene: &Scene<'_>) -> usize {
 }
 
 /// Adds the branches side by side, or one below another if columns would be too narrow.
-fn add_branches_in_columns(
+fn add_branches_in_columns_or_stacked(
     page: &mut Page,
     alloc: Global,
     scene: &Scene<'_>,
@@ -104,6 +104,6 @@ pub fn add_marked_run_text(
     marked: &[u32],
 ) -> Result<(), AllocError> {
     add_case_part_text(page, alloc, scene, marked, scene.calls.prefix.as_slice())?;
-    add_branches_in_columns(page, alloc, scene, marked)?;
+    add_branches_in_columns_or_stacked(page, alloc, scene, marked)?;
     add_case_part_text(page, alloc, scene, marked, scene.calls.suffix.as_slice())
 }

@@ -43,7 +43,7 @@ fn calls_before_fault<'a>(
 
 /// The commands of a verdict's interleaving: of the one that explains or, as far as their postconditions are true, of
 /// the first that faults or of the one that gets furthest.
-fn calls_of_verdict_interleaving<'a, C: Callbacks>(
+fn calls_in_verdict_order_until_failure<'a, C: Callbacks>(
     callbacks: &C,
     alloc: Global,
     scene: &Scene<'a>,
@@ -102,7 +102,7 @@ pub fn calls_of_highlighted_interleaving<'a, C: Callbacks>(
 {
     match judged {
         Judged::Verdict(verdict) => match &scene.run.history {
-            Some(history) => calls_of_verdict_interleaving(
+            Some(history) => calls_in_verdict_order_until_failure(
                 callbacks, alloc, scene, history, verdict,
             ),
             None => Ok(Vec::new(alloc)),

@@ -17,7 +17,7 @@ pub struct TreePlace<'a> {
 
 impl<'a> TreePlace<'a> {
     /// Adds the place in words: `line 3`, or `FILE line 3` if the input has several files.
-    pub(crate) fn add_to(&self, text: &mut String) -> Result<(), AllocError> {
+    pub(crate) fn append_place_text(&self, text: &mut String) -> Result<(), AllocError> {
         let line = self.line;
         match self.file {
             Some(name) if self.has_others => write!(text, "{name} line {line}"),
@@ -28,7 +28,7 @@ impl<'a> TreePlace<'a> {
     /// The place in words: `line 3`, or `FILE line 3` if the input has several files.
     pub fn text(&self, alloc: Global) -> Result<String, AllocError> {
         let mut text = String::new(alloc);
-        self.add_to(&mut text)?;
+        self.append_place_text(&mut text)?;
         Ok(text)
     }
 }
@@ -45,7 +45,7 @@ fn count_input_lines_of_file(file: &SourceFile<'_>) -> usize {
 }
 
 /// Returns how many lines of the text of an input are lines of each file. One file has all lines.
-fn count_input_lines_of_each_file(
+fn line_counts_of_files_or_max_for_one(
     alloc: Global,
     files: &[SourceFile<'_>],
 ) -> Result<Vec<usize>, AllocError> {
@@ -93,7 +93,7 @@ pub fn tree_places_in_input<'a>(
     files: &[SourceFile<'a>],
     text: &[u8],
 ) -> Result<Vec<TreePlace<'a>>, AllocError> {
-    let counts = count_input_lines_of_each_file(alloc, files)?;
+    let counts = line_counts_of_files_or_max_for_one(alloc, files)?;
     let lines = tree_start_lines(alloc, text)?;
     let mut places = Vec::new(alloc);
     for line in &lines {

@@ -90,7 +90,7 @@ impl Position {
     }
 
     /// The next command of each branch.
-    fn next_of_branches<'a>(
+    fn next_calls_of_branches<'a>(
         &self,
         alloc: Global,
         scene: &Scene<'a>,
@@ -123,7 +123,7 @@ impl Position {
             one.push(call)?;
             return Ok(one);
         }
-        let next = self.next_of_branches(alloc, scene)?;
+        let next = self.next_calls_of_branches(alloc, scene)?;
         if !next.is_empty() {
             return Ok(next);
         }

@@ -1,7 +1,7 @@
 //! Scripts in which a callback faults.
 
 use crate::failure_text::add_failure_explanation_text;
-use crate::failures::{failure_at_fault_place, script_failure};
+use crate::failures::{command_callback_failure_after_script, failure_at_fault_place};
 use pst_case::{Case, CaseFaultKind, Command, Run, shape};
 use pst_eval::{Callback, FaultPlace};
 use pst_model::Typed;
@@ -51,7 +51,7 @@ pub fn explain_fault_in_generation(
     };
     let scene = scene_of_run(alloc, typed, &run)?;
     let failure = match place.callback {
-        Callback::Command => script_failure(alloc, &scene, place.fault)?,
+        Callback::Command => command_callback_failure_after_script(alloc, &scene, place.fault)?,
         _ => failure_at_fault_place(alloc, &scene, &[], place)?,
     };
     let mut page = Page::new(alloc, width);

@@ -9,7 +9,7 @@ const MOST_POSITIONS: usize = 300;
 
 /// The target of a command.
 #[derive(Drop)]
-pub enum Target<'a> {
+pub enum MoveTarget<'a> {
     /// The command leads to the position with this number.
     Position(usize),
     /// The command cannot come next there.
@@ -18,23 +18,23 @@ pub enum Target<'a> {
 
 /// A command that the search tries at a position.
 #[derive(Drop)]
-pub struct Move<'a> {
+pub struct GraphMove<'a> {
     /// The number of the position.
     pub from: usize,
     /// The command.
     pub call: Call<'a>,
     /// The target of the command.
-    pub target: Target<'a>,
+    pub target: MoveTarget<'a>,
 }
 
 /// A search, or the beginning of one.
 #[derive(Drop)]
-pub struct Search<'a> {
+pub struct SearchGraph<'a> {
     /// The positions that it met. The first is the one before all commands; the list is empty if the initial state
     /// faults.
     pub positions: Vec<Position>,
     /// The commands that it tried.
-    pub moves: Vec<Move<'a>>,
+    pub moves: Vec<GraphMove<'a>>,
     /// The numbers of the moves along the displayed interleaving.
     pub shown: Vec<usize>,
 }
@@ -50,19 +50,23 @@ fn index_of_position(positions: &[Position], wanted: &Position) -> Option<usize>
 }
 
 /// The number of the move that a command makes at a position, and the position that it leads to.
-fn find_move_of_call(moves: &[Move<'_>], from: usize, command: u32) -> Option<(usize, usize)> {
+fn move_and_target_unless_dead_end(
+    moves: &[GraphMove<'_>],
+    from: usize,
+    command: u32,
+) -> Option<(usize, usize)> {
     for (number, step) in moves.iter().enumerate() {
         if step.from == from && step.call.number == command {
             return match step.target {
-                Target::Position(to) => Some((number, to)),
-                Target::DeadEnd(_) => None,
+                MoveTarget::Position(to) => Some((number, to)),
+                MoveTarget::DeadEnd(_) => None,
             };
         }
     }
     None
 }
 
-impl<'a> Search<'a> {
+impl<'a> SearchGraph<'a> {
     /// The number of the position. Adds the position if it is new.
     fn find_or_add_position(&mut self, position: Position) -> Result<usize, AllocError> {
         if let Some(number) = index_of_position(self.positions.as_slice(), &position) {
@@ -74,7 +78,7 @@ impl<'a> Search<'a> {
     }
 
     /// Tries a command at position `from`.
-    fn expand_call_at_position(
+    fn add_move_of_call(
         &mut self,
         alloc: Global,
         scene: &Scene<'a>,
@@ -85,11 +89,11 @@ impl<'a> Search<'a> {
         let target = match outcome_of_call_on_state(alloc, scene, &position.state, &call)? {
             Outcome::Leads(state) => {
                 let next = position.after_call(alloc, scene, call.part, state)?;
-                Target::Position(self.find_or_add_position(next)?)
+                MoveTarget::Position(self.find_or_add_position(next)?)
             }
-            Outcome::Refused(why) => Target::DeadEnd(why),
+            Outcome::Refused(why) => MoveTarget::DeadEnd(why),
         };
-        self.moves.push(Move { from, call, target })?;
+        self.moves.push(GraphMove { from, call, target })?;
         Ok(())
     }
 
@@ -106,13 +110,13 @@ impl<'a> Search<'a> {
         let position = position.copied(alloc)?;
         let next = position.next_calls(alloc, scene)?;
         for call in &next {
-            self.expand_call_at_position(alloc, scene, from, &position, *call)?;
+            self.add_move_of_call(alloc, scene, from, &position, *call)?;
         }
         Ok(())
     }
 
     /// Expands the positions along the commands, and notes their moves.
-    fn expand_positions_along_calls(
+    fn expand_and_mark_shown_along_calls(
         &mut self,
         alloc: Global,
         scene: &Scene<'a>,
@@ -121,8 +125,11 @@ impl<'a> Search<'a> {
         let mut at = 0usize;
         self.expand_position(alloc, scene, at)?;
         for call in calls {
-            let Some((number, next)) = find_move_of_call(self.moves.as_slice(), at, call.number)
-            else {
+            let Some((number, next)) = move_and_target_unless_dead_end(
+                self.moves.as_slice(),
+                at,
+                call.number,
+            ) else {
                 return Ok(());
             };
             self.shown.push(number)?;
@@ -156,7 +163,7 @@ impl<'a> Search<'a> {
     }
 
     /// Expands those of the first `MOST_POSITIONS` positions that have no moves yet.
-    fn expand_remaining_positions(
+    fn expand_remaining_positions_up_to_limit(
         &mut self,
         alloc: Global,
         scene: &Scene<'a>,
@@ -175,8 +182,8 @@ fn build_search_along_calls<'a>(
     alloc: Global,
     scene: &Scene<'a>,
     shown: &[Call<'_>],
-) -> Result<Search<'a>, AllocError> {
-    let mut search = Search {
+) -> Result<SearchGraph<'a>, AllocError> {
+    let mut search = SearchGraph {
         positions: Vec::new(alloc),
         moves: Vec::new(alloc),
         shown: Vec::new(alloc),
@@ -186,7 +193,7 @@ fn build_search_along_calls<'a>(
     };
     let first = Position::first(alloc, scene, state)?;
     search.positions.push(first)?;
-    search.expand_positions_along_calls(alloc, scene, shown)?;
+    search.expand_and_mark_shown_along_calls(alloc, scene, shown)?;
     Ok(search)
 }
 
@@ -198,7 +205,7 @@ fn number_among_kept_positions(kept: &[usize], number: usize) -> usize {
 /// The numbers of the positions along the displayed interleaving.
 fn positions_along_shown_interleaving(
     alloc: Global,
-    search: &Search<'_>,
+    search: &SearchGraph<'_>,
 ) -> Result<Vec<usize>, AllocError> {
     let mut numbers = Vec::new(alloc);
     if !search.positions.is_empty() {
@@ -206,7 +213,7 @@ fn positions_along_shown_interleaving(
     }
     for number in &search.shown {
         if let Some(step) = search.moves.get(*number) {
-            if let Target::Position(to) = step.target {
+            if let MoveTarget::Position(to) = step.target {
                 numbers.push(to)?;
             }
         }
@@ -214,31 +221,31 @@ fn positions_along_shown_interleaving(
     Ok(numbers)
 }
 
-impl<'a> Search<'a> {
+impl<'a> SearchGraph<'a> {
     /// Adds a move of a larger search, of which the positions `kept` stay, if the move is along the displayed
     /// interleaving or leads to a dead end.
-    fn keep_shown_or_dead_end_move(
+    fn add_move_if_shown_or_dead_end(
         &mut self,
-        step: Move<'a>,
+        step: GraphMove<'a>,
         is_shown: bool,
         kept: &[usize],
     ) -> Result<(), AllocError> {
-        let Move { from, call, target } = step;
+        let GraphMove { from, call, target } = step;
         if !kept.contains(&from) {
             return Ok(());
         }
         let from = number_among_kept_positions(kept, from);
         let target = match target {
-            Target::Position(to) if is_shown => Target::Position(number_among_kept_positions(
-                kept, to,
-            )),
-            Target::Position(_) => return Ok(()),
-            Target::DeadEnd(why) => Target::DeadEnd(why),
+            MoveTarget::Position(to) if is_shown => MoveTarget::Position(
+                number_among_kept_positions(kept, to),
+            ),
+            MoveTarget::Position(_) => return Ok(()),
+            MoveTarget::DeadEnd(why) => MoveTarget::DeadEnd(why),
         };
         if is_shown {
             self.shown.push(self.moves.len())?;
         }
-        self.moves.push(Move { from, call, target })?;
+        self.moves.push(GraphMove { from, call, target })?;
         Ok(())
     }
 }
@@ -248,15 +255,15 @@ pub fn build_search_graph_of_interleaving<'a>(
     alloc: Global,
     scene: &Scene<'a>,
     shown: &[Call<'_>],
-) -> Result<Search<'a>, AllocError> {
+) -> Result<SearchGraph<'a>, AllocError> {
     let search = build_search_along_calls(alloc, scene, shown)?;
     let kept = positions_along_shown_interleaving(alloc, &search)?;
-    let mut path = Search {
+    let mut path = SearchGraph {
         positions: Vec::new(alloc),
         moves: Vec::new(alloc),
         shown: Vec::new(alloc),
     };
-    let Search {
+    let SearchGraph {
         positions,
         moves,
         shown,
@@ -267,7 +274,7 @@ pub fn build_search_graph_of_interleaving<'a>(
         }
     }
     for (number, step) in moves.into_iter().enumerate() {
-        path.keep_shown_or_dead_end_move(step, shown.contains(&number), kept.as_slice())?;
+        path.add_move_if_shown_or_dead_end(step, shown.contains(&number), kept.as_slice())?;
     }
     Ok(path)
 }
@@ -278,9 +285,9 @@ pub fn build_truncated_search_graph<'a>(
     alloc: Global,
     scene: &Scene<'a>,
     shown: &[Call<'_>],
-) -> Result<Search<'a>, AllocError> {
+) -> Result<SearchGraph<'a>, AllocError> {
     let mut search = build_search_along_calls(alloc, scene, shown)?;
-    search.expand_remaining_positions(alloc, scene)?;
+    search.expand_remaining_positions_up_to_limit(alloc, scene)?;
     Ok(search)
 }
 
@@ -291,7 +298,7 @@ pub fn build_search_graph_if_small<'a>(
     scene: &Scene<'a>,
     shown: &[Call<'_>],
     most: usize,
-) -> Result<Option<Search<'a>>, AllocError> {
+) -> Result<Option<SearchGraph<'a>>, AllocError> {
     let mut search = build_search_along_calls(alloc, scene, shown)?;
     if search.expand_all_within_limit(alloc, scene, most)? {
         Ok(Some(search))

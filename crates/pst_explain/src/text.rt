@@ -1,14 +1,14 @@
 //! The text of explanations.
 
-use crate::breaking::{BrokenReply, broken_reply_sentence};
+use crate::breaking::{CallWithBrokenReply, broken_reply_sentence};
 use crate::core_text::add_core_explanation_text;
-use crate::explanation::{Explanation, Reason};
+use crate::explanation::{Explanation, JudgementReason};
 use crate::failure_text::add_failure_explanation_text;
 use crate::parts::add_marked_run_text;
 use crate::walk_text::{
     add_blocked_calls_text, add_explaining_interleaving_text, add_states_along_walk_text,
 };
-use crate::walks::Walk;
+use crate::walks::InterleavingStates;
 use pst_judge::{Judged, Verdict};
 use pst_model::Source;
 use pst_scene::{
@@ -33,7 +33,7 @@ fn add_explanation_heading(
     let mut heading = String::new(alloc);
     write!(heading, "{} {} (", explanation.number, explanation.judged)?;
     if let Some(place) = &explanation.place {
-        place.add_to(&mut heading)?;
+        place.append_place_text(&mut heading)?;
     }
     heading.push_str(")")?;
     let style = judgement_style(explanation.judged);
@@ -86,7 +86,7 @@ fn add_furthest_interleaving_text(
     alloc: Global,
     model: &Source,
     far: usize,
-    walk: Option<&Walk<'_>>,
+    walk: Option<&InterleavingStates<'_>>,
 ) -> Result<(), AllocError> {
     let Some(walk) = walk else {
         return page.add_sentence(alloc, 2, NO_FURTHEST.as_bytes());
@@ -102,7 +102,7 @@ fn add_broken_reply_and_run_text(
     page: &mut Page,
     alloc: Global,
     scene: &Scene<'_>,
-    broken: &BrokenReply<'_>,
+    broken: &CallWithBrokenReply<'_>,
 ) -> Result<(), AllocError> {
     if let Some(mut sentence) = broken_reply_sentence(alloc, scene.model, broken)? {
         add_str(&mut sentence, ".")?;
@@ -117,11 +117,16 @@ fn add_judgement_reason_text(
     page: &mut Page,
     alloc: Global,
     scene: &Scene<'_>,
-    reason: &Reason<'_>,
+    reason: &JudgementReason<'_>,
 ) -> Result<(), AllocError> {
     match reason {
-        Reason::Explained(walk) => add_explaining_interleaving_text(page, alloc, scene.model, walk),
-        Reason::Unexplained {
+        JudgementReason::Explained(walk) => add_explaining_interleaving_text(
+            page,
+            alloc,
+            scene.model,
+            walk,
+        ),
+        JudgementReason::Unexplained {
             far,
             core,
             furthest,
@@ -129,13 +134,17 @@ fn add_judgement_reason_text(
             add_core_explanation_text(page, alloc, scene, core.as_ref())?;
             add_furthest_interleaving_text(page, alloc, scene.model, *far, furthest.as_ref())
         }
-        Reason::Faulted { failure, core } => {
+        JudgementReason::Faulted { failure, core } => {
             add_failure_explanation_text(page, alloc, scene, failure)?;
             add_core_explanation_text(page, alloc, scene, core.as_ref())
         }
-        Reason::Broken(broken) => add_broken_reply_and_run_text(page, alloc, scene, broken),
-        Reason::Invalid(failure) => add_failure_explanation_text(page, alloc, scene, failure),
-        Reason::Nothing => Ok(()),
+        JudgementReason::Broken(broken) => add_broken_reply_and_run_text(
+            page, alloc, scene, broken,
+        ),
+        JudgementReason::Invalid(failure) => add_failure_explanation_text(
+            page, alloc, scene, failure,
+        ),
+        JudgementReason::Nothing => Ok(()),
     }
 }
 

@@ -1,6 +1,6 @@
 //! The text of interleavings.
 
-use crate::walks::{BlockedCall, Walk};
+use crate::walks::{BlockedCall, InterleavingStates};
 use pst_model::Source;
 use pst_scene::{
     Call, Page, PreAnswer, Style, Table, add_str, add_value_spelling, dead_end_text,
@@ -29,7 +29,7 @@ pub fn add_states_along_walk_text(
     page: &mut Page,
     alloc: Global,
     model: &Source,
-    walk: &Walk<'_>,
+    walk: &InterleavingStates<'_>,
 ) -> Result<(), AllocError> {
     let Some(start) = &walk.start else {
         return Ok(());
@@ -85,7 +85,7 @@ pub fn add_explaining_interleaving_text(
     page: &mut Page,
     alloc: Global,
     model: &Source,
-    walk: &Walk<'_>,
+    walk: &InterleavingStates<'_>,
 ) -> Result<(), AllocError> {
     add_states_along_walk_text(page, alloc, model, walk)?;
     for step in &walk.steps {

@@ -18,7 +18,7 @@ use std::alloc::{AllocError, Global};
 
 /// A command of an interleaving.
 #[derive(Drop)]
-pub struct Step<'a> {
+pub struct InterleavingStep<'a> {
     pub call: Call<'a>,
     /// The result of its precondition on the state before it.
     pub precondition: PreAnswer,
@@ -35,19 +35,19 @@ pub struct BlockedCall<'a> {
 
 /// An interleaving, up to the first command that cannot come next.
 #[derive(Drop)]
-pub struct Walk<'a> {
+pub struct InterleavingStates<'a> {
     /// The branches, from 0, of the letters that name the interleaving.
     pub word: Vec<usize>,
     /// The initial state; `None` if `init` faults.
     pub start: Option<Value>,
     /// The commands in their order.
-    pub steps: Vec<Step<'a>>,
+    pub steps: Vec<InterleavingStep<'a>>,
     /// Each command that may come after the last step and cannot.
     pub stopped: Vec<BlockedCall<'a>>,
 }
 
-impl<'a> Walk<'a> {
-    /// The state after the last step.
+impl<'a> InterleavingStates<'a> {
+    /// The state after the last step, or the initial state if there is no step. `None` if there is neither.
     fn last_state(&self) -> Option<&Value> {
         match self.steps.as_slice().last() {
             Some(step) => Some(&step.state),
@@ -60,8 +60,11 @@ impl<'a> Walk<'a> {
 }
 
 /// Returns the walk of the interleaving `word`, without any state.
-pub fn walk_without_states<'a>(alloc: Global, word: &[usize]) -> Result<Walk<'a>, AllocError> {
-    Ok(Walk {
+pub fn walk_without_states<'a>(
+    alloc: Global,
+    word: &[usize],
+) -> Result<InterleavingStates<'a>, AllocError> {
+    Ok(InterleavingStates {
         word: Vec::from_slice(alloc, word)?,
         start: None,
         steps: Vec::new(alloc),
@@ -76,7 +79,7 @@ pub fn walk_along_calls<'a>(
     word: &[usize],
     calls: &[Call<'a>],
     states: &[Value],
-) -> Result<Walk<'a>, AllocError> {
+) -> Result<InterleavingStates<'a>, AllocError> {
     let mut walk = walk_without_states(alloc, word)?;
     let Some((first, others)) = states.split_first() else {
         return Ok(walk);
@@ -84,7 +87,7 @@ pub fn walk_along_calls<'a>(
     walk.start = Some(first.copy(alloc)?);
     let mut before = first;
     for (call, state) in calls.iter().zip(others) {
-        walk.steps.push(Step {
+        walk.steps.push(InterleavingStep {
             call: *call,
             precondition: evaluate_precondition(alloc, scene, before, call)?,
             state: state.copy(alloc)?,
@@ -131,7 +134,7 @@ fn walk_until_condition_fails<'a, C: Callbacks, A: Condition>(
     scene: &Scene<'a>,
     history: &History,
     word: &[usize],
-) -> Result<Walk<'a>, AllocError>
+) -> Result<InterleavingStates<'a>, AllocError>
     requires shaped { scene.now.run.now.shaped.model ≡ C.model callbacks.now }
     requires matches { matches (C.model callbacks.now) scene.now.run.now.shaped.case history.now ≡ true }
     requires answered { first_broken 1 (recorded history.now) ≡ None }
@@ -150,7 +153,7 @@ pub fn explaining_walk<'a, C: Callbacks>(
     scene: &Scene<'a>,
     history: &History,
     word: &[usize],
-) -> Result<Walk<'a>, AllocError>
+) -> Result<InterleavingStates<'a>, AllocError>
     requires shaped { scene.now.run.now.shaped.model ≡ C.model callbacks.now }
     requires matches { matches (C.model callbacks.now) scene.now.run.now.shaped.case history.now ≡ true }
     requires answered { first_broken 1 (recorded history.now) ≡ None }
@@ -163,7 +166,7 @@ pub fn explaining_walk<'a, C: Callbacks>(
 }
 
 /// Returns each of the commands `next`, with the reason why its postcondition is not true on `state`.
-fn blocked_calls<'a>(
+fn calls_blocked_by_postcondition<'a>(
     alloc: Global,
     scene: &Scene<'a>,
     next: &[Call<'a>],
@@ -184,7 +187,7 @@ pub fn furthest_walk<'a, C: Callbacks>(
     scene: &Scene<'a>,
     history: &History,
     far: usize,
-) -> Result<Walk<'a>, AllocError>
+) -> Result<InterleavingStates<'a>, AllocError>
     requires shaped { scene.now.run.now.shaped.model ≡ C.model callbacks.now }
     requires matches { matches (C.model callbacks.now) scene.now.run.now.shaped.case history.now ≡ true }
     requires answered { first_broken 1 (recorded history.now) ≡ None }
@@ -201,7 +204,7 @@ pub fn furthest_walk<'a, C: Callbacks>(
     )?;
     let next = calls_that_may_come_next(alloc, &scene.calls, word.as_slice(), far)?;
     let stopped = match walk.last_state() {
-        Some(state) => blocked_calls(alloc, scene, next.as_slice(), state)?,
+        Some(state) => calls_blocked_by_postcondition(alloc, scene, next.as_slice(), state)?,
         None => Vec::new(alloc),
     };
     walk.stopped = stopped;

@@ -6,7 +6,7 @@ ghost use Rattle.pst_gen.specs.Generated.{IsSplit, NoneAbove, IsGenerated, case_
 ghost use Rattle.pst_gen.specs.Split.{most};
 ghost use Rattle.pst_value.specs.declared.value.Value.{Value as AnyValue};
 
-use crate::accepted::valid_or_none;
+use crate::accepted::valid_case_if_accepted;
 use crate::script::script;
 use crate::split::split_case;
 use pst_case::Command;
@@ -53,7 +53,7 @@ fn longest_split<C: Callbacks>(
     ensures split { IfOk result (λ v. IsSplit typed.now branches word before.now suffix.now v.case) }
 {
     let case = split_case(alloc, branches, word, before, suffix, parallel)?;
-    match valid_or_none(callbacks, alloc, typed, case)? {
+    match valid_case_if_accepted(callbacks, alloc, typed, case)? {
         Some(valid) => Ok(valid),
         None => {
             if parallel == 0 {

@@ -77,7 +77,7 @@ fn unescaped_json_byte(character: char) -> Option<u8>
 /// Returns `json` with an escape for each character that `unescaped_json_byte` excludes. Such characters occur only in texts,
 /// which may contain escapes.
 #[tactic(auto, using(crate::proofs::PageTexts::empty_page))]
-pub fn escape_non_ascii(alloc: Global, json: &str) -> Result<Vec<u8>, AllocError>
+pub fn page_safe_ascii_json(alloc: Global, json: &str) -> Result<Vec<u8>, AllocError>
     ensures { IfOk result (λ text. IsPageText text.items) }
 {
     let mut out = Vec::new(alloc);

@@ -11,7 +11,7 @@ use pst_model::Source;
 use std::alloc::{AllocError, Global};
 
 /// Writes the member `why`: why an answer is wrong in an interleaving, and this interleaving.
-fn write_json_wrong_answer(
+fn write_json_why_answer_is_wrong(
     writer: &mut Writer<Global>,
     alloc: Global,
     model: &Source,
@@ -57,7 +57,7 @@ fn write_json_core_answer(
     writer.begin_object()?;
     write_json_call_member(writer, alloc, &answer.call)?;
     if let Some(wrong) = &answer.wrong {
-        write_json_wrong_answer(writer, alloc, model, wrong)?;
+        write_json_why_answer_is_wrong(writer, alloc, model, wrong)?;
     }
     if !answer.allowed.values.is_empty() {
         write_json_allowed_answers(writer, alloc, model, answer)?;

@@ -2,11 +2,11 @@
 
 use crate::calls::{write_json_call_id, write_json_call_member};
 use crate::writing::{
-    write_json_byte_string, write_json_expression_member, write_json_spelling,
+    write_json_byte_string, write_json_expression_member, write_json_spelling_cut_if_long,
     write_json_text_member, write_json_type,
 };
 use json::Writer;
-use pst_explain::{BrokenReply, Evaluated, FailingPart, Failure};
+use pst_explain::{CallWithBrokenReply, ExpressionWithNameValues, FailingPart, Failure};
 use pst_model::Source;
 use pst_scene::value_text;
 use std::alloc::{AllocError, Global};
@@ -16,7 +16,7 @@ fn write_json_evaluated_expression(
     writer: &mut Writer<Global>,
     alloc: Global,
     model: &Source,
-    evaluated: &Evaluated<'_>,
+    evaluated: &ExpressionWithNameValues<'_>,
 ) -> Result<(), AllocError> {
     write_json_expression_member(writer, alloc, "expr", evaluated.expr)?;
     writer.key("names")?;
@@ -25,7 +25,7 @@ fn write_json_evaluated_expression(
         let value = value_text(alloc, model, &binding.value)?;
         writer.begin_array()?;
         write_json_byte_string(writer, alloc, binding.name.as_slice())?;
-        write_json_spelling(writer, alloc, value.as_slice())?;
+        write_json_spelling_cut_if_long(writer, alloc, value.as_slice())?;
         writer.end_array()?;
     }
     writer.end_array()
@@ -92,7 +92,7 @@ pub fn write_json_failure(
 pub fn write_json_broken_reply(
     writer: &mut Writer<Global>,
     alloc: Global,
-    broken: &BrokenReply<'_>,
+    broken: &CallWithBrokenReply<'_>,
 ) -> Result<(), AllocError> {
     writer.key("broken")?;
     writer.begin_object()?;

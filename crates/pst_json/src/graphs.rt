@@ -6,7 +6,8 @@ use crate::values::write_json_state_member;
 use crate::writing::{write_json_bool_member, write_json_number_member};
 use json::Writer;
 use pst_explain::{
-    Explanation, Move, Position, Reason, Search, Target, build_search_graph_if_small,
+    Explanation, GraphMove, JudgementReason, MoveTarget, Position, SearchGraph,
+    build_search_graph_if_small,
 };
 use pst_model::Source;
 use pst_scene::{Call, Scene};
@@ -37,11 +38,14 @@ fn count_interleavings(scene: &Scene<'_>) -> u64 {
     orders
 }
 
-/// Returns whether the search of an item is written: only if the item is neither explained nor valid nor broken.
-fn has_json_search_graph(reason: &Reason<'_>) -> bool {
+/// Returns whether the counts of positions and moves of a search, and the member `graph`, may be written: only if the
+/// item is neither explained nor valid nor broken. The member `search` is always written.
+fn can_have_json_search_graph(reason: &JudgementReason<'_>) -> bool {
     matches!(
         reason,
-        Reason::Unexplained { .. } | Reason::Faulted { .. } | Reason::Invalid(_)
+        JudgementReason::Unexplained { .. }
+            | JudgementReason::Faulted { .. }
+            | JudgementReason::Invalid(_)
     )
 }
 
@@ -60,11 +64,11 @@ fn calls_of_explanation_walk<'a>(
 }
 
 /// The search of an item that is written, if it has one that is small and an initial state.
-fn search_for_json_graph<'a>(
+fn search_graph_to_write_if_small<'a>(
     alloc: Global,
     explanation: &Explanation<'a>,
-) -> Result<Option<Search<'a>>, AllocError> {
-    if !has_json_search_graph(&explanation.reason) {
+) -> Result<Option<SearchGraph<'a>>, AllocError> {
+    if !can_have_json_search_graph(&explanation.reason) {
         return Ok(None);
     }
     let shown = calls_of_explanation_walk(alloc, explanation)?;
@@ -98,20 +102,20 @@ fn write_json_move(
     writer: &mut Writer<Global>,
     alloc: Global,
     model: &Source,
-    step: &Move<'_>,
+    step: &GraphMove<'_>,
     is_shown: bool,
 ) -> Result<(), AllocError> {
     writer.begin_object()?;
     write_json_number_member(writer, "from", step.from)?;
     write_json_call_member(writer, alloc, &step.call)?;
     match &step.target {
-        Target::Position(to) => {
+        MoveTarget::Position(to) => {
             write_json_number_member(writer, "to", *to)?;
             if is_shown {
                 write_json_bool_member(writer, "on", true)?;
             }
         }
-        Target::DeadEnd(why) => write_json_dead_end(writer, alloc, model, why)?,
+        MoveTarget::DeadEnd(why) => write_json_dead_end(writer, alloc, model, why)?,
     }
     writer.end_object()
 }
@@ -121,7 +125,7 @@ fn write_json_graph(
     writer: &mut Writer<Global>,
     alloc: Global,
     model: &Source,
-    search: &Search<'_>,
+    search: &SearchGraph<'_>,
 ) -> Result<(), AllocError> {
     writer.key("graph")?;
     writer.begin_object()?;
@@ -142,12 +146,12 @@ fn write_json_graph(
 }
 
 /// Writes the member `search`, and `graph` if the search of the item is small and the item fails.
-pub fn write_json_search(
+pub fn write_json_search_and_graph_if_small(
     writer: &mut Writer<Global>,
     alloc: Global,
     explanation: &Explanation<'_>,
 ) -> Result<(), AllocError> {
-    let search = search_for_json_graph(alloc, explanation)?;
+    let search = search_graph_to_write_if_small(alloc, explanation)?;
     writer.key("search")?;
     writer.begin_object()?;
     writer.key("orders")?;

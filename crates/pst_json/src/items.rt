@@ -5,11 +5,11 @@ ghost use Rattle.pst_json.specs.Page.{IsPageText};
 use crate::calls::write_json_calls;
 use crate::cores::write_json_core;
 use crate::failures::{write_json_broken_reply, write_json_failure};
-use crate::graphs::write_json_search;
+use crate::graphs::write_json_search_and_graph_if_small;
 use crate::walks::write_json_walk;
 use crate::writing::{into_ascii_json, write_json_number_member, write_json_text_member};
 use json::Writer;
-use pst_explain::{Explanation, Reason, TreePlace};
+use pst_explain::{Explanation, JudgementReason, TreePlace};
 use pst_judge::{Judged, Verdict, Why};
 use std::alloc::{AllocError, Global};
 
@@ -60,9 +60,9 @@ fn write_json_item_head(
 }
 
 /// Writes the member `left_out`: the members that are not whole, because their search takes too many steps.
-fn write_json_left_out_members(
+fn write_json_left_out_names_if_any(
     writer: &mut Writer<Global>,
-    reason: &Reason<'_>,
+    reason: &JudgementReason<'_>,
 ) -> Result<(), AllocError> {
     if !reason.has_part_left_out() {
         return Ok(());
@@ -100,10 +100,10 @@ fn write_json_verdict_reason(
     if let Some(failure) = reason.failure() {
         write_json_failure(writer, alloc, model, failure)?;
     }
-    if let Reason::Broken(broken) = reason {
+    if let JudgementReason::Broken(broken) = reason {
         write_json_broken_reply(writer, alloc, broken)?;
     }
-    write_json_left_out_members(writer, reason)
+    write_json_left_out_names_if_any(writer, reason)
 }
 
 /// Returns the explanation of an item as a JSON object, without a line end. `trial` is the number of its trial, if it is a
@@ -122,7 +122,7 @@ fn item_json_with_optional_trial(
         write_json_number_member(&mut writer, "trial", trial)?;
     }
     write_json_verdict_reason(&mut writer, alloc, explanation)?;
-    write_json_search(&mut writer, alloc, explanation)?;
+    write_json_search_and_graph_if_small(&mut writer, alloc, explanation)?;
     writer.end_object()?;
     into_ascii_json(alloc, writer)
 }

@@ -2,7 +2,7 @@
 
 use crate::values::write_json_value_member;
 use crate::writing::{
-    write_json_expression_member, write_json_spelling, write_json_spelling_member,
+    write_json_expression_member, write_json_spelling_cut_if_long, write_json_spelling_member,
 };
 use json::Writer;
 use pst_model::Source;
@@ -22,8 +22,8 @@ fn write_json_compared_values(
 ) -> Result<(), AllocError> {
     writer.key("compares")?;
     writer.begin_array()?;
-    write_json_spelling(writer, alloc, value_text(alloc, model, first)?.as_slice())?;
-    write_json_spelling(writer, alloc, value_text(alloc, model, second)?.as_slice())?;
+    write_json_spelling_cut_if_long(writer, alloc, value_text(alloc, model, first)?.as_slice())?;
+    write_json_spelling_cut_if_long(writer, alloc, value_text(alloc, model, second)?.as_slice())?;
     writer.end_array()
 }
 

@@ -75,17 +75,17 @@ fn write_json_value(
         Value::Text(text) => writer.string(text.as_str()),
         Value::List(items) => {
             writer.begin_array()?;
-            write_json_array_items(writer, model, items.as_slice())
+            write_json_array_items_and_end(writer, model, items.as_slice())
         }
         Value::Tuple(parts) => {
             begin_json_object_with_array(writer, "tuple")?;
-            write_json_array_items(writer, model, parts.as_slice())?;
+            write_json_array_items_and_end(writer, model, parts.as_slice())?;
             writer.end_object()
         }
         Value::Map(keys, values) => {
             begin_json_object_with_array(writer, "map")?;
             let (keys, values) = (keys.get().as_slice(), values.get().as_slice());
-            write_json_map_entries(writer, model, keys, values)?;
+            write_json_map_entries_and_end(writer, model, keys, values)?;
             writer.end_object()
         }
         Value::Var(number) => write_json_variable(writer, *number),
@@ -99,7 +99,7 @@ fn write_json_value(
         Value::Call(operation, args) => {
             begin_json_object_with_array(writer, "call")?;
             write_json_operation_name(writer, model, *operation)?;
-            write_json_array_items(writer, model, args.as_slice())?;
+            write_json_array_items_and_end(writer, model, args.as_slice())?;
             writer.end_object()
         }
     }
@@ -107,7 +107,7 @@ fn write_json_value(
 
 /// Writes the items of an array, and its end.
 #[cycle(value)]
-fn write_json_array_items(
+fn write_json_array_items_and_end(
     writer: &mut Writer<Global>,
     model: &Source,
     items: &[Value],
@@ -120,7 +120,7 @@ fn write_json_array_items(
 
 /// Writes the entries of a map, up to the end of the shorter of `keys` and `values`, and the end of their array.
 #[cycle(value)]
-fn write_json_map_entries(
+fn write_json_map_entries_and_end(
     writer: &mut Writer<Global>,
     model: &Source,
     keys: &[Key],

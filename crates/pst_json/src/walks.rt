@@ -5,7 +5,9 @@ use crate::reasons::write_json_dead_end;
 use crate::values::write_json_state_member;
 use crate::writing::{write_json_byte_string, write_json_text_member};
 use json::Writer;
-use pst_explain::{BlockedCall, Explanation, Reason, Step, Walk};
+use pst_explain::{
+    BlockedCall, Explanation, InterleavingStates, InterleavingStep, JudgementReason,
+};
 use pst_model::Source;
 use pst_scene::{PreAnswer, add_interleaving_letters};
 use std::alloc::{AllocError, Global};
@@ -28,7 +30,7 @@ fn write_json_walk_step(
     writer: &mut Writer<Global>,
     alloc: Global,
     model: &Source,
-    step: &Step<'_>,
+    step: &InterleavingStep<'_>,
 ) -> Result<(), AllocError> {
     writer.begin_object()?;
     write_json_call_member(writer, alloc, &step.call)?;
@@ -55,11 +57,11 @@ fn write_json_blocked_call(
 }
 
 /// What the interleaving of a reason shows.
-fn json_walk_kind(reason: &Reason<'_>) -> &'static str {
+fn json_walk_kind(reason: &JudgementReason<'_>) -> &'static str {
     match reason {
-        Reason::Explained(_) => "explains",
-        Reason::Unexplained { .. } => "furthest",
-        Reason::Invalid(_) => "breaks",
+        JudgementReason::Explained(_) => "explains",
+        JudgementReason::Unexplained { .. } => "furthest",
+        JudgementReason::Invalid(_) => "breaks",
         _ => "faults",
     }
 }
@@ -84,7 +86,7 @@ pub fn write_json_walk(
     writer: &mut Writer<Global>,
     alloc: Global,
     explanation: &Explanation<'_>,
-    walk: &Walk<'_>,
+    walk: &InterleavingStates<'_>,
 ) -> Result<(), AllocError> {
     let model = explanation.scene.model;
     writer.key("walk")?;

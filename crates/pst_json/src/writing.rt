@@ -2,7 +2,7 @@
 ghost use Rattle.std.specs.Prelude.{IfOk};
 ghost use Rattle.pst_json.specs.Page.{IsPageText};
 
-use crate::ascii::escape_non_ascii;
+use crate::ascii::page_safe_ascii_json;
 use json::Writer;
 use pst_model::Expr;
 use pst_print::ty_form;
@@ -31,7 +31,7 @@ pub fn into_ascii_json(alloc: Global, writer: Writer<Global>) -> Result<Vec<u8>,
 {
     let json = writer.into_inner();
     let json = decode_utf8_or_latin1(alloc, json.as_slice())?;
-    escape_non_ascii(alloc, json.as_str())
+    page_safe_ascii_json(alloc, json.as_str())
 }
 
 /// Writes a text that is spelled in bytes.
@@ -45,7 +45,7 @@ pub fn write_json_byte_string(
 }
 
 /// Writes a spelling, which is cut in the middle if it is long.
-pub fn write_json_spelling(
+pub fn write_json_spelling_cut_if_long(
     writer: &mut Writer<Global>,
     alloc: Global,
     spelling: &[u8],
@@ -61,7 +61,7 @@ pub fn write_json_expression(
     expr: &Expr,
 ) -> Result<(), AllocError> {
     let text = expression_text(alloc, expr)?;
-    write_json_spelling(writer, alloc, text.as_slice())
+    write_json_spelling_cut_if_long(writer, alloc, text.as_slice())
 }
 
 /// Writes a type as a text.
@@ -72,7 +72,7 @@ pub fn write_json_type(
 ) -> Result<(), AllocError> {
     let mut text = Vec::new(alloc);
     add_tree_spelling(&mut text, &ty_form(alloc, ty)?)?;
-    write_json_spelling(writer, alloc, text.as_slice())
+    write_json_spelling_cut_if_long(writer, alloc, text.as_slice())
 }
 
 /// Writes a member whose value is a text.
@@ -93,7 +93,7 @@ pub fn write_json_spelling_member(
     spelling: &[u8],
 ) -> Result<(), AllocError> {
     writer.key(key)?;
-    write_json_spelling(writer, alloc, spelling)
+    write_json_spelling_cut_if_long(writer, alloc, spelling)
 }
 
 /// Writes a member whose value is an expression as a text.

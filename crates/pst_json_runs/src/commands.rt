@@ -21,7 +21,7 @@ pub fn empty_node_form(alloc: Global) -> Form
 
 /// The parts of an array.
 #[tactic(auto, using(crate::proofs::Views::views))]
-pub fn items_in<'b, 'a>(json: &'b Json<'a>) -> &'b [Json<'a>]
+pub fn json_array_items<'b, 'a>(json: &'b Json<'a>) -> &'b [Json<'a>]
     ensures { items_view result.now ≡ spec.items_in (value_view json.now) }
 {
     match json {
@@ -45,14 +45,18 @@ pub fn value_form_or_if_unspellable(
 }
 
 /// The operation `name`, if the model has it.
-pub fn operation_named<'a>(model: &'a Source, name: &str) -> Option<&'a Op>
+pub fn find_operation_in_model<'a>(model: &'a Source, name: &str) -> Option<&'a Op>
     ensures { option_copied result ≡ spec.operation_named model.now name.now }
 {
     let number = operation_number(model.items.as_slice(), name.as_bytes())?;
     operation_of(model.items.as_slice(), number)
 }
 
-fn argument_form(alloc: Global, ty: Option<&Ty>, json: &Json<'_>) -> Result<Form, AllocError>
+fn argument_form_from_json(
+    alloc: Global,
+    ty: Option<&Ty>,
+    json: &Json<'_>,
+) -> Result<Form, AllocError>
     ensures { IfOk result (λ form. form ≡ spec.argument_form (option_copied ty.entry) (value_view json.now)) }
 {
     let value = value_from_json(alloc, ty, json)?;
@@ -69,7 +73,7 @@ fn call_form_with_param_types(
     ensures { IfOk result (λ form. form ≡ spec.named_form name.now params.now (items_view args.now)) }
 {
     let mut forms = Items::new(alloc);
-    forms.push(name_form(alloc, name)?)?;
+    forms.push(operation_name_form(alloc, name)?)?;
     let mut rest = params;
     for arg in args {
         let ty = match rest.split_first() {
@@ -79,20 +83,20 @@ fn call_form_with_param_types(
             }
             None => None,
         };
-        forms.push(argument_form(alloc, ty, arg)?)?;
+        forms.push(argument_form_from_json(alloc, ty, arg)?)?;
     }
     Ok(Form::Node(forms))
 }
 
 /// The name of an operation. One that is no word names none, as `?` does.
-fn name_form(alloc: Global, name: &str) -> Result<Form, AllocError>
+fn operation_name_form(alloc: Global, name: &str) -> Result<Form, AllocError>
     ensures { IfOk result (λ form. form ≡ spec.name_form name.now) }
 {
     let other = word(alloc, "?")?;
     Ok(form_or_if_unspellable(word(alloc, name)?, other))
 }
 
-fn call_form(
+fn call_form_from_json(
     alloc: Global,
     model: &Source,
     name: &str,
@@ -100,7 +104,7 @@ fn call_form(
 ) -> Result<Form, AllocError>
     ensures { IfOk result (λ form. form ≡ spec.call_form model.now name.now (items_view args.now)) }
 {
-    match operation_named(model, name) {
+    match find_operation_in_model(model, name) {
         Some(operation) => call_form_with_param_types(
             alloc,
             name,
@@ -112,12 +116,16 @@ fn call_form(
 }
 
 /// The tree of `["op", arg, ..]`.
-fn command_form(alloc: Global, model: &Source, json: &Json<'_>) -> Result<Form, AllocError>
+fn command_form_from_json(
+    alloc: Global,
+    model: &Source,
+    json: &Json<'_>,
+) -> Result<Form, AllocError>
     ensures { IfOk result (λ form. form ≡ spec.command_form model.now (value_view json.now)) }
 {
-    match items_in(json).split_first() {
+    match json_array_items(json).split_first() {
         Some((first, args)) => match first {
-            Json::String(name) => call_form(alloc, model, name, args),
+            Json::String(name) => call_form_from_json(alloc, model, name, args),
             _ => Ok(empty_node_form(alloc)),
         },
         None => Ok(empty_node_form(alloc)),
@@ -125,7 +133,7 @@ fn command_form(alloc: Global, model: &Source, json: &Json<'_>) -> Result<Form, 
 }
 
 /// The trees of commands.
-pub fn command_forms(
+pub fn command_forms_from_json(
     alloc: Global,
     model: &Source,
     commands: &[Json<'_>],
@@ -134,7 +142,7 @@ pub fn command_forms(
 {
     let mut forms = Items::new(alloc);
     for command in commands {
-        forms.push(command_form(alloc, model, command)?)?;
+        forms.push(command_form_from_json(alloc, model, command)?)?;
     }
     Ok(forms)
 }

@@ -5,8 +5,8 @@ ghost use Rattle.json.specs.Value.{items_view, value_view};
 ghost use Rattle.pst_json_runs.specs.Shown.{shown};
 ghost use Rattle.pst_json_runs.specs.Trees as spec;
 
-use crate::commands::{command_forms, empty_node_form, items_in};
-use crate::replies::{list_forms, rest_after_first_json};
+use crate::commands::{command_forms_from_json, empty_node_form, json_array_items};
+use crate::replies::{reply_lists_of_parts_from_json, rest_after_first_json};
 use crate::spelled::form_or_if_unspellable;
 use json::Value as Json;
 use pst_model::Source;
@@ -15,7 +15,7 @@ use pst_value::Items;
 use std::alloc::{AllocError, Global};
 
 #[tactic(auto, using(crate::proofs::Views::views))]
-fn is_array(json: &Json<'_>) -> bool
+fn is_json_array(json: &Json<'_>) -> bool
     ensures { result ≡ spec.is_array (value_view json.now) }
 {
     match json {
@@ -24,11 +24,11 @@ fn is_array(json: &Json<'_>) -> bool
     }
 }
 
-fn are_arrays(parts: &[Json<'_>]) -> bool
+fn are_json_arrays(parts: &[Json<'_>]) -> bool
     ensures { result ≡ spec.are_arrays (items_view parts.now) }
 {
     for part in parts {
-        if !is_array(part) {
+        if !is_json_array(part) {
             return false;
         }
     }
@@ -39,20 +39,20 @@ fn are_arrays(parts: &[Json<'_>]) -> bool
 fn is_json_array_of_arrays(json: &Json<'_>) -> bool
     ensures { result ≡ spec.are_parts (value_view json.now) }
 {
-    is_array(json) && are_arrays(items_in(json))
+    is_json_array(json) && are_json_arrays(json_array_items(json))
 }
 
 /// Whether it is an array, if it is there.
-fn is_part(json: Option<&Json<'_>>) -> bool
+fn is_absent_or_json_array(json: Option<&Json<'_>>) -> bool
     ensures { result ≡ spec.is_part (shown json.entry) }
 {
     match json {
-        Some(json) => is_array(json),
+        Some(json) => is_json_array(json),
         None => true,
     }
 }
 
-fn are_branches(json: Option<&Json<'_>>) -> bool
+fn is_json_branches_member(json: Option<&Json<'_>>) -> bool
     ensures { result ≡ spec.are_branches (shown json.entry) }
 {
     match json {
@@ -61,7 +61,7 @@ fn are_branches(json: Option<&Json<'_>>) -> bool
     }
 }
 
-fn are_lists(json: Option<&Json<'_>>) -> bool
+fn is_json_replies_member(json: Option<&Json<'_>>) -> bool
     ensures { result ≡ spec.are_lists (shown json.entry) }
 {
     match json {
@@ -70,7 +70,7 @@ fn are_lists(json: Option<&Json<'_>>) -> bool
     }
 }
 
-fn count_if_present(json: Option<&Json<'_>>) -> usize
+fn count_json_if_present(json: Option<&Json<'_>>) -> usize
     ensures { result ≡ spec.count (shown json.entry) }
 {
     match json {
@@ -83,10 +83,10 @@ fn count_if_present(json: Option<&Json<'_>>) -> usize
 fn count_item_parts(json: &Json<'_>) -> usize
     ensures { result ≡ spec.named (value_view json.now) }
 {
-    count_if_present(json.get("prefix"))
-        + count_if_present(json.get("branches"))
-        + count_if_present(json.get("suffix"))
-        + count_if_present(json.get("replies"))
+    count_json_if_present(json.get("prefix"))
+        + count_json_if_present(json.get("branches"))
+        + count_json_if_present(json.get("suffix"))
+        + count_json_if_present(json.get("replies"))
 }
 
 #[tactic(auto, using(crate::proofs::Views::views))]
@@ -100,18 +100,18 @@ fn count_object_members(json: &Json<'_>) -> usize
 }
 
 /// Whether it is an object with the parts of an item, each once, and nothing else.
-fn is_item(json: &Json<'_>) -> bool
+fn is_json_item(json: &Json<'_>) -> bool
     ensures { result ≡ spec.is_item (value_view json.now) }
 {
     count_object_members(json) == count_item_parts(json)
-        && is_part(json.get("prefix"))
-        && are_branches(json.get("branches"))
-        && is_part(json.get("suffix"))
-        && are_lists(json.get("replies"))
+        && is_absent_or_json_array(json.get("prefix"))
+        && is_json_branches_member(json.get("branches"))
+        && is_absent_or_json_array(json.get("suffix"))
+        && is_json_replies_member(json.get("replies"))
 }
 
 /// A word, and the commands of a part, if it is there.
-fn headed_commands_form(
+fn headed_commands_form_from_json(
     alloc: Global,
     model: &Source,
     word: &str,
@@ -120,12 +120,16 @@ fn headed_commands_form(
     ensures { IfOk result (λ form. form ≡ spec.section model.now word.now (shown part.entry)) }
 {
     match part {
-        Some(part) => headed(alloc, word, command_forms(alloc, model, items_in(part))?),
+        Some(part) => headed(
+            alloc,
+            word,
+            command_forms_from_json(alloc, model, json_array_items(part))?,
+        ),
         None => headed(alloc, word, Items::new(alloc)),
     }
 }
 
-fn branch_forms(
+fn each_branch_form_from_json(
     alloc: Global,
     model: &Source,
     branches: &[Json<'_>],
@@ -134,7 +138,7 @@ fn branch_forms(
 {
     let mut forms = Items::new(alloc);
     for branch in branches {
-        forms.push(Form::Node(command_forms(alloc, model, items_in(branch))?))?;
+        forms.push(Form::Node(command_forms_from_json(alloc, model, json_array_items(branch))?))?;
     }
     Ok(forms)
 }
@@ -147,8 +151,8 @@ fn left_and_right_forms_from_json(
 ) -> Result<Items<Form>, AllocError>
     ensures { IfOk result (λ forms. forms ≡ spec.two_forms model.now (items_view branches.now)) }
 {
-    let left = headed_commands_form(alloc, model, "left", branches.first())?;
-    let right = headed_commands_form(
+    let left = headed_commands_form_from_json(alloc, model, "left", branches.first())?;
+    let right = headed_commands_form_from_json(
         alloc,
         model,
         "right",
@@ -167,13 +171,13 @@ fn headed_branches_form_from_json(
 ) -> Result<Items<Form>, AllocError>
     ensures { IfOk result (λ forms. forms ≡ spec.many_forms model.now (items_view branches.now)) }
 {
-    let forms = branch_forms(alloc, model, branches)?;
+    let forms = each_branch_form_from_json(alloc, model, branches)?;
     list_of(alloc, headed(alloc, "branches", forms)?)
 }
 
 /// Two branches as `left` and `right`, or another number of branches.
 #[tactic(auto, using(crate::proofs::Views::views))]
-fn branches_forms(
+fn branches_forms_from_json(
     alloc: Global,
     model: &Source,
     branches: &[Json<'_>],
@@ -187,7 +191,7 @@ fn branches_forms(
     }
 }
 
-fn suffix_forms(
+fn suffix_form_from_json(
     alloc: Global,
     model: &Source,
     suffix: Option<&Json<'_>>,
@@ -197,14 +201,14 @@ fn suffix_forms(
     match suffix {
         Some(json) => list_of(
             alloc,
-            headed_commands_form(alloc, model, "suffix", Some(json))?,
+            headed_commands_form_from_json(alloc, model, "suffix", Some(json))?,
         ),
         None => Ok(Items::new(alloc)),
     }
 }
 
 /// The lists of replies to the parts of an item.
-fn replies_of(
+fn item_reply_lists_from_json(
     alloc: Global,
     model: &Source,
     json: &Json<'_>,
@@ -214,15 +218,15 @@ fn replies_of(
         forms ≡ spec.lists_in model.now (value_view json.now) (items_view lists.now)) }
 {
     match json.get("branches") {
-        Some(branches) => list_forms(
+        Some(branches) => reply_lists_of_parts_from_json(
             alloc,
             model,
             json.get("prefix"),
-            items_in(branches),
+            json_array_items(branches),
             json.get("suffix"),
             lists,
         ),
-        None => list_forms(
+        None => reply_lists_of_parts_from_json(
             alloc,
             model,
             json.get("prefix"),
@@ -233,7 +237,7 @@ fn replies_of(
     }
 }
 
-fn replies_forms(
+fn replies_form_from_json(
     alloc: Global,
     model: &Source,
     json: &Json<'_>,
@@ -244,7 +248,7 @@ fn replies_forms(
 {
     match replies {
         Some(lists) => {
-            let lists = replies_of(alloc, model, json, items_in(lists))?;
+            let lists = item_reply_lists_from_json(alloc, model, json, json_array_items(lists))?;
             list_of(alloc, headed(alloc, "replies", lists)?)
         }
         None => Ok(Items::new(alloc)),
@@ -252,7 +256,7 @@ fn replies_forms(
 }
 
 /// The branches of an item.
-fn item_branches(
+fn item_branches_forms_from_json(
     alloc: Global,
     model: &Source,
     branches: Option<&Json<'_>>,
@@ -260,8 +264,8 @@ fn item_branches(
     ensures { IfOk result (λ forms. forms ≡ spec.branches_forms model.now (spec.part (shown branches.entry))) }
 {
     match branches {
-        Some(branches) => branches_forms(alloc, model, items_in(branches)),
-        None => branches_forms(alloc, model, &[]),
+        Some(branches) => branches_forms_from_json(alloc, model, json_array_items(branches)),
+        None => branches_forms_from_json(alloc, model, &[]),
     }
 }
 
@@ -273,11 +277,11 @@ fn case_or_run_form_from_json(
 ) -> Result<Form, AllocError>
     ensures { IfOk result (λ form. form ≡ spec.whole_form model.now (value_view json.now)) }
 {
-    let prefix = headed_commands_form(alloc, model, "prefix", json.get("prefix"))?;
+    let prefix = headed_commands_form_from_json(alloc, model, "prefix", json.get("prefix"))?;
     let mut forms = list_of(alloc, prefix)?;
-    forms.append(item_branches(alloc, model, json.get("branches"))?)?;
-    let mut more = suffix_forms(alloc, model, json.get("suffix"))?;
-    more.append(replies_forms(alloc, model, json, json.get("replies"))?)?;
+    forms.append(item_branches_forms_from_json(alloc, model, json.get("branches"))?)?;
+    let mut more = suffix_form_from_json(alloc, model, json.get("suffix"))?;
+    more.append(replies_form_from_json(alloc, model, json, json.get("replies"))?)?;
     forms.append(more)?;
     match json.get("replies") {
         Some(_) => headed(alloc, "run", forms),
@@ -286,10 +290,14 @@ fn case_or_run_form_from_json(
 }
 
 /// The tree of an item. It is `()` if the JSON has another form than an item, or if the tree has no spelling.
-pub fn item_form(alloc: Global, model: &Source, json: &Json<'_>) -> Result<Form, AllocError>
+pub fn item_form_from_json(
+    alloc: Global,
+    model: &Source,
+    json: &Json<'_>,
+) -> Result<Form, AllocError>
     ensures { IfOk result (λ form. form ≡ spec.item_form model.now (value_view json.now)) }
 {
-    if is_item(json) {
+    if is_json_item(json) {
         Ok(form_or_if_unspellable(
             case_or_run_form_from_json(alloc, model, json)?,
             empty_node_form(alloc),

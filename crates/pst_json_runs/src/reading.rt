@@ -18,7 +18,7 @@ fn copy_to_text(alloc: Global, text: &str) -> Result<Text, AllocError>
 }
 
 /// The key of a type that a name spells, or else the name itself.
-fn key_or_text(alloc: Global, kind: KeyTy, name: &str) -> Result<Key, AllocError>
+fn map_key_from_json_name(alloc: Global, kind: KeyTy, name: &str) -> Result<Key, AllocError>
     ensures { IfOk result (λ key. key ≡ spec.key_in kind name.now) }
 {
     let name = copy_to_text(alloc, name)?;
@@ -53,7 +53,7 @@ fn sorted_place_of_map_key(key: &Key, keys: &[Key]) -> usize
 }
 
 /// The types of the parts, if a tuple of `count` parts is wanted.
-fn tuple_types<'a>(ty: Option<&'a Ty>, count: usize) -> Option<&'a [Ty]>
+fn tuple_item_types<'a>(ty: Option<&'a Ty>, count: usize) -> Option<&'a [Ty]>
     ensures { option_copied result ≡ spec.tuple_types (option_copied ty.entry) count }
 {
     match ty {
@@ -63,7 +63,7 @@ fn tuple_types<'a>(ty: Option<&'a Ty>, count: usize) -> Option<&'a [Ty]>
 }
 
 /// The type of the items, if a list is wanted.
-fn item_type<'a>(ty: Option<&'a Ty>) -> Option<&'a Ty>
+fn list_item_type<'a>(ty: Option<&'a Ty>) -> Option<&'a Ty>
     ensures { option_copied result ≡ spec.item_type (option_copied ty.entry) }
 {
     match ty {
@@ -73,7 +73,7 @@ fn item_type<'a>(ty: Option<&'a Ty>) -> Option<&'a Ty>
 }
 
 /// The types of keys and values, if a map is wanted, or else keys that are texts.
-fn map_types<'a>(ty: Option<&'a Ty>) -> (KeyTy, Option<&'a Ty>)
+fn map_key_and_value_types<'a>(ty: Option<&'a Ty>) -> (KeyTy, Option<&'a Ty>)
     ensures { (result.0, option_copied result.1) ≡ spec.map_types (option_copied ty.entry) }
 {
     match ty {
@@ -83,7 +83,7 @@ fn map_types<'a>(ty: Option<&'a Ty>) -> (KeyTy, Option<&'a Ty>)
 }
 
 /// The integer that digits spell, if it has at most 64 bits.
-fn number_in(alloc: Global, digits: &str) -> Result<Option<Value>, AllocError>
+fn integer_from_digits(alloc: Global, digits: &str) -> Result<Option<Value>, AllocError>
     ensures { IfOk result (λ value. value ≡ spec.number_in digits.now) }
 {
     match integer_of(&copy_to_text(alloc, digits)?) {
@@ -103,7 +103,7 @@ fn tuple_or_list(types: Option<&[Ty]>, values: Items<Value>) -> Value
 }
 
 /// Whether the result of a command is wanted.
-fn is_reference(ty: Option<&Ty>) -> bool
+fn is_reference_type(ty: Option<&Ty>) -> bool
     ensures { result ≡ spec.is_reference (option_copied ty.entry) }
 {
     match ty {
@@ -113,7 +113,7 @@ fn is_reference(ty: Option<&Ty>) -> bool
 }
 
 /// Variable `number`, if it has at most four digits.
-fn variable_of(number: i64) -> Option<Value>
+fn variable_with_number(number: i64) -> Option<Value>
     ensures { result ≡ spec.variable_of number }
 {
     match u32::try_from(number) {
@@ -123,12 +123,12 @@ fn variable_of(number: i64) -> Option<Value>
 }
 
 /// The variable whose number is spelled.
-fn variable_in(alloc: Global, json: &Json<'_>) -> Result<Option<Value>, AllocError>
+fn variable_from_json_number(alloc: Global, json: &Json<'_>) -> Result<Option<Value>, AllocError>
     ensures { IfOk result (λ value. value ≡ spec.variable_in (value_view json.now)) }
 {
     match json {
         Json::Number(digits) => match integer_of(&copy_to_text(alloc, digits)?) {
-            Some(number) => Ok(variable_of(number)),
+            Some(number) => Ok(variable_with_number(number)),
             None => Ok(None),
         },
         _ => Ok(None),
@@ -137,7 +137,7 @@ fn variable_in(alloc: Global, json: &Json<'_>) -> Result<Option<Value>, AllocErr
 
 /// The variable that `{"result":n}` spells.
 #[tactic(auto, using(crate::proofs::Wanted::wanted))]
-fn reference_in(alloc: Global, json: &Json<'_>) -> Result<Option<Value>, AllocError>
+fn variable_from_json_reference(alloc: Global, json: &Json<'_>) -> Result<Option<Value>, AllocError>
     ensures { IfOk result (λ value. value ≡ spec.reference_in (value_view json.now)) }
 {
     match json {
@@ -146,7 +146,7 @@ fn reference_in(alloc: Global, json: &Json<'_>) -> Result<Option<Value>, AllocEr
                 return Ok(None);
             }
             match json.get("result") {
-                Some(number) => variable_in(alloc, number),
+                Some(number) => variable_from_json_number(alloc, number),
                 None => Ok(None),
             }
         }
@@ -168,32 +168,32 @@ pub fn value_from_json(
     match json {
         Json::Null => Ok(None),
         Json::Bool(holds) => Ok(Some(Value::Bool(*holds))),
-        Json::Number(digits) => number_in(alloc, digits),
+        Json::Number(digits) => integer_from_digits(alloc, digits),
         Json::String(text) => Ok(Some(Value::Text(copy_to_text(alloc, text)?))),
         Json::Array(parts) => {
-            let types = tuple_types(ty, parts.len());
+            let types = tuple_item_types(ty, parts.len());
             let first = types.unwrap_or(&[]);
-            match values_in(alloc, first, item_type(ty), parts.as_slice())? {
+            match values_from_json(alloc, first, list_item_type(ty), parts.as_slice())? {
                 Some(values) => Ok(Some(tuple_or_list(types, values))),
                 None => Ok(None),
             }
         }
         Json::Object(members) => {
-            if is_reference(ty) {
-                return reference_in(alloc, json);
+            if is_reference_type(ty) {
+                return variable_from_json_reference(alloc, json);
             }
             if members.len() > MOST_KEYS {
                 return Ok(None);
             }
-            let (kind, ty) = map_types(ty);
-            map_in(alloc, kind, ty, members.as_slice())
+            let (kind, ty) = map_key_and_value_types(ty);
+            map_from_json_members(alloc, kind, ty, members.as_slice())
         }
     }
 }
 
 /// The values of parts, the first ones at the types, and each other one at the type.
 #[cycle(value)]
-fn values_in(
+fn values_from_json(
     alloc: Global,
     types: &[Ty],
     ty: Option<&Ty>,
@@ -222,7 +222,7 @@ fn values_in(
 
 /// The map of members, each put at the place of its key.
 #[cycle(value)]
-fn map_in(
+fn map_from_json_members(
     alloc: Global,
     kind: KeyTy,
     ty: Option<&Ty>,
@@ -237,7 +237,7 @@ fn map_in(
         let Some(value) = value_from_json(alloc, ty, json)? else {
             return Ok(None);
         };
-        let key = key_or_text(alloc, kind, name)?;
+        let key = map_key_from_json_name(alloc, kind, name)?;
         let place = sorted_place_of_map_key(&key, keys.as_slice());
         keys.insert(place, key)?;
         values.insert(place, value)?;

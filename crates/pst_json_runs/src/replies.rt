@@ -5,7 +5,7 @@ ghost use Rattle.json.specs.Value.{items_view, members_view, value_view};
 ghost use Rattle.pst_json_runs.specs.Shown.{shown};
 ghost use Rattle.pst_json_runs.specs.Trees as spec;
 
-use crate::commands::{items_in, operation_named, value_form_or_if_unspellable};
+use crate::commands::{find_operation_in_model, json_array_items, value_form_or_if_unspellable};
 use crate::reading::value_from_json;
 use json::Value as Json;
 use pst_model::Source;
@@ -14,12 +14,12 @@ use pst_value::{Items, Ty};
 use std::alloc::{AllocError, Global};
 
 /// The result type of the operation that a command names.
-fn result_of<'a>(model: &'a Source, command: &Json<'_>) -> Option<&'a Ty>
+fn result_type_of_json_command<'a>(model: &'a Source, command: &Json<'_>) -> Option<&'a Ty>
     ensures { option_copied result ≡ spec.result_of model.now (value_view command.now) }
 {
-    let (first, _) = items_in(command).split_first()?;
+    let (first, _) = json_array_items(command).split_first()?;
     match first {
-        Json::String(name) => match operation_named(model, name) {
+        Json::String(name) => match find_operation_in_model(model, name) {
             Some(operation) => Some(&operation.result),
             None => None,
         },
@@ -28,7 +28,7 @@ fn result_of<'a>(model: &'a Source, command: &Json<'_>) -> Option<&'a Ty>
 }
 
 /// The outcome that a member says, if it is `null`.
-fn outcome_at(name: &str, json: &Json<'_>) -> Option<&'static str>
+fn outcome_of_json_member(name: &str, json: &Json<'_>) -> Option<&'static str>
     ensures { option_map (λ word. word.now) result ≡ spec.outcome_at name.now (value_view json.now) }
 {
     match json {
@@ -44,7 +44,7 @@ fn outcome_at(name: &str, json: &Json<'_>) -> Option<&'static str>
 }
 
 /// The outcome that an only member says.
-fn outcome_in(members: &[(&str, Json<'_>)]) -> Option<&'static str>
+fn outcome_of_only_json_member(members: &[(&str, Json<'_>)]) -> Option<&'static str>
     ensures { option_map (λ word. word.now) result ≡ spec.outcome_in (members_view members.now) }
 {
     let (member, rest) = members.split_first()?;
@@ -52,28 +52,28 @@ fn outcome_in(members: &[(&str, Json<'_>)]) -> Option<&'static str>
         Some(_) => None,
         None => {
             let (name, json) = member;
-            outcome_at(name, json)
+            outcome_of_json_member(name, json)
         }
     }
 }
 
 /// What became of a call that answered no value.
 #[tactic(auto, using(crate::proofs::Views::views))]
-fn outcome_of(json: &Json<'_>) -> Option<&'static str>
+fn outcome_from_json(json: &Json<'_>) -> Option<&'static str>
     ensures { option_map (λ word. word.now) result ≡ spec.outcome_of (value_view json.now) }
 {
     match json {
         Json::Null => Some("not-run"),
-        Json::Object(members) => outcome_in(members.as_slice()),
+        Json::Object(members) => outcome_of_only_json_member(members.as_slice()),
         _ => None,
     }
 }
 
 /// The tree of a reply to a command whose result has type `ty`.
-fn reply_form(alloc: Global, ty: Option<&Ty>, json: &Json<'_>) -> Result<Form, AllocError>
+fn reply_form_from_json(alloc: Global, ty: Option<&Ty>, json: &Json<'_>) -> Result<Form, AllocError>
     ensures { IfOk result (λ form. form ≡ spec.reply_form (option_copied ty.entry) (value_view json.now)) }
 {
-    if let Some(outcome) = outcome_of(json) {
+    if let Some(outcome) = outcome_from_json(json) {
         return word(alloc, outcome);
     }
     let value = value_from_json(alloc, ty, json)?;
@@ -91,8 +91,12 @@ fn reply_form_for_json_command(
         form ≡ spec.reply_to model.now (shown command.entry) (value_view reply.now)) }
 {
     match command {
-        Some(command) => reply_form(alloc, result_of(model, command), reply),
-        None => reply_form(alloc, None, reply),
+        Some(command) => reply_form_from_json(
+            alloc,
+            result_type_of_json_command(model, command),
+            reply,
+        ),
+        None => reply_form_from_json(alloc, None, reply),
     }
 }
 
@@ -107,7 +111,7 @@ pub fn rest_after_first_json<'b, 'a>(parts: &'b [Json<'a>]) -> &'b [Json<'a>]
 }
 
 /// The trees of the replies to commands.
-fn reply_forms(
+fn reply_forms_from_json(
     alloc: Global,
     model: &Source,
     commands: &[Json<'_>],
@@ -135,14 +139,19 @@ fn reply_list_form_from_json(
         form ≡ spec.list_form model.now (shown commands.entry) (value_view list.now)) }
 {
     let replies = match commands {
-        Some(commands) => reply_forms(alloc, model, items_in(commands), items_in(list))?,
-        None => reply_forms(alloc, model, &[], items_in(list))?,
+        Some(commands) => reply_forms_from_json(
+            alloc,
+            model,
+            json_array_items(commands),
+            json_array_items(list),
+        )?,
+        None => reply_forms_from_json(alloc, model, &[], json_array_items(list))?,
     };
     Ok(Form::Node(replies))
 }
 
 /// The tree of the list of replies to the next branch, or to the suffix if there is no more branch.
-fn branch_or_suffix_reply_form(
+fn branch_or_suffix_replies_from_json(
     alloc: Global,
     model: &Source,
     branches: &[Json<'_>],
@@ -159,7 +168,7 @@ fn branch_or_suffix_reply_form(
 }
 
 /// The trees of the lists of replies to the branches, and to the suffix after them.
-fn branch_and_suffix_reply_forms(
+fn branch_and_suffix_replies_from_json(
     alloc: Global,
     model: &Source,
     branches: &[Json<'_>],
@@ -172,14 +181,14 @@ fn branch_and_suffix_reply_forms(
     let mut forms = Items::new(alloc);
     let mut rest = branches;
     for list in lists {
-        forms.push(branch_or_suffix_reply_form(alloc, model, rest, suffix, list)?)?;
+        forms.push(branch_or_suffix_replies_from_json(alloc, model, rest, suffix, list)?)?;
         rest = rest_after_first_json(rest);
     }
     Ok(forms)
 }
 
 /// The trees of the lists of replies: to the prefix, to each branch, and to the suffix.
-pub fn list_forms(
+pub fn reply_lists_of_parts_from_json(
     alloc: Global,
     model: &Source,
     prefix: Option<&Json<'_>>,
@@ -193,7 +202,7 @@ pub fn list_forms(
     let mut forms = Items::new(alloc);
     if let Some((first, others)) = lists.split_first() {
         forms.push(reply_list_form_from_json(alloc, model, prefix, first)?)?;
-        forms.append(branch_and_suffix_reply_forms(alloc, model, branches, suffix, others)?)?;
+        forms.append(branch_and_suffix_replies_from_json(alloc, model, branches, suffix, others)?)?;
     }
     Ok(forms)
 }

@@ -45,7 +45,7 @@ fn is_text(bytes: &[u8]) -> bool
 /// Whether a form has a spelling of at most `room` levels.
 #[cycle(spelled)]
 #[tactic(auto, using(crate::proofs::Levels::levels))]
-fn fits_depth(form: &Form, room: usize) -> bool
+fn has_spelling_within_levels(form: &Form, room: usize) -> bool
     ensures { result ≡ spec.spelled_in room form.now }
 {
     match form {
@@ -55,17 +55,17 @@ fn fits_depth(form: &Form, room: usize) -> bool
             if room == 0 {
                 return false;
             }
-            fit_depth(parts.as_slice(), room - 1)
+            all_have_spelling_within_levels(parts.as_slice(), room - 1)
         }
     }
 }
 
 #[cycle(spelled)]
-fn fit_depth(forms: &[Form], room: usize) -> bool
+fn all_have_spelling_within_levels(forms: &[Form], room: usize) -> bool
     ensures { result ≡ list_all (spec.spelled_in room) forms.now }
 {
     for form in forms {
-        if !fits_depth(form, room) {
+        if !has_spelling_within_levels(form, room) {
             return false;
         }
     }
@@ -76,7 +76,7 @@ fn fit_depth(forms: &[Form], room: usize) -> bool
 fn has_spelling(form: &Form) -> bool
     ensures { result ≡ spec.has_spelling form.now }
 {
-    fits_depth(form, MAX_LEVELS)
+    has_spelling_within_levels(form, MAX_LEVELS)
 }
 
 /// The form, or the other one if it has no spelling.

@@ -9,7 +9,7 @@ ghost use Rattle.pst_json_runs.specs.Written as spec;
 ghost use Rattle.pst_runs.specs.Lawful.{IsLawful};
 ghost use Rattle.pst_runs.specs.Written as trees;
 
-use crate::writing::{put_items, put_value};
+use crate::writing::{write_json_value, write_json_values_and_end};
 use json::Writer;
 use pst_case::{Case, Command, History, Reply, Run};
 use pst_model::{Source, Typed, operation_of};
@@ -17,7 +17,7 @@ use pst_value::Items;
 use std::alloc::{AllocError, Global};
 
 /// The name of operation `op`; empty if the model has no such operation.
-fn name_of(model: &Source, op: u32) -> &str
+fn operation_name_or_empty(model: &Source, op: u32) -> &str
     ensures { result.now ≡ trees.name_of model.now op }
 {
     match operation_of(model.items.as_slice(), op as usize) {
@@ -26,7 +26,7 @@ fn name_of(model: &Source, op: u32) -> &str
     }
 }
 
-fn put_command(
+fn write_json_command(
     writer: &mut Writer<Global>,
     model: &Source,
     command: &Command,
@@ -36,12 +36,12 @@ fn put_command(
     ensures before { writer.new.before ≡ writer.old.before }
 {
     writer.begin_array()?;
-    writer.string(name_of(model, command.op))?;
-    put_items(writer, command.args.as_slice())
+    writer.string(operation_name_or_empty(model, command.op))?;
+    write_json_values_and_end(writer, command.args.as_slice())
 }
 
 /// Writes commands, and the end of their array.
-fn put_commands(
+fn write_json_commands_and_end(
     writer: &mut Writer<Global>,
     model: &Source,
     commands: &[Command],
@@ -51,7 +51,7 @@ fn put_commands(
     ensures before { writer.new.before ≡ writer.old.before }
 {
     for command in commands {
-        put_command(writer, model, command)?;
+        write_json_command(writer, model, command)?;
     }
     writer.end_array()
 }
@@ -67,11 +67,11 @@ fn write_json_part(
     ensures before { writer.new.before ≡ writer.old.before }
 {
     writer.begin_array()?;
-    put_commands(writer, model, commands)
+    write_json_commands_and_end(writer, model, commands)
 }
 
 /// Writes branches, and the end of their array.
-fn put_parts(
+fn write_json_parts_and_end(
     writer: &mut Writer<Global>,
     model: &Source,
     branches: &[Items<Command>],
@@ -86,7 +86,7 @@ fn put_parts(
     writer.end_array()
 }
 
-fn put_branches(
+fn write_json_branches(
     writer: &mut Writer<Global>,
     model: &Source,
     branches: &[Items<Command>],
@@ -96,11 +96,11 @@ fn put_branches(
     ensures before { writer.new.before ≡ writer.old.before }
 {
     writer.begin_array()?;
-    put_parts(writer, model, branches)
+    write_json_parts_and_end(writer, model, branches)
 }
 
 /// Writes `{"failed":null}` and the like.
-fn put_outcome(writer: &mut Writer<Global>, word: &str) -> Result<(), AllocError>
+fn write_json_outcome(writer: &mut Writer<Global>, word: &str) -> Result<(), AllocError>
     ensures ok { OnOk result (writer.new.tokens
         ≡ writer.old.tokens ++ json_tokens (spec.outcome_json word.now)) }
     ensures before { writer.new.before ≡ writer.old.before }
@@ -111,27 +111,30 @@ fn put_outcome(writer: &mut Writer<Global>, word: &str) -> Result<(), AllocError
     writer.end_object()
 }
 
-fn put_reply(writer: &mut Writer<Global>, reply: &Reply) -> Result<(), AllocError>
+fn write_json_reply(writer: &mut Writer<Global>, reply: &Reply) -> Result<(), AllocError>
     ensures ok { OnOk result (writer.new.tokens
         ≡ writer.old.tokens ++ json_tokens (spec.reply_json reply.now)) }
     ensures before { writer.new.before ≡ writer.old.before }
 {
     match reply {
-        Reply::Value(value) => put_value(writer, value),
-        Reply::Misfit => put_outcome(writer, "misfit"),
-        Reply::Failed => put_outcome(writer, "failed"),
+        Reply::Value(value) => write_json_value(writer, value),
+        Reply::Misfit => write_json_outcome(writer, "misfit"),
+        Reply::Failed => write_json_outcome(writer, "failed"),
         Reply::NotRun => writer.null(),
     }
 }
 
 /// Writes replies, and the end of their array.
-fn put_each_reply(writer: &mut Writer<Global>, replies: &[Reply]) -> Result<(), AllocError>
+fn write_json_replies_and_end(
+    writer: &mut Writer<Global>,
+    replies: &[Reply],
+) -> Result<(), AllocError>
     ensures ok { OnOk result (writer.new.tokens ≡ writer.old.tokens
         ++ items_tokens (items_of (map spec.reply_json replies.now))) }
     ensures before { writer.new.before ≡ writer.old.before }
 {
     for reply in replies {
-        put_reply(writer, reply)?;
+        write_json_reply(writer, reply)?;
     }
     writer.end_array()
 }
@@ -143,7 +146,7 @@ fn write_json_reply_list(writer: &mut Writer<Global>, replies: &[Reply]) -> Resu
     ensures before { writer.new.before ≡ writer.old.before }
 {
     writer.begin_array()?;
-    put_each_reply(writer, replies)
+    write_json_replies_and_end(writer, replies)
 }
 
 /// Writes the lists of the branches and of the suffix, if it has commands, and the end of the lists.
@@ -166,7 +169,7 @@ fn write_json_later_reply_lists(
 }
 
 /// Writes the lists of replies.
-fn put_lists(writer: &mut Writer<Global>, history: &History) -> Result<(), AllocError>
+fn write_json_reply_lists(writer: &mut Writer<Global>, history: &History) -> Result<(), AllocError>
     ensures ok { OnOk result (writer.new.tokens
         ≡ writer.old.tokens ++ json_tokens (spec.lists_json history.now)) }
     ensures before { writer.new.before ≡ writer.old.before }
@@ -181,14 +184,17 @@ fn put_lists(writer: &mut Writer<Global>, history: &History) -> Result<(), Alloc
 }
 
 /// Writes the replies, if there are any, and the end of the item.
-fn put_replies(writer: &mut Writer<Global>, history: &Option<History>) -> Result<(), AllocError>
+fn write_json_replies_and_item_end(
+    writer: &mut Writer<Global>,
+    history: &Option<History>,
+) -> Result<(), AllocError>
     ensures ok { OnOk result (writer.new.tokens ≡ writer.old.tokens
         ++ members_tokens (spec.replies_members history.now)) }
     ensures before { writer.new.before ≡ writer.old.before }
 {
     if let Some(history) = history {
         writer.key("replies")?;
-        put_lists(writer, history)?;
+        write_json_reply_lists(writer, history)?;
     }
     writer.end_object()
 }
@@ -208,11 +214,11 @@ fn write_json_suffix_and_replies(
         writer.key("suffix")?;
         write_json_part(writer, model, suffix)?;
     }
-    put_replies(writer, history)
+    write_json_replies_and_item_end(writer, history)
 }
 
 /// Writes a case, with its replies if there are any.
-fn put_item(
+fn write_json_item(
     writer: &mut Writer<Global>,
     model: &Source,
     case: &Case,
@@ -226,13 +232,13 @@ fn put_item(
     writer.key("prefix")?;
     write_json_part(writer, model, case.prefix.as_slice())?;
     writer.key("branches")?;
-    put_branches(writer, model, case.branches.as_slice())?;
+    write_json_branches(writer, model, case.branches.as_slice())?;
     write_json_suffix_and_replies(writer, model, case.suffix.as_slice(), history)
 }
 
 /// The JSON of a run spells its tree, so it is read back as an equal run. This only learns what the types of the model and of
 /// the case keep.
-pub fn json_reads_back(typed: &Typed, run: &Run)
+pub fn prove_json_is_read_back(typed: &Typed, run: &Run)
     requires { IsLawful typed.now run.now }
     ensures { item_form typed.now (spec.run_json typed.now run.now) ≡ trees.run_form typed.now run.now }
 {
@@ -241,7 +247,7 @@ pub fn json_reads_back(typed: &Typed, run: &Run)
 }
 
 /// The JSON of a run, and a line end.
-pub fn json_line(alloc: Global, typed: &Typed, run: &Run) -> Result<Vec<u8>, AllocError>
+pub fn run_json_line(alloc: Global, typed: &Typed, run: &Run) -> Result<Vec<u8>, AllocError>
     requires { IsLawful typed.now run.now }
     ensures line { IfOk result (λ line. line.items ≡ spec.json_line typed.now run.now) }
     // The text is read as this JSON.
@@ -251,9 +257,9 @@ pub fn json_line(alloc: Global, typed: &Typed, run: &Run) -> Result<Vec<u8>, All
     // The JSON spells the tree of the run.
     ensures spells { item_form typed.now (spec.run_json typed.now run.now) ≡ trees.run_form typed.now run.now }
 {
-    json_reads_back(typed, run);
+    prove_json_is_read_back(typed, run);
     let mut writer = Writer::new(Vec::new(alloc));
-    put_item(&mut writer, typed.source(), run.shaped.case(), &run.history)?;
+    write_json_item(&mut writer, typed.source(), run.shaped.case(), &run.history)?;
     let mut line = writer.into_inner();
     line.push(b'\n')?;
     Ok(line)

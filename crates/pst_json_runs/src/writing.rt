@@ -10,7 +10,7 @@ use pst_value::{Key, Value};
 use std::alloc::{AllocError, Global};
 
 /// Writes the name of a key's member.
-fn put_key(writer: &mut Writer<Global>, key: &Key) -> Result<(), AllocError>
+fn write_json_map_key(writer: &mut Writer<Global>, key: &Key) -> Result<(), AllocError>
     ensures ok { OnOk result (writer.new.tokens
         ≡ writer.old.tokens ++ member_key (key_name key.now) ∷ []) }
     ensures before { writer.new.before ≡ writer.old.before }
@@ -24,7 +24,7 @@ fn put_key(writer: &mut Writer<Global>, key: &Key) -> Result<(), AllocError>
 }
 
 /// Writes variable `number` as `{"result":n}`.
-fn put_variable(writer: &mut Writer<Global>, number: u32) -> Result<(), AllocError>
+fn write_json_variable(writer: &mut Writer<Global>, number: u32) -> Result<(), AllocError>
     ensures ok { OnOk result (writer.new.tokens
         ≡ writer.old.tokens ++ json_tokens (variable_json number)) }
     ensures before { writer.new.before ≡ writer.old.before }
@@ -38,7 +38,7 @@ fn put_variable(writer: &mut Writer<Global>, number: u32) -> Result<(), AllocErr
 /// Writes a value.
 #[cycle(put)]
 #[tactic(auto, using(crate::proofs::ValueLevels::levels))]
-pub fn put_value(writer: &mut Writer<Global>, value: &Value) -> Result<(), AllocError>
+pub fn write_json_value(writer: &mut Writer<Global>, value: &Value) -> Result<(), AllocError>
     ensures ok { OnOk result (writer.new.tokens
         ≡ writer.old.tokens ++ json_tokens (json_of value.now)) }
     ensures before { writer.new.before ≡ writer.old.before }
@@ -49,33 +49,36 @@ pub fn put_value(writer: &mut Writer<Global>, value: &Value) -> Result<(), Alloc
         Value::Text(text) => writer.string(text.as_str()),
         Value::Tuple(parts) | Value::List(parts) | Value::Call(_, parts) => {
             writer.begin_array()?;
-            put_items(writer, parts.as_slice())
+            write_json_values_and_end(writer, parts.as_slice())
         }
         Value::Map(keys, values) => {
             writer.begin_object()?;
-            put_members(writer, keys.get().as_slice(), values.get().as_slice())
+            write_json_members_and_end(writer, keys.get().as_slice(), values.get().as_slice())
         }
-        Value::Var(number) => put_variable(writer, *number),
-        Value::Ref(_, part) => put_value(writer, part.get()),
+        Value::Var(number) => write_json_variable(writer, *number),
+        Value::Ref(_, part) => write_json_value(writer, part.get()),
     }
 }
 
 /// Writes the items of an array, and its end.
 #[cycle(put)]
-pub fn put_items(writer: &mut Writer<Global>, parts: &[Value]) -> Result<(), AllocError>
+pub fn write_json_values_and_end(
+    writer: &mut Writer<Global>,
+    parts: &[Value],
+) -> Result<(), AllocError>
     ensures ok { OnOk result (writer.new.tokens
         ≡ writer.old.tokens ++ items_tokens (items_of (map json_of parts.now))) }
     ensures before { writer.new.before ≡ writer.old.before }
 {
     for part in parts {
-        put_value(writer, part)?;
+        write_json_value(writer, part)?;
     }
     writer.end_array()
 }
 
 /// Writes the members of an object and its end. Keys and values without a partner are left out.
 #[cycle(put)]
-fn put_members(
+fn write_json_members_and_end(
     writer: &mut Writer<Global>,
     keys: &[Key],
     values: &[Value],
@@ -89,8 +92,8 @@ fn put_members(
         let Some((key, others)) = rest.split_first() else {
             return writer.end_object();
         };
-        put_key(writer, key)?;
-        put_value(writer, value)?;
+        write_json_map_key(writer, key)?;
+        write_json_value(writer, value)?;
         rest = others;
     }
     writer.end_object()

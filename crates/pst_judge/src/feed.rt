@@ -7,7 +7,7 @@ use std::hash::Hasher;
 
 /// Feeds bytes to a hasher: eight at a time as one number, and those that are left, if any, in one write.
 #[tactic(auto, using(crate::proofs::Feeding::feeding))]
-pub(crate) fn hash_bytes<H: Hasher>(bytes: &[u8], state: &mut H)
+pub(crate) fn hash_packed_bytes<H: Hasher>(bytes: &[u8], state: &mut H)
     ensures { state.new ≡ fold H.write state.old (words bytes.now) }
 {
     let mut rest = bytes;

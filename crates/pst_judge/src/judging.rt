@@ -106,7 +106,7 @@ fn verdict_on_values<C: Callbacks, A: Condition>(
 
 /// The verdict on a history of a case, with `condition` checked on each event. If the verdict rests on an interleaving
 /// that does not explain the history, also returns the branch numbers of its true events.
-fn verdict_with_letters<C: Callbacks, A: Condition>(
+fn verdict_with_true_branches<C: Callbacks, A: Condition>(
     callbacks: &C,
     condition: &A,
     alloc: Global,
@@ -150,7 +150,7 @@ pub fn verdict_with_condition<C: Callbacks, A: Condition>(
     ensures { let m = C.model callbacks.now in IfOk result
         (IsVerdictAsking m (A.asked condition.now m) shaped.now.case history.now) }
 {
-    let (verdict, _) = verdict_with_letters(callbacks, condition, alloc, shaped, history)?;
+    let (verdict, _) = verdict_with_true_branches(callbacks, condition, alloc, shaped, history)?;
     Ok(verdict)
 }
 
@@ -209,7 +209,7 @@ pub fn verdict_with_interleaving<C: Callbacks>(
     ensures interleaving { IfOk result
         (λ r. IsInterleaving (C.model callbacks.now) shaped.now.case history.now r.0 r.1.items) }
 {
-    let (verdict, letters) = verdict_with_letters(
+    let (verdict, letters) = verdict_with_true_branches(
         callbacks,
         &Postconditions,
         alloc,

@@ -6,7 +6,7 @@
 //! failed.
 ghost use Rattle.std.specs.Prelude.{◌≡◌, IfOk};
 
-use crate::feed::hash_bytes;
+use crate::feed::hash_packed_bytes;
 use crate::form::PackedForm;
 use pst_value::Value;
 use std::alloc::{AllocError, Global};
@@ -97,7 +97,7 @@ impl Hash for Packed {
     fn hash<H: Hasher>(&self, state: &mut H) {
         match self.form.int() {
             Some(n) => state.write_i64(n),
-            None => hash_bytes(self.form.bytes(), state),
+            None => hash_packed_bytes(self.form.bytes(), state),
         }
     }
 }

@@ -12,7 +12,7 @@ use crate::numbered::NumberedCommand;
 use crate::packed::Packed;
 use crate::search::lengths_of;
 use crate::symbolic::{SymbolicFailure, run_suffix, symbolic_step};
-use crate::total::is_total;
+use crate::total::form_shows_no_command_fails;
 use crate::why::Why;
 use pst_case::{Command, Shaped};
 use pst_eval::Callbacks;
@@ -134,18 +134,18 @@ fn reason_of_answer(answer: EveryAnswer<SymbolicFailure>) -> Option<Why>
 }
 
 /// The sum of the lengths.
-fn sum_of(lengths: &[usize]) -> usize
+fn sum_of_branch_lengths(lengths: &[usize]) -> usize
     requires { sum lengths.now ≤ 16 }
     ensures { result ≡ sum lengths.now }
 {
     match lengths.split_first() {
-        Some((first, rest)) => *first + sum_of(rest),
+        Some((first, rest)) => *first + sum_of_branch_lengths(rest),
         None => 0,
     }
 }
 
 /// Whether the model is at hand and its form shows that no interleaving of branches of these lengths fails.
-fn is_total_by<C: Callbacks>(
+fn form_shows_no_interleaving_fails<C: Callbacks>(
     branches: &SymbolicBranches<'_, C>,
     lengths: &[usize],
     state: &Value,
@@ -163,10 +163,10 @@ fn is_total_by<C: Callbacks>(
         IsTrue result
         → IsEveryAnswer (symbolic_outcome m b.commands) (last_commands m b.suffix) lengths.now state.now All }
 {
-    let steps = sum_of(lengths) + branches.suffix.len();
+    let steps = sum_of_branch_lengths(lengths) + branches.suffix.len();
     let commands = branches.commands.as_slice();
     match branches.callbacks.well_typed() {
-        Some(typed) => is_total(
+        Some(typed) => form_shows_no_command_fails(
             typed.source(),
             commands,
             branches.suffix.as_slice(),
@@ -197,7 +197,7 @@ pub fn search_failing<C: Callbacks>(
         state.now) }
 {
     let lengths = lengths_of(alloc, branches.shaped.case().branches.as_slice())?;
-    if is_total_by(branches, lengths.as_slice(), state) {
+    if form_shows_no_interleaving_fails(branches, lengths.as_slice(), state) {
         return Ok(None);
     }
     let (answer, _) = every(alloc, branches, lengths.as_slice(), state)?;
@@ -205,7 +205,7 @@ pub fn search_failing<C: Callbacks>(
 }
 
 /// Appends the number `branch` to `word` once for each command.
-fn append_letters(
+fn append_branch_for_each_command(
     branch: usize,
     commands: &[Command],
     mut word: Vec<usize>,
@@ -216,7 +216,7 @@ fn append_letters(
         return Ok(word);
     };
     word.push(branch)?;
-    append_letters(branch, commands, word)
+    append_branch_for_each_command(branch, commands, word)
 }
 
 /// Appends the numbers of the branches to `word` in turn, from `branch` on, each once for each of its commands.
@@ -231,7 +231,7 @@ fn append_branch_by_branch(
     let Some((first, rest)) = split_parts(branches) else {
         return Ok(word);
     };
-    let word = append_letters(branch, first.as_slice(), word)?;
+    let word = append_branch_for_each_command(branch, first.as_slice(), word)?;
     append_branch_by_branch(branch + 1, rest, word)
 }
 

@@ -57,7 +57,7 @@ fn reach_after_branches(
 
 /// Whether the form of the model shows that no command can fail in `steps` steps, whichever they are, from a state that
 /// reaches at most `reach`.
-fn is_total_for(
+fn form_shows_no_command_fails_within(
     model: &Source,
     branches: &[Items<NumberedCommand>],
     suffix: &[NumberedCommand],
@@ -76,12 +76,12 @@ fn is_total_for(
         return false;
     };
     let after = greater(in_branches, in_suffix);
-    is_total_for(model, branches, suffix, steps - 1, after)
+    form_shows_no_command_fails_within(model, branches, suffix, steps - 1, after)
 }
 
 /// Whether the form of the model shows that no interleaving of the branches fails from the state, with the suffix after
 /// each. `commands` is how many commands the branches and the suffix have.
-pub fn is_total(
+pub fn form_shows_no_command_fails(
     model: &Source,
     branches: &[Items<NumberedCommand>],
     suffix: &[NumberedCommand],
@@ -90,5 +90,5 @@ pub fn is_total(
 ) -> bool
     ensures { IsTrue result → spec.TotalFor model.now branches.now suffix.now commands (extent state.now) }
 {
-    is_total_for(model, branches, suffix, commands, extent(state))
+    form_shows_no_command_fails_within(model, branches, suffix, commands, extent(state))
 }

@@ -9,7 +9,7 @@ ghost use Rattle.pst_judge.specs.Validity.{IsValid, IsWhy, IsReason};
 ghost use Rattle.pst_model.specs.WellTyped.{WellModel};
 
 use crate::events::number_after;
-use crate::numbered::{branches_with_numbers, with_numbers};
+use crate::numbered::{append_numbered_commands, branches_with_numbers};
 use crate::symbolic::{fault_in, run_symbolic};
 use crate::symbolic_search::{SymbolicBranches, first_interleaving_reason, search_failing};
 use crate::validated::Valid;
@@ -37,7 +37,12 @@ fn why_not_after_prefix<C: Callbacks>(
     let branches = case.branches.as_slice();
     let commands = branches_with_numbers(alloc, number, branches, Items::new(alloc))?;
     let number = number_after(number, branches);
-    let suffix = with_numbers(alloc, number, case.suffix.as_slice(), Items::new(alloc))?;
+    let suffix = append_numbered_commands(
+        alloc,
+        number,
+        case.suffix.as_slice(),
+        Items::new(alloc),
+    )?;
     let symbolic = SymbolicBranches {
         callbacks,
         shaped,
@@ -64,7 +69,7 @@ pub fn why_invalid<C: Callbacks>(
         }
     };
     let commands = case.prefix.as_slice();
-    let prefix = with_numbers(alloc, 1, commands, Items::new(alloc))?;
+    let prefix = append_numbered_commands(alloc, 1, commands, Items::new(alloc))?;
     match run_symbolic(callbacks, alloc, state, prefix.as_slice())? {
         Ok(last) => why_not_after_prefix(callbacks, alloc, shaped, &last),
         Err(failing) => first_interleaving_reason(alloc, shaped, failing),

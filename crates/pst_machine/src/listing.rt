@@ -13,7 +13,7 @@ use std::alloc::{AllocError, Global};
 type Bytes = Result<Items<u8>, AllocError>;
 
 /// The first text, followed by the second.
-fn joined(first: Items<u8>, second: Items<u8>) -> Bytes
+fn joined_text(first: Items<u8>, second: Items<u8>) -> Bytes
     ensures { IfOk result (λ text. text ≡ first ++ second) }
 {
     let mut text = first;
@@ -25,7 +25,7 @@ fn joined(first: Items<u8>, second: Items<u8>) -> Bytes
 fn spaced(alloc: Global, text: Items<u8>) -> Bytes
     ensures { IfOk result (λ spaced. spaced ≡ 32 ∷ text) }
 {
-    joined(Items::from_slice(alloc, b" ")?, text)
+    joined_text(Items::from_slice(alloc, b" ")?, text)
 }
 
 /// A number in decimal digits.
@@ -67,20 +67,20 @@ fn registers_text(alloc: Global, registers: &[u32]) -> Bytes
 }
 
 /// A name and numbers.
-fn words(alloc: Global, name: &[u8], numbers: &[u64]) -> Bytes
+fn name_and_numbers_text(alloc: Global, name: &[u8], numbers: &[u64]) -> Bytes
     ensures { IfOk result (λ text. text ≡ spec.words_text name.now numbers.now) }
 {
-    joined(
+    joined_text(
         Items::from_slice(alloc, name)?,
         numbers_text(alloc, numbers)?,
     )
 }
 
 /// A name and registers.
-fn named(alloc: Global, name: &[u8], registers: &[u32]) -> Bytes
+fn name_and_registers_text(alloc: Global, name: &[u8], registers: &[u32]) -> Bytes
     ensures { IfOk result (λ text. text ≡ spec.words_text name.now registers.now) }
 {
-    joined(
+    joined_text(
         Items::from_slice(alloc, name)?,
         registers_text(alloc, registers)?,
     )
@@ -140,7 +140,7 @@ fn bytes_text(alloc: Global, bytes: &[u8]) -> Bytes
 fn quoted(alloc: Global, bytes: &[u8]) -> Bytes
     ensures { IfOk result (λ text. text ≡ 34 ∷ spec.bytes_text bytes.now ++ 34 ∷ []) }
 {
-    let mut text = joined(Items::from_slice(alloc, b"\"")?, bytes_text(alloc, bytes)?)?;
+    let mut text = joined_text(Items::from_slice(alloc, b"\"")?, bytes_text(alloc, bytes)?)?;
     text.push(b'"')?;
     Ok(text)
 }
@@ -149,7 +149,7 @@ fn quoted(alloc: Global, bytes: &[u8]) -> Bytes
 fn bracketed(alloc: Global, name: &[u8], parts: Items<u8>) -> Bytes
     ensures { IfOk result (λ text. text ≡ name.now ++ parts ++ 41 ∷ []) }
 {
-    let mut text = joined(Items::from_slice(alloc, name)?, parts)?;
+    let mut text = joined_text(Items::from_slice(alloc, name)?, parts)?;
     text.push(b')')?;
     Ok(text)
 }
@@ -158,7 +158,7 @@ fn bracketed(alloc: Global, name: &[u8], parts: Items<u8>) -> Bytes
 fn variable_text(alloc: Global, number: u32) -> Bytes
     ensures { IfOk result (λ text. text ≡ 36 ∷ decimal number) }
 {
-    joined(
+    joined_text(
         Items::from_slice(alloc, b"$")?,
         number_text(alloc, u64::from(number))?,
     )
@@ -191,7 +191,7 @@ fn entry_text(alloc: Global, key: &Key, part: &[u8]) -> Bytes
     ensures { IfOk result (λ text. text ≡ spec.entry_text key.now part.now) }
 {
     let value = spaced(alloc, Items::from_slice(alloc, part)?)?;
-    let entry = joined(key_text(alloc, key)?, value)?;
+    let entry = joined_text(key_text(alloc, key)?, value)?;
     spaced(alloc, bracketed(alloc, b"(", entry)?)
 }
 
@@ -258,8 +258,8 @@ fn row_text(alloc: Global, name: &[u8], numbers: &[u64], registers: &[u32]) -> B
     ensures { IfOk result (λ text. text ≡
         spec.words_text name.now numbers.now ++ spec.numbers_text registers.now) }
 {
-    joined(
-        words(alloc, name, numbers)?,
+    joined_text(
+        name_and_numbers_text(alloc, name, numbers)?,
         registers_text(alloc, registers)?,
     )
 }
@@ -268,8 +268,8 @@ fn row_text(alloc: Global, name: &[u8], numbers: &[u64], registers: &[u32]) -> B
 fn constant_text(alloc: Global, register: u32, value: &Value) -> Bytes
     ensures { IfOk result (λ text. text ≡ spec.instr_text (Instr.Const register value.now)) }
 {
-    let name = words(alloc, b"const", &[u64::from(register)])?;
-    joined(name, spaced(alloc, value_text(alloc, value)?)?)
+    let name = name_and_numbers_text(alloc, b"const", &[u64::from(register)])?;
+    joined_text(name, spaced(alloc, value_text(alloc, value)?)?)
 }
 
 /// An instruction.
@@ -278,31 +278,41 @@ fn instr_text(alloc: Global, instr: &Instr) -> Bytes
 {
     match instr {
         Instr::Const(d, value) => constant_text(alloc, *d, value),
-        Instr::Move(d, a) => named(alloc, b"move", &[*d, *a]),
-        Instr::Take(d, a) => named(alloc, b"take", &[*d, *a]),
-        Instr::Unary(operator, d, a) => named(alloc, unary_name(*operator), &[*d, *a]),
-        Instr::Binary(operator, d, a, b) => { named(alloc, binary_name(*operator), &[*d, *a, *b]) }
-        Instr::Put(d, a, b, c) => named(alloc, b"put", &[*d, *a, *b, *c]),
-        Instr::At(d, a, i) => words(alloc, b"at", &[*d as u64, *a as u64, *i]),
+        Instr::Move(d, a) => name_and_registers_text(alloc, b"move", &[*d, *a]),
+        Instr::Take(d, a) => name_and_registers_text(alloc, b"take", &[*d, *a]),
+        Instr::Unary(operator, d, a) => name_and_registers_text(
+            alloc,
+            unary_name(*operator),
+            &[*d, *a],
+        ),
+        Instr::Binary(operator, d, a, b) => {
+            name_and_registers_text(alloc, binary_name(*operator), &[*d, *a, *b])
+        }
+        Instr::Put(d, a, b, c) => name_and_registers_text(alloc, b"put", &[*d, *a, *b, *c]),
+        Instr::At(d, a, i) => name_and_numbers_text(alloc, b"at", &[*d as u64, *a as u64, *i]),
         Instr::Tuple(d, from) => row_text(alloc, b"tuple", &[*d as u64], from.as_slice()),
         Instr::List(d, from) => row_text(alloc, b"list", &[*d as u64], from.as_slice()),
         Instr::Call(d, op, from) => {
             row_text(alloc, b"call", &[*d as u64, *op as u64], from.as_slice())
         }
-        Instr::Append(d, a) => named(alloc, b"append", &[*d, *a]),
-        Instr::Jump(place) => words(alloc, b"jump", &[*place as u64]),
-        Instr::Unless(a, place) => words(alloc, b"unless", &[*a as u64, *place as u64]),
+        Instr::Append(d, a) => name_and_registers_text(alloc, b"append", &[*d, *a]),
+        Instr::Jump(place) => name_and_numbers_text(alloc, b"jump", &[*place as u64]),
+        Instr::Unless(a, place) => name_and_numbers_text(
+            alloc,
+            b"unless",
+            &[*a as u64, *place as u64],
+        ),
         Instr::Apply(d, fun, from) => {
             row_text(alloc, b"apply", &[*d as u64, *fun as u64], from.as_slice())
         }
         Instr::Loop(d, a, i, place) => {
-            words(
+            name_and_numbers_text(
                 alloc,
                 b"loop",
                 &[*d as u64, *a as u64, *i as u64, *place as u64],
             )
         }
-        Instr::Return(a) => named(alloc, b"ret", &[*a]),
+        Instr::Return(a) => name_and_registers_text(alloc, b"ret", &[*a]),
     }
 }
 
@@ -311,8 +321,8 @@ fn line_text(alloc: Global, number: usize, place: usize, instr: &Instr) -> Bytes
     ensures { IfOk result (λ text. text ≡ spec.line_text number place instr.now) }
 {
     let place = number_text(alloc, place as u64)?;
-    let numbers = joined(number_text(alloc, number as u64)?, spaced(alloc, place)?)?;
-    let mut line = joined(numbers, spaced(alloc, instr_text(alloc, instr)?)?)?;
+    let numbers = joined_text(number_text(alloc, number as u64)?, spaced(alloc, place)?)?;
+    let mut line = joined_text(numbers, spaced(alloc, instr_text(alloc, instr)?)?)?;
     line.push(b'\n')?;
     Ok(line)
 }

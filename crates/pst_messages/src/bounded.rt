@@ -11,11 +11,11 @@ use std::cell::RefCell;
 /// The result of a callback: a value and the turns left, or a fault.
 type Answer = Result<Result<(Value, u32), Fault>, AllocError>;
 
-/// The callbacks of a compiled model, with a limit on their steps, which `pst_explain::Bounded` counts. If no steps are
+/// The callbacks of a compiled model, with a limit on their steps, which `pst_explain::StepLimitedCallbacks` counts. If no steps are
 /// left, a call returns `AllocError`, which ends the generation of a script.
 #[derive(Drop)]
-pub struct Bounded<'a> {
-    limited: pst_explain::Bounded<'a, Compiled>,
+pub struct StepLimitedRecorder<'a> {
+    limited: pst_explain::StepLimitedCallbacks<'a, Compiled>,
     /// The commands since the last call of `init`: those whose `next` was called, then the one whose `pre` faulted.
     commands: RefCell<Items<Command>>,
 }
@@ -33,13 +33,13 @@ fn command_with_copied_arguments(
     Ok(Command { op, args })
 }
 
-impl<'a> Bounded<'a> {
+impl<'a> StepLimitedRecorder<'a> {
     /// The callbacks of `compiled`, which may take `steps` steps.
-    pub fn new(alloc: Global, compiled: &'a Compiled, steps: u64) -> Bounded<'a>
+    pub fn new(alloc: Global, compiled: &'a Compiled, steps: u64) -> StepLimitedRecorder<'a>
         ensures { result.limited.callbacks.now ≡ compiled.now }
     {
-        Bounded {
-            limited: pst_explain::Bounded::new(compiled, steps),
+        StepLimitedRecorder {
+            limited: pst_explain::StepLimitedCallbacks::new(compiled, steps),
             commands: RefCell::new(Items::new(alloc)),
         }
     }
@@ -76,7 +76,7 @@ impl<'a> Bounded<'a> {
     }
 }
 
-impl<'a> Callbacks for Bounded<'a> {
+impl<'a> Callbacks for StepLimitedRecorder<'a> {
     ghost model = { λ b. b.limited.callbacks.now };
 
     fn init(&self, alloc: Global) -> Answer {

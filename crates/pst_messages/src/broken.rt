@@ -1,7 +1,7 @@
 //! Why recorded runs are broken.
 
 use crate::item_input::ItemInput;
-use pst_explain::explain_broken_run;
+use pst_explain::broken_reply_sentence_of_run;
 use pst_judge::{Judged, Verdict};
 use pst_model::Typed;
 use pst_rejudge::ItemResult;
@@ -14,7 +14,7 @@ use std::slice;
 
 /// The broken items: the first of them, and how many there are.
 #[derive(Drop)]
-struct Broken {
+struct BrokenItems {
     /// The number of the first, from 1.
     item: usize,
     /// The number of its command whose reply is no value, from 1.
@@ -23,23 +23,27 @@ struct Broken {
 }
 
 /// Adds item `item` if it is broken.
-fn count_broken_item(broken: Option<Broken>, item: usize, judged: &Judged) -> Option<Broken> {
+fn count_item_if_broken(
+    broken: Option<BrokenItems>,
+    item: usize,
+    judged: &Judged,
+) -> Option<BrokenItems> {
     let Judged::Verdict(Verdict::Broken(command)) = judged else {
         return broken;
     };
     match broken {
         Some(
-            Broken {
+            BrokenItems {
                 item,
                 command,
                 count,
             },
-        ) => Some(Broken {
+        ) => Some(BrokenItems {
             item,
             command,
             count: count.saturating_add(1),
         }),
-        None => Some(Broken {
+        None => Some(BrokenItems {
             item,
             command: *command,
             count: 1,
@@ -60,7 +64,7 @@ fn has_replies_head(form: &Form) -> bool {
 
 /// The path to the reply to command `command` of item `item`, or to the item if it has no such reply. Each part has a
 /// tree of its replies after the head `replies`.
-fn path_to_reply(
+fn path_to_reply_or_item(
     alloc: Global,
     form: &Form,
     item: usize,
@@ -88,18 +92,18 @@ fn broken_item_sentence(
         return Ok(None);
     };
     match runs.first() {
-        Some(run) => explain_broken_run(alloc, typed, run, command),
+        Some(run) => broken_reply_sentence_of_run(alloc, typed, run, command),
         None => Ok(None),
     }
 }
 
 /// The message on the first broken item, and how many others there are.
-fn message_on_broken_items(
+fn first_broken_item_and_count_message(
     alloc: Global,
     typed: &Typed,
     input: &ItemInput<'_>,
     trees: &[Tree],
-    broken: &Broken,
+    broken: &BrokenItems,
 ) -> Result<Option<String>, AllocError> {
     let item = broken.item;
     let Some(tree) = trees.get(item) else {
@@ -111,7 +115,7 @@ fn message_on_broken_items(
     let Ok(sentence) = std::str::from_utf8(sentence.as_slice()) else {
         return Ok(None);
     };
-    let path = path_to_reply(alloc, tree.form(), item, broken.command as usize)?;
+    let path = path_to_reply_or_item(alloc, tree.form(), item, broken.command as usize)?;
     let notice = Notice {
         span: span_of(input.trees.bytes, path.as_slice()),
         is_warning: false,
@@ -141,13 +145,19 @@ pub fn explain_first_broken_run(
 ) -> Result<Option<String>, AllocError> {
     let mut broken = None;
     for (index, judged) in judged.iter().enumerate() {
-        broken = count_broken_item(broken, index.saturating_add(1), judged);
+        broken = count_item_if_broken(broken, index.saturating_add(1), judged);
     }
     let Some(broken) = broken else {
         return Ok(None);
     };
     match read(alloc, input.trees.bytes) {
-        Ok(trees) => message_on_broken_items(alloc, typed, &input, trees.as_slice(), &broken),
+        Ok(trees) => first_broken_item_and_count_message(
+            alloc,
+            typed,
+            &input,
+            trees.as_slice(),
+            &broken,
+        ),
         Err(_) => Ok(None),
     }
 }
@@ -164,11 +174,11 @@ pub fn explain_first_broken_result(
     let mut broken = None;
     for (index, answer) in answers.iter().enumerate() {
         if let ItemResult::Judged(judged) = answer {
-            broken = count_broken_item(broken, index.saturating_add(1), judged);
+            broken = count_item_if_broken(broken, index.saturating_add(1), judged);
         }
     }
     match broken {
-        Some(broken) => message_on_broken_items(alloc, typed, &input, trees, &broken),
+        Some(broken) => first_broken_item_and_count_message(alloc, typed, &input, trees, &broken),
         None => Ok(None),
     }
 }

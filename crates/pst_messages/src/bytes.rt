@@ -121,7 +121,7 @@ fn foreign_char_fault(
 }
 
 /// The fault of a character that may not be at `place`, or of a byte that belongs to no character.
-fn bad_char_fault(
+fn bad_escape_or_char_fault(
     alloc: Global,
     input: &Input<'_>,
     place: usize,
@@ -152,7 +152,7 @@ fn bad_byte_fault(alloc: Global, input: &Input<'_>, place: usize) -> Result<Byte
                 "hint: a `\"` is missing, or the text has a tab or a line end in it",
             )
         }
-        Some(byte) => bad_char_fault(alloc, input, place, *byte),
+        Some(byte) => bad_escape_or_char_fault(alloc, input, place, *byte),
         None => ByteFault::new(alloc, span, "the file ends here"),
     }
 }
@@ -179,7 +179,7 @@ fn stray_close_fault(
 }
 
 /// What is wrong with bytes that are no file of trees.
-pub fn byte_fault(
+pub fn fault_of_refused_bytes(
     alloc: Global,
     input: &Input<'_>,
     refused: SexprFault,

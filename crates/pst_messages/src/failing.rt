@@ -13,7 +13,7 @@ use std::alloc::{AllocError, Global};
 
 /// A command whose precondition is not true on the state before it.
 #[derive(Debug, Drop)]
-pub struct FailingCommand {
+pub struct FalsePreconditionCommand {
     /// The number of the command, from 1.
     pub command: usize,
     /// The state before it.
@@ -63,7 +63,7 @@ fn are_results_known(results: &[Option<Value>]) -> bool
 }
 
 /// How many commands are in the branches before branch `branch`.
-fn count_commands_before_branch(case: &Case, branch: usize) -> usize {
+fn count_commands_in_earlier_branches(case: &Case, branch: usize) -> usize {
     let mut count: usize = 0;
     for commands in case.branches.as_slice().iter().take(branch) {
         count = count.saturating_add(commands.len());
@@ -72,7 +72,7 @@ fn count_commands_before_branch(case: &Case, branch: usize) -> usize {
 }
 
 /// The number, from 1, of the command at `place`, from 0, in the interleaving `word`.
-fn command_number_in_interleaving(case: &Case, word: &[usize], place: usize) -> usize {
+fn command_number_at_interleaving_place(case: &Case, word: &[usize], place: usize) -> usize {
     let behind = case.prefix.len();
     let letter = place.saturating_sub(behind);
     if place < behind {
@@ -87,19 +87,19 @@ fn command_number_in_interleaving(case: &Case, word: &[usize], place: usize) -> 
         .filter(|other| **other == *branch)
         .count();
     behind
-        .saturating_add(count_commands_before_branch(case, *branch))
+        .saturating_add(count_commands_in_earlier_branches(case, *branch))
         .saturating_add(earlier)
         .saturating_add(1)
 }
 
 /// The first command of a recorded run whose precondition is not true in the interleaving `word`, which explains the
 /// run. Returns `None` if each is true, or if a result of the run is not known.
-pub fn first_false_precondition<C: Callbacks>(
+pub fn first_command_with_false_precondition<C: Callbacks>(
     callbacks: &C,
     alloc: Global,
     run: &Run,
     word: &[usize],
-) -> Result<Option<FailingCommand>, AllocError>
+) -> Result<Option<FalsePreconditionCommand>, AllocError>
     requires { IsLawful (C.model callbacks.now) run.now }
 {
     let Some(history) = &run.history else {
@@ -116,8 +116,8 @@ pub fn first_false_precondition<C: Callbacks>(
         return Ok(None);
     }
     match states.pop() {
-        Some(state) => Ok(Some(FailingCommand {
-            command: command_number_in_interleaving(case, word, count.saturating_sub(1)),
+        Some(state) => Ok(Some(FalsePreconditionCommand {
+            command: command_number_at_interleaving_place(case, word, count.saturating_sub(1)),
             state,
         })),
         None => Ok(None),
@@ -129,6 +129,6 @@ fn count_case_commands(case: &Case) -> usize {
     let branches = case.branches.as_slice();
     case.prefix
         .len()
-        .saturating_add(count_commands_before_branch(case, branches.len()))
+        .saturating_add(count_commands_in_earlier_branches(case, branches.len()))
         .saturating_add(case.suffix.len())
 }

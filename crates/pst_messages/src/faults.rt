@@ -1,7 +1,7 @@
 //! The warning on scripts in which a callback faults, and the explanation of one.
 ghost use Rattle.std.specs.Prelude.{◌≤◌};
 
-use crate::scripts::{FaultyScript, Scripts, generate_faulty_script};
+use crate::scripts::{FaultyScript, ScriptSummary, faulty_script_of_trial};
 use crate::warning::{tree_number_of_item, warning_notice};
 use pst_case::Command;
 use pst_compile::{Compiled, compile};
@@ -73,7 +73,7 @@ fn explain_script_fault(
 }
 
 /// The text that says how many scripts fault. It has no number if not all scripts were generated.
-fn faulty_script_count_text(alloc: Global, scripts: &Scripts) -> Result<String, AllocError> {
+fn faulty_script_count_text(alloc: Global, scripts: &ScriptSummary) -> Result<String, AllocError> {
     let count = scripts.count;
     let faulty = scripts.faulty;
     if scripts.is_cut {
@@ -93,11 +93,11 @@ pub fn faulty_scripts_warning(
     alloc: Global,
     input: &Input<'_>,
     typed: &Typed,
-    scripts: Scripts,
+    scripts: ScriptSummary,
 ) -> Result<Vec<Notice>, AllocError> {
     let mut warnings = Vec::new(alloc);
     let what = faulty_script_count_text(alloc, &scripts)?;
-    let Scripts {
+    let ScriptSummary {
         called: _called,
         count: _,
         faulty: _,
@@ -142,7 +142,7 @@ pub fn explain_generation_fault(
     let Ok(compiled) = compile(alloc, file.typed) else {
         return Err(AllocError);
     };
-    match generate_faulty_script(alloc, &compiled, seed, number, commands)? {
+    match faulty_script_of_trial(alloc, &compiled, seed, number, commands)? {
         Some(script) => Ok(Some(explain_script_fault(alloc, compiled.typed(), script)?)),
         None => Ok(None),
     }

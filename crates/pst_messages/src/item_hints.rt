@@ -2,16 +2,16 @@
 
 use pst_sexpr::{Tree, word_of};
 use pst_sources::{Input, Notice};
-use pst_syntax_problems::head_word;
+use pst_syntax_problems::head_word_or_empty;
 use std::alloc::{AllocError, Global};
 
 /// Whether a tree is a model.
 pub fn is_model_tree(tree: &Tree) -> bool {
-    matches!(head_word(tree.form()), "model" | "model2")
+    matches!(head_word_or_empty(tree.form()), "model" | "model2")
 }
 
 /// The error `notice` on `tree`. If the tree is the model of another file than the first, a hint says so.
-fn with_file_hint(
+fn with_hint_if_model_of_later_file(
     alloc: Global,
     input: &Input<'_>,
     tree: &Tree,
@@ -34,8 +34,8 @@ fn with_file_hint(
 const FIRST_CHARACTER: &str =
     "hint: the `{` of an item as JSON has to be the first character of its line";
 
-/// Whether a tree is a word that begins as JSON does.
-fn begins_json(tree: &Tree) -> bool {
+/// Whether a tree is a word that begins with `{`.
+fn is_word_beginning_with_brace(tree: &Tree) -> bool {
     match word_of(tree.form()) {
         Some(word) => word.as_str().starts_with("{"),
         None => false,
@@ -51,13 +51,13 @@ fn begins_line(bytes: &[u8], place: usize) -> bool {
 }
 
 /// The error `notice` on `tree`. If the tree begins JSON and is not at the beginning of its line, a hint says so.
-fn with_line_hint(
+fn with_hint_if_json_not_at_line_start(
     alloc: Global,
     input: &Input<'_>,
     tree: &Tree,
     notice: Notice,
 ) -> Result<Notice, AllocError> {
-    if !begins_json(tree) || begins_line(input.bytes, notice.span.start) {
+    if !is_word_beginning_with_brace(tree) || begins_line(input.bytes, notice.span.start) {
         return Ok(notice);
     }
     let mut notes = Vec::new(alloc);
@@ -66,12 +66,12 @@ fn with_line_hint(
 }
 
 /// The error `notice` on the item `tree`, with a hint if the tree is the model of another file, or JSON within a line.
-pub fn with_item_hint(
+pub fn with_misplaced_item_hint(
     alloc: Global,
     input: &Input<'_>,
     tree: &Tree,
     notice: Notice,
 ) -> Result<Notice, AllocError> {
-    let notice = with_line_hint(alloc, input, tree, notice)?;
-    with_file_hint(alloc, input, tree, notice)
+    let notice = with_hint_if_json_not_at_line_start(alloc, input, tree, notice)?;
+    with_hint_if_model_of_later_file(alloc, input, tree, notice)
 }

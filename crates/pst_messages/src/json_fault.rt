@@ -2,12 +2,13 @@
 
 use crate::bytes::ByteFault;
 use crate::json_places::{
-    JsonParts, find_deeper_bracket, first_byte_of_json_value, is_json_array, json_value_span,
+    JsonPartCursor, find_deeper_bracket, first_byte_of_json_value_or_zero, is_json_array,
+    json_value_span,
 };
 use json::{Error, MAX_DEPTH, Reader, Scratch, Value as Json};
 use pst_run_problems::JSON_ITEM;
 use pst_sources::Span;
-use pst_syntax_problems::NearestName;
+use pst_syntax_problems::NearestNameSoFar;
 use std::alloc::{AllocError, Global};
 
 /// A fault of a JSON item, if it has one.
@@ -28,7 +29,7 @@ pub fn shortened_json_value(line: &[u8], value: Span) -> &str {
     }
 }
 
-/// The fault at the bytes from `start` on, with a note.
+/// The fault `what` at `span`, with the note `note`.
 fn json_fault_with_note(alloc: Global, span: Span, what: &str, note: &str) -> FoundFault {
     Ok(Some(ByteFault::new(alloc, span, what)?.with(alloc, note)?))
 }
@@ -50,20 +51,22 @@ fn wrong_json_value_fault(
 }
 
 /// Whether a value is an array that begins with a string, as calls do.
-fn is_json_array_with_name(line: &[u8], value: Span) -> bool {
+fn is_json_array_beginning_with_string(line: &[u8], value: Span) -> bool {
     is_json_array(line, value)
-        && first_byte_of_json_value(line, json_value_span(line, value.start.saturating_add(1)))
-            == b'"'
+        && first_byte_of_json_value_or_zero(
+            line,
+            json_value_span(line, value.start.saturating_add(1)),
+        ) == b'"'
 }
 
 /// The fault of the first value of an array that is no call, if there is one.
-fn first_json_call_fault(alloc: Global, line: &[u8], calls: Span, note: &str) -> FoundFault {
-    let mut parts = JsonParts::of(calls);
+fn fault_of_first_json_non_call(alloc: Global, line: &[u8], calls: Span, note: &str) -> FoundFault {
+    let mut parts = JsonPartCursor::of(calls);
     for _ in calls.start..calls.end {
         let Some(call) = parts.next(line) else {
             return Ok(None);
         };
-        if !is_json_array_with_name(line, call) {
+        if !is_json_array_beginning_with_string(line, call) {
             let found = shortened_json_value(line, call);
             let what = format_args!("`{found}` is not a call");
             return Ok(Some(ByteFault::new(alloc, call, what)?.with(alloc, note)?));
@@ -73,11 +76,11 @@ fn first_json_call_fault(alloc: Global, line: &[u8], calls: Span, note: &str) ->
 }
 
 /// The fault of the prefix or the suffix, if it has one.
-fn json_part_fault(alloc: Global, line: &[u8], part: Span) -> FoundFault {
+fn json_prefix_or_suffix_fault(alloc: Global, line: &[u8], part: Span) -> FoundFault {
     if !is_json_array(line, part) {
         return wrong_json_value_fault(alloc, line, part, "expected an array of calls", CALL);
     }
-    first_json_call_fault(alloc, line, part, CALL)
+    fault_of_first_json_non_call(alloc, line, part, CALL)
 }
 
 /// The fault of a branch, if it has one.
@@ -85,12 +88,12 @@ fn json_branch_fault(alloc: Global, line: &[u8], branch: Span) -> FoundFault {
     if !is_json_array(line, branch) {
         return wrong_json_value_fault(alloc, line, branch, "a branch is an array of calls", CALL);
     }
-    let note = if is_json_array_with_name(line, branch) {
+    let note = if is_json_array_beginning_with_string(line, branch) {
         CALLS
     } else {
         CALL
     };
-    first_json_call_fault(alloc, line, branch, note)
+    fault_of_first_json_non_call(alloc, line, branch, note)
 }
 
 /// The fault of the branches, if they have one.
@@ -104,7 +107,7 @@ fn json_branches_fault(alloc: Global, line: &[u8], branches: Span) -> FoundFault
             CALLS,
         );
     }
-    let mut parts = JsonParts::of(branches);
+    let mut parts = JsonPartCursor::of(branches);
     for _ in branches.start..branches.end {
         let Some(branch) = parts.next(line) else {
             return Ok(None);
@@ -123,7 +126,7 @@ fn json_replies_fault(alloc: Global, line: &[u8], replies: Span) -> FoundFault {
     if !is_json_array(line, replies) {
         return wrong_json_value_fault(alloc, line, replies, what, "");
     }
-    let mut parts = JsonParts::of(replies);
+    let mut parts = JsonPartCursor::of(replies);
     for _ in replies.start..replies.end {
         match parts.next(line) {
             Some(list) if !is_json_array(line, list) => {
@@ -140,7 +143,7 @@ fn json_replies_fault(alloc: Global, line: &[u8], replies: Span) -> FoundFault {
 fn unknown_json_member_fault(alloc: Global, name: &str, key: Span) -> FoundFault {
     let what = format_args!("unknown member `{name}`: prefix, branches, suffix, replies");
     let fault = ByteFault::new(alloc, key, what)?;
-    let near = NearestName::to(name)
+    let near = NearestNameSoFar::to(name)
         .or(alloc, "prefix", name)?
         .or(alloc, "branches", name)?
         .or(alloc, "suffix", name)?
@@ -154,7 +157,7 @@ fn unknown_json_member_fault(alloc: Global, name: &str, key: Span) -> FoundFault
 /// The fault of the member `name`, if its value has one.
 fn json_member_fault(alloc: Global, line: &[u8], name: &str, key: Span, value: Span) -> FoundFault {
     match name {
-        "prefix" | "suffix" => json_part_fault(alloc, line, value),
+        "prefix" | "suffix" => json_prefix_or_suffix_fault(alloc, line, value),
         "branches" => json_branches_fault(alloc, line, value),
         "replies" => json_replies_fault(alloc, line, value),
         _ => unknown_json_member_fault(alloc, name, key),
@@ -166,9 +169,13 @@ fn is_among_first_json_members(members: &[(&str, Json<'_>)], count: usize, name:
     members.iter().take(count).any(|(other, _)| *other == name)
 }
 
-/// The fault of a member, if it has one.
-fn first_json_member_fault(alloc: Global, line: &[u8], members: &[(&str, Json<'_>)]) -> FoundFault {
-    let mut parts = JsonParts::of(json_value_span(line, 0));
+/// The fault of the first member that is unknown, has a fault in its value, or has the name of an earlier member.
+fn fault_of_first_bad_json_member(
+    alloc: Global,
+    line: &[u8],
+    members: &[(&str, Json<'_>)],
+) -> FoundFault {
+    let mut parts = JsonPartCursor::of(json_value_span(line, 0));
     for (number, (name, _)) in members.iter().enumerate() {
         let (Some(key), Some(value)) = (parts.next(line), parts.next(line)) else {
             return Ok(None);
@@ -187,7 +194,7 @@ fn first_json_member_fault(alloc: Global, line: &[u8], members: &[(&str, Json<'_
 
 /// The fault of the members of an item, if they have one.
 fn json_members_fault(alloc: Global, line: &[u8], members: &[(&str, Json<'_>)]) -> FoundFault {
-    let found = first_json_member_fault(alloc, line, members)?;
+    let found = fault_of_first_bad_json_member(alloc, line, members)?;
     if found.is_some() || is_among_first_json_members(members, members.len(), "branches") {
         return Ok(found);
     }
@@ -207,8 +214,9 @@ fn find_json_syntax_error_offset(alloc: Global, text: &str) -> Result<usize, All
     Ok(reader.offset())
 }
 
-/// The place after the first value of a line, if that is JSON and more follows it.
-fn place_after_json_value(alloc: Global, text: &str) -> Result<Option<usize>, AllocError> {
+/// The place where the text after the first value of a line begins, without white space before it, or the end of the
+/// line if none follows. `None` if the value is no JSON.
+fn place_of_text_after_json_value(alloc: Global, text: &str) -> Result<Option<usize>, AllocError> {
     let line = text.as_bytes();
     let whole = json_value_span(line, 0);
     let Some(value) = text.get(whole.start..whole.end) else {
@@ -248,7 +256,7 @@ fn too_deep_fault(alloc: Global, place: usize) -> FoundFault {
 
 /// The fault of a line that is no JSON.
 fn not_json_fault(alloc: Global, text: &str) -> FoundFault {
-    if let Some(place) = place_after_json_value(alloc, text)? {
+    if let Some(place) = place_of_text_after_json_value(alloc, text)? {
         let span = Span {
             start: place,
             end: place.saturating_add(1),
@@ -276,8 +284,8 @@ fn not_json_fault(alloc: Global, text: &str) -> FoundFault {
     Ok(Some(ByteFault::new(alloc, span, what)?.with(alloc, hint)?))
 }
 
-/// The fault of the form of the JSON item on a line, if it has one.
-pub fn json_fault(alloc: Global, line: &[u8]) -> FoundFault {
+/// The fault of the form of the JSON item on a line, if it has one. `None` also for JSON that is no object.
+pub fn json_item_form_fault(alloc: Global, line: &[u8]) -> FoundFault {
     let Ok(text) = str::from_utf8(line) else {
         let what = "no JSON: the line is not UTF-8";
         return Ok(Some(ByteFault::new(alloc, json_value_span(line, 0), what)?));

@@ -1,9 +1,9 @@
 //! The messages on inputs with JSON items.
 
 use crate::bytes::ByteFault;
-use crate::json_item::{json_item_fault, json_span_at_tree_path};
-use crate::message::{Asked, errors_of_input_without_json_items};
-use pst_json_runs::{has_json, replace_json_lines_by_trees};
+use crate::json_item::{json_item_fault, json_span_at_or_around_tree_path};
+use crate::message::{MessageScope, errors_of_input_without_json_items};
+use pst_json_runs::{is_json_item_line, replace_json_lines_by_trees};
 use pst_model::{Source, Typed};
 use pst_sexpr::{Form, MAX_BYTES};
 use pst_sources::{Input, Notice, Notices, SourceFile, Span};
@@ -11,7 +11,7 @@ use pst_typing::load;
 use std::alloc::{AllocError, Global};
 
 /// The line that begins at `place`, without its end.
-fn line_at(text: &[u8], place: usize) -> &[u8] {
+fn line_starting_at(text: &[u8], place: usize) -> &[u8] {
     for at in place..text.len() {
         if text.get(at) == Some(&b'\n') {
             return text.get(place..at).unwrap_or(&[]);
@@ -50,7 +50,7 @@ impl LinePair {
         let mut pair = self;
         for at in self.tree..place {
             if trees.get(at) == Some(&b'\n') {
-                let length = line_at(json, pair.json).len();
+                let length = line_starting_at(json, pair.json).len();
                 pair = LinePair {
                     json: pair.json.saturating_add(length).saturating_add(1),
                     tree: at.saturating_add(1),
@@ -77,14 +77,14 @@ pub fn span_in_json_text(
     span: Span,
 ) -> Span {
     let pair = LinePair::first().advance_to_line_at(json, trees, span.start);
-    let line = line_at(json, pair.json);
-    if !has_json(line) {
+    let line = line_starting_at(json, pair.json);
+    if !is_json_item_line(line) {
         return Span {
             start: pair.place_in_json(span.start),
             end: pair.place_in_json(span.end),
         };
     }
-    let found = json_span_at_tree_path(line, tree, path);
+    let found = json_span_at_or_around_tree_path(line, tree, path);
     Span {
         start: pair.json.saturating_add(found.start),
         end: pair.json.saturating_add(found.end),
@@ -106,7 +106,8 @@ fn json_fault_notice(alloc: Global, start: usize, fault: ByteFault) -> Notice {
     }
 }
 
-/// The error `notice`, which is about the text with trees, as an error on the text with JSON items.
+/// The error `notice`, which is about the text with trees, as an error on the text with JSON items. If `pair` is at a
+/// JSON item with a fault, it is the error on this fault instead.
 fn notice_on_json_text(
     alloc: Global,
     typed: &Typed,
@@ -114,8 +115,8 @@ fn notice_on_json_text(
     pair: LinePair,
     notice: Notice,
 ) -> Result<Notice, AllocError> {
-    let line = line_at(json, pair.json);
-    if has_json(line) {
+    let line = line_starting_at(json, pair.json);
+    if is_json_item_line(line) {
         if let Some(fault) = json_item_fault(alloc, typed, line)? {
             return Ok(json_fault_notice(alloc, pair.json, fault));
         }
@@ -147,7 +148,7 @@ fn errors_after_model_with_json(
     alloc: Global,
     input: &Input<'_>,
     typed: &Typed,
-    asked: Asked,
+    asked: MessageScope,
 ) -> Result<Notices, AllocError> {
     let files = files_with_json_as_trees(alloc, typed.source(), input.files)?;
     let text = replace_json_lines_by_trees(alloc, typed.source(), input.bytes)?;
@@ -173,7 +174,7 @@ fn errors_after_model_with_json(
 pub fn errors_of_input_with_json_items(
     alloc: Global,
     input: &Input<'_>,
-    asked: Asked,
+    asked: MessageScope,
     place: usize,
 ) -> Result<Notices, AllocError> {
     if input.bytes.len() > MAX_BYTES {

@@ -1,24 +1,24 @@
 //! Refused JSON items.
 
 use crate::bytes::ByteFault;
-use crate::json_fault::{json_fault, shortened_json_value};
+use crate::json_fault::{json_item_form_fault, shortened_json_value};
 use crate::json_places::{
-    JsonParts, array_element_span, first_byte_of_json_value, json_value_span,
+    JsonPartCursor, array_element_span_or_whole, first_byte_of_json_value_or_zero, json_value_span,
 };
-use pst_json_runs::json_tree;
+use pst_json_runs::json_line_tree;
 use pst_model::Typed;
 use pst_run_problems::{node_parts_or_empty, run_problem};
 use pst_runs::read_runs;
 use pst_sexpr::{Form, tree_in};
 use pst_sources::Span;
-use pst_syntax_problems::{Problem, head_word, short_text};
+use pst_syntax_problems::{Problem, head_word_or_empty, shortened_tree_text};
 use std::alloc::{AllocError, Global};
 use std::slice;
 
 /// The value of the member `name` of an item, or all its bytes.
 fn json_member_span_or_whole(line: &[u8], name: &str) -> Span {
     let whole = json_value_span(line, 0);
-    let mut parts = JsonParts::of(whole);
+    let mut parts = JsonPartCursor::of(whole);
     for _ in whole.start..whole.end {
         let (Some(key), Some(value)) = (parts.next(line), parts.next(line)) else {
             return whole;
@@ -33,14 +33,14 @@ fn json_member_span_or_whole(line: &[u8], name: &str) -> Span {
 
 /// The JSON of the part of an item whose tree has the head `head`, and how many numbers after the first of a path lead
 /// through trees without a head of their own.
-fn find_json_of_part(line: &[u8], head: &str) -> (Span, usize) {
+fn json_part_span_and_headless_levels(line: &[u8], head: &str) -> (Span, usize) {
     match head {
         "left" => (
-            array_element_span(line, json_member_span_or_whole(line, "branches"), 0),
+            array_element_span_or_whole(line, json_member_span_or_whole(line, "branches"), 0),
             1,
         ),
         "right" => (
-            array_element_span(line, json_member_span_or_whole(line, "branches"), 1),
+            array_element_span_or_whole(line, json_member_span_or_whole(line, "branches"), 1),
             1,
         ),
         "branches" => (json_member_span_or_whole(line, head), 2),
@@ -50,28 +50,28 @@ fn find_json_of_part(line: &[u8], head: &str) -> (Span, usize) {
 
 /// The JSON of the tree at `path` in `tree`, the tree of the JSON item on a line. It is an array around it where trees and
 /// JSON differ in their parts.
-pub fn json_span_at_tree_path(line: &[u8], tree: &Form, path: &[usize]) -> Span {
+pub fn json_span_at_or_around_tree_path(line: &[u8], tree: &Form, path: &[usize]) -> Span {
     let Some((place, rest)) = path.split_first() else {
         return json_value_span(line, 0);
     };
     let head = match node_parts_or_empty(tree).get(*place) {
-        Some(part) => head_word(part),
+        Some(part) => head_word_or_empty(part),
         None => "",
     };
-    let (mut found, plain) = find_json_of_part(line, head);
+    let (mut found, plain) = json_part_span_and_headless_levels(line, head);
     for (level, number) in rest.iter().enumerate() {
         let has_head = level == 0 || level > plain;
         let before = if has_head { 1 } else { 0 };
         if *number < before {
             return found;
         }
-        found = array_element_span(line, found, *number - before);
+        found = array_element_span_or_whole(line, found, *number - before);
     }
     found
 }
 
 /// Whether a string of JSON is printable ASCII without escapes of other characters.
-fn is_printable_json_string(bytes: &[u8]) -> bool {
+fn is_printable_ascii_json_string(bytes: &[u8]) -> bool {
     let mut is_escaped = false;
     for byte in bytes {
         if *byte < b' ' || *byte > b'~' || (is_escaped && !matches!(*byte, b'"' | b'\\' | b'/')) {
@@ -83,7 +83,7 @@ fn is_printable_json_string(bytes: &[u8]) -> bool {
 }
 
 /// The hint on how JSON spells a value of the type that a message shows as `ty`, unless it is a reference or a map.
-fn hint_on_type(ty: &str) -> Option<&'static str> {
+fn hint_on_json_spelling_of_type(ty: &str) -> Option<&'static str> {
     match ty {
         "int" => Some("hint: an int is a number: `7`"),
         "bool" => Some("hint: a bool is `true` or `false`"),
@@ -95,7 +95,7 @@ fn hint_on_type(ty: &str) -> Option<&'static str> {
 }
 
 /// The type that a message with `before` before the value says to be expected.
-fn expected_type(before: &str) -> Option<&str> {
+fn expected_type_in_message(before: &str) -> Option<&str> {
     before.strip_prefix("expected ")?.strip_suffix(", found ")
 }
 
@@ -104,17 +104,18 @@ fn hint_on_json_object(object: &str, before: &str) -> Option<&'static str> {
     if object.starts_with("{\"failed\":") {
         return Some("hint: a call that failed is `{\"failed\":null}`");
     }
-    match expected_type(before) {
-        Some(ty) => hint_on_type(ty),
+    match expected_type_in_message(before) {
+        Some(ty) => hint_on_json_spelling_of_type(ty),
         None => Some("hint: an object is a map, which only a `model2` has"),
     }
 }
 
-/// A hint on a value that is no array, if no model has such a value. A message shows it after `before`.
-fn hint_on_json_value(line: &[u8], value: Span, before: &str) -> Option<&'static str> {
+/// A hint on a string, a number or a null, if no model has such a value, and on an object the hint of
+/// `hint_on_json_object`. A message shows the value after `before`. Arrays, `true` and `false` get no hint.
+fn hint_on_foreign_json_value(line: &[u8], value: Span, before: &str) -> Option<&'static str> {
     let bytes = line.get(value.start..value.end).unwrap_or(&[]);
-    match first_byte_of_json_value(line, value) {
-        b'"' if !is_printable_json_string(bytes) => Some("hint: printable ASCII only"),
+    match first_byte_of_json_value_or_zero(line, value) {
+        b'"' if !is_printable_ascii_json_string(bytes) => Some("hint: printable ASCII only"),
         b'-' | b'0'..=b'9' if shortened_json_value(line, value).parse::<i64>().is_err() => {
             Some("hint: integers only, from -9223372036854775808 to 9223372036854775807")
         }
@@ -126,25 +127,27 @@ fn hint_on_json_value(line: &[u8], value: Span, before: &str) -> Option<&'static
 
 /// The first value in an array that no model has, with a hint, or else the array itself without one. A message shows it
 /// after `before`.
-fn first_foreign_json_value(
+fn foreign_json_value_or_whole(
     line: &[u8],
     value: Span,
     before: &str,
 ) -> (Span, Option<&'static str>) {
-    let mut found = (value, hint_on_json_value(line, value, before));
+    let mut found = (value, hint_on_foreign_json_value(line, value, before));
+    let mut end_of_part = value.start;
     for at in value.start..value.end {
         if found.1.is_some() {
             return found;
         }
         let part = json_value_span(line, at);
-        let is_begun = at == part.start && part.start < part.end;
+        let is_begun = at >= end_of_part && at == part.start && part.start < part.end;
         if is_begun
             && matches!(
-                first_byte_of_json_value(line, part),
+                first_byte_of_json_value_or_zero(line, part),
                 b'"' | b'-' | b'0'..=b'9' | b'n'
             )
         {
-            found = (part, hint_on_json_value(line, part, before));
+            found = (part, hint_on_foreign_json_value(line, part, before));
+            end_of_part = part.end;
         }
     }
     match found.1 {
@@ -187,22 +190,22 @@ fn with_notes_in_json_terms(
 const REPLIES: &str =
     "`replies` is `[PREFIX, BRANCH, BRANCH, .., SUFFIX]`: an array of replies for each, not nested further";
 
-/// Whether `problem` is that an item has not one list of replies for each part.
-fn is_reply_list_count_problem(problem: &Problem) -> bool {
+/// Whether `problem` is that an item has not one list of replies for each part, or that one of them is no list.
+fn is_problem_of_reply_lists(problem: &Problem) -> bool {
     problem
         .what
         .starts_with("the replies are lists, one for each part")
 }
 
 /// The fault at `value`, about which a message shows the value instead of its tree.
-fn json_value_fault(
+fn fault_showing_json_value(
     alloc: Global,
     line: &[u8],
     value: Span,
     before: &str,
     after: &str,
 ) -> Result<ByteFault, AllocError> {
-    let (span, hint) = first_foreign_json_value(line, value, before);
+    let (span, hint) = foreign_json_value_or_whole(line, value, before);
     let found = shortened_json_value(line, value);
     let fault = ByteFault::new(alloc, span, format_args!("{before}`{found}`{after}"))?;
     match hint {
@@ -221,7 +224,7 @@ fn text_around_shown_node<'a>(
     let Some(form @ Form::Node(_)) = tree_in(tree, path) else {
         return Ok(None);
     };
-    let shown = short_text(alloc, form)?;
+    let shown = shortened_tree_text(alloc, form)?;
     let shown = shown.as_str();
     let shown = format!(in alloc; "`{shown}`")?;
     Ok(what.split_once(shown.as_str()))
@@ -235,16 +238,16 @@ fn json_fault_from_tree_problem(
     problem: &Problem,
 ) -> Result<ByteFault, AllocError> {
     let what = problem.what.as_str();
-    if is_reply_list_count_problem(problem) {
+    if is_problem_of_reply_lists(problem) {
         let fault = ByteFault::new(alloc, json_member_span_or_whole(line, "replies"), what)?.with(
             alloc, REPLIES,
         )?;
         return with_notes_in_json_terms(alloc, fault, problem.notes.as_slice());
     }
     let path = problem.path.as_slice().get(1..).unwrap_or(&[]);
-    let value = json_span_at_tree_path(line, tree, path);
+    let value = json_span_at_or_around_tree_path(line, tree, path);
     let fault = match text_around_shown_node(alloc, tree, path, what)? {
-        Some((before, after)) => json_value_fault(alloc, line, value, before, after)?,
+        Some((before, after)) => fault_showing_json_value(alloc, line, value, before, after)?,
         None => ByteFault::new(alloc, value, what)?,
     };
     with_notes_in_json_terms(alloc, fault, problem.notes.as_slice())
@@ -256,11 +259,11 @@ pub fn json_item_fault(
     typed: &Typed,
     line: &[u8],
 ) -> Result<Option<ByteFault>, AllocError> {
-    let found = json_fault(alloc, line)?;
+    let found = json_item_form_fault(alloc, line)?;
     if found.is_some() {
         return Ok(found);
     }
-    let tree = json_tree(alloc, typed.source(), line)?;
+    let tree = json_line_tree(alloc, typed.source(), line)?;
     let Err(fault) = read_runs(alloc, typed, slice::from_ref(&tree)) else {
         return Ok(None);
     };

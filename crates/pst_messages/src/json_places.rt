@@ -34,7 +34,7 @@ fn json_word_end(line: &[u8], start: usize) -> usize {
 
 /// How far a scan of JSON has come.
 #[derive(Clone, Copy, Drop)]
-struct Scan {
+struct JsonScanState {
     /// The number of open brackets.
     depth: usize,
     /// It is in a string.
@@ -43,10 +43,10 @@ struct Scan {
     is_escaped: bool,
 }
 
-impl Scan {
+impl JsonScanState {
     /// The scan before the first byte.
-    fn new() -> Scan {
-        Scan {
+    fn new() -> JsonScanState {
+        JsonScanState {
             depth: 0,
             is_string: false,
             is_escaped: false,
@@ -54,8 +54,8 @@ impl Scan {
     }
 
     /// The scan after the byte `byte` of a string.
-    fn after_string_byte(self, byte: u8) -> Scan {
-        Scan {
+    fn after_string_byte(self, byte: u8) -> JsonScanState {
+        JsonScanState {
             is_string: self.is_escaped || byte != b'"',
             is_escaped: !self.is_escaped && byte == b'\\',
             ..self
@@ -63,20 +63,20 @@ impl Scan {
     }
 
     /// The scan after the byte `byte`.
-    fn after_json_byte(self, byte: u8) -> Scan {
+    fn after_json_byte(self, byte: u8) -> JsonScanState {
         if self.is_string {
             return self.after_string_byte(byte);
         }
         match byte {
-            b'"' => Scan {
+            b'"' => JsonScanState {
                 is_string: true,
                 ..self
             },
-            b'[' | b'{' => Scan {
+            b'[' | b'{' => JsonScanState {
                 depth: self.depth.saturating_add(1),
                 ..self
             },
-            b']' | b'}' => Scan {
+            b']' | b'}' => JsonScanState {
                 depth: self.depth.saturating_sub(1),
                 ..self
             },
@@ -87,7 +87,7 @@ impl Scan {
 
 /// The place of the first bracket of a line that opens more than `most` levels.
 pub fn find_deeper_bracket(line: &[u8], most: usize) -> Option<usize> {
-    let mut scan = Scan::new();
+    let mut scan = JsonScanState::new();
     for (place, byte) in line.iter().enumerate() {
         scan = scan.after_json_byte(*byte);
         if scan.depth > most {
@@ -99,7 +99,7 @@ pub fn find_deeper_bracket(line: &[u8], most: usize) -> Option<usize> {
 
 /// The end of the string, the array or the object that begins at `start`.
 fn end_of_json_string_or_container(line: &[u8], start: usize) -> usize {
-    let mut scan = Scan::new();
+    let mut scan = JsonScanState::new();
     for at in start..line.len() {
         let Some(byte) = line.get(at) else {
             return at;
@@ -124,7 +124,7 @@ pub fn json_value_span(line: &[u8], from: usize) -> Span {
 }
 
 /// The first byte of a value, or 0.
-pub fn first_byte_of_json_value(line: &[u8], value: Span) -> u8 {
+pub fn first_byte_of_json_value_or_zero(line: &[u8], value: Span) -> u8 {
     match line.get(value.start) {
         Some(byte) => *byte,
         None => 0,
@@ -133,19 +133,19 @@ pub fn first_byte_of_json_value(line: &[u8], value: Span) -> u8 {
 
 /// Whether a value is an array.
 pub fn is_json_array(line: &[u8], value: Span) -> bool {
-    first_byte_of_json_value(line, value) == b'['
+    first_byte_of_json_value_or_zero(line, value) == b'['
 }
 
 /// The values of an array, or the keys and values of an object, from a place on.
 #[derive(Clone, Copy, Drop)]
-pub struct JsonParts {
+pub struct JsonPartCursor {
     at: usize,
 }
 
-impl JsonParts {
+impl JsonPartCursor {
     /// All parts of an array or an object.
-    pub fn of(value: Span) -> JsonParts {
-        JsonParts {
+    pub fn of(value: Span) -> JsonPartCursor {
+        JsonPartCursor {
             at: value.start.saturating_add(1),
         }
     }
@@ -166,11 +166,11 @@ impl JsonParts {
 }
 
 /// Part `number`, from 0, of an array, or else the value itself.
-pub fn array_element_span(line: &[u8], value: Span, number: usize) -> Span {
+pub fn array_element_span_or_whole(line: &[u8], value: Span, number: usize) -> Span {
     if !is_json_array(line, value) {
         return value;
     }
-    let mut parts = JsonParts::of(value);
+    let mut parts = JsonPartCursor::of(value);
     for _ in 0..number {
         let _ = parts.next(line);
     }

@@ -1,7 +1,7 @@
 //! The messages on refused inputs.
 
-use crate::bytes::{ByteFault, byte_fault};
-use crate::item_hints::{is_model_tree, with_item_hint};
+use crate::bytes::{ByteFault, fault_of_refused_bytes};
+use crate::item_hints::{is_model_tree, with_misplaced_item_hint};
 use crate::json_input::{errors_of_input_with_json_items, find_first_json_item};
 use pst_model::Typed;
 use pst_run_problems::run_problem;
@@ -11,15 +11,17 @@ use pst_sources::{
     Input, Notice, Notices, SourceFile, Span, first_item, span_in, span_of, text_of, tree_at,
 };
 use pst_syntax::read_model;
-use pst_syntax_problems::{MOST_PROBLEMS, Problem, form_problems, with_type_hint};
-use pst_type_problems::type_problems;
+use pst_syntax_problems::{
+    MOST_PROBLEMS, Problem, model_syntax_problems, with_call_or_assignment_hint,
+};
+use pst_type_problems::type_problems_from_item_on;
 use pst_typing::{ModelFile, Refusal, load, trees_after_model};
 use std::alloc::{AllocError, Global};
 use std::slice;
 
 /// The parts of an input that get messages.
 #[derive(Clone, Copy, Debug, PartialEq, Eq, Drop)]
-pub enum Asked {
+pub enum MessageScope {
     /// The model alone, without the items after it.
     Model,
     /// The model, and the first refused item after it.
@@ -79,7 +81,7 @@ fn begins_with_model(bytes: &[u8]) -> bool {
 }
 
 /// The name of the first file that begins with a model, if the input does not.
-fn first_file_with_model<'a>(input: &Input<'a>) -> Option<&'a str> {
+fn name_of_misplaced_model_file<'a>(input: &Input<'a>) -> Option<&'a str> {
     if begins_with_model(input.bytes) {
         return None;
     }
@@ -116,8 +118,8 @@ fn form_problems_with_hints(
     input: &Input<'_>,
     trees: &[Tree],
 ) -> Result<Vec<Problem>, AllocError> {
-    let problems = form_problems(alloc, trees)?;
-    if let Some(name) = first_file_with_model(input) {
+    let problems = model_syntax_problems(alloc, trees)?;
+    if let Some(name) = name_of_misplaced_model_file(input) {
         let hint = format!(in alloc; "hint: `{name}` begins with a model: name this file first")?;
         return problems_with_hint(alloc, problems, hint.as_str());
     }
@@ -138,7 +140,7 @@ fn with_type_hints(
 ) -> Result<Vec<Problem>, AllocError> {
     let mut hinted = Vec::new(alloc);
     for problem in problems {
-        hinted.push(with_type_hint(alloc, model, problem)?)?;
+        hinted.push(with_call_or_assignment_hint(alloc, model, problem)?)?;
     }
     Ok(hinted)
 }
@@ -156,7 +158,12 @@ fn model_problems(
         Refusal::NoModel(_) => form_problems_with_hints(alloc, input, trees.as_slice()),
         Refusal::IllTyped(number) => match (read_model(alloc, trees.as_slice()), trees.first()) {
             (Ok(model), Some(tree)) => {
-                let problems = type_problems(alloc, model.source(), tree.form(), *number)?;
+                let problems = type_problems_from_item_on(
+                    alloc,
+                    model.source(),
+                    tree.form(),
+                    *number,
+                )?;
                 with_type_hints(alloc, tree.form(), problems)
             }
             _ => Ok(Vec::new(alloc)),
@@ -166,7 +173,7 @@ fn model_problems(
 }
 
 /// The problem of the first refused item after a model.
-fn first_item_problem(
+fn problem_of_first_refused_item(
     alloc: Global,
     typed: &Typed,
     trees: &[Tree],
@@ -187,13 +194,13 @@ fn notice_on_first_refused_item(
     typed: &Typed,
     trees: &[Tree],
 ) -> Result<Notices, AllocError> {
-    let Some(problem) = first_item_problem(alloc, typed, trees)? else {
+    let Some(problem) = problem_of_first_refused_item(alloc, typed, trees)? else {
         return Ok(Notices::none(alloc));
     };
     let number = problem.path.first().copied().unwrap_or(0);
     let notice = error_notice_at_tree(alloc, input, problem);
     match trees.get(number) {
-        Some(tree) => Notices::one(alloc, with_item_hint(alloc, input, tree, notice)?),
+        Some(tree) => Notices::one(alloc, with_misplaced_item_hint(alloc, input, tree, notice)?),
         None => Notices::one(alloc, notice),
     }
 }
@@ -244,7 +251,7 @@ fn notices_on_refused_items(
                 let notice = notice_in_item(alloc, input, span, problem);
                 notices
                     .all
-                    .push(with_item_hint(alloc, input, tree, notice)?)?;
+                    .push(with_misplaced_item_hint(alloc, input, tree, notice)?)?;
             }
         }
         refused = refused.saturating_add(1);
@@ -258,20 +265,26 @@ fn item_error_notices(
     alloc: Global,
     input: &Input<'_>,
     file: &ModelFile,
-    asked: Asked,
+    asked: MessageScope,
 ) -> Result<Notices, AllocError> {
     let trees = file.trees.as_slice();
     match asked {
-        Asked::Model => Ok(Notices::none(alloc)),
-        Asked::FirstItem => notice_on_first_refused_item(alloc, input, &file.typed, trees),
-        Asked::EachItem => notices_on_refused_items(
+        MessageScope::Model => Ok(Notices::none(alloc)),
+        MessageScope::FirstItem => notice_on_first_refused_item(alloc, input, &file.typed, trees),
+        MessageScope::EachItem => notices_on_refused_items(
             alloc,
             input,
             &file.typed,
             trees,
             MOST_PROBLEMS,
         ),
-        Asked::AllItems => notices_on_refused_items(alloc, input, &file.typed, trees, usize::MAX),
+        MessageScope::AllItems => notices_on_refused_items(
+            alloc,
+            input,
+            &file.typed,
+            trees,
+            usize::MAX,
+        ),
     }
 }
 
@@ -279,12 +292,12 @@ fn item_error_notices(
 pub fn errors_of_input_without_json_items(
     alloc: Global,
     input: &Input<'_>,
-    asked: Asked,
+    asked: MessageScope,
 ) -> Result<Notices, AllocError> {
     match load(alloc, input.bytes)? {
         Ok(file) => item_error_notices(alloc, input, &file, asked),
         Err(Refusal::Unread(refused)) => {
-            let ByteFault { span, what, notes } = byte_fault(alloc, input, refused)?;
+            let ByteFault { span, what, notes } = fault_of_refused_bytes(alloc, input, refused)?;
             let lines = String::new(alloc);
             let notice = Notice {
                 span,
@@ -307,7 +320,7 @@ pub fn errors_of_input_without_json_items(
 pub fn input_error_notices(
     alloc: Global,
     input: &Input<'_>,
-    asked: Asked,
+    asked: MessageScope,
 ) -> Result<Notices, AllocError> {
     match find_first_json_item(input.bytes) {
         Some(place) => errors_of_input_with_json_items(alloc, input, asked, place),
@@ -322,7 +335,7 @@ pub fn input_error_messages_text(
     alloc: Global,
     files: &[SourceFile<'_>],
     input: &[u8],
-    asked: Asked,
+    asked: MessageScope,
 ) -> Result<Option<String>, AllocError> {
     let input = Input {
         files,

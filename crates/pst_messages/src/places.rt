@@ -2,13 +2,13 @@
 
 use pst_run_problems::{Part, command_with_path, find_part_of_command, parts_of_case};
 use pst_sexpr::Form;
-use pst_syntax_problems::short_text;
+use pst_syntax_problems::shortened_tree_text;
 use std::alloc::{AllocError, Global};
 use std::fmt;
 
 /// The place of a command, and its spelling.
 #[derive(Drop)]
-pub struct Spot {
+pub struct LocatedCommand {
     /// The path to its tree.
     pub path: Vec<usize>,
     /// Its place in its case.
@@ -69,7 +69,7 @@ pub fn find_spot_of_command(
     form: &Form,
     item: usize,
     command: usize,
-) -> Result<Option<Spot>, AllocError> {
+) -> Result<Option<LocatedCommand>, AllocError> {
     let parts = parts_of_case(alloc, form)?;
     let Some(place) = command_place(parts.as_slice(), command) else {
         return Ok(None);
@@ -78,6 +78,6 @@ pub fn find_spot_of_command(
         return Ok(None);
     };
     let path = prepend_to_path(alloc, item, steps.as_slice())?;
-    let call = short_text(alloc, call)?;
-    Ok(Some(Spot { path, place, call }))
+    let call = shortened_tree_text(alloc, call)?;
+    Ok(Some(LocatedCommand { path, place, call }))
 }

@@ -3,11 +3,11 @@ ghost use Rattle.std.specs.Prelude.{◌≡◌, All};
 ghost use Rattle.pst_runs.specs.Lawful.{AreLawful, IsLawful};
 
 use crate::failing::{
-    FailingCommand, case_calls_marked_operation, first_false_precondition,
+    FalsePreconditionCommand, case_calls_marked_operation, first_command_with_false_precondition,
     mark_operations_with_preconditions,
 };
 use crate::item_input::ItemInput;
-use crate::places::{Spot, find_spot_of_command};
+use crate::places::{LocatedCommand, find_spot_of_command};
 use crate::spelling::shortened_value_text;
 use crate::warning::warning_notice;
 use pst_case::Run;
@@ -26,7 +26,7 @@ const MOST: usize = 8;
 
 /// The subject of the warnings: an input, its model, and the operations whose precondition is not just `true`.
 #[derive(Drop)]
-struct Subject<'a> {
+struct WarningSubject<'a> {
     input: ItemInput<'a>,
     source: &'a Source,
     conditional: Vec<bool>,
@@ -34,18 +34,18 @@ struct Subject<'a> {
 
 /// The items with a command whose precondition is not true: the first ones by their numbers, and how many there are.
 #[derive(Drop)]
-struct FoundItems {
-    first: Vec<(usize, FailingCommand)>,
+struct FalsePreconditions {
+    first: Vec<(usize, FalsePreconditionCommand)>,
     count: usize,
 }
 
 /// The warning on a command of item `item`, counted from 1, of the input.
 fn precondition_warning(
     alloc: Global,
-    subject: &Subject<'_>,
+    subject: &WarningSubject<'_>,
     trees: &[Tree],
     item: usize,
-    failing: &FailingCommand,
+    failing: &FalsePreconditionCommand,
 ) -> Result<String, AllocError> {
     let Some(tree) = trees.get(item) else {
         return Ok(String::new(alloc));
@@ -66,10 +66,10 @@ fn precondition_warning(
 /// The warning on the command at `spot` of item `item`, which is `tree`, with the state before the command.
 fn precondition_warning_at_spot(
     alloc: Global,
-    subject: &Subject<'_>,
+    subject: &WarningSubject<'_>,
     tree: &Form,
     item: usize,
-    spot: &Spot,
+    spot: &LocatedCommand,
     state: &Value,
 ) -> Result<String, AllocError> {
     let place = spot.place;
@@ -92,11 +92,11 @@ fn precondition_warning_at_spot(
 }
 
 /// Adds the recorded run of item `item`, which the interleaving `word` explains, if it gets a warning.
-fn add_run_with_false_precondition<C: Callbacks>(
-    found: &mut FoundItems,
+fn add_run_if_precondition_is_false<C: Callbacks>(
+    found: &mut FalsePreconditions,
     callbacks: &C,
     alloc: Global,
-    subject: &Subject<'_>,
+    subject: &WarningSubject<'_>,
     item: usize,
     run: &Run,
     word: &[usize],
@@ -106,7 +106,7 @@ fn add_run_with_false_precondition<C: Callbacks>(
     if !case_calls_marked_operation(subject.conditional.as_slice(), run.shaped.case()) {
         return Ok(());
     }
-    let Some(failing) = first_false_precondition(callbacks, alloc, run, word)? else {
+    let Some(failing) = first_command_with_false_precondition(callbacks, alloc, run, word)? else {
         return Ok(());
     };
     if found.count < MOST {
@@ -127,9 +127,9 @@ fn explaining_interleaving(judged: &Judged) -> Option<&[usize]> {
 /// The text of the warnings on the items in `found`; `None` if it is empty.
 fn precondition_warnings_text(
     alloc: Global,
-    subject: &Subject<'_>,
+    subject: &WarningSubject<'_>,
     trees: &[Tree],
-    found: &FoundItems,
+    found: &FalsePreconditions,
 ) -> Result<Option<String>, AllocError> {
     let mut text = String::new(alloc);
     for (item, failing) in found.first.as_slice() {
@@ -151,10 +151,10 @@ fn precondition_warnings_text(
 /// Adds the items of `runs` that get a warning. `judged` are their judgements, and `first` is the number of the first
 /// one, from 1.
 fn add_runs_with_false_preconditions<C: Callbacks>(
-    found: &mut FoundItems,
+    found: &mut FalsePreconditions,
     callbacks: &C,
     alloc: Global,
-    subject: &Subject<'_>,
+    subject: &WarningSubject<'_>,
     first: usize,
     runs: &[Run],
     judged: &[Judged],
@@ -169,7 +169,7 @@ fn add_runs_with_false_preconditions<C: Callbacks>(
             return Ok(());
         };
         if let Some(word) = explaining_interleaving(judged) {
-            add_run_with_false_precondition(found, callbacks, alloc, subject, item, run, word)?;
+            add_run_if_precondition_is_false(found, callbacks, alloc, subject, item, run, word)?;
         }
         item = item.saturating_add(1);
         rest = later;
@@ -180,10 +180,10 @@ fn add_runs_with_false_preconditions<C: Callbacks>(
 
 /// Adds the items of all `parts` that get a warning. `judged` are their judgements in their order.
 fn add_false_preconditions_of_parts<C: Callbacks>(
-    found: &mut FoundItems,
+    found: &mut FalsePreconditions,
     callbacks: &C,
     alloc: Global,
-    subject: &Subject<'_>,
+    subject: &WarningSubject<'_>,
     parts: &[Vec<Run>],
     judged: &[Judged],
 ) -> Result<(), AllocError>
@@ -208,12 +208,12 @@ fn add_false_preconditions_of_parts<C: Callbacks>(
 }
 
 /// Adds item `item`, counted from 1, of the input if it was judged and gets a warning.
-fn add_result_with_false_precondition<C: Callbacks>(
-    found: &mut FoundItems,
+fn add_result_if_precondition_is_false<C: Callbacks>(
+    found: &mut FalsePreconditions,
     callbacks: &C,
     alloc: Global,
     typed: &Typed,
-    subject: &Subject<'_>,
+    subject: &WarningSubject<'_>,
     trees: &[Tree],
     item: usize,
     answer: &ItemResult,
@@ -248,13 +248,13 @@ fn subject_of_precondition_warnings<'a>(
     alloc: Global,
     typed: &'a Typed,
     input: ItemInput<'a>,
-) -> Result<Option<Subject<'a>>, AllocError> {
+) -> Result<Option<WarningSubject<'a>>, AllocError> {
     let source = typed.source();
     let conditional = mark_operations_with_preconditions(alloc, source.items.as_slice())?;
     if !conditional.iter().any(|is_marked| *is_marked) {
         return Ok(None);
     }
-    Ok(Some(Subject {
+    Ok(Some(WarningSubject {
         input,
         source,
         conditional,
@@ -262,8 +262,8 @@ fn subject_of_precondition_warnings<'a>(
 }
 
 /// No items.
-fn no_false_preconditions(alloc: Global) -> FoundItems {
-    FoundItems {
+fn no_false_preconditions(alloc: Global) -> FalsePreconditions {
+    FalsePreconditions {
         first: Vec::new(alloc),
         count: 0,
     }
@@ -318,7 +318,7 @@ pub fn precondition_warnings_on_item_results<C: Callbacks>(
     let mut found = no_false_preconditions(alloc);
     for (index, answer) in answers.iter().enumerate() {
         let item = index.saturating_add(1);
-        add_result_with_false_precondition(
+        add_result_if_precondition_is_false(
             &mut found, callbacks, alloc, typed, &subject, trees, item, answer,
         )?;
     }

@@ -1,7 +1,7 @@
 //! Generated scripts of a model: which operations they call, and which of them fault.
 ghost use Rattle.std.specs.Prelude.{◌≤◌};
 
-use crate::bounded::Bounded;
+use crate::bounded::StepLimitedRecorder;
 use pst_case::Command;
 use pst_compile::Compiled;
 use pst_eval::FaultPlace;
@@ -18,7 +18,7 @@ pub const SCRIPTS: u32 = 16;
 /// The greatest number of commands of a script.
 pub const COMMANDS: u32 = 16;
 
-/// How many steps the callbacks may take before the generation of scripts for warnings ends, as `Bounded` counts them.
+/// How many steps the callbacks may take before the generation of scripts for warnings ends, as `StepLimitedRecorder` counts them.
 /// A call that has begun runs to its end.
 const STEPS: u64 = 1_000_000;
 
@@ -33,7 +33,7 @@ pub struct FaultyScript {
 
 /// How a generation ends.
 #[derive(Drop)]
-enum Script {
+enum GeneratedScript {
     /// It gives a case.
     Whole(Valid),
     /// A callback faults.
@@ -44,7 +44,7 @@ enum Script {
 
 /// What generated scripts of a model show.
 #[derive(Drop)]
-pub struct Scripts {
+pub struct ScriptSummary {
     /// For each operation, in their order, whether a script calls it.
     pub called: Vec<bool>,
     /// How many were generated.
@@ -66,11 +66,11 @@ fn generate_script(
     number: u64,
     commands: u32,
     steps: &mut u64,
-) -> Result<Script, AllocError>
+) -> Result<GeneratedScript, AllocError>
     requires some { 1 ≤ commands }
     requires few { commands ≤ 64 }
 {
-    let callbacks = Bounded::new(alloc, compiled, *steps);
+    let callbacks = StepLimitedRecorder::new(alloc, compiled, *steps);
     let mut words = Pcg64::new(seed as u128, number as u128);
     let generated = generate(
         &callbacks,
@@ -83,19 +83,19 @@ fn generate_script(
     );
     *steps = callbacks.steps_left();
     match generated {
-        Ok(Ok(valid)) => Ok(Script::Whole(valid)),
-        Ok(Err(place)) => Ok(Script::Faulty(FaultyScript {
+        Ok(Ok(valid)) => Ok(GeneratedScript::Whole(valid)),
+        Ok(Err(place)) => Ok(GeneratedScript::Faulty(FaultyScript {
             commands: callbacks.into_commands(),
             place,
         })),
-        Err(AllocError) if *steps == 0 => Ok(Script::Cut),
+        Err(AllocError) if *steps == 0 => Ok(GeneratedScript::Cut),
         Err(AllocError) => Err(AllocError),
     }
 }
 
 /// The script of trial `number` if a callback faults in it, so that the trial has no case. `seed` and `number` choose
 /// its random words, and `commands` is the greatest number of its commands.
-pub fn generate_faulty_script(
+pub fn faulty_script_of_trial(
     alloc: Global,
     compiled: &Compiled,
     seed: u64,
@@ -107,7 +107,7 @@ pub fn generate_faulty_script(
 {
     let mut steps = u64::MAX;
     match generate_script(alloc, compiled, seed, number, commands, &mut steps)? {
-        Script::Faulty(script) => Ok(Some(script)),
+        GeneratedScript::Faulty(script) => Ok(Some(script)),
         _ => Ok(None),
     }
 }
@@ -132,21 +132,21 @@ fn mark_called_operations(marks: &mut Vec<bool>, commands: &[Command]) {
     }
 }
 
-impl Scripts {
+impl ScriptSummary {
     /// Adds a script.
-    fn add(&mut self, script: Script) {
+    fn count_script(&mut self, script: GeneratedScript) {
         match script {
-            Script::Whole(valid) => {
+            GeneratedScript::Whole(valid) => {
                 let case = valid.shaped().case();
                 mark_called_operations(&mut self.called, case.prefix.as_slice());
             }
-            Script::Faulty(script) => {
+            GeneratedScript::Faulty(script) => {
                 self.faulty = self.faulty.saturating_add(1);
                 if self.first_faulty.is_none() {
                     self.first_faulty = Some(script);
                 }
             }
-            Script::Cut => {
+            GeneratedScript::Cut => {
                 self.is_cut = true;
                 return;
             }
@@ -156,8 +156,11 @@ impl Scripts {
 }
 
 /// Generates scripts of a model, always of the same random words, up to a limit on the scripts and on the steps.
-pub fn generate_scripts(alloc: Global, compiled: &Compiled) -> Result<Scripts, AllocError> {
-    let mut scripts = Scripts {
+pub fn summary_of_generated_scripts(
+    alloc: Global,
+    compiled: &Compiled,
+) -> Result<ScriptSummary, AllocError> {
+    let mut scripts = ScriptSummary {
         called: unset_operation_marks(alloc, compiled.typed())?,
         count: 0,
         faulty: 0,
@@ -167,7 +170,7 @@ pub fn generate_scripts(alloc: Global, compiled: &Compiled) -> Result<Scripts, A
     let mut steps = STEPS;
     for number in 0..SCRIPTS {
         let script = generate_script(alloc, compiled, 0, u64::from(number), COMMANDS, &mut steps)?;
-        scripts.add(script);
+        scripts.count_script(script);
         if scripts.is_cut {
             break;
         }

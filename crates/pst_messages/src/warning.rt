@@ -1,7 +1,7 @@
 //! The warnings on an input.
 
 use crate::faults::faulty_scripts_warning;
-use crate::scripts::{COMMANDS, SCRIPTS, generate_scripts};
+use crate::scripts::{COMMANDS, SCRIPTS, summary_of_generated_scripts};
 use pst_compile::{Compiled, compile};
 use pst_model::Item;
 use pst_sexpr::{Form, Tree, node_of, word_of};
@@ -72,7 +72,7 @@ fn uncalled_operation_warning(
 }
 
 /// The warnings on the operations that no script calls. `called` says for each whether one does.
-fn uncalled_warnings(
+fn warnings_on_uncalled_operations(
     alloc: Global,
     input: &Input<'_>,
     items: &[Item],
@@ -100,7 +100,7 @@ fn script_warnings(
 ) -> Result<Vec<Notice>, AllocError> {
     let typed = compiled.typed();
     let items = typed.source().items.as_slice();
-    let scripts = generate_scripts(alloc, compiled)?;
+    let scripts = summary_of_generated_scripts(alloc, compiled)?;
     if scripts.faulty > 0 {
         return faulty_scripts_warning(alloc, input, typed, scripts);
     }
@@ -110,7 +110,7 @@ fn script_warnings(
     }
     let called = scripts.called.as_slice();
     if called.iter().any(|is_called| *is_called) {
-        return uncalled_warnings(alloc, input, items, called);
+        return warnings_on_uncalled_operations(alloc, input, items, called);
     }
     warnings.push(no_initial_call_warning(alloc, input, items)?)?;
     Ok(warnings)

@@ -6,15 +6,15 @@ ghost use Rattle.pst_print.specs.Words.{key_word, truth_word};
 ghost use Rattle.pst_sexpr.specs.Parts.{headed};
 ghost use Rattle.pst_sexpr.specs.declared.form.Form.TheVariants.{Word};
 
-use crate::nodes::{prepend_form, print_name, three_forms, two_forms};
-use crate::types::{map_form, ty_form};
-use crate::words::{binary_word, unary_word};
+use crate::nodes::{list_of_three_forms, list_of_two_forms, prepend_form, print_name};
+use crate::types::{print_map_type, ty_form};
+use crate::words::{binary_operator_word, unary_operator_word};
 use pst_model::{Clause, Expr};
 use pst_sexpr::{Form, headed, list_of, word};
 use pst_value::{Boxed, Items, KeyTy, Text, Ty};
 use std::alloc::{AllocError, Global};
 
-fn integer(alloc: Global, number: i64) -> Result<Form, AllocError>
+fn print_integer(alloc: Global, number: i64) -> Result<Form, AllocError>
     ensures { IfOk result (λ form. form ≡ Word (signed_decimal number)) }
 {
     Ok(Form::Word(Text::from_string(format!(in alloc; "{number}")?)))
@@ -37,21 +37,26 @@ fn print_bool(alloc: Global, holds: bool) -> Result<Form, AllocError>
 }
 
 /// A node of a word and a tree.
-fn unary_form(alloc: Global, head: &str, first: Form) -> Result<Form, AllocError>
+fn headed_node_with_one_part(alloc: Global, head: &str, first: Form) -> Result<Form, AllocError>
     ensures { IfOk result (λ form. form ≡ headed head.now (first ∷ [])) }
 {
     headed(alloc, head, list_of(alloc, first)?)
 }
 
 /// A node of a word and two trees.
-fn binary_form(alloc: Global, head: &str, first: Form, second: Form) -> Result<Form, AllocError>
+fn headed_node_with_two_parts(
+    alloc: Global,
+    head: &str,
+    first: Form,
+    second: Form,
+) -> Result<Form, AllocError>
     ensures { IfOk result (λ form. form ≡ headed head.now (first ∷ second ∷ [])) }
 {
-    headed(alloc, head, two_forms(alloc, first, second)?)
+    headed(alloc, head, list_of_two_forms(alloc, first, second)?)
 }
 
 /// A node of a word and three trees.
-fn ternary_form(
+fn headed_node_with_three_parts(
     alloc: Global,
     head: &str,
     first: Form,
@@ -60,24 +65,32 @@ fn ternary_form(
 ) -> Result<Form, AllocError>
     ensures { IfOk result (λ form. form ≡ headed head.now (first ∷ second ∷ third ∷ [])) }
 {
-    headed(alloc, head, three_forms(alloc, first, second, third)?)
+    headed(
+        alloc,
+        head,
+        list_of_three_forms(alloc, first, second, third)?,
+    )
 }
 
-fn let_form(alloc: Global, bound: &Text, value: Form, body: Form) -> Result<Form, AllocError>
+fn print_let(alloc: Global, bound: &Text, value: Form, body: Form) -> Result<Form, AllocError>
     ensures { IfOk result (λ form. form ≡ headed (codes "let") (Word bound.now ∷ value ∷ body ∷ [])) }
 {
     let bound = print_name(alloc, bound)?;
-    headed(alloc, "let", three_forms(alloc, bound, value, body)?)
+    headed(
+        alloc,
+        "let",
+        list_of_three_forms(alloc, bound, value, body)?,
+    )
 }
 
-fn at_form(alloc: Global, tuple: Form, number: u64) -> Result<Form, AllocError>
+fn print_tuple_item(alloc: Global, tuple: Form, number: u64) -> Result<Form, AllocError>
     ensures { IfOk result (λ form. form ≡ headed (codes "at") (tuple ∷ Word (decimal number) ∷ [])) }
 {
     let place = print_tuple_place(alloc, number)?;
-    binary_form(alloc, "at", tuple, place)
+    headed_node_with_two_parts(alloc, "at", tuple, place)
 }
 
-fn list_form(alloc: Global, ty: &Ty, items: Items<Form>) -> Result<Form, AllocError>
+fn print_list(alloc: Global, ty: &Ty, items: Items<Form>) -> Result<Form, AllocError>
     ensures { IfOk result (λ form. form ≡ headed (codes "list") (ty_form ty.now ∷ items)) }
 {
     let ty = ty_form(alloc, ty)?;
@@ -88,11 +101,11 @@ fn list_form(alloc: Global, ty: &Ty, items: Items<Form>) -> Result<Form, AllocEr
 fn print_empty_map(alloc: Global, kind: KeyTy, ty: &Ty) -> Result<Form, AllocError>
     ensures { IfOk result (λ form. form ≡ headed (codes "map") (Word (key_word kind) ∷ ty_form ty.now ∷ [])) }
 {
-    map_form(alloc, kind, ty_form(alloc, ty)?)
+    print_map_type(alloc, kind, ty_form(alloc, ty)?)
 }
 
 /// A fold, by the names of an item and of what is built.
-fn fold_form(
+fn print_fold(
     alloc: Global,
     names: (&Text, &Text),
     items: Form,
@@ -104,12 +117,16 @@ fn fold_form(
 {
     let bound = print_name(alloc, names.0)?;
     let built = print_name(alloc, names.1)?;
-    let rest = three_forms(alloc, built, first, body)?;
+    let rest = list_of_three_forms(alloc, built, first, body)?;
     let parts = prepend_form(alloc, bound, prepend_form(alloc, items, rest)?)?;
     headed(alloc, "fold", parts)
 }
 
-fn call_form(alloc: Global, operation: &Text, args: Items<Form>) -> Result<Form, AllocError>
+fn print_operation_call(
+    alloc: Global,
+    operation: &Text,
+    args: Items<Form>,
+) -> Result<Form, AllocError>
     ensures { IfOk result (λ form. form ≡ headed (codes "call") (Word operation.now ∷ args)) }
 {
     let operation = print_name(alloc, operation)?;
@@ -117,7 +134,11 @@ fn call_form(alloc: Global, operation: &Text, args: Items<Form>) -> Result<Form,
 }
 
 /// An application of a function.
-fn apply_form(alloc: Global, function: &Text, args: Items<Form>) -> Result<Form, AllocError>
+fn print_function_application(
+    alloc: Global,
+    function: &Text,
+    args: Items<Form>,
+) -> Result<Form, AllocError>
     ensures { IfOk result (λ form. form ≡ headed function.now args) }
 {
     headed(alloc, function.as_str(), args)
@@ -130,42 +151,64 @@ pub fn expr_form(alloc: Global, expr: &Expr) -> Result<Form, AllocError>
     ensures { IfOk result (λ form. form ≡ expr_form expr.now) }
 {
     match expr {
-        Expr::Int(number) => integer(alloc, *number),
+        Expr::Int(number) => print_integer(alloc, *number),
         Expr::Bool(holds) => print_bool(alloc, *holds),
         Expr::Text(text) => Ok(Form::Text(text.copy(alloc)?)),
         Expr::Name(bound) => print_name(alloc, bound),
         Expr::Let(bound, value, body) => {
-            let_form(alloc, bound, form_of(alloc, value)?, form_of(alloc, body)?)
+            print_let(alloc, bound, form_of(alloc, value)?, form_of(alloc, body)?)
         }
         Expr::If(test, yes, no) => {
             let (test, yes) = (form_of(alloc, test)?, form_of(alloc, yes)?);
-            ternary_form(alloc, "if", test, yes, form_of(alloc, no)?)
+            headed_node_with_three_parts(alloc, "if", test, yes, form_of(alloc, no)?)
         }
-        Expr::And(a, b) => binary_form(alloc, "and", form_of(alloc, a)?, form_of(alloc, b)?),
-        Expr::Or(a, b) => binary_form(alloc, "or", form_of(alloc, a)?, form_of(alloc, b)?),
-        Expr::Unary(operator, a) => unary_form(alloc, unary_word(*operator), form_of(alloc, a)?),
+        Expr::And(a, b) => headed_node_with_two_parts(
+            alloc,
+            "and",
+            form_of(alloc, a)?,
+            form_of(alloc, b)?,
+        ),
+        Expr::Or(a, b) => headed_node_with_two_parts(
+            alloc,
+            "or",
+            form_of(alloc, a)?,
+            form_of(alloc, b)?,
+        ),
+        Expr::Unary(operator, a) => headed_node_with_one_part(
+            alloc,
+            unary_operator_word(*operator),
+            form_of(alloc, a)?,
+        ),
         Expr::Binary(operator, a, b) => {
-            let word = binary_word(*operator);
-            binary_form(alloc, word, form_of(alloc, a)?, form_of(alloc, b)?)
+            let word = binary_operator_word(*operator);
+            headed_node_with_two_parts(alloc, word, form_of(alloc, a)?, form_of(alloc, b)?)
         }
-        Expr::Tuple(parts) => headed(alloc, "tuple", each_expr(alloc, parts.as_slice())?),
-        Expr::At(tuple, number) => at_form(alloc, form_of(alloc, tuple)?, *number),
-        Expr::List(ty, items) => list_form(alloc, ty, each_expr(alloc, items.as_slice())?),
+        Expr::Tuple(parts) => headed(alloc, "tuple", print_expressions(alloc, parts.as_slice())?),
+        Expr::At(tuple, number) => print_tuple_item(alloc, form_of(alloc, tuple)?, *number),
+        Expr::List(ty, items) => print_list(alloc, ty, print_expressions(alloc, items.as_slice())?),
         Expr::For(clauses, body) => {
-            let clauses = Form::Node(each_clause(alloc, clauses.as_slice())?);
-            binary_form(alloc, "for", clauses, form_of(alloc, body)?)
+            let clauses = Form::Node(print_clauses(alloc, clauses.as_slice())?);
+            headed_node_with_two_parts(alloc, "for", clauses, form_of(alloc, body)?)
         }
         Expr::Fold(bound, items, built, first, body) => {
             let (items, first) = (form_of(alloc, items)?, form_of(alloc, first)?);
-            fold_form(alloc, (bound, built), items, first, form_of(alloc, body)?)
+            print_fold(alloc, (bound, built), items, first, form_of(alloc, body)?)
         }
         Expr::Map(kind, ty) => print_empty_map(alloc, *kind, ty),
         Expr::Put(map, key, value) => {
             let (map, key) = (form_of(alloc, map)?, form_of(alloc, key)?);
-            ternary_form(alloc, "put", map, key, form_of(alloc, value)?)
+            headed_node_with_three_parts(alloc, "put", map, key, form_of(alloc, value)?)
         }
-        Expr::Call(called, args) => call_form(alloc, called, each_expr(alloc, args.as_slice())?),
-        Expr::Apply(called, args) => apply_form(alloc, called, each_expr(alloc, args.as_slice())?),
+        Expr::Call(called, args) => print_operation_call(
+            alloc,
+            called,
+            print_expressions(alloc, args.as_slice())?,
+        ),
+        Expr::Apply(called, args) => print_function_application(
+            alloc,
+            called,
+            print_expressions(alloc, args.as_slice())?,
+        ),
     }
 }
 
@@ -178,7 +221,7 @@ fn form_of(alloc: Global, part: &Boxed<Expr>) -> Result<Form, AllocError>
 }
 
 #[cycle(expr_form)]
-fn each_expr(alloc: Global, exprs: &[Expr]) -> Result<Items<Form>, AllocError>
+fn print_expressions(alloc: Global, exprs: &[Expr]) -> Result<Items<Form>, AllocError>
     ensures { IfOk result (λ forms. forms ≡ map expr_form exprs.now) }
 {
     let mut forms = Items::new(alloc);
@@ -189,26 +232,26 @@ fn each_expr(alloc: Global, exprs: &[Expr]) -> Result<Items<Form>, AllocError>
 }
 
 #[cycle(expr_form)]
-fn each_clause(alloc: Global, clauses: &[Clause]) -> Result<Items<Form>, AllocError>
+fn print_clauses(alloc: Global, clauses: &[Clause]) -> Result<Items<Form>, AllocError>
     ensures { IfOk result (λ forms. forms ≡ map clause_form clauses.now) }
 {
     let mut forms = Items::new(alloc);
     for clause in clauses {
-        forms.push(clause_form(alloc, clause)?)?;
+        forms.push(print_clause(alloc, clause)?)?;
     }
     Ok(forms)
 }
 
 #[cycle(expr_form)]
 #[tactic(auto, using(crate::proofs::Forms::expr_forms))]
-fn clause_form(alloc: Global, clause: &Clause) -> Result<Form, AllocError>
+fn print_clause(alloc: Global, clause: &Clause) -> Result<Form, AllocError>
     ensures { IfOk result (λ form. form ≡ clause_form clause.now) }
 {
     match clause {
         Clause::In(bound, list) => {
             let bound = print_name(alloc, bound)?;
             let list = expr_form(alloc, list)?;
-            headed(alloc, "in", two_forms(alloc, bound, list)?)
+            headed(alloc, "in", list_of_two_forms(alloc, bound, list)?)
         }
         Clause::When(condition) => {
             let condition = expr_form(alloc, condition)?;

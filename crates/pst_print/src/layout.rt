@@ -1,8 +1,8 @@
 //! Tokens, laid out on lines.
 
 use crate::measure::Measure;
-use crate::style::{Rule, Style, style_of, style_without_head};
-use crate::tokens::{Kind, Token, bytes_of};
+use crate::style::{Rule, Style, headless_node_layout_style, node_layout_style};
+use crate::tokens::{Kind, Token, token_bytes};
 use std::alloc::{AllocError, Global};
 
 /// The columns of a line.
@@ -122,7 +122,7 @@ impl<'a> Layout<'a> {
     /// The head word of the node that begins with token `number`.
     fn head(&self, number: usize) -> Option<&'a [u8]> {
         match self.tokens.get(number.saturating_add(1)) {
-            Some(token) if token.kind == Kind::Atom => Some(bytes_of(self.input, token)),
+            Some(token) if token.kind == Kind::Atom => Some(token_bytes(self.input, token)),
             _ => None,
         }
     }
@@ -209,8 +209,8 @@ impl<'a> Layout<'a> {
     fn open_node(&mut self, number: usize) -> Result<(), AllocError> {
         let column = self.column;
         let style = match self.head(number) {
-            Some(head) => style_of(head, column),
-            None => style_without_head(column),
+            Some(head) => node_layout_style(head, column),
+            None => headless_node_layout_style(column),
         };
         let is_kept = style.rule.keeps_lines() && self.node_has_part_on_new_line(number);
         let fits = self.tree_fits_on_line(number, column)
@@ -251,7 +251,7 @@ impl<'a> Layout<'a> {
             self.begin_line(indent, has_blank)?;
         }
         let input = self.input;
-        let bytes = bytes_of(input, token);
+        let bytes = token_bytes(input, token);
         self.add_bytes_to_line(bytes)?;
         self.after_comment = true;
         Ok(())
@@ -271,7 +271,7 @@ impl<'a> Layout<'a> {
                 self.separate_token(number, token)?;
                 self.note_part_begun_or_ended(false);
                 let input = self.input;
-                let bytes = bytes_of(input, token);
+                let bytes = token_bytes(input, token);
                 self.add_bytes_to_line(bytes)
             }
         }

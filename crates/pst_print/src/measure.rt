@@ -1,6 +1,6 @@
 //! How wide the parts of a file are on one line.
 
-use crate::tokens::{Kind, Token, bytes_of};
+use crate::tokens::{Kind, Token, token_bytes};
 use std::alloc::{AllocError, Global};
 
 /// The size of the tree that begins with a token.
@@ -35,7 +35,7 @@ fn columns_of_tokens(
     for token in tokens {
         let is_apart = !follows_open && token.kind != Kind::Close;
         let begin = column.saturating_add(if is_apart { 1 } else { 0 });
-        let end = begin.saturating_add(bytes_of(input, token).len());
+        let end = begin.saturating_add(token_bytes(input, token).len());
         if token.kind == Kind::Comment {
             comments = comments.saturating_add(1);
         }
@@ -51,7 +51,7 @@ fn columns_of_tokens(
 }
 
 /// For each token the number of the last token of its tree.
-fn last_tokens(alloc: Global, tokens: &[Token]) -> Result<Vec<usize>, AllocError> {
+fn last_token_of_each_tree(alloc: Global, tokens: &[Token]) -> Result<Vec<usize>, AllocError> {
     let mut found = Vec::new(alloc);
     let mut open: Vec<usize> = Vec::new(alloc);
     for (number, token) in tokens.iter().enumerate() {
@@ -80,7 +80,7 @@ fn line_break_flags(alloc: Global, tokens: &[Token]) -> Result<Vec<bool>, AllocE
         if token.kind == Kind::Close {
             let _ = open.pop();
         } else if token.lines > 0 {
-            mark_broken(&mut found, open.as_slice());
+            mark_innermost_node_broken(&mut found, open.as_slice());
         }
         if token.kind == Kind::Open {
             open.push(number)?;
@@ -90,7 +90,7 @@ fn line_break_flags(alloc: Global, tokens: &[Token]) -> Result<Vec<bool>, AllocE
 }
 
 /// Notes for the innermost open node that one of its parts begins a line.
-fn mark_broken(found: &mut [bool], open: &[usize]) {
+fn mark_innermost_node_broken(found: &mut [bool], open: &[usize]) {
     if let Some(node) = open.last() {
         if let Some(has_lines) = found.get_mut(*node) {
             *has_lines = true;
@@ -99,7 +99,7 @@ fn mark_broken(found: &mut [bool], open: &[usize]) {
 }
 
 /// For each token how many brackets close directly after it.
-fn count_closers(alloc: Global, tokens: &[Token]) -> Result<Vec<usize>, AllocError> {
+fn count_closing_brackets(alloc: Global, tokens: &[Token]) -> Result<Vec<usize>, AllocError> {
     let mut found = Vec::new(alloc);
     let mut count = 0usize;
     for token in tokens.iter().rev() {
@@ -115,7 +115,7 @@ fn count_closers(alloc: Global, tokens: &[Token]) -> Result<Vec<usize>, AllocErr
 }
 
 /// The measure of a token with the reach `first`. `last` is the reach of the last token of its tree.
-fn measure_of(first: Columns, last: Columns, closers: usize, has_lines: bool) -> Measure {
+fn measure_token(first: Columns, last: Columns, closers: usize, has_lines: bool) -> Measure {
     Measure {
         has_lines,
         width: last.end.saturating_sub(first.begin).saturating_add(closers),
@@ -124,15 +124,19 @@ fn measure_of(first: Columns, last: Columns, closers: usize, has_lines: bool) ->
 }
 
 /// The measure of each token of a file.
-pub fn measures(alloc: Global, input: &[u8], tokens: &[Token]) -> Result<Vec<Measure>, AllocError> {
+pub fn measure_tokens(
+    alloc: Global,
+    input: &[u8],
+    tokens: &[Token],
+) -> Result<Vec<Measure>, AllocError> {
     let reaches = columns_of_tokens(alloc, input, tokens)?;
-    let ends = last_tokens(alloc, tokens)?;
-    let closers = count_closers(alloc, tokens)?;
+    let ends = last_token_of_each_tree(alloc, tokens)?;
+    let closers = count_closing_brackets(alloc, tokens)?;
     let broken = line_break_flags(alloc, tokens)?;
     let mut found = Vec::new(alloc);
     for ((first, end), has_lines) in reaches.iter().zip(ends.as_slice()).zip(broken.as_slice()) {
         if let (Some(last), Some(closers)) = (reaches.get(*end), closers.get(*end)) {
-            found.push(measure_of(*first, *last, *closers, *has_lines))?;
+            found.push(measure_token(*first, *last, *closers, *has_lines))?;
         }
     }
     Ok(found)

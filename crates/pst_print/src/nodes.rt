@@ -14,7 +14,11 @@ pub fn print_name(alloc: Global, text: &Text) -> Result<Form, AllocError>
 }
 
 /// Two trees.
-pub fn two_forms(alloc: Global, first: Form, second: Form) -> Result<Items<Form>, AllocError>
+pub fn list_of_two_forms(
+    alloc: Global,
+    first: Form,
+    second: Form,
+) -> Result<Items<Form>, AllocError>
     ensures { IfOk result (λ forms. forms ≡ first ∷ second ∷ []) }
 {
     let mut forms = list_of(alloc, first)?;
@@ -23,7 +27,7 @@ pub fn two_forms(alloc: Global, first: Form, second: Form) -> Result<Items<Form>
 }
 
 /// Three trees.
-pub fn three_forms(
+pub fn list_of_three_forms(
     alloc: Global,
     first: Form,
     second: Form,
@@ -31,7 +35,7 @@ pub fn three_forms(
 ) -> Result<Items<Form>, AllocError>
     ensures { IfOk result (λ forms. forms ≡ first ∷ second ∷ third ∷ []) }
 {
-    let mut forms = two_forms(alloc, first, second)?;
+    let mut forms = list_of_two_forms(alloc, first, second)?;
     forms.push(third)?;
     Ok(forms)
 }

@@ -3,7 +3,7 @@ ghost use Rattle.std.specs.Prelude.{◌≡◌, IfOk, [], ◌∷◌, Ok};
 ghost use Rattle.pst_print.specs.Printed.{source_form};
 ghost use Rattle.pst_syntax.specs.Items.{model_of};
 
-use crate::items::source_form;
+use crate::items::print_source;
 use pst_sexpr::Tree;
 use pst_syntax::Model;
 use std::alloc::{AllocError, Global};
@@ -15,6 +15,6 @@ pub fn print_model(alloc: Global, model: &Model) -> Result<Tree, AllocError>
     ensures form { IfOk result (λ tree. tree ≡ source_form model.now) }
     ensures again { IfOk result (λ tree. model_of (tree ∷ []) ≡ Ok model.now) }
 {
-    let form = source_form(alloc, model.source())?;
+    let form = print_source(alloc, model.source())?;
     Ok(Tree::new(form))
 }

@@ -1,14 +1,14 @@
 //! The layout of a whole file.
 
 use crate::layout::Layout;
-use crate::measure::measures;
-use crate::tokens::{Token, bytes_of, tokens};
+use crate::measure::measure_tokens;
+use crate::tokens::{Token, read_layout_tokens, token_bytes};
 use pst_sexpr::{SexprFault, Tree, read};
 use std::alloc::{AllocError, Global};
 
 /// The tokens of a file on new lines.
 fn format_tokens(alloc: Global, input: &[u8], tokens: &[Token]) -> Result<Vec<u8>, AllocError> {
-    let measures = measures(alloc, input, tokens)?;
+    let measures = measure_tokens(alloc, input, tokens)?;
     let mut layout = Layout::new(alloc, input, tokens, measures.as_slice());
     for (number, token) in tokens.iter().enumerate() {
         layout.add(number, token)?;
@@ -23,12 +23,12 @@ fn have_same_tokens(
     of_first: &[Token],
     second: &[u8],
 ) -> Result<bool, AllocError> {
-    let of_second = tokens(alloc, second)?;
+    let of_second = read_layout_tokens(alloc, second)?;
     if of_first.len() != of_second.len() {
         return Ok(false);
     }
     for (one, other) in of_first.iter().zip(of_second.as_slice()) {
-        if one.kind != other.kind || bytes_of(first, one) != bytes_of(second, other) {
+        if one.kind != other.kind || token_bytes(first, one) != token_bytes(second, other) {
             return Ok(false);
         }
     }
@@ -36,7 +36,7 @@ fn have_same_tokens(
 }
 
 /// Whether two lists hold the same trees.
-fn are_same(first: &[Tree], second: &[Tree]) -> bool {
+fn are_same_trees(first: &[Tree], second: &[Tree]) -> bool {
     if first.len() != second.len() {
         return false;
     }
@@ -58,11 +58,11 @@ fn are_same(first: &[Tree], second: &[Tree]) -> bool {
 /// If the file cannot be read, the function returns the fault of `read`.
 pub fn format_file(alloc: Global, input: &[u8]) -> Result<Vec<u8>, SexprFault> {
     let trees = read(alloc, input)?;
-    let old = tokens(alloc, input)?;
+    let old = read_layout_tokens(alloc, input)?;
     let text = format_tokens(alloc, input, old.as_slice())?;
     if have_same_tokens(alloc, input, old.as_slice(), text.as_slice())? {
         if let Ok(again) = read(alloc, text.as_slice()) {
-            if are_same(trees.as_slice(), again.as_slice()) {
+            if are_same_trees(trees.as_slice(), again.as_slice()) {
                 return Ok(text);
             }
         }

@@ -44,7 +44,7 @@ fn line_rules_of_head(head: &[u8]) -> (Rule, bool) {
 }
 
 /// The style of a node with the head word `head` and its bracket in `column`.
-pub fn style_of(head: &[u8], column: usize) -> Style {
+pub fn node_layout_style(head: &[u8], column: usize) -> Style {
     let (rule, is_within) = line_rules_of_head(head);
     let within = column.saturating_add(2);
     let aligned = within.saturating_add(head.len());
@@ -64,7 +64,7 @@ impl Rule {
 }
 
 /// The style of a node without a head word, with its bracket in `column`: each part begins a line.
-pub fn style_without_head(column: usize) -> Style {
+pub fn headless_node_layout_style(column: usize) -> Style {
     Style {
         rule: Rule::First(0),
         indent: column.saturating_add(1),

@@ -102,7 +102,7 @@ impl Lexer {
 }
 
 /// The tokens of a file that can be read.
-pub fn tokens(alloc: Global, input: &[u8]) -> Result<Vec<Token>, AllocError> {
+pub fn read_layout_tokens(alloc: Global, input: &[u8]) -> Result<Vec<Token>, AllocError> {
     let mut lexer = Lexer {
         found: Vec::new(alloc),
         start: 0,
@@ -123,7 +123,7 @@ pub fn tokens(alloc: Global, input: &[u8]) -> Result<Vec<Token>, AllocError> {
 }
 
 /// The bytes of a token; those of a comment without white space at its end.
-pub fn bytes_of<'a>(input: &'a [u8], token: &Token) -> &'a [u8] {
+pub fn token_bytes<'a>(input: &'a [u8], token: &Token) -> &'a [u8] {
     let bytes = input.get(token.start..token.end).unwrap_or(&[]);
     match token.kind {
         Kind::Comment => bytes.trim_ascii_end(),

@@ -5,18 +5,18 @@ ghost use Rattle.pst_print.specs.Words.{key_word};
 ghost use Rattle.pst_sexpr.specs.Parts.{headed};
 ghost use Rattle.pst_sexpr.specs.declared.form.Form.TheVariants.{Word};
 
-use crate::nodes::two_forms;
+use crate::nodes::list_of_two_forms;
 use crate::words::key_type_word;
 use pst_sexpr::{Form, headed, list_of, word};
 use pst_value::{Items, KeyTy, Ty};
 use std::alloc::{AllocError, Global};
 
 /// The tree of a map type, and that of an empty map: the type of the keys, and the tree of the values' type.
-pub fn map_form(alloc: Global, kind: KeyTy, ty: Form) -> Result<Form, AllocError>
+pub fn print_map_type(alloc: Global, kind: KeyTy, ty: Form) -> Result<Form, AllocError>
     ensures { IfOk result (λ form. form ≡ headed (codes "map") (Word (key_word kind) ∷ ty ∷ [])) }
 {
     let kind = word(alloc, key_type_word(kind))?;
-    headed(alloc, "map", two_forms(alloc, kind, ty)?)
+    headed(alloc, "map", list_of_two_forms(alloc, kind, ty)?)
 }
 
 /// The tree of a type.
@@ -29,16 +29,16 @@ pub fn ty_form(alloc: Global, ty: &Ty) -> Result<Form, AllocError>
         Ty::Int => word(alloc, "int"),
         Ty::Bool => word(alloc, "bool"),
         Ty::Text => word(alloc, "text"),
-        Ty::Tuple(types) => headed(alloc, "tuple", each_ty(alloc, types.as_slice())?),
+        Ty::Tuple(types) => headed(alloc, "tuple", print_types(alloc, types.as_slice())?),
         Ty::List(item) => headed(alloc, "list", list_of(alloc, ty_form(alloc, item.get())?)?),
-        Ty::Map(kind, item) => map_form(alloc, *kind, ty_form(alloc, item.get())?),
+        Ty::Map(kind, item) => print_map_type(alloc, *kind, ty_form(alloc, item.get())?),
         Ty::Ref(item) => headed(alloc, "ref", list_of(alloc, ty_form(alloc, item.get())?)?),
         Ty::Call => word(alloc, "call"),
     }
 }
 
 #[cycle(ty_form)]
-fn each_ty(alloc: Global, types: &[Ty]) -> Result<Items<Form>, AllocError>
+fn print_types(alloc: Global, types: &[Ty]) -> Result<Items<Form>, AllocError>
     ensures { IfOk result (λ forms. forms ≡ map ty_form types.now) }
 {
     let mut forms = Items::new(alloc);

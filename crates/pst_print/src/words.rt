@@ -6,7 +6,7 @@ use pst_model::{Binary, Unary};
 use pst_value::KeyTy;
 
 /// The word of an operator of one operand.
-pub fn unary_word(operator: Unary) -> &'static str
+pub fn unary_operator_word(operator: Unary) -> &'static str
     ensures { result.now ≡ unary_word operator }
 {
     match operator {
@@ -18,7 +18,7 @@ pub fn unary_word(operator: Unary) -> &'static str
 }
 
 /// The word of an operator of two operands.
-pub fn binary_word(operator: Binary) -> &'static str
+pub fn binary_operator_word(operator: Binary) -> &'static str
     ensures { result.now ≡ binary_word operator }
 {
     match operator {
@@ -52,7 +52,7 @@ pub fn key_type_word(kind: KeyTy) -> &'static str
 }
 
 /// The head of a model, by whether its language has maps.
-pub fn model_word(has_maps: bool) -> &'static str
+pub fn model_head_word(has_maps: bool) -> &'static str
     ensures { result.now ≡ model_word has_maps }
 {
     if has_maps { "model2" } else { "model" }

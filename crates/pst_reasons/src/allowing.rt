@@ -10,9 +10,9 @@ ghost use Rattle.pst_case.specs.Recorded.{recorded};
 ghost use Rattle.pst_judge.specs.Verdict.{first_broken};
 ghost use Rattle.pst_reasons.specs.Reasons as reasons;
 
-use crate::answers::split_first;
+use crate::answers::split_first_answer;
 use crate::numbers::append_numbers_without;
-use crate::searching::{interleaving_beyond, is_allowed};
+use crate::searching::{interleaving_where_answers_are_wrong, is_answer_allowed};
 use pst_case::{History, Shaped};
 use pst_eval::Callbacks;
 use pst_model::Source;
@@ -36,13 +36,13 @@ pub trait Candidates {
 }
 
 /// Returns whether `answer` is one of `answers`.
-fn is_one_of(answer: &Value, answers: &[Value]) -> bool
+fn is_answer_one_of(answer: &Value, answers: &[Value]) -> bool
     ensures { result ≡ spec.is_one_of answer.now answers.now }
 {
-    let Some((first, rest)) = split_first(answers) else {
+    let Some((first, rest)) = split_first_answer(answers) else {
         return false;
     };
-    *first == *answer || is_one_of(answer, rest)
+    *first == *answer || is_answer_one_of(answer, rest)
 }
 
 /// Returns the proposed answer for the interleaving `word`, if it is new and the model allows it.
@@ -69,10 +69,10 @@ fn new_allowed_candidate<C: Callbacks, P: Candidates>(
     let Some(value) = candidates.candidate(alloc, word)? else {
         return Ok(None);
     };
-    if is_one_of(&value, known) {
+    if is_answer_one_of(&value, known) {
         return Ok(None);
     }
-    let allowed = is_allowed(
+    let allowed = is_answer_allowed(
         callbacks, alloc, model, shaped, history, others, number, &value,
     )?;
     if allowed { Ok(Some(value)) } else { Ok(None) }
@@ -99,7 +99,7 @@ fn answers_and_recorded_answer(
 
 /// Returns the proposed answer for an interleaving in which the recorded answer and the known ones are wrong, if it is
 /// new and the model allows it. The postcondition does not fault in such an interleaving.
-fn value_beyond_recorded<C: Callbacks, P: Candidates>(
+fn allowed_answer_beyond_known_answers<C: Callbacks, P: Candidates>(
     callbacks: &C,
     alloc: Global,
     model: &Source,
@@ -119,7 +119,7 @@ fn value_beyond_recorded<C: Callbacks, P: Candidates>(
     ensures new { IfOk result (λ found. IfSome found (λ value. spec.is_one_of value known.now ≡ false)) }
 {
     let wrong = answers_and_recorded_answer(alloc, history, number, known)?;
-    let merge = interleaving_beyond(
+    let merge = interleaving_where_answers_are_wrong(
         callbacks,
         alloc,
         model,
@@ -148,7 +148,7 @@ fn value_beyond_recorded<C: Callbacks, P: Candidates>(
 
 /// Returns a new answer that the model allows, if `left` is not 0: the proposed answer for the interleaving `word`, or
 /// else for one in which the postcondition does not fault.
-fn proposed_value<C: Callbacks, P: Candidates>(
+fn new_allowed_answer<C: Callbacks, P: Candidates>(
     callbacks: &C,
     alloc: Global,
     model: &Source,
@@ -179,13 +179,13 @@ fn proposed_value<C: Callbacks, P: Candidates>(
     if let Some(value) = first {
         return Ok(Some(value));
     }
-    value_beyond_recorded(
+    allowed_answer_beyond_known_answers(
         callbacks, alloc, model, shaped, history, others, number, candidates, known,
     )
 }
 
 /// Adds at most `left` answers that the model allows to `values`.
-fn add_allowed<C: Callbacks, P: Candidates>(
+fn add_allowed_answers<C: Callbacks, P: Candidates>(
     callbacks: &C,
     alloc: Global,
     model: &Source,
@@ -212,13 +212,13 @@ fn add_allowed<C: Callbacks, P: Candidates>(
     ensures few { IfOk result (λ found. length found.values ≤ length values + left) }
 {
     let known = values.as_slice();
-    let merge = interleaving_beyond(
+    let merge = interleaving_where_answers_are_wrong(
         callbacks, alloc, model, shaped, history, others, number, known,
     )?;
     let Some(word) = merge else {
         return Ok(AllowedValues { values, all: true });
     };
-    let found = proposed_value(
+    let found = new_allowed_answer(
         callbacks,
         alloc,
         model,
@@ -235,7 +235,7 @@ fn add_allowed<C: Callbacks, P: Candidates>(
         return Ok(AllowedValues { values, all: false });
     };
     values.push(value)?;
-    add_allowed(
+    add_allowed_answers(
         callbacks,
         alloc,
         model,
@@ -288,7 +288,7 @@ pub fn find_allowed_values<C: Callbacks, P: Candidates>(
 {
     let others = append_numbers_without(number, core, Vec::new(alloc))?;
     let values = Items::new(alloc);
-    add_allowed(
+    add_allowed_answers(
         callbacks,
         alloc,
         model,

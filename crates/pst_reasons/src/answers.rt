@@ -19,7 +19,7 @@ const MAX_TURNS: u32 = 1_000_000;
 
 /// Returns the value of the postcondition of an operation.
 #[tactic(auto, using(crate::proofs::Posts::no_post))]
-fn post_value(
+fn postcondition_value(
     model: &Source,
     alloc: Global,
     op: u32,
@@ -46,7 +46,7 @@ fn post_value(
 }
 
 /// Returns whether the postcondition of an event is true with `answer`.
-fn post_truth(
+fn is_postcondition_true_of_answer(
     model: &Source,
     alloc: Global,
     state: &Value,
@@ -57,7 +57,7 @@ fn post_truth(
         (λ p. operators.truth_of p.0)) result }
 {
     let arguments = event.args.as_slice();
-    let value = post_value(model, alloc, event.op, state, arguments, answer)?;
+    let value = postcondition_value(model, alloc, event.op, state, arguments, answer)?;
     truth_of(&value)
 }
 
@@ -71,7 +71,7 @@ pub(crate) fn is_answer_right(
 ) -> Result<Result<bool, Fault>, AllocError>
     ensures { IfOk result (IsReportOf (spec.is_right model.now state.now event.now answer.now)) }
 {
-    match post_truth(model, alloc, state, event, answer) {
+    match is_postcondition_true_of_answer(model, alloc, state, event, answer) {
         Ok(right) => Ok(Ok(right)),
         Err(Stop::Fault(fault)) => Ok(Err(fault)),
         Err(Stop::Stuck) => Ok(Ok(false)),
@@ -79,7 +79,7 @@ pub(crate) fn is_answer_right(
     }
 }
 
-pub(crate) fn split_first(answers: &[Value]) -> Option<(&Value, &[Value])>
+pub(crate) fn split_first_answer(answers: &[Value]) -> Option<(&Value, &[Value])>
     ensures { MatchOption result (answers.now ≡ []) (λ p. answers.now ≡ p.0.now ∷ p.1.now) }
 {
     answers.split_first()
@@ -95,7 +95,7 @@ pub(crate) fn is_any_answer_right(
 ) -> Result<Result<bool, Fault>, AllocError>
     ensures { IfOk result (IsReportOf (spec.one_is_right model.now state.now event.now answers.now)) }
 {
-    let Some((first, rest)) = split_first(answers) else {
+    let Some((first, rest)) = split_first_answer(answers) else {
         return Ok(Ok(false));
     };
     match is_answer_right(model, alloc, state, event, first)? {

@@ -2,7 +2,7 @@
 ghost use Rattle.std.specs.Prelude.{◌≡◌, ◌++◌};
 ghost use Rattle.pst_reasons.specs.Reasons.{is_among};
 
-use crate::numbers::split_first;
+use crate::numbers::split_first_number;
 use pst_eval::Callbacks;
 use pst_judge::{Condition, Event, Postconditions};
 use pst_value::{Fault, Value};
@@ -20,7 +20,7 @@ pub struct SomePostconditions<'a> {
 fn is_command_number_among(number: u32, numbers: &[u32]) -> bool
     ensures { result ≡ is_among number numbers.now }
 {
-    let Some((first, rest)) = split_first(numbers) else {
+    let Some((first, rest)) = split_first_number(numbers) else {
         return false;
     };
     *first == number || is_command_number_among(number, rest)

@@ -7,7 +7,8 @@ ghost use Rattle.pst_reasons.specs.Reasons.{AreRising, IsCore, IsImpossible, IsL
 
 use crate::asked::SomePostconditions;
 use crate::numbers::{
-    append_numbers_without, command_numbers_up_to, count_commands, no_numbers, split_last,
+    append_numbers_without, command_numbers_up_to, count_case_commands, empty_command_number_list,
+    split_last_number,
 };
 use pst_case::{History, Shaped};
 use pst_eval::Callbacks;
@@ -16,7 +17,7 @@ use std::alloc::{AllocError, Global};
 
 /// Returns the lexicographically first interleaving that is true to its end if only the postconditions of the commands
 /// `first` and `rest` are checked. `None` if no interleaving is.
-fn interleaving_of_core<C: Callbacks>(
+fn interleaving_satisfying_commands<C: Callbacks>(
     callbacks: &C,
     alloc: Global,
     shaped: &Shaped,
@@ -66,7 +67,14 @@ fn leave_command_out_of_core_if_possible<C: Callbacks>(
     ensures rising { IfOk result (λ core. AreRising 0 (number_of_commands shaped.now.case)
         (first.now ++ core.items)) }
 {
-    let merge = interleaving_of_core(callbacks, alloc, shaped, history, first, core.as_slice())?;
+    let merge = interleaving_satisfying_commands(
+        callbacks,
+        alloc,
+        shaped,
+        history,
+        first,
+        core.as_slice(),
+    )?;
     let Some(_word) = merge else {
         return Ok(core);
     };
@@ -94,7 +102,7 @@ fn leave_commands_out_of_core_if_possible<C: Callbacks>(
         (λ core. IsCore (C.model callbacks.now) shaped.now.case history.now core.items) }
     ensures rising { IfOk result (λ core. AreRising 0 (number_of_commands shaped.now.case) core.items) }
 {
-    let Some((number, first)) = split_last(first) else {
+    let Some((number, first)) = split_last_number(first) else {
         return Ok(core);
     };
     let core = leave_command_out_of_core_if_possible(
@@ -124,8 +132,8 @@ pub fn minimal_core<C: Callbacks>(
         (λ core. IsCore (C.model callbacks.now) shaped.now.case history.now core.items) }
     ensures rising { IfOk result (λ core. AreRising 0 (number_of_commands shaped.now.case) core.items) }
 {
-    let numbers = command_numbers_up_to(alloc, count_commands(shaped))?;
-    let core = no_numbers(alloc);
+    let numbers = command_numbers_up_to(alloc, count_case_commands(shaped))?;
+    let core = empty_command_number_list(alloc);
     leave_commands_out_of_core_if_possible(
         callbacks,
         alloc,
@@ -138,7 +146,7 @@ pub fn minimal_core<C: Callbacks>(
 
 /// Returns the first interleaving that is true to its end if only the postconditions of `core` without `number` are
 /// checked.
-pub fn interleaving_without<C: Callbacks>(
+pub fn interleaving_without_core_command<C: Callbacks>(
     callbacks: &C,
     alloc: Global,
     shaped: &Shaped,
@@ -154,9 +162,17 @@ pub fn interleaving_without<C: Callbacks>(
     ensures { IfOk result (λ word. IsLeastTrue (C.model callbacks.now) shaped.now.case history.now
         (without number core.now) word.items) }
 {
-    let others = append_numbers_without(number, core, no_numbers(alloc))?;
+    let others = append_numbers_without(number, core, empty_command_number_list(alloc))?;
     let others = others.as_slice();
-    let Some(word) = interleaving_of_core(callbacks, alloc, shaped, history, others, &[])? else {
+    let Some(word) = interleaving_satisfying_commands(
+        callbacks,
+        alloc,
+        shaped,
+        history,
+        others,
+        &[],
+    )?
+    else {
         unreachable!()
     };
     Ok(word)

@@ -16,8 +16,8 @@ mod state_list;
 
 pub use allowing::{AllowedValues, Candidates, find_allowed_values};
 pub use asked::SomePostconditions;
-pub use cores::{interleaving_without, minimal_core};
+pub use cores::{interleaving_without_core_command, minimal_core};
 pub use laws::equality_has_one_answer;
 pub use numbers::{append_numbers_without, count_branch_commands};
-pub use searching::{interleaving_beyond, is_allowed};
+pub use searching::{interleaving_where_answers_are_wrong, is_answer_allowed};
 pub use state_list::states;

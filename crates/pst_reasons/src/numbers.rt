@@ -20,19 +20,19 @@ pub(crate) fn command_numbers_up_to(alloc: Global, last: u32) -> Result<Vec<u32>
 }
 
 /// Returns an empty list.
-pub(crate) fn no_numbers(alloc: Global) -> Vec<u32>
+pub(crate) fn empty_command_number_list(alloc: Global) -> Vec<u32>
     ensures { result.items ≡ [] }
 {
     Vec::new(alloc)
 }
 
-pub(crate) fn split_first(numbers: &[u32]) -> Option<(&u32, &[u32])>
+pub(crate) fn split_first_number(numbers: &[u32]) -> Option<(&u32, &[u32])>
     ensures { MatchOption result (numbers.now ≡ []) (λ p. numbers.now ≡ p.0.now ∷ p.1.now) }
 {
     numbers.split_first()
 }
 
-pub(crate) fn split_last(numbers: &[u32]) -> Option<(&u32, &[u32])>
+pub(crate) fn split_last_number(numbers: &[u32]) -> Option<(&u32, &[u32])>
     ensures { MatchOption result (numbers.now ≡ []) (λ p. numbers.now ≡ p.1.now ++ p.0.now ∷ []) }
 {
     numbers.split_last()
@@ -46,7 +46,7 @@ pub fn append_numbers_without(
 ) -> Result<Vec<u32>, AllocError>
     ensures { IfOk result (λ all. all.items ≡ others.items ++ without number numbers.now) }
 {
-    let Some((first, rest)) = split_first(numbers) else {
+    let Some((first, rest)) = split_first_number(numbers) else {
         return Ok(others);
     };
     if *first != number {
@@ -74,7 +74,7 @@ pub fn count_branch_commands(branches: &[Items<Command>]) -> usize
 }
 
 /// Returns how many commands a case has.
-pub(crate) fn count_commands(shaped: &Shaped) -> u32
+pub(crate) fn count_case_commands(shaped: &Shaped) -> u32
     ensures { result ≡ number_of_commands shaped.now.case }
 {
     let case = shaped.case();

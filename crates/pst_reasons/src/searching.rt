@@ -41,7 +41,7 @@ fn explaining_interleaving<C: Callbacks, A: Condition>(
 
 /// Returns whether the model allows `answer` for command `number`: whether it would be right in some interleaving in
 /// which the answers of `others` are right.
-pub fn is_allowed<C: Callbacks>(
+pub fn is_answer_allowed<C: Callbacks>(
     callbacks: &C,
     alloc: Global,
     model: &Source,
@@ -72,7 +72,7 @@ pub fn is_allowed<C: Callbacks>(
 
 /// Returns an interleaving in which the answers of `others` are right and none of `answers` would be right for command
 /// `number`, if there is one.
-pub fn interleaving_beyond<C: Callbacks>(
+pub fn interleaving_where_answers_are_wrong<C: Callbacks>(
     callbacks: &C,
     alloc: Global,
     model: &Source,

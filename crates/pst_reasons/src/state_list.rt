@@ -21,7 +21,7 @@ use pst_judge::{
 use pst_value::{Items, Value};
 use std::alloc::{AllocError, Global};
 
-fn split_first(events: &[Event]) -> Option<(&Event, &[Event])>
+fn split_first_event(events: &[Event]) -> Option<(&Event, &[Event])>
     ensures { MatchOption result (events.now ≡ []) (λ p. events.now ≡ p.0.now ∷ p.1.now) }
 {
     events.split_first()
@@ -46,7 +46,7 @@ fn append_states<C: Callbacks, A: Condition>(
         → EventsFit (C.model callbacks.now) vars events.now
         → OnLast r.1 (λ s. is_state (C.model callbacks.now) [] vars s ≡ true)) }
 {
-    let Some((event, events)) = split_first(events) else {
+    let Some((event, events)) = split_first_event(events) else {
         return Ok((states, Some(state)));
     };
     match event_outcome(callbacks, condition, alloc, &state, event)? {
@@ -58,7 +58,7 @@ fn append_states<C: Callbacks, A: Condition>(
     }
 }
 
-fn split_letter(word: &[usize]) -> Option<(&usize, &[usize])>
+fn split_first_letter(word: &[usize]) -> Option<(&usize, &[usize])>
     ensures { MatchOption result (word.now ≡ []) (λ p. word.now ≡ p.0.now ∷ p.1.now) }
 {
     word.split_first()
@@ -85,7 +85,7 @@ fn append_states_along_word<C: Callbacks, A: Condition>(
     ensures last { let m = C.model branches.now.callbacks.now in
         IfOk result (λ r. OnLast r.1 (IsRealState m branches.now.shaped.now.case)) }
 {
-    let Some((branch, word)) = split_letter(word) else {
+    let Some((branch, word)) = split_first_letter(word) else {
         return Ok((states, Some(state)));
     };
     let Some(events) = branches.events.get(*branch) else {

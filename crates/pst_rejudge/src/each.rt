@@ -47,7 +47,7 @@ pub fn read_and_judge_tree<C: Callbacks>(
 }
 
 /// Reads and judges the item that a tree spells, and counts it in `steps`.
-fn answer_with_progress<C: Callbacks>(
+fn judge_tree_with_progress<C: Callbacks>(
     callbacks: &C,
     alloc: Global,
     typed: &Typed,
@@ -66,7 +66,7 @@ fn answer_with_progress<C: Callbacks>(
 /// is refused. Several threads read and judge the items at once, and count them in `steps`.
 ///
 /// `typed` is the model of the callbacks.
-pub fn judge_each<C: Callbacks + Sync, R: Threads + Sync>(
+pub fn read_and_judge_each_tree<C: Callbacks + Sync, R: Threads + Sync>(
     rt: &R,
     callbacks: &C,
     alloc: Global,
@@ -85,7 +85,7 @@ pub fn judge_each<C: Callbacks + Sync, R: Threads + Sync>(
             |tree: &Tree| -> Result<ItemResult, AllocError>
                 requires { typed.now ≡ C.model callbacks.now }
                 ensures { IfOk result (IsAnswer (C.model callbacks.entry.now) tree.now) }
-            { answer_with_progress(callbacks, alloc, typed, tree, steps) },
+            { judge_tree_with_progress(callbacks, alloc, typed, tree, steps) },
         )
         .collect::<Result<Vec<ItemResult>, AllocError>>(rt, alloc)?
 }

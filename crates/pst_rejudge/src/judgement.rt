@@ -12,7 +12,7 @@ use pst_runs::RunFaultKind;
 use std::alloc::{AllocError, Global};
 
 /// Adds the place of a fault.
-fn add_fault_place_field(
+fn add_fault_place_fields(
     alloc: Global,
     fields: &mut Vec<Field>,
     place: &FaultPlace,
@@ -25,7 +25,7 @@ fn add_fault_place_field(
 }
 
 /// Adds an interleaving, the numbers of its branches.
-fn add_interleaving(
+fn add_interleaving_field(
     alloc: Global,
     fields: &mut Vec<Field>,
     branches: &Vec<usize>,
@@ -38,17 +38,21 @@ fn add_interleaving(
 }
 
 /// Adds the verdict on a run.
-fn add_verdict(alloc: Global, fields: &mut Vec<Field>, verdict: &Verdict) -> Result<(), AllocError>
+fn add_verdict_fields(
+    alloc: Global,
+    fields: &mut Vec<Field>,
+    verdict: &Verdict,
+) -> Result<(), AllocError>
     ensures { OnOk result (fields.new.items ≡ fields.old.items ++ outcome_fields (judged.Verdict verdict.now)) }
 {
     match verdict {
         Verdict::Explained(word) => {
             add_text_field(alloc, fields, Name::Verdict, "explained")?;
-            add_interleaving(alloc, fields, word)
+            add_interleaving_field(alloc, fields, word)
         }
         Verdict::Faulted(place) => {
             add_text_field(alloc, fields, Name::Verdict, "fault")?;
-            add_fault_place_field(alloc, fields, place)
+            add_fault_place_fields(alloc, fields, place)
         }
         Verdict::Unexplained(far) => {
             add_text_field(alloc, fields, Name::Verdict, "unexplained")?;
@@ -73,12 +77,12 @@ fn add_invalid_case_fields(
         Why::PreFalse { command, merge } => {
             add_text_field(alloc, fields, Name::Verdict, "prefalse")?;
             add_number_field(fields, Name::Command, *command as u64)?;
-            add_interleaving(alloc, fields, merge)
+            add_interleaving_field(alloc, fields, merge)
         }
         Why::CallbackFault { place, merge } => {
             add_text_field(alloc, fields, Name::Verdict, "casefault")?;
-            add_fault_place_field(alloc, fields, place)?;
-            add_interleaving(alloc, fields, merge)
+            add_fault_place_fields(alloc, fields, place)?;
+            add_interleaving_field(alloc, fields, merge)
         }
         Why::NoMemory => {
             add_text_field(alloc, fields, Name::Verdict, "refused")?;
@@ -88,7 +92,7 @@ fn add_invalid_case_fields(
 }
 
 /// Returns the members of the object of a judged item: its number, its verdict, and the details of the verdict.
-pub fn judged_fields(
+pub fn judged_item_fields(
     alloc: Global,
     number: usize,
     judged: &Judged,
@@ -98,7 +102,7 @@ pub fn judged_fields(
     let mut fields = Vec::new(alloc);
     add_number_field(&mut fields, Name::Item, number as u64)?;
     match judged {
-        Judged::Verdict(verdict) => add_verdict(alloc, &mut fields, verdict)?,
+        Judged::Verdict(verdict) => add_verdict_fields(alloc, &mut fields, verdict)?,
         Judged::Valid => add_text_field(alloc, &mut fields, Name::Verdict, "valid")?,
         Judged::Invalid(why) => add_invalid_case_fields(alloc, &mut fields, why)?,
     }
@@ -106,7 +110,7 @@ pub fn judged_fields(
 }
 
 /// Returns the members of the object of a refused item: its number, the command at fault, and the kind of its fault.
-pub fn refused_fields(
+pub fn refused_item_fields(
     alloc: Global,
     number: usize,
     kind: RunFaultKind,

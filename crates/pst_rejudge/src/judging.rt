@@ -6,7 +6,7 @@ ghost use Rattle.pst_rejudge.specs.Places.{StandsIn};
 use crate::parts::split_into_parts;
 use crate::places::{join_places_in_order, put_judged_parts_in_order};
 use crate::reading::PartFault;
-use crate::sharing::{may_send_parts, may_share_models};
+use crate::sharing::{may_send_judged_parts, may_share_models};
 use crate::steps::ProgressCounter;
 use crate::taking::{JudgedPart, judge_remaining_parts};
 use pst_case::Run;
@@ -62,7 +62,7 @@ pub fn judge_in_parts<C: Callbacks + Sync, R: Threads + Sync>(
         (λ parts. IsJudgedPart typed.now keeps input.now (joined parts.runs.items) parts.judged.items)) }
 {
     may_share_models();
-    may_send_parts();
+    may_send_judged_parts();
     let parts = split_into_parts(alloc, input)?;
     let next = AtomicUsize::new(0);
     let offers = [0u8; OFFERS];

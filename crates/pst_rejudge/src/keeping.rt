@@ -34,7 +34,7 @@ fn end_kept_line(
 }
 
 /// Adds a byte to the current line, or ends it at a line feed.
-fn add_byte(
+fn add_byte_to_lines(
     alloc: Global,
     limit: usize,
     lines: &mut Vec<Vec<u8>>,
@@ -70,7 +70,7 @@ pub(crate) fn split_bytes_into_lines(
         ≡ map (λ l. l.items) lines.old.items ++ map (take limit) (ended line bytes.now)) }
 {
     for byte in bytes {
-        add_byte(alloc, limit, lines, kept, *byte)?;
+        add_byte_to_lines(alloc, limit, lines, kept, *byte)?;
     }
     Ok(())
 }

@@ -4,7 +4,7 @@ ghost use Rattle.pst_rejudge.specs.StreamAnswers.{LinesAreItems};
 use pst_sexpr::laws::one_reading;
 
 /// The answers to lines that spell one item each are the answers to these items.
-pub fn lines_are_items()
+pub fn stream_lines_are_judged_as_items()
     ensures { LinesAreItems }
 {
     one_reading();

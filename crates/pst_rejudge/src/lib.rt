@@ -31,25 +31,25 @@ mod taking;
 use crate::sharing::may_share_runs;
 pub use add::{add_number_field, add_text_field};
 pub use blocks::{Block, StreamFault, read_and_judge_block};
-pub use each::{ItemResult, judge_each, read_and_judge_tree};
+pub use each::{ItemResult, read_and_judge_each_tree, read_and_judge_tree};
 pub use field::{Field, Name};
-pub use judgement::{judged_fields, refused_fields};
+pub use judgement::{judged_item_fields, refused_item_fields};
 pub use judging::{JudgedParts, judge_in_parts};
-pub use laws::lines_are_items;
-pub use object::object_line;
+pub use laws::stream_lines_are_judged_as_items;
+pub use object::json_object_line;
 pub use parts::split_before_second_bracket_line;
 use pst_case::Run;
 use pst_eval::Callbacks;
 use pst_judge::{Judged, judge_one};
 use rayon::prelude::*;
-pub use refusal::{accepted_fields, refusal_fields};
+pub use refusal::{accepted_model_fields, refused_model_fields};
 pub use sharing::may_share_models;
 use std::alloc::{AllocError, Global};
 use std::thread::Threads;
 pub use steps::ProgressCounter;
 
 /// Judges an item, and counts it in `steps`.
-fn judge_with_progress<C: Callbacks>(
+fn judge_run_with_progress<C: Callbacks>(
     callbacks: &C,
     alloc: Global,
     run: &Run,
@@ -82,7 +82,7 @@ pub fn rejudge_with_progress<C: Callbacks + Sync, R: Threads + Sync>(
             |run: &Run| -> Result<Judged, AllocError>
                 requires { MayBeJudged (C.model callbacks.now) run.now }
                 ensures { IfOk result (IsJudgement (C.model callbacks.entry.now) run.now) }
-            { judge_with_progress(callbacks, alloc, run, steps) },
+            { judge_run_with_progress(callbacks, alloc, run, steps) },
         )
         .collect::<Result<Vec<Judged>, AllocError>>(rt, alloc)?
 }

@@ -11,7 +11,7 @@ use pst_value::Text;
 use std::alloc::{AllocError, Global};
 
 /// Writes texts, and the end of their array.
-fn write_json_texts(writer: &mut Writer<Global>, texts: &[Text]) -> Result<(), AllocError>
+fn write_json_texts_and_end(writer: &mut Writer<Global>, texts: &[Text]) -> Result<(), AllocError>
     ensures ok { OnOk result (writer.new.tokens ≡ writer.old.tokens ++ items_tokens (texts_of texts.now)) }
     ensures before { writer.new.before ≡ writer.old.before }
 {
@@ -39,13 +39,16 @@ fn write_json_field(writer: &mut Writer<Global>, field: &Field) -> Result<(), Al
         Field::Lines(name, lines) => {
             writer.key(name.text())?;
             writer.begin_array()?;
-            write_json_texts(writer, lines.as_slice())
+            write_json_texts_and_end(writer, lines.as_slice())
         }
     }
 }
 
 /// Writes members, and the end of their object.
-fn write_json_fields(writer: &mut Writer<Global>, fields: &[Field]) -> Result<(), AllocError>
+fn write_json_fields_and_end(
+    writer: &mut Writer<Global>,
+    fields: &[Field],
+) -> Result<(), AllocError>
     ensures ok { OnOk result (writer.new.tokens
         ≡ writer.old.tokens ++ members_tokens (members_of fields.now)) }
     ensures before { writer.new.before ≡ writer.old.before }
@@ -57,13 +60,13 @@ fn write_json_fields(writer: &mut Writer<Global>, fields: &[Field]) -> Result<()
 }
 
 /// Returns the object with these members, in their order, and a line end. Read as JSON, the line is this object.
-pub fn object_line(alloc: Global, fields: &[Field]) -> Result<Vec<u8>, AllocError>
+pub fn json_object_line(alloc: Global, fields: &[Field]) -> Result<Vec<u8>, AllocError>
     ensures line { IfOk result (λ line. line.items ≡ object_line fields.now) }
     ensures reads_back { OnOk result (document (object_text fields.now) ≡ Some (object_of fields.now)) }
 {
     let mut writer = Writer::new(Vec::new(alloc));
     writer.begin_object()?;
-    write_json_fields(&mut writer, fields)?;
+    write_json_fields_and_end(&mut writer, fields)?;
     let mut line = writer.into_inner();
     line.push(b'\n')?;
     Ok(line)

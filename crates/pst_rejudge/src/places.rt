@@ -12,7 +12,10 @@ use crate::taking::JudgedPart;
 use std::alloc::{AllocError, Global};
 
 /// An empty place for each part.
-fn empty_places(alloc: Global, parts: &[&[u8]]) -> Result<Vec<Option<JudgedRuns>>, AllocError>
+fn empty_places_for_parts(
+    alloc: Global,
+    parts: &[&[u8]],
+) -> Result<Vec<Option<JudgedRuns>>, AllocError>
     ensures { IfOk result (λ places. (m : Source) (keeps : Bool) → AreFilled m keeps parts.now places.items) }
 {
     let mut places = Vec::with_capacity(alloc, parts.len())?;
@@ -23,7 +26,7 @@ fn empty_places(alloc: Global, parts: &[&[u8]]) -> Result<Vec<Option<JudgedRuns>
 }
 
 /// The places with parts put into them.
-fn fill_places(
+fn put_judged_parts_into_places(
     mut places: Vec<Option<JudgedRuns>>,
     taken: Vec<JudgedPart>,
 ) -> Vec<Option<JudgedRuns>>
@@ -48,9 +51,9 @@ pub(crate) fn put_judged_parts_in_order(
     ensures { IfOk result (λ places. (m : Source) (keeps : Bool)
         → All (λ taken. All (StandsIn m keeps parts.now) taken.items) lists.items → AreFilled m keeps parts.now places.items) }
 {
-    let mut places = empty_places(alloc, parts)?;
+    let mut places = empty_places_for_parts(alloc, parts)?;
     for taken in lists {
-        places = fill_places(places, taken);
+        places = put_judged_parts_into_places(places, taken);
     }
     Ok(places)
 }

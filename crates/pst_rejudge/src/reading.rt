@@ -55,7 +55,7 @@ impl From<AllocError> for PartFault {
 }
 
 /// Why a part is not read: the fault of its trees.
-fn part_fault(fault: SexprFault) -> PartFault {
+fn part_fault_of_sexpr_fault(fault: SexprFault) -> PartFault {
     if fault.kind == FaultKind::NoMemory {
         PartFault::NoMemory
     } else {
@@ -64,7 +64,7 @@ fn part_fault(fault: SexprFault) -> PartFault {
 }
 
 /// The runs that the bytes of a part spell.
-pub(crate) fn runs_of_part(
+pub(crate) fn read_runs_of_part(
     alloc: Global,
     typed: &Typed,
     bytes: &[u8],
@@ -74,7 +74,7 @@ pub(crate) fn runs_of_part(
 {
     let trees = match read(alloc, bytes) {
         Ok(trees) => trees,
-        Err(fault) => return Err(part_fault(fault)),
+        Err(fault) => return Err(part_fault_of_sexpr_fault(fault)),
     };
     match read_runs(alloc, typed, trees.as_slice()) {
         Ok(runs) => Ok(runs),

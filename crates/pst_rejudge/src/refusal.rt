@@ -8,7 +8,7 @@ use pst_typing::Refusal;
 use std::alloc::{AllocError, Global};
 
 /// The members of the object of a model that is accepted: its verdict and its name.
-pub fn accepted_fields(alloc: Global, model: &str) -> Result<Vec<Field>, AllocError>
+pub fn accepted_model_fields(alloc: Global, model: &str) -> Result<Vec<Field>, AllocError>
     ensures { IfOk result (λ fields. fields.items ≡ spec.accepted_fields model.now) }
 {
     let mut fields = Vec::new(alloc);
@@ -19,7 +19,7 @@ pub fn accepted_fields(alloc: Global, model: &str) -> Result<Vec<Field>, AllocEr
 
 /// Returns the members of the object of an input whose model is refused: the stage that refuses it, the kind of its
 /// fault, and its place.
-pub fn refusal_fields(alloc: Global, refusal: &Refusal) -> Result<Vec<Field>, AllocError>
+pub fn refused_model_fields(alloc: Global, refusal: &Refusal) -> Result<Vec<Field>, AllocError>
     ensures { IfOk result (λ fields. fields.items ≡ spec.refusal_fields refusal.now) }
 {
     let mut fields = Vec::new(alloc);

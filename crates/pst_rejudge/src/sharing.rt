@@ -39,7 +39,7 @@ pub fn may_share_models()
 }
 
 /// Parts that are judged may be sent to threads.
-pub(crate) fn may_send_parts()
+pub(crate) fn may_send_judged_parts()
     ensures { IsSend part_row }
 {
     may_send::<Run>();

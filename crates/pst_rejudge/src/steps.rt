@@ -23,7 +23,7 @@ impl ProgressCounter {
         self.done.load(Ordering::SeqCst)
     }
 
-    /// How many items there are, if that is known.
+    /// How many items there are, if that is known. `None` also if there are no items.
     pub fn all(&self) -> Option<u64> {
         match self.all.load(Ordering::SeqCst) {
             0 => None,
@@ -31,7 +31,7 @@ impl ProgressCounter {
         }
     }
 
-    /// There are `all` items, and none of them is done yet.
+    /// There are `all` items, and none of them is done yet. If `all` is 0, their number counts as not known.
     pub fn set_total(&self, all: usize) {
         self.done.store(0, Ordering::SeqCst);
         self.all.store(all as u64, Ordering::SeqCst);

@@ -7,7 +7,7 @@ ghost use Rattle.pst_rejudge.specs.StreamAnswers.{IsLineAnswer, IsTreeAnswer};
 use crate::each::{ItemResult, read_and_judge_tree};
 use crate::sharing::may_share_models;
 use pst_eval::Callbacks;
-use pst_json_runs::{has_json, json_tree};
+use pst_json_runs::{is_json_item_line, json_line_tree};
 use pst_model::Typed;
 use pst_runs::RunFaultKind;
 use pst_sexpr::{FaultKind, MAX_BYTES, read};
@@ -64,7 +64,7 @@ fn judge_json_item_on_line<C: Callbacks>(
             command: 0,
         });
     }
-    let tree = json_tree(alloc, typed.source(), line)?;
+    let tree = json_line_tree(alloc, typed.source(), line)?;
     read_and_judge_tree(callbacks, alloc, typed, &tree)
 }
 
@@ -79,7 +79,7 @@ fn judge_item_on_line<C: Callbacks>(
     requires { typed.now ≡ C.model callbacks.now }
     ensures { IfOk result (IsLineAnswer (C.model callbacks.now) line.now) }
 {
-    if has_json(line) {
+    if is_json_item_line(line) {
         judge_json_item_on_line(callbacks, alloc, typed, line)
     } else {
         judge_tree_on_line(callbacks, alloc, typed, line)

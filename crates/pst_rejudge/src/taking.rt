@@ -7,7 +7,7 @@ ghost use Rattle.pst_judge.specs.Judgement.{IsJudgement};
 ghost use Rattle.pst_rejudge.specs.Judging.{MayBeJudged};
 
 use crate::judging::JudgedRuns;
-use crate::reading::{PartFault, runs_of_part};
+use crate::reading::{PartFault, read_runs_of_part};
 use crate::steps::ProgressCounter;
 use pst_case::Run;
 use pst_eval::Callbacks;
@@ -26,7 +26,7 @@ pub(crate) struct JudgedPart {
 }
 
 /// The judgement on each run. `steps` counts the runs.
-fn judged_runs<C: Callbacks>(
+fn judge_runs_of_part<C: Callbacks>(
     callbacks: &C,
     alloc: Global,
     runs: &[Run],
@@ -44,7 +44,7 @@ fn judged_runs<C: Callbacks>(
 }
 
 /// The judgements on the runs that the bytes of a part spell, with the runs if `keeps` is true.
-fn judged_part<C: Callbacks>(
+fn read_and_judge_part<C: Callbacks>(
     callbacks: &C,
     alloc: Global,
     typed: &Typed,
@@ -55,8 +55,8 @@ fn judged_part<C: Callbacks>(
     requires { typed.now ≡ C.model callbacks.now }
     ensures { IfOk result (HoldsPart (C.model callbacks.now) keeps bytes.now) }
 {
-    let runs = runs_of_part(alloc, typed, bytes)?;
-    let judged = judged_runs(callbacks, alloc, runs.as_slice(), steps)?;
+    let runs = read_runs_of_part(alloc, typed, bytes)?;
+    let judged = judge_runs_of_part(callbacks, alloc, runs.as_slice(), steps)?;
     Ok(JudgedRuns {
         runs: if keeps { runs } else { Vec::new(alloc) },
         judged,
@@ -82,7 +82,7 @@ pub(crate) fn judge_remaining_parts<C: Callbacks>(
         let Some(bytes) = parts.get(place) else {
             return Ok(taken);
         };
-        let content = judged_part(callbacks, alloc, typed, bytes, keeps, steps)?;
+        let content = read_and_judge_part(callbacks, alloc, typed, bytes, keeps, steps)?;
         if taken.push(JudgedPart { place, content }).is_err() {
             return Err(PartFault::NoMemory);
         }

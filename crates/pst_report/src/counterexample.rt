@@ -32,7 +32,7 @@ pub(crate) fn run_of_failing_case(
 }
 
 /// The case and its history as a tree, and a line end.
-pub(crate) fn report_run_line(
+pub(crate) fn failing_run_line(
     alloc: Global,
     typed: &Typed,
     taken: &FailingCase<JudgedRun>,
@@ -49,7 +49,7 @@ pub(crate) fn report_run_line(
 }
 
 /// `least NUMBER VERDICT`.
-fn least_line(
+fn first_failed_trial_report_line(
     alloc: Global,
     number: usize,
     taken: &FailingCase<JudgedRun>,
@@ -80,7 +80,7 @@ fn shrink_steps_report_line(alloc: Global, shrunk: &Shrunk<JudgedRun>) -> Result
 }
 
 /// The verdict on the last run.
-fn report_shrunk_verdict_line(
+fn shrunk_run_verdict_line(
     alloc: Global,
     taken: &FailingCase<JudgedRun>,
 ) -> Result<String, AllocError>
@@ -91,7 +91,7 @@ fn report_shrunk_verdict_line(
 }
 
 /// The number, the verdict and the run of the trial itself.
-fn report_unshrunk_run_lines(
+fn lines_of_run_before_shrinking(
     alloc: Global,
     typed: &Typed,
     number: usize,
@@ -100,14 +100,14 @@ fn report_unshrunk_run_lines(
     requires { IsMatching typed.now taken.now }
     ensures { IfOk result (λ lines. lines.items ≡ spec.own_lines typed.now number taken.now) }
 {
-    let mut lines = least_line(alloc, number, taken)?.into_bytes();
+    let mut lines = first_failed_trial_report_line(alloc, number, taken)?.into_bytes();
     lines.extend_from_slice(b"from ")?;
-    lines.extend_from_slice(report_run_line(alloc, typed, taken)?.as_slice())?;
+    lines.extend_from_slice(failing_run_line(alloc, typed, taken)?.as_slice())?;
     Ok(lines)
 }
 
 /// The last run, and its verdict.
-fn report_shrunk_run_lines(
+fn lines_of_run_after_shrinking(
     alloc: Global,
     typed: &Typed,
     taken: &FailingCase<JudgedRun>,
@@ -116,13 +116,13 @@ fn report_shrunk_run_lines(
     ensures { IfOk result (λ lines. lines.items ≡ spec.last_lines typed.now taken.now) }
 {
     let mut lines = Vec::from_slice(alloc, b"to ")?;
-    lines.extend_from_slice(report_run_line(alloc, typed, taken)?.as_slice())?;
-    lines.extend_from_slice(report_shrunk_verdict_line(alloc, taken)?.as_bytes())?;
+    lines.extend_from_slice(failing_run_line(alloc, typed, taken)?.as_slice())?;
+    lines.extend_from_slice(shrunk_run_verdict_line(alloc, taken)?.as_bytes())?;
     Ok(lines)
 }
 
 /// The lines of trial `number`, which failed.
-pub fn failure_lines(
+pub fn failed_trial_report_lines(
     alloc: Global,
     typed: &Typed,
     number: usize,
@@ -131,13 +131,13 @@ pub fn failure_lines(
     requires { AreMatching typed.now shrunk.now }
     ensures { IfOk result (λ lines. lines.items ≡ spec.failure_lines typed.now number shrunk.now) }
 {
-    let mut lines = report_unshrunk_run_lines(
+    let mut lines = lines_of_run_before_shrinking(
         alloc,
         typed,
         number,
         failing_run_before_shrinking(shrunk),
     )?;
     lines.extend_from_slice(shrink_steps_report_line(alloc, shrunk)?.as_bytes())?;
-    lines.extend_from_slice(report_shrunk_run_lines(alloc, typed, &shrunk.last)?.as_slice())?;
+    lines.extend_from_slice(lines_of_run_after_shrinking(alloc, typed, &shrunk.last)?.as_slice())?;
     Ok(lines)
 }

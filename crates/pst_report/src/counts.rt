@@ -4,7 +4,7 @@ ghost use Rattle.pst_report.specs.Least.{least_fault};
 ghost use Rattle.pst_report.specs.Text as spec;
 
 use crate::kind::{EntryKind, count_entries_of_kind};
-use crate::least::least_fault;
+use crate::least::first_trial_with_generation_fault;
 use crate::losses::lost_trials_text;
 use pst_ledger::Entry;
 use pst_trial::Record;
@@ -24,10 +24,13 @@ fn entry_count_report_line(
 }
 
 /// `genfault-first NUMBER COMMAND CALLBACK KIND`, if generating a case faulted.
-fn first_fault_line(alloc: Global, entries: &[Entry<Record>]) -> Result<String, AllocError>
+fn first_generation_fault_line_if_any(
+    alloc: Global,
+    entries: &[Entry<Record>],
+) -> Result<String, AllocError>
     ensures { IfOk result (λ line. string_bytes line ≡ spec.first_fault_line (least_fault 0 entries.now)) }
 {
-    match least_fault(entries) {
+    match first_trial_with_generation_fault(entries) {
         Some((number, place)) => {
             let command = place.command;
             let callback = place.callback.name();
@@ -77,7 +80,7 @@ fn missing_run_count_lines(alloc: Global, entries: &[Entry<Record>]) -> Result<S
     ensures { IfOk result (λ lines. string_bytes lines ≡ spec.missing_lines entries.now) }
 {
     let mut lines = entry_count_report_line(alloc, "genfault", EntryKind::GenFaulted, entries)?;
-    lines.push_str(first_fault_line(alloc, entries)?.as_str())?;
+    lines.push_str(first_generation_fault_line_if_any(alloc, entries)?.as_str())?;
     lines.push_str(lost_trials_report_line(alloc, entries)?.as_str())?;
     lines.push_str(entry_count_report_line(
         alloc,

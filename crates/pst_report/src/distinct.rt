@@ -3,7 +3,7 @@ ghost use Rattle.std.specs.Prelude.{◌≡◌, IfOk, OnOk, MatchBool};
 ghost use Rattle.std.specs.List.{All, Any};
 ghost use Rattle.pst_report.specs.Distinct.{Keeps, AreDistinctFailures, HasCase};
 
-use crate::failures::{ShrunkFailure, shrunk_failure};
+use crate::failures::{ShrunkFailure, shrunk_failure_of_record};
 use pst_ledger::Entry;
 use pst_trial::Record;
 use std::alloc::{AllocError, Global};
@@ -39,7 +39,7 @@ fn push_failure_with_new_case(
 ) -> Result<(), AllocError>
     ensures { OnOk result (Keeps number done.now failures.old.items failures.new.items) }
 {
-    let Some(failure) = shrunk_failure(alloc, done)? else {
+    let Some(failure) = shrunk_failure_of_record(alloc, done)? else {
         return Ok(());
     };
     if has_failure_with_case(failures.as_slice(), failure.case.as_slice()) {

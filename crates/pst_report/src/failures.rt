@@ -3,7 +3,7 @@ ghost use Rattle.std.specs.Prelude.{◌≡◌, IfOk};
 ghost use Rattle.pst_report.specs.Failures.{IsFailureOf, IsLastFailure, case_line};
 ghost use Rattle.pst_report.specs.Matching.{IsMatching};
 
-use crate::counterexample::{report_run_line, run_of_failing_case};
+use crate::counterexample::{failing_run_line, run_of_failing_case};
 use crate::least::shrinking_of_failed_trial;
 use pst_case::Run;
 use pst_model::Typed;
@@ -56,13 +56,16 @@ fn shrunk_failure_of_failing_case(
     let verdict = &taken.history.verdict;
     Ok(ShrunkFailure {
         case: failing_case_line(alloc, typed, taken)?,
-        run: report_run_line(alloc, typed, taken)?,
+        run: failing_run_line(alloc, typed, taken)?,
         verdict: format!(in alloc; "{verdict}")?,
     })
 }
 
 /// The failure that the case of a trial was shrunk to, if the trial failed.
-pub fn shrunk_failure(alloc: Global, record: &Record) -> Result<Option<ShrunkFailure>, AllocError>
+pub fn shrunk_failure_of_record(
+    alloc: Global,
+    record: &Record,
+) -> Result<Option<ShrunkFailure>, AllocError>
     ensures { IfOk result (IsLastFailure record.now) }
 {
     match shrinking_of_failed_trial(record) {

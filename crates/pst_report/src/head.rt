@@ -15,7 +15,7 @@ fn campaign_name_report_line(alloc: Global, typed: &Typed) -> Result<String, All
 }
 
 /// The number of branches, if it is not 2.
-fn report_branches_setting(alloc: Global, branches: u32) -> Result<String, AllocError>
+fn branches_part_unless_two(alloc: Global, branches: u32) -> Result<String, AllocError>
     ensures { IfOk result (λ part. string_bytes part ≡ spec.branches_part branches) }
 {
     if branches == 2 {
@@ -26,7 +26,7 @@ fn report_branches_setting(alloc: Global, branches: u32) -> Result<String, Alloc
 }
 
 /// How many commands the suffix has at most, if it may have any.
-fn report_suffix_setting(alloc: Global, suffix: u32) -> Result<String, AllocError>
+fn suffix_part_unless_zero(alloc: Global, suffix: u32) -> Result<String, AllocError>
     ensures { IfOk result (λ part. string_bytes part ≡ spec.suffix_part suffix) }
 {
     if suffix == 0 {
@@ -37,7 +37,7 @@ fn report_suffix_setting(alloc: Global, suffix: u32) -> Result<String, AllocErro
 }
 
 /// `seed S trials N commands C repeats R limit X`.
-fn report_number_settings(alloc: Global, settings: &Settings) -> Result<String, AllocError>
+fn number_settings_part(alloc: Global, settings: &Settings) -> Result<String, AllocError>
     ensures { IfOk result (λ part. string_bytes part ≡ spec.numbers_part settings.now) }
 {
     let seed = settings.seed;
@@ -51,21 +51,21 @@ fn report_number_settings(alloc: Global, settings: &Settings) -> Result<String, 
 }
 
 /// The settings on one line.
-fn settings_line(alloc: Global, settings: &Settings) -> Result<String, AllocError>
+fn campaign_settings_report_line(alloc: Global, settings: &Settings) -> Result<String, AllocError>
     ensures { IfOk result (λ line. string_bytes line ≡ spec.settings_line settings.now) }
 {
-    let mut line = report_number_settings(alloc, settings)?;
-    line.push_str(report_branches_setting(alloc, settings.branches)?.as_str())?;
-    line.push_str(report_suffix_setting(alloc, settings.suffix)?.as_str())?;
+    let mut line = number_settings_part(alloc, settings)?;
+    line.push_str(branches_part_unless_two(alloc, settings.branches)?.as_str())?;
+    line.push_str(suffix_part_unless_zero(alloc, settings.suffix)?.as_str())?;
     line.push_str("\n")?;
     Ok(line)
 }
 
 /// The lines of the plan.
-pub fn plan_lines(alloc: Global, plan: &Plan) -> Result<String, AllocError>
+pub fn campaign_plan_report_lines(alloc: Global, plan: &Plan) -> Result<String, AllocError>
     ensures { IfOk result (λ lines. string_bytes lines ≡ spec.plan_lines plan.now) }
 {
     let mut lines = campaign_name_report_line(alloc, plan.typed())?;
-    lines.push_str(settings_line(alloc, plan.settings())?.as_str())?;
+    lines.push_str(campaign_settings_report_line(alloc, plan.settings())?.as_str())?;
     Ok(lines)
 }

@@ -49,7 +49,7 @@ pub fn failing_run_before_shrinking(shrunk: &Shrunk<JudgedRun>) -> &FailingCase<
     }
 }
 
-fn kind_of_verdict(verdict: &Verdict) -> EntryKind
+fn entry_kind_of_verdict(verdict: &Verdict) -> EntryKind
     ensures { result ≡ spec.kind_of_verdict verdict.now }
 {
     match verdict {
@@ -60,14 +60,14 @@ fn kind_of_verdict(verdict: &Verdict) -> EntryKind
     }
 }
 
-fn kind_of_outcome(outcome: &TrialOutcome) -> EntryKind
+fn entry_kind_of_trial_outcome(outcome: &TrialOutcome) -> EntryKind
     ensures { result ≡ spec.kind_of_outcome outcome.now }
 {
     match outcome {
         TrialOutcome::GenFaulted(_) => EntryKind::GenFaulted,
         TrialOutcome::Passed { .. } => EntryKind::Passed,
         TrialOutcome::Failed { shrunk, .. } => {
-            kind_of_verdict(&failing_run_before_shrinking(shrunk).history.verdict)
+            entry_kind_of_verdict(&failing_run_before_shrinking(shrunk).history.verdict)
         }
     }
 }
@@ -78,7 +78,7 @@ pub fn entry_kind(entry: &Entry<Record>) -> EntryKind
 {
     match entry {
         Entry::Undrawn | Entry::Held => EntryKind::Undrawn,
-        Entry::Done(record) => kind_of_outcome(record.outcome()),
+        Entry::Done(record) => entry_kind_of_trial_outcome(record.outcome()),
         Entry::Lost(_) => EntryKind::Lost,
     }
 }

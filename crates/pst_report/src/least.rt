@@ -32,7 +32,7 @@ pub(crate) fn shrinking_of_failed_trial(done: &Record) -> Option<&Shrunk<JudgedR
 }
 
 /// The lowest number for which generating a case faulted, and the place of the fault.
-pub fn least_fault(entries: &[Entry<Record>]) -> Option<(usize, FaultPlace)>
+pub fn first_trial_with_generation_fault(entries: &[Entry<Record>]) -> Option<(usize, FaultPlace)>
     ensures { result ≡ spec.least_fault 0 entries.now }
 {
     for (number, entry) in entries.iter().enumerate() {
@@ -46,7 +46,7 @@ pub fn least_fault(entries: &[Entry<Record>]) -> Option<(usize, FaultPlace)>
 }
 
 /// The lowest number whose trial failed, and how its case was shrunk.
-pub fn least_failure<'a>(
+pub fn first_failed_trial<'a>(
     plan: &Plan,
     entries: &'a [Entry<Record>],
 ) -> Option<(usize, &'a Shrunk<JudgedRun>)>

@@ -17,10 +17,10 @@ mod status;
 mod writer;
 
 pub use distinct::{NumberedFailure, distinct_failures};
-pub use failures::{ShrunkFailure, shrunk_failure};
+pub use failures::{ShrunkFailure, shrunk_failure_of_record};
 pub use fault::ReportFault;
 pub use kind::EntryKind;
-pub use least::{least_failure, least_fault};
-pub use object::{add_losses_and_least_failure, report_fields};
+pub use least::{first_failed_trial, first_trial_with_generation_fault};
+pub use object::{add_losses_and_least_failure, first_campaign_report_fields};
 pub use status::{CampaignStatus, campaign_status, status_of_early_ended_campaign};
 pub use writer::report;

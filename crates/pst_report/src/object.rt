@@ -4,9 +4,9 @@ ghost use Rattle.pst_report.specs.InOrder.{AreOf};
 ghost use Rattle.pst_report.specs.Matching.{AreMatching, IsMatching};
 ghost use Rattle.pst_report.specs.Object as spec;
 
-use crate::counterexample::{report_run_line, shrink_end_name};
+use crate::counterexample::{failing_run_line, shrink_end_name};
 use crate::kind::{EntryKind, count_entries_of_kind, failing_run_before_shrinking};
-use crate::least::least_failure;
+use crate::least::first_failed_trial;
 use crate::status::CampaignStatus;
 use pst_ledger::{Closed, Entry};
 use pst_model::Typed;
@@ -17,7 +17,7 @@ use pst_value::Text;
 use std::alloc::{AllocError, Global};
 
 /// How the campaign ended.
-fn status_word(status: CampaignStatus) -> &'static str
+fn campaign_status_word(status: CampaignStatus) -> &'static str
     ensures { result.now ≡ spec.status_word status }
 {
     match status {
@@ -28,10 +28,7 @@ fn status_word(status: CampaignStatus) -> &'static str
 }
 
 /// Adds how many trials there are, and the kinds of their cases.
-fn report_case_settings_fields(
-    fields: &mut Vec<Field>,
-    settings: &Settings,
-) -> Result<(), AllocError>
+fn add_case_settings_fields(fields: &mut Vec<Field>, settings: &Settings) -> Result<(), AllocError>
     ensures { OnOk result (fields.new.items ≡ fields.old.items ++ spec.case_fields settings.now) }
 {
     add_number_field(fields, Name::Seed, settings.seed)?;
@@ -41,10 +38,7 @@ fn report_case_settings_fields(
 }
 
 /// Adds how cases are driven.
-fn report_drive_settings_fields(
-    fields: &mut Vec<Field>,
-    settings: &Settings,
-) -> Result<(), AllocError>
+fn add_drive_settings_fields(fields: &mut Vec<Field>, settings: &Settings) -> Result<(), AllocError>
     ensures { OnOk result (fields.new.items ≡ fields.old.items ++ spec.drive_fields settings.now) }
 {
     add_number_field(fields, Name::Suffix, settings.suffix as u64)?;
@@ -94,7 +88,7 @@ fn add_missing_run_counts(
 /// trials ended in which way.
 ///
 /// `AllocError`: an allocation failed.
-pub fn report_fields(
+pub fn first_campaign_report_fields(
     alloc: Global,
     plan: &Plan,
     closed: &Closed<Record>,
@@ -104,15 +98,20 @@ pub fn report_fields(
 {
     let entries = closed.entries();
     let mut fields = Vec::new(alloc);
-    add_text_field(alloc, &mut fields, Name::Verdict, status_word(status))?;
+    add_text_field(
+        alloc,
+        &mut fields,
+        Name::Verdict,
+        campaign_status_word(status),
+    )?;
     add_text_field(
         alloc,
         &mut fields,
         Name::Model,
         plan.typed().source().name.as_str(),
     )?;
-    report_case_settings_fields(&mut fields, plan.settings())?;
-    report_drive_settings_fields(&mut fields, plan.settings())?;
+    add_case_settings_fields(&mut fields, plan.settings())?;
+    add_drive_settings_fields(&mut fields, plan.settings())?;
     add_passed_and_failed_counts(&mut fields, entries)?;
     add_missing_run_counts(&mut fields, entries)?;
     Ok(fields)
@@ -126,7 +125,7 @@ fn run_tree_text(
 ) -> Result<Text, AllocError>
     requires { IsMatching typed.now taken.now }
 {
-    let mut line = report_run_line(alloc, typed, taken)?;
+    let mut line = failing_run_line(alloc, typed, taken)?;
     let _ = line.pop();
     match String::from_utf8(line) {
         Ok(text) => Ok(Text::from_string(text)),
@@ -205,7 +204,7 @@ pub fn add_losses_and_least_failure(
     requires { AreOf plan.now 0 entries.now }
 {
     fields.push(Field::Lines(Name::Losses, lost_trial_texts(alloc, entries)?))?;
-    if let Some((number, shrunk)) = least_failure(plan, entries) {
+    if let Some((number, shrunk)) = first_failed_trial(plan, entries) {
         add_number_field(fields, Name::Least, number as u64)?;
         add_shrinking_fields(alloc, fields, plan.typed(), shrunk)?;
     }

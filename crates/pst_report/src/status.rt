@@ -59,7 +59,7 @@ pub fn campaign_status(closed: &Closed<Record>) -> CampaignStatus
     }
 }
 
-fn is_lost(entry: &Entry<Record>) -> bool
+fn is_lost_entry(entry: &Entry<Record>) -> bool
     ensures { result ≡ spec.is_lost entry.now }
 {
     entry_kind(entry).is_same(EntryKind::Lost)
@@ -71,10 +71,10 @@ fn is_drawn_entry_other_than_passed(entry: &Entry<Record>) -> bool
     is_entry_other_than_passed(entry) && !entry_kind(entry).is_same(EntryKind::Undrawn)
 }
 
-fn any_lost(entries: &[Entry<Record>]) -> bool
+fn any_lost_entry(entries: &[Entry<Record>]) -> bool
     ensures { result ≡ list_any spec.is_lost entries.now }
 {
-    entries.iter().any(|entry| is_lost(entry))
+    entries.iter().any(|entry| is_lost_entry(entry))
 }
 
 fn any_drawn_entry_other_than_passed(entries: &[Entry<Record>]) -> bool
@@ -91,7 +91,7 @@ pub fn status_of_early_ended_campaign(closed: &Closed<Record>) -> CampaignStatus
     ensures { result ≡ spec.ended_status closed.now }
 {
     let entries = closed.entries();
-    if any_lost(entries) {
+    if any_lost_entry(entries) {
         CampaignStatus::Incomplete
     } else if any_drawn_entry_other_than_passed(entries) {
         CampaignStatus::Failed

@@ -5,37 +5,45 @@ ghost use Rattle.pst_report.specs.Least.{least_failure};
 ghost use Rattle.pst_report.specs.Text as spec;
 ghost use Rattle.pst_report.specs.Written.{WritesReport};
 
-use crate::counterexample::failure_lines;
+use crate::counterexample::failed_trial_report_lines;
 use crate::counts::entry_count_report_lines;
 use crate::fault::ReportFault;
-use crate::head::plan_lines;
-use crate::least::least_failure;
+use crate::head::campaign_plan_report_lines;
+use crate::least::first_failed_trial;
 use pst_ledger::{Closed, Entry};
 use pst_sexpr::{Sink, put_all};
 use pst_trial::{Plan, Record};
 use std::alloc::{AllocError, Global};
 
 /// The lines of the lowest number whose trial failed, or `least none`.
-fn least_lines(alloc: Global, plan: &Plan, entries: &[Entry<Record>]) -> Result<Vec<u8>, AllocError>
+fn first_failed_trial_lines_or_none(
+    alloc: Global,
+    plan: &Plan,
+    entries: &[Entry<Record>],
+) -> Result<Vec<u8>, AllocError>
     requires { AreOf plan.now 0 entries.now }
     ensures { IfOk result (λ lines.
         lines.items ≡ spec.least_lines plan.now.model (least_failure 0 entries.now)) }
 {
-    match least_failure(plan, entries) {
-        Some((number, shrunk)) => failure_lines(alloc, plan.typed(), number, shrunk),
+    match first_failed_trial(plan, entries) {
+        Some((number, shrunk)) => failed_trial_report_lines(alloc, plan.typed(), number, shrunk),
         None => Vec::from_slice(alloc, b"least none\n"),
     }
 }
 
 /// The whole text of the report.
 #[tactic(auto, unfolding(crate::specs::Text::report_text))]
-fn report_text(alloc: Global, plan: &Plan, entries: &[Entry<Record>]) -> Result<Vec<u8>, AllocError>
+fn campaign_report_text(
+    alloc: Global,
+    plan: &Plan,
+    entries: &[Entry<Record>],
+) -> Result<Vec<u8>, AllocError>
     requires { AreOf plan.now 0 entries.now }
     ensures { IfOk result (λ text. text.items ≡ spec.report_text plan.now entries.now) }
 {
-    let mut text = plan_lines(alloc, plan)?.into_bytes();
+    let mut text = campaign_plan_report_lines(alloc, plan)?.into_bytes();
     text.extend_from_slice(entry_count_report_lines(alloc, entries)?.as_bytes())?;
-    text.extend_from_slice(least_lines(alloc, plan, entries)?.as_slice())?;
+    text.extend_from_slice(first_failed_trial_lines_or_none(alloc, plan, entries)?.as_slice())?;
     Ok(text)
 }
 
@@ -61,7 +69,7 @@ pub fn report<W: Sink>(
     ensures { WritesReport (W.taken writer.old) (W.taken writer.new) (W.broken writer.new) result
         (spec.report_text plan.now closed.now) }
 {
-    let text = report_text(alloc, plan, closed.entries())?;
+    let text = campaign_report_text(alloc, plan, closed.entries())?;
     put_all(text.as_slice(), writer)?;
     Ok(())
 }

@@ -1,7 +1,7 @@
 //! The messages beside the refusals of files, and the warnings on models.
 
 use crate::requests::Request;
-use pst_messages::{Asked, input_error_messages_text, input_warnings_text};
+use pst_messages::{MessageScope, input_error_messages_text, input_warnings_text};
 use pst_sources::{SourceFile, joined};
 use std::alloc::{AllocError, Global};
 use std::slice;
@@ -10,7 +10,7 @@ use std::slice;
 pub fn message_answer(
     alloc: Global,
     request: &Request<'_>,
-    asked: Asked,
+    asked: MessageScope,
 ) -> Result<String, AllocError> {
     let files = request.files.as_slice();
     let text = joined(alloc, files)?;
@@ -52,7 +52,7 @@ fn is_within(message: &str, file: &SourceFile<'_>) -> bool {
 /// Whether the message of a file is at a place in the file.
 fn has_message_within(alloc: Global, file: &SourceFile<'_>) -> Result<bool, AllocError> {
     let files = slice::from_ref(file);
-    match input_error_messages_text(alloc, files, file.bytes.as_slice(), Asked::FirstItem)? {
+    match input_error_messages_text(alloc, files, file.bytes.as_slice(), MessageScope::FirstItem)? {
         Some(message) => Ok(is_within(message.as_str(), file)),
         None => Ok(false),
     }

@@ -6,7 +6,7 @@ use crate::explained::{explain_answer, graph_answer, longest_answer};
 use crate::judged::item_warnings_answer;
 use crate::messages::{beginnings_answer, message_answer, warnings_answer};
 use crate::random::random_answer;
-use pst_messages::Asked;
+use pst_messages::MessageScope;
 use pst_sources::SourceFile;
 use std::alloc::{AllocError, Global};
 use std::sync::Wait;
@@ -72,9 +72,9 @@ pub fn answer_to_request<R: Threads + Wait + Sync + AllocGlobal>(
         "graph" => graph_answer(rt, alloc, request)?,
         "longest" => longest_answer(rt, alloc, request)?,
         "comments" => comments_answer(rt, alloc, request)?,
-        "message" => message_answer(alloc, request, Asked::FirstItem)?,
-        "message_of_model" => message_answer(alloc, request, Asked::Model)?,
-        "messages" => message_answer(alloc, request, Asked::EachItem)?,
+        "message" => message_answer(alloc, request, MessageScope::FirstItem)?,
+        "message_of_model" => message_answer(alloc, request, MessageScope::Model)?,
+        "messages" => message_answer(alloc, request, MessageScope::EachItem)?,
         "beginnings" => beginnings_answer(alloc, request)?,
         "warnings" => warnings_answer(alloc, request)?,
         "warnings_on_runs" => item_warnings_answer(rt, alloc, request, false)?,

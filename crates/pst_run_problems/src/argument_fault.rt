@@ -8,9 +8,10 @@ ghost use Rattle.pst_model.specs.Parts.{types_of};
 
 use crate::command::CaseSearch;
 use crate::ill::ValueFault;
-use crate::results::result_types;
+use crate::results::result_types_of_commands;
 use crate::value_fault::{
-    Found, Types, ValueSearch, Wanted, after_head, first_value_fault_among_trees, is_accepted,
+    Found, Types, ValueSearch, Wanted, first_value_fault_among_trees, is_accepted_value,
+    trees_after_head,
 };
 use pst_model::Param;
 use pst_sexpr::Form;
@@ -18,7 +19,7 @@ use pst_value::Items;
 use std::alloc::{AllocError, Global};
 
 /// Whether the reader accepts trees as the arguments of an operation with the parameters `params`.
-fn are_accepted(
+fn are_accepted_arguments(
     alloc: Global,
     search: &ValueSearch<'_>,
     arguments: &[Form],
@@ -33,8 +34,8 @@ fn are_accepted(
     let Some((param, params)) = params.split_first() else {
         return Ok(false);
     };
-    if is_accepted(alloc, search, argument, Wanted::Type(&param.ty))? {
-        are_accepted(alloc, search, arguments, params)
+    if is_accepted_value(alloc, search, argument, Wanted::Type(&param.ty))? {
+        are_accepted_arguments(alloc, search, arguments, params)
     } else {
         Ok(false)
     }
@@ -56,13 +57,13 @@ pub fn first_argument_fault<'a>(
         (result_types search.now.source.now search.now.parts.now) (types_of params.now) trees.now
         found ≡ true) }
 {
-    let results = result_types(alloc, search.source, search.parts)?;
+    let results = result_types_of_commands(alloc, search.source, search.parts)?;
     let search = ValueSearch {
         source: search.source,
         parts: search.parts,
         results: results.as_slice(),
     };
-    if are_accepted(alloc, &search, after_head(trees), params)? {
+    if are_accepted_arguments(alloc, &search, trees_after_head(trees), params)? {
         return Ok(None);
     }
     if let Some(found) = first_value_fault_among_trees(

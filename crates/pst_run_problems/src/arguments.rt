@@ -1,20 +1,21 @@
 //! Problems of the arguments of commands.
 
 use crate::argument_fault::first_argument_fault;
-use crate::command::{CaseSearch, after_head, node_parts_or_empty};
+use crate::command::{CaseSearch, node_parts_after_head, node_parts_or_empty};
 use crate::ill::ValueFault;
-use crate::values::found_value_fault_problem;
+use crate::values::problem_of_found_or_other_fault;
 use pst_model::Op;
 use pst_sexpr::Form;
 use pst_syntax_problems::{
-    FoundProblem, Problem, Signature, counted, head_word, operation_named, problem_at, with_note,
+    FoundProblem, Problem, SignatureText, counted_noun, find_operation, head_word_or_empty,
+    problem_at, with_note,
 };
 use std::alloc::Global;
 
 /// The problem of a command with `found` arguments of `op`, which takes another number.
 fn argument_count_problem(alloc: Global, path: &[usize], op: &Op, found: usize) -> FoundProblem {
     let name = op.name.as_str();
-    let takes = counted(op.params.len(), "argument");
+    let takes = counted_noun(op.params.len(), "argument");
     problem_at(
         alloc,
         path,
@@ -23,14 +24,14 @@ fn argument_count_problem(alloc: Global, path: &[usize], op: &Op, found: usize) 
 }
 
 /// The problem of the arguments of a command of `op`.
-fn argument_problem(
+fn command_arguments_problem(
     alloc: Global,
     search: &CaseSearch<'_>,
     path: &[usize],
     form: &Form,
     op: &Op,
 ) -> FoundProblem {
-    let found = after_head(form).len();
+    let found = node_parts_after_head(form).len();
     if found != op.params.len() {
         return argument_count_problem(alloc, path, op, found);
     }
@@ -40,12 +41,12 @@ fn argument_problem(
         node_parts_or_empty(form),
         op.params.as_slice(),
     )?;
-    found_value_fault_problem(alloc, search, path, found, ValueFault::Argument)
+    problem_of_found_or_other_fault(alloc, search, path, found, ValueFault::Argument)
 }
 
 /// The problem `found`, if there is one, with the declaration of `op`.
 fn add_operation_declaration_note(alloc: Global, found: Option<Problem>, op: &Op) -> FoundProblem {
-    let declared = Signature {
+    let declared = SignatureText {
         name: op.name.as_str(),
         params: op.params.as_slice(),
         gives: &op.result,
@@ -60,10 +61,10 @@ pub fn bad_argument_problem(
     path: &[usize],
     form: &Form,
 ) -> FoundProblem {
-    match operation_named(search.source.items.as_slice(), head_word(form)) {
+    match find_operation(search.source.items.as_slice(), head_word_or_empty(form)) {
         Some(op) => add_operation_declaration_note(
             alloc,
-            argument_problem(alloc, search, path, form, op)?,
+            command_arguments_problem(alloc, search, path, form, op)?,
             op,
         ),
         None => Ok(None),

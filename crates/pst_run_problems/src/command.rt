@@ -5,7 +5,7 @@ ghost use Rattle.pst_runs.specs.Replies.{listed};
 
 use pst_model::Source;
 use pst_sexpr::{Form, node_of};
-use pst_syntax_problems::{has_head, head_word, operation_named};
+use pst_syntax_problems::{find_operation, has_head, head_word_or_empty};
 use pst_value::Ty;
 use std::alloc::{AllocError, Global};
 
@@ -40,42 +40,42 @@ pub struct Command<'a> {
 
 /// The head of a part with one list of commands.
 #[derive(Clone, Copy, Drop)]
-struct Head {
+struct CasePartHead {
     word: &'static str,
     is_prefix: bool,
     is_branch: bool,
 }
 
 /// The commands before the branches.
-const PREFIX: Head = Head {
+const PREFIX: CasePartHead = CasePartHead {
     word: "prefix",
     is_prefix: true,
     is_branch: false,
 };
 
 /// The first branch of two.
-const LEFT: Head = Head {
+const LEFT: CasePartHead = CasePartHead {
     word: "left",
     is_prefix: false,
     is_branch: true,
 };
 
 /// The second branch of two.
-const RIGHT: Head = Head {
+const RIGHT: CasePartHead = CasePartHead {
     word: "right",
     is_prefix: false,
     is_branch: true,
 };
 
 /// The commands after the branches.
-const SUFFIX: Head = Head {
+const SUFFIX: CasePartHead = CasePartHead {
     word: "suffix",
     is_prefix: false,
     is_branch: false,
 };
 
 /// The heads of parts with one list of commands.
-const HEADS: [Head; 4] = [PREFIX, LEFT, RIGHT, SUFFIX];
+const HEADS: [CasePartHead; 4] = [PREFIX, LEFT, RIGHT, SUFFIX];
 
 /// The names of the branches of a `(branches ..)` tree.
 const BRANCHES: [&str; 4] = [
@@ -96,7 +96,7 @@ pub fn node_parts_or_empty(form: &Form) -> &[Form]
 }
 
 /// The trees after the head of a tree.
-pub fn after_head(form: &Form) -> &[Form] {
+pub fn node_parts_after_head(form: &Form) -> &[Form] {
     match node_parts_or_empty(form).split_first() {
         Some((_, trees)) => trees,
         None => &[],
@@ -104,19 +104,19 @@ pub fn after_head(form: &Form) -> &[Form] {
 }
 
 /// The part that `form` is, with the head `head`. `place` is the number of its tree in the item.
-fn headed_part(head: Head, form: &Form, place: usize) -> Part<'_> {
+fn case_part_with_head(head: CasePartHead, form: &Form, place: usize) -> Part<'_> {
     Part {
         called: head.word,
         is_prefix: head.is_prefix,
         is_branch: head.is_branch,
         place,
         branch: None,
-        commands: after_head(form),
+        commands: node_parts_after_head(form),
     }
 }
 
 /// Branch `number`, counted from 1, of a `(branches ..)` tree. That tree is tree `place` of the item.
-fn branch_part(form: &Form, place: usize, number: usize) -> Part<'_> {
+fn branch_as_case_part(form: &Form, place: usize, number: usize) -> Part<'_> {
     let called = match BRANCHES.get(number.saturating_sub(1)) {
         Some(called) => *called,
         None => "a branch",
@@ -132,7 +132,7 @@ fn branch_part(form: &Form, place: usize, number: usize) -> Part<'_> {
 }
 
 /// The head of a part with the word `word`.
-fn part_head(word: &str) -> Option<Head> {
+fn find_case_part_head(word: &str) -> Option<CasePartHead> {
     for head in &HEADS {
         if head.word == word {
             return Some(*head);
@@ -142,28 +142,28 @@ fn part_head(word: &str) -> Option<Head> {
 }
 
 /// Adds the branches of a `(branches ..)` tree.
-fn add_branches<'a>(
+fn push_branches_as_case_parts<'a>(
     parts: &mut Vec<Part<'a>>,
     forms: &'a [Form],
     place: usize,
 ) -> Result<(), AllocError> {
     for (index, form) in forms.iter().enumerate() {
-        parts.extend_from_slice(&[branch_part(form, place, index.saturating_add(1))])?;
+        parts.extend_from_slice(&[branch_as_case_part(form, place, index.saturating_add(1))])?;
     }
     Ok(())
 }
 
 /// Adds the parts of a case that `tree` holds.
-fn add_parts<'a>(
+fn push_case_parts_of_tree<'a>(
     parts: &mut Vec<Part<'a>>,
     tree: &'a Form,
     place: usize,
 ) -> Result<(), AllocError> {
     if has_head(tree, "branches") {
-        return add_branches(parts, after_head(tree), place);
+        return push_branches_as_case_parts(parts, node_parts_after_head(tree), place);
     }
-    match part_head(head_word(tree)) {
-        Some(head) => parts.extend_from_slice(&[headed_part(head, tree, place)]),
+    match find_case_part_head(head_word_or_empty(tree)) {
+        Some(head) => parts.extend_from_slice(&[case_part_with_head(head, tree, place)]),
         None => Ok(()),
     }
 }
@@ -172,7 +172,7 @@ fn add_parts<'a>(
 pub fn parts_of_case<'a>(alloc: Global, form: &'a Form) -> Result<Vec<Part<'a>>, AllocError> {
     let mut parts = Vec::new(alloc);
     for (place, tree) in node_parts_or_empty(form).iter().enumerate() {
-        add_parts(&mut parts, tree, place)?;
+        push_case_parts_of_tree(&mut parts, tree, place)?;
     }
     Ok(parts)
 }
@@ -191,7 +191,7 @@ pub fn find_part_of_command(parts: &[Part<'_>], command: usize) -> Option<(usize
 }
 
 /// Command `command`, counted from 1.
-pub fn command_at<'a>(parts: &[Part<'a>], command: usize) -> Option<Command<'a>> {
+pub fn find_command<'a>(parts: &[Part<'a>], command: usize) -> Option<Command<'a>> {
     let mut offset = command.saturating_sub(1);
     for part in parts {
         if let Some(form) = part.commands.get(offset) {
@@ -221,14 +221,14 @@ pub fn command_with_path<'a>(
     parts: &[Part<'a>],
     command: usize,
 ) -> Result<Option<(Vec<usize>, &'a Form)>, AllocError> {
-    match command_at(parts, command) {
+    match find_command(parts, command) {
         Some(command) => Ok(Some((path_to_command(alloc, &command)?, command.form))),
         None => Ok(None),
     }
 }
 
 /// The number of the command that the variable `word` names.
-pub fn variable_number(word: &str) -> Option<usize> {
+pub fn command_number_of_variable(word: &str) -> Option<usize> {
     match word.strip_prefix("$") {
         Some(digits) => digits.parse::<usize>().ok(),
         None => None,
@@ -241,10 +241,10 @@ pub fn result_type_of_command<'a>(
     parts: &[Part<'_>],
     command: usize,
 ) -> Option<&'a Ty> {
-    let Some(command) = command_at(parts, command) else {
+    let Some(command) = find_command(parts, command) else {
         return None;
     };
-    match operation_named(source.items.as_slice(), head_word(command.form)) {
+    match find_operation(source.items.as_slice(), head_word_or_empty(command.form)) {
         Some(op) => Some(&op.result),
         None => None,
     }

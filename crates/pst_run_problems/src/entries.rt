@@ -7,7 +7,7 @@ ghost use Rattle.pst_value.specs.declared.ty.Ty.{Ty};
 
 use crate::ill::ValueFault;
 use crate::value_fault::Found;
-use pst_runs::{key_of, map_entry_key_and_value};
+use pst_runs::{map_entry_key_and_value, read_map_key};
 use pst_sexpr::Form;
 use pst_value::{Items, Key, KeyTy};
 use std::alloc::{AllocError, Global};
@@ -57,7 +57,7 @@ fn is_allowed_next_map_key(wanted: Option<KeyTy>, before: &Option<Key>, key: &Op
 }
 
 /// The entry before entry `number` of a map with the trees `trees`.
-fn entry_before(trees: &[Form], number: usize) -> Option<&Form>
+fn map_entry_before(trees: &[Form], number: usize) -> Option<&Form>
     ensures { option_copied result ≡ spec.entry_before trees.now number }
 {
     if number < 2 {
@@ -67,20 +67,20 @@ fn entry_before(trees: &[Form], number: usize) -> Option<&Form>
 }
 
 /// The key of the entry before entry `number` of a map with the trees `trees`.
-fn key_before(alloc: Global, trees: &[Form], number: usize) -> Result<Option<Key>, AllocError>
+fn map_key_before(alloc: Global, trees: &[Form], number: usize) -> Result<Option<Key>, AllocError>
     ensures { IfOk result (λ key. key ≡ spec.key_before trees.now number) }
 {
-    let Some(entry) = entry_before(trees, number) else {
+    let Some(entry) = map_entry_before(trees, number) else {
         return Ok(None);
     };
     match map_entry_key_and_value(entry) {
-        Some((key, _)) => key_of(alloc, key),
+        Some((key, _)) => read_map_key(alloc, key),
         None => Ok(None),
     }
 }
 
 /// The fault of `key`, which is not greater than the key of the entry `before`, or spells no key.
-fn order_fault<'a>(key: &'a Form, before: Option<&'a Form>) -> ValueFault<'a> {
+fn map_key_order_fault<'a>(key: &'a Form, before: Option<&'a Form>) -> ValueFault<'a> {
     match before {
         Some(entry) => match map_entry_key_and_value(entry) {
             Some((before, _)) => ValueFault::Falls(key, before),
@@ -111,12 +111,12 @@ fn map_key_fault<'a>(
     };
     match wanted {
         Some(wanted) if type_of_map_key(spelled) != wanted => ValueFault::OtherKey(key, wanted),
-        _ => order_fault(key, entry_before),
+        _ => map_key_order_fault(key, entry_before),
     }
 }
 
 /// The fault of a tree in a map that is no entry.
-fn not_an_entry_fault(form: &Form) -> ValueFault<'_> {
+fn not_a_map_entry_fault(form: &Form) -> ValueFault<'_> {
     ValueFault::Tree {
         before: "an entry of a map is `(KEY VALUE)`, found ",
         form,
@@ -125,7 +125,7 @@ fn not_an_entry_fault(form: &Form) -> ValueFault<'_> {
 }
 
 /// The fault of entry `number`, or of its key, of a map with the trees `trees`.
-fn entry_fault<'a>(
+fn map_entry_or_key_fault<'a>(
     alloc: Global,
     trees: &'a [Form],
     wanted: Option<KeyTy>,
@@ -140,21 +140,27 @@ fn entry_fault<'a>(
     };
     let Some((key, _)) = map_entry_key_and_value(entry) else {
         let path = Items::from_slice(alloc, &[number])?;
-        let fault = not_an_entry_fault(entry);
+        let fault = not_a_map_entry_fault(entry);
         return Ok(Some(Found { path, fault }));
     };
-    let before = key_before(alloc, trees, number)?;
-    let spelled = key_of(alloc, key)?;
+    let before = map_key_before(alloc, trees, number)?;
+    let spelled = read_map_key(alloc, key)?;
     if is_allowed_next_map_key(wanted, &before, &spelled) {
         return Ok(None);
     }
     let path = Items::from_slice(alloc, &[number, 0])?;
-    let fault = map_key_fault(key, wanted, &before, &spelled, entry_before(trees, number));
+    let fault = map_key_fault(
+        key,
+        wanted,
+        &before,
+        &spelled,
+        map_entry_before(trees, number),
+    );
     Ok(Some(Found { path, fault }))
 }
 
 /// The fault of the first wrong entry or key of a map with the trees `trees`. It does not check the values.
-pub fn first_entry_fault<'a>(
+pub fn fault_of_first_bad_map_entry_or_key<'a>(
     alloc: Global,
     trees: &'a [Form],
     wanted: Option<KeyTy>,
@@ -163,7 +169,7 @@ pub fn first_entry_fault<'a>(
         spec.is_led_in m results (spec.AreEntries wanted ty) trees.now found ≡ true) }
 {
     for number in 1..trees.len() {
-        let found = entry_fault(alloc, trees, wanted, number)?;
+        let found = map_entry_or_key_fault(alloc, trees, wanted, number)?;
         if found.is_some() {
             return Ok(found);
         }

@@ -118,7 +118,7 @@ fn calls_fault(place: usize, commands: &[Form]) -> Option<FormFault>
 }
 
 /// The fault of the tree `place`, which has to be the part `wanted`.
-fn section_fault(wanted: Section, place: usize, form: &Form) -> Option<FormFault>
+fn case_section_fault(wanted: Section, place: usize, form: &Form) -> Option<FormFault>
     ensures { result ≡ spec.section_fault wanted place form.now }
 {
     match parts_after_head_word(wanted.word(), form) {
@@ -177,17 +177,17 @@ fn extra_tree_fault(place: usize, forms: &[Form]) -> Option<FormFault>
 }
 
 /// Whether a tree is a list.
-fn is_list(form: &Form) -> bool
+fn is_node_form(form: &Form) -> bool
     ensures { result ≡ spec.is_list form.now }
 {
     node_of(form).is_some()
 }
 
 /// Whether each of some trees is a list.
-fn are_lists(forms: &[Form]) -> bool
+fn are_node_forms(forms: &[Form]) -> bool
     ensures { result ≡ list_all spec.is_list forms.now }
 {
-    forms.iter().all(|form| is_list(form))
+    forms.iter().all(|form| is_node_form(form))
 }
 
 /// The fault of the lists of replies of a run with these parts.
@@ -198,7 +198,7 @@ fn reply_lists_fault(parts: ListedParts, lists: &[Form]) -> Option<FormFault>
     if lists.len() != parts.count() {
         return Some(FormFault::ListCount(lists.len(), parts));
     }
-    if are_lists(lists) {
+    if are_node_forms(lists) {
         None
     } else {
         Some(FormFault::NoList)
@@ -206,7 +206,12 @@ fn reply_lists_fault(parts: ListedParts, lists: &[Form]) -> Option<FormFault>
 }
 
 /// The fault of the tree `place`, which has to be the replies of a run, or of the trees after it.
-fn replies_fault(parts: ListedParts, place: usize, form: &Form, more: &[Form]) -> Option<FormFault>
+fn fault_from_replies_on(
+    parts: ListedParts,
+    place: usize,
+    form: &Form,
+    more: &[Form],
+) -> Option<FormFault>
     requires room { parts.branches + 2 < 2 ^ 64 }
     requires small { place < 2 ^ 32 }
     ensures { result ≡ spec.replies_fault parts place form.now more.now }
@@ -232,7 +237,7 @@ fn fault_after_suffix(
         return extra_tree_fault(place, forms);
     }
     match forms.split_first() {
-        Some((form, more)) => replies_fault(parts, place, form, more),
+        Some((form, more)) => fault_from_replies_on(parts, place, form, more),
         None => Some(FormFault::Missing(Section::Replies)),
     }
 }
@@ -275,7 +280,7 @@ fn fault_after_left(is_run: bool, forms: &[Form]) -> Option<FormFault>
 {
     match forms.split_first() {
         Some((form, more)) => {
-            section_fault(Section::Right, 3, form).or(fault_after_branches(is_run, 2, 4, more))
+            case_section_fault(Section::Right, 3, form).or(fault_after_branches(is_run, 2, 4, more))
         }
         None => Some(FormFault::Missing(Section::Right)),
     }
@@ -292,17 +297,17 @@ fn fault_after_prefix(is_run: bool, forms: &[Form]) -> Option<FormFault>
         Some(branches) => {
             branches_fault(branches).or(fault_after_branches(is_run, branches.len(), 3, more))
         }
-        None => section_fault(Section::Left, 2, form).or(fault_after_left(is_run, more)),
+        None => case_section_fault(Section::Left, 2, form).or(fault_after_left(is_run, more)),
     }
 }
 
 /// The fault of the trees after the head of an item.
-fn parts_fault(is_run: bool, forms: &[Form]) -> Option<FormFault>
+fn item_parts_fault(is_run: bool, forms: &[Form]) -> Option<FormFault>
     ensures { result ≡ spec.parts_fault is_run forms.now }
 {
     match forms.split_first() {
         Some((form, more)) => {
-            section_fault(Section::Prefix, 1, form).or(fault_after_prefix(is_run, more))
+            case_section_fault(Section::Prefix, 1, form).or(fault_after_prefix(is_run, more))
         }
         None => Some(FormFault::Missing(Section::Prefix)),
     }
@@ -310,14 +315,14 @@ fn parts_fault(is_run: bool, forms: &[Form]) -> Option<FormFault>
 
 /// The first fault in the form of an item. `None` if the tree has the form of a case or a run.
 #[tactic(auto, unfolding(crate::specs::ItemForm::form_fault))]
-pub fn form_fault(form: &Form) -> Option<FormFault>
+pub fn first_item_form_fault(form: &Form) -> Option<FormFault>
     ensures { result ≡ spec.form_fault form.now }
 {
     if let Some(parts) = parts_after_head_word("case", form) {
-        return parts_fault(false, parts);
+        return item_parts_fault(false, parts);
     }
     match parts_after_head_word("run", form) {
-        Some(parts) => parts_fault(true, parts),
+        Some(parts) => item_parts_fault(true, parts),
         None => Some(FormFault::OtherHead),
     }
 }

@@ -3,7 +3,7 @@
 use crate::shown::problem_showing_tree;
 use pst_sexpr::Form;
 use pst_syntax_problems::{
-    FoundProblem, TypeText, key_type_word, problem_at, problem_with_note, short_text,
+    FoundProblem, TypeText, key_type_word, problem_at, problem_with_note, shortened_tree_text,
 };
 use pst_value::{KeyTy, Ty};
 use std::alloc::Global;
@@ -38,7 +38,7 @@ pub enum ValueFault<'a> {
 
 /// The problem of `key`, which is not greater than `before`, the key before it.
 fn key_order_problem(alloc: Global, path: &[usize], key: &Form, before: &Form) -> FoundProblem {
-    let key = short_text(alloc, key)?;
+    let key = shortened_tree_text(alloc, key)?;
     problem_showing_tree(
         alloc,
         path,
@@ -66,7 +66,7 @@ fn later_variable_problem(
 }
 
 /// The problem of a variable that names command `number`, which is in another branch.
-fn other_branch_problem(alloc: Global, path: &[usize], number: usize) -> FoundProblem {
+fn other_branch_variable_problem(alloc: Global, path: &[usize], number: usize) -> FoundProblem {
     problem_with_note(
         alloc,
         path,
@@ -104,7 +104,7 @@ pub fn value_fault_problem(
         ValueFault::Later { number, command } => later_variable_problem(
             alloc, path, number, command,
         ),
-        ValueFault::OtherBranch(number) => other_branch_problem(alloc, path, number),
+        ValueFault::OtherBranch(number) => other_branch_variable_problem(alloc, path, number),
         ValueFault::Argument | ValueFault::Unnamed => problem_at(
             alloc,
             path,

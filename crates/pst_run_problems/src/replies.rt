@@ -3,19 +3,21 @@ ghost use Rattle.std.specs.Prelude.{◌≡◌, ◌+◌, ◌<◌, ◌^◌, length
 ghost use Rattle.pst_run_problems.specs.ItemReplies as spec;
 ghost use Rattle.pst_runs.specs.Replies.{listed_at};
 
-use crate::command::{CaseSearch, Part, after_head, find_part_of_command, node_parts_or_empty};
+use crate::command::{
+    CaseSearch, Part, find_part_of_command, node_parts_after_head, node_parts_or_empty,
+};
 use crate::ill::{ValueFault, value_fault_problem};
 use crate::reply_fault::first_reply_fault;
-use crate::values::found_value_fault_problem;
+use crate::values::problem_of_found_or_other_fault;
 use pst_sexpr::{Form, node_of};
 use pst_syntax_problems::{
-    FoundProblem, Problem, counted, has_head, problem_at, problem_with_note, with_note,
+    FoundProblem, Problem, counted_noun, has_head, problem_at, problem_with_note, with_note,
 };
 use std::alloc::Global;
 
 /// A reply: the numbers that lead to it from its item, and its tree.
 #[derive(Clone, Copy, Drop)]
-struct Reply<'a> {
+struct LocatedReply<'a> {
     place: usize,
     list: usize,
     offset: usize,
@@ -26,14 +28,14 @@ struct Reply<'a> {
 fn find_reply_lists(form: &Form) -> Option<(usize, &[Form])> {
     for (place, part) in node_parts_or_empty(form).iter().enumerate() {
         if has_head(part, "replies") {
-            return Some((place, after_head(part)));
+            return Some((place, node_parts_after_head(part)));
         }
     }
     None
 }
 
 /// The replies of list `number`, counted from 0.
-fn replies_in(lists: &[Form], number: usize) -> &[Form]
+fn replies_in_list(lists: &[Form], number: usize) -> &[Form]
     ensures { result.now ≡ listed_at lists.now number }
 {
     match lists.get(number) {
@@ -50,7 +52,7 @@ fn reply_count_problem(
     replies: usize,
 ) -> FoundProblem {
     let called = part.called;
-    let has = counted(part.commands.len(), "command");
+    let has = counted_noun(part.commands.len(), "command");
     if replies == 1 {
         return problem_at(alloc, path, format_args!("{called}: 1 reply for {has}"));
     }
@@ -68,8 +70,8 @@ fn reply_list_count_problem(
     lists: usize,
     parts: usize,
 ) -> FoundProblem {
-    let found = counted(lists, "list");
-    let wanted = counted(parts, "part");
+    let found = counted_noun(lists, "list");
+    let wanted = counted_noun(parts, "part");
     problem_with_note(
         alloc,
         path,
@@ -88,7 +90,7 @@ fn first_part_with_wrong_reply_count(
     ensures { result ≡ spec.first_other lists.now number parts.now }
 {
     let (part, others) = parts.split_first()?;
-    if replies_in(lists, number).len() == part.commands.len() {
+    if replies_in_list(lists, number).len() == part.commands.len() {
         first_part_with_wrong_reply_count(lists, number + 1, others)
     } else {
         Some(number)
@@ -109,7 +111,7 @@ fn first_wrong_reply_count_problem(
     };
     let path = [item, place, number.saturating_add(1)];
     match parts.get(number) {
-        Some(part) => reply_count_problem(alloc, &path, part, replies_in(lists, number).len()),
+        Some(part) => reply_count_problem(alloc, &path, part, replies_in_list(lists, number).len()),
         None => Ok(None),
     }
 }
@@ -140,15 +142,15 @@ fn find_reply_to_command<'a>(
     form: &'a Form,
     parts: &[Part<'_>],
     command: usize,
-) -> Option<Reply<'a>> {
+) -> Option<LocatedReply<'a>> {
     let Some((number, offset)) = find_part_of_command(parts, command) else {
         return None;
     };
     let Some((place, lists)) = find_reply_lists(form) else {
         return None;
     };
-    match replies_in(lists, number).get(offset) {
-        Some(form) => Some(Reply {
+    match replies_in_list(lists, number).get(offset) {
+        Some(form) => Some(LocatedReply {
             place,
             list: number.saturating_add(1),
             offset,
@@ -159,7 +161,7 @@ fn find_reply_to_command<'a>(
 }
 
 /// The problem of a tree at `path` that is not a reply.
-fn reply_problem(
+fn not_a_reply_problem(
     alloc: Global,
     search: &CaseSearch<'_>,
     path: &[usize],
@@ -174,7 +176,7 @@ fn reply_problem(
         return value_fault_problem(alloc, path, Some(other));
     }
     let found = first_reply_fault(alloc, search, form)?;
-    found_value_fault_problem(alloc, search, path, found, other)
+    problem_of_found_or_other_fault(alloc, search, path, found, other)
 }
 
 /// The problem `found`, if there is one, with a note on how replies are written.
@@ -204,7 +206,7 @@ pub fn bad_reply_problem(
     match find_reply_to_command(form, search.parts, command) {
         Some(reply) => {
             let path = [item, reply.place, reply.list, reply.offset];
-            let found = reply_problem(alloc, search, &path, reply.form)?;
+            let found = not_a_reply_problem(alloc, search, &path, reply.form)?;
             with_reply_syntax_note(alloc, found, search.source.has_maps)
         }
         None => Ok(None),

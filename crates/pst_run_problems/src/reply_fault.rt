@@ -6,7 +6,7 @@ ghost use Rattle.pst_run_problems.specs.ValuePlaces as spec;
 ghost use Rattle.pst_runs.specs.Values.{value_of, in_replies};
 
 use crate::command::CaseSearch;
-use crate::value_fault::{Found, ValueSearch, Wanted, first_fault};
+use crate::value_fault::{Found, ValueSearch, Wanted, first_value_fault};
 use pst_sexpr::Form;
 use std::alloc::{AllocError, Global};
 
@@ -27,5 +27,5 @@ pub fn first_reply_fault<'a>(
         parts: search.parts,
         results: &[],
     };
-    first_fault(alloc, &search, form, Wanted::Any)
+    first_value_fault(alloc, &search, form, Wanted::Any)
 }

@@ -40,7 +40,7 @@ fn copy_types(alloc: Global, types: &[Ty]) -> Result<Items<Ty>, AllocError>
 }
 
 /// The operation that a command calls.
-fn operation_in<'a>(source: &'a Source, form: &Form) -> Option<&'a Op>
+fn operation_of_command<'a>(source: &'a Source, form: &Form) -> Option<&'a Op>
     ensures { option_copied result ≡ spec.operation_in source.now form.now }
 {
     let items = source.items.as_slice();
@@ -50,10 +50,14 @@ fn operation_in<'a>(source: &'a Source, form: &Form) -> Option<&'a Op>
     operation_of(items, number)
 }
 
-fn result_type(alloc: Global, source: &Source, form: &Form) -> Result<Ty, AllocError>
+fn command_result_type_or_call_type(
+    alloc: Global,
+    source: &Source,
+    form: &Form,
+) -> Result<Ty, AllocError>
     ensures { IfOk result (λ ty. ty ≡ spec.result_type source.now form.now) }
 {
-    match operation_in(source, form) {
+    match operation_of_command(source, form) {
         Some(op) => copy_type(alloc, &op.result),
         None => Ok(Ty::Call),
     }
@@ -68,7 +72,7 @@ fn add_result_types_of_commands(
     ensures { IfOk result (λ all. all ≡ types ++ map (spec.result_type source.now) commands.now) }
 {
     for command in commands {
-        types.push(result_type(alloc, source, command)?)?;
+        types.push(command_result_type_or_call_type(alloc, source, command)?)?;
     }
     Ok(types)
 }
@@ -89,7 +93,7 @@ fn add_result_types_of_parts(
 }
 
 /// The types of the results of all commands, in the order of their numbers, from 1.
-pub fn result_types(
+pub fn result_types_of_commands(
     alloc: Global,
     source: &Source,
     parts: &[Part<'_>],

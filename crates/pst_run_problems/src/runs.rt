@@ -1,16 +1,16 @@
 //! Refused cases and runs.
 
 use crate::arguments::bad_argument_problem;
-use crate::command::{CaseSearch, Command, Part, command_at, parts_of_case};
+use crate::command::{CaseSearch, Command, Part, find_command, parts_of_case};
 use crate::replies::{bad_reply_problem, misfitting_replies_problem};
 use crate::shape::bad_form_problem;
-use crate::variables::{Sought, variable_problem};
+use crate::variables::{SoughtVariable, first_variable_problem};
 use pst_case::CaseFaultKind;
 use pst_model::Source;
 use pst_runs::{RunFault, RunFaultKind};
 use pst_sexpr::Form;
 use pst_syntax_problems::{
-    FoundProblem, Problem, head_word, path_to_part, problem_at,
+    FoundProblem, Problem, head_word_or_empty, path_to_part, problem_at,
     unknown_operation_or_function_problem,
 };
 use std::alloc::{AllocError, Global};
@@ -45,7 +45,11 @@ fn too_many_commands_in_part_problem(
 }
 
 /// The problem of an item in which a part, or all branches together, have too many commands.
-fn over_limit_problem(alloc: Global, item: usize, parts: &[Part<'_>]) -> FoundProblem {
+fn too_many_commands_in_item_problem(
+    alloc: Global,
+    item: usize,
+    parts: &[Part<'_>],
+) -> FoundProblem {
     let mut together: usize = 0;
     for part in parts {
         let number = part.commands.len();
@@ -65,7 +69,7 @@ fn over_limit_problem(alloc: Global, item: usize, parts: &[Part<'_>]) -> FoundPr
 }
 
 /// The problem of command `number` at `path`, which has a fault of `kind`.
-fn command_problem(
+fn command_fault_problem(
     alloc: Global,
     search: &CaseSearch<'_>,
     path: &[usize],
@@ -81,15 +85,27 @@ fn command_problem(
                 alloc,
                 items,
                 path.as_slice(),
-                head_word(form),
+                head_word_or_empty(form),
                 true,
             )
         }
         CaseFaultKind::BadArgument => bad_argument_problem(alloc, search, path, form),
         CaseFaultKind::ForwardVar => {
-            variable_problem(alloc, search.parts, Sought::Later(number), path, form)
+            first_variable_problem(
+                alloc,
+                search.parts,
+                SoughtVariable::Later(number),
+                path,
+                form,
+            )
         }
-        _ => variable_problem(alloc, search.parts, Sought::OtherBranch(number), path, form),
+        _ => first_variable_problem(
+            alloc,
+            search.parts,
+            SoughtVariable::OtherBranch(number),
+            path,
+            form,
+        ),
     }
 }
 
@@ -101,17 +117,17 @@ fn bad_command_problem(
     kind: CaseFaultKind,
     number: usize,
 ) -> FoundProblem {
-    let Some(Command { part, offset, form }) = command_at(search.parts, number) else {
+    let Some(Command { part, offset, form }) = find_command(search.parts, number) else {
         return Ok(None);
     };
     match part.branch {
         Some(branch) => {
             let path = [item, part.place, branch, offset];
-            command_problem(alloc, search, &path, form, kind, number)
+            command_fault_problem(alloc, search, &path, form, kind, number)
         }
         None => {
             let path = [item, part.place, offset.saturating_add(1)];
-            command_problem(alloc, search, &path, form, kind, number)
+            command_fault_problem(alloc, search, &path, form, kind, number)
         }
     }
 }
@@ -129,7 +145,7 @@ fn run_fault_problem(
         RunFaultKind::BadForm => bad_form_problem(alloc, run, form),
         RunFaultKind::NotAFit => misfitting_replies_problem(alloc, run, form, search.parts),
         RunFaultKind::BadReply => bad_reply_problem(alloc, search, run, form, command),
-        RunFaultKind::Case(CaseFaultKind::OverLimit) => over_limit_problem(
+        RunFaultKind::Case(CaseFaultKind::OverLimit) => too_many_commands_in_item_problem(
             alloc,
             run,
             search.parts,
@@ -139,7 +155,7 @@ fn run_fault_problem(
 }
 
 /// The problem of an item about which only the fault is known.
-fn unlocated_problem(alloc: Global, fault: RunFault) -> FoundProblem {
+fn unlocated_run_fault_problem(alloc: Global, fault: RunFault) -> FoundProblem {
     let kind = fault.kind.name();
     problem_at(
         alloc,
@@ -162,6 +178,6 @@ pub fn run_problem(
     };
     match run_fault_problem(alloc, &search, form, fault)? {
         Some(found) => Ok(Some(found)),
-        None => unlocated_problem(alloc, fault),
+        None => unlocated_run_fault_problem(alloc, fault),
     }
 }

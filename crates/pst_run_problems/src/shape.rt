@@ -1,20 +1,20 @@
 //! The form of cases and runs.
 
 use crate::command::node_parts_or_empty;
-use crate::form_fault::{FormFault, ListedParts, form_fault};
+use crate::form_fault::{FormFault, ListedParts, first_item_form_fault};
 use crate::places::path_to_form_fault;
 use crate::shown::problem_showing_tree;
 use pst_sexpr::{Form, tree_in};
 use pst_syntax_problems::{
-    DidYouMean, FoundProblem, NearestName, counted, has_head, head_word, problem_at,
-    problem_at_part, problem_with_note, problem_with_note_at_part, with_note,
+    DidYouMean, FoundProblem, NearestNameSoFar, counted_noun, has_head, head_word_or_empty,
+    problem_at, problem_at_part, problem_with_note, problem_with_note_at_part, with_note,
 };
 use std::alloc::{AllocError, Global};
 use std::fmt;
 
 /// How an item is written.
 #[derive(Clone, Copy, Drop)]
-struct Written {
+struct ItemSyntax {
     /// It is a run and not a case.
     is_run: bool,
     /// Its branches are in one part.
@@ -23,18 +23,18 @@ struct Written {
     has_suffix: bool,
 }
 
-impl Written {
+impl ItemSyntax {
     /// How an item with the parts of `form` is written.
-    fn of(form: &Form, is_run: bool) -> Written {
-        Written {
+    fn of(form: &Form, is_run: bool) -> ItemSyntax {
+        ItemSyntax {
             is_run,
-            has_branches: has_part(form, "branches"),
-            has_suffix: has_part(form, "suffix"),
+            has_branches: has_case_part(form, "branches"),
+            has_suffix: has_case_part(form, "suffix"),
         }
     }
 
     /// How the branches are written.
-    fn branches(&self) -> &'static str {
+    fn branches_syntax(&self) -> &'static str {
         if self.has_branches {
             "(branches (CALL ..) (CALL ..) ..)"
         } else {
@@ -43,7 +43,7 @@ impl Written {
     }
 
     /// How the replies are written, if it has some.
-    fn replies(&self) -> &'static str {
+    fn replies_syntax_or_empty(&self) -> &'static str {
         match (self.is_run, self.has_branches, self.has_suffix) {
             (false, _, _) => "",
             (true, true, _) => " (replies (R ..) (R ..) ..)",
@@ -53,16 +53,16 @@ impl Written {
     }
 }
 
-impl fmt::Display for Written {
+impl fmt::Display for ItemSyntax {
     fn fmt<W: fmt::Write>(&self, f: &mut fmt::Formatter<W>) -> fmt::Result {
         let head = if self.is_run { "run" } else { "case" };
-        let branches = self.branches();
+        let branches = self.branches_syntax();
         let suffix = if self.has_suffix {
             " (suffix CALL ..)"
         } else {
             ""
         };
-        let replies = self.replies();
+        let replies = self.replies_syntax_or_empty();
         write!(
             f,
             "it is written `({head} (prefix CALL ..) {branches}{suffix}{replies})`"
@@ -71,15 +71,20 @@ impl fmt::Display for Written {
 }
 
 /// Whether one of the trees in `form` has the head `word`.
-fn has_part(form: &Form, word: &str) -> bool {
+fn has_case_part(form: &Form, word: &str) -> bool {
     node_parts_or_empty(form)
         .iter()
         .any(|part| has_head(part, word))
 }
 
 /// The problem of the tree `tree` of the item `form`, which may not be where it is.
-fn misplaced_problem(alloc: Global, path: &[usize], form: &Form, tree: &Form) -> FoundProblem {
-    match head_word(tree) {
+fn misplaced_item_part_problem(
+    alloc: Global,
+    path: &[usize],
+    form: &Form,
+    tree: &Form,
+) -> FoundProblem {
+    match head_word_or_empty(tree) {
         "replies" if !has_head(form, "run") => {
             problem_at(
                 alloc,
@@ -111,7 +116,7 @@ fn wrong_reply_list_count_problem(
     lists: usize,
     parts: ListedParts,
 ) -> FoundProblem {
-    let has = counted(lists, "list");
+    let has = counted_noun(lists, "list");
     let count = parts.count();
     let what = format_args!(
         "the replies are lists, one for each part: {count} parts ({parts}), {has}"
@@ -133,7 +138,7 @@ fn not_a_call_problem(alloc: Global, path: &[usize], tree: &Form) -> FoundProble
     with_note(alloc, found, "a call is `(OPERATION VALUE ..)`")
 }
 
-/// The problem of the fault `fault` of item `item`. `path` leads to its place in the item.
+/// The problem of the fault `fault` of item `item`, whose tree is `form`. `place` leads to its place in the item.
 fn item_form_fault_problem(
     alloc: Global,
     item: usize,
@@ -146,7 +151,7 @@ fn item_form_fault_problem(
     let path = path.as_slice();
     let tree = tree_in(form, place).unwrap_or(form);
     match fault {
-        FormFault::OtherHead => other_head_problem(alloc, item, form),
+        FormFault::OtherHead => unknown_item_head_problem(alloc, item, form),
         FormFault::Missing(part) => {
             let word = part.word();
             problem_at(alloc, path, format_args!("`({word} ..)` is missing"))
@@ -167,7 +172,7 @@ fn item_form_fault_problem(
         FormFault::NoBranch(_) => {
             problem_at(alloc, path, "a branch is a list of calls: `(CALL ..)`")
         }
-        FormFault::Misplaced(_) => misplaced_problem(alloc, path, form, tree),
+        FormFault::Misplaced(_) => misplaced_item_part_problem(alloc, path, form, tree),
         FormFault::ListCount(lists, parts) => wrong_reply_list_count_problem(
             alloc, path, lists, parts,
         ),
@@ -180,13 +185,13 @@ fn nearest_item_head_hint(
     alloc: Global,
     head: &str,
 ) -> Result<Option<DidYouMean<'static>>, AllocError> {
-    let near = NearestName::to(head).or(alloc, "case", head)?;
+    let near = NearestNameSoFar::to(head).or(alloc, "case", head)?;
     Ok(near.or(alloc, "run", head)?.hint())
 }
 
 /// The problem of a tree that is neither a case nor a run.
-fn other_head_problem(alloc: Global, item: usize, form: &Form) -> FoundProblem {
-    let head = head_word(form);
+fn unknown_item_head_problem(alloc: Global, item: usize, form: &Form) -> FoundProblem {
+    let head = head_word_or_empty(form);
     if head.is_empty() {
         return problem_showing_tree(alloc, &[item], "", form, " is neither a case nor a run");
     }
@@ -205,8 +210,8 @@ fn other_head_problem(alloc: Global, item: usize, form: &Form) -> FoundProblem {
 }
 
 /// The problem of the form of an item.
-fn form_problem(alloc: Global, item: usize, form: &Form) -> FoundProblem {
-    match form_fault(form) {
+fn item_form_problem(alloc: Global, item: usize, form: &Form) -> FoundProblem {
+    match first_item_form_fault(form) {
         Some(fault) => {
             let place = path_to_form_fault(alloc, fault)?;
             item_form_fault_problem(alloc, item, form, fault, place.as_slice())
@@ -219,7 +224,7 @@ fn form_problem(alloc: Global, item: usize, form: &Form) -> FoundProblem {
 pub const JSON_ITEM: &str = "an item as JSON is one object on one line, which begins with `{`";
 
 /// Whether a tree is probably a piece of JSON.
-fn looks_like_json(form: &Form) -> bool {
+fn is_word_beginning_with_json_bracket(form: &Form) -> bool {
     match form {
         Form::Word(word) => matches!(word.as_bytes().first(), Some(b'[' | b'{' | b']' | b'}')),
         Form::Text(_) | Form::Node(_) => false,
@@ -229,17 +234,17 @@ fn looks_like_json(form: &Form) -> bool {
 /// The problem of item `item`, which has another form than a case or a run. A note shows the form that is probably
 /// meant.
 pub fn bad_form_problem(alloc: Global, item: usize, form: &Form) -> FoundProblem {
-    let found = form_problem(alloc, item, form)?;
-    if looks_like_json(form) {
+    let found = item_form_problem(alloc, item, form)?;
+    if is_word_beginning_with_json_bracket(form) {
         return with_note(alloc, found, JSON_ITEM);
     }
-    let is_run = match nearest_item_head_hint(alloc, head_word(form))? {
+    let is_run = match nearest_item_head_hint(alloc, head_word_or_empty(form))? {
         Some(DidYouMean(head)) => head == "run",
         None => false,
     };
     with_note(
         alloc,
         found,
-        Written::of(form, is_run || has_part(form, "replies")),
+        ItemSyntax::of(form, is_run || has_case_part(form, "replies")),
     )
 }

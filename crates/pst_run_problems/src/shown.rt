@@ -1,7 +1,7 @@
 //! Problems that show a tree.
 
 use pst_sexpr::Form;
-use pst_syntax_problems::{FoundProblem, problem_at, short_text};
+use pst_syntax_problems::{FoundProblem, problem_at, shortened_tree_text};
 use std::alloc::Global;
 use std::fmt::Display;
 
@@ -13,6 +13,6 @@ pub fn problem_showing_tree<D: Display + Drop>(
     tree: &Form,
     after: &str,
 ) -> FoundProblem {
-    let tree = short_text(alloc, tree)?;
+    let tree = shortened_tree_text(alloc, tree)?;
     problem_at(alloc, path, format_args!("{before}`{tree}`{after}"))
 }

@@ -6,8 +6,8 @@ ghost use Rattle.pst_run_problems.specs.ValuePlaces as spec;
 ghost use Rattle.pst_value.specs.declared.key.Key.{Key};
 ghost use Rattle.pst_value.specs.declared.key.KeyTy.{KeyTy};
 
-use crate::command::{Part, result_type_of_command, variable_number};
-use crate::entries::{first_entry_fault, is_bool_word};
+use crate::command::{Part, command_number_of_variable, result_type_of_command};
+use crate::entries::{fault_of_first_bad_map_entry_or_key, is_bool_word};
 use crate::ill::ValueFault;
 use pst_model::{Param, Source};
 use pst_runs::{Spelling, read_value};
@@ -53,7 +53,7 @@ pub struct Found<'a> {
 }
 
 /// Whether the reader accepts a tree where `wanted` is wanted.
-pub fn is_accepted(
+pub fn is_accepted_value(
     alloc: Global,
     search: &ValueSearch<'_>,
     form: &Form,
@@ -93,7 +93,7 @@ fn begins_with_head_word(word: &str, trees: &[Form]) -> bool
 }
 
 /// The trees after the first one.
-pub fn after_head(trees: &[Form]) -> &[Form]
+pub fn trees_after_head(trees: &[Form]) -> &[Form]
     ensures { result.now ≡ spec.after_head trees.now }
 {
     match trees.split_first() {
@@ -103,7 +103,7 @@ pub fn after_head(trees: &[Form]) -> &[Form]
 }
 
 /// What the trees in a reply have to spell. `None` if the head is wrong.
-fn types_of_any<'a>(source: &Source, trees: &[Form]) -> Option<Types<'a>>
+fn types_wanted_in_any_value<'a>(source: &Source, trees: &[Form]) -> Option<Types<'a>>
     ensures { option_map spec.parts_in result ≡ spec.parts_of_any source.now trees.now }
 {
     if begins_with_head_word("tuple", trees) || begins_with_head_word("list", trees) {
@@ -121,7 +121,9 @@ fn types_wanted_in_value_of_type<'a>(ty: &'a Ty, trees: &[Form]) -> Option<Types
 {
     match ty {
         Ty::Tuple(items) => {
-            if items.len() == after_head(trees).len() && begins_with_head_word("tuple", trees) {
+            if items.len() == trees_after_head(trees).len()
+                && begins_with_head_word("tuple", trees)
+            {
                 Some(Types::Items(items.as_slice()))
             } else {
                 None
@@ -155,14 +157,14 @@ fn types_wanted_in_value<'a>(
         spec.parts_of source.now (spec.type_of wanted.entry) trees.now }
 {
     match wanted {
-        Wanted::Any => types_of_any(source, trees),
+        Wanted::Any => types_wanted_in_any_value(source, trees),
         Wanted::Type(ty) => types_wanted_in_value_of_type(ty, trees),
     }
 }
 
 /// Whether `word` is a variable that names a command whose result has the type `wanted`.
-fn names_result(search: &ValueSearch<'_>, word: &str, wanted: &Ty) -> bool {
-    let Some(command) = variable_number(word) else {
+fn names_result_of_type(search: &ValueSearch<'_>, word: &str, wanted: &Ty) -> bool {
+    let Some(command) = command_number_of_variable(word) else {
         return false;
     };
     match result_type_of_command(search.source, search.parts, command) {
@@ -172,18 +174,26 @@ fn names_result(search: &ValueSearch<'_>, word: &str, wanted: &Ty) -> bool {
 }
 
 /// Whether a refused word or text is of the kind that the type `wanted` has.
-fn looks_like_value_of_type(search: &ValueSearch<'_>, form: &Form, wanted: &Ty) -> bool {
+fn is_word_or_text_of_type(search: &ValueSearch<'_>, form: &Form, wanted: &Ty) -> bool {
     match (form, wanted) {
         (Form::Word(word), Ty::Int) => is_integer(word),
         (Form::Word(word), Ty::Bool) => is_bool_word(word.as_str()),
-        (Form::Word(word), Ty::Ref(named)) => names_result(search, word.as_str(), named.get()),
+        (Form::Word(word), Ty::Ref(named)) => names_result_of_type(
+            search,
+            word.as_str(),
+            named.get(),
+        ),
         (Form::Text(_), Ty::Text) => true,
         _ => false,
     }
 }
 
 /// Whether a refused tree looks as `wanted` does: a limit refuses it, or a rule that the messages do not know.
-fn looks_like_wanted_value(search: &ValueSearch<'_>, form: &Form, wanted: Wanted<'_>) -> bool {
+fn has_outer_form_of_wanted_value(
+    search: &ValueSearch<'_>,
+    form: &Form,
+    wanted: Wanted<'_>,
+) -> bool {
     match (form, wanted) {
         (Form::Node(trees), _) => types_wanted_in_value(
             search.source,
@@ -191,18 +201,18 @@ fn looks_like_wanted_value(search: &ValueSearch<'_>, form: &Form, wanted: Wanted
             wanted,
         ).is_some(),
         (Form::Word(word), Wanted::Any) => is_integer(word),
-        (_, Wanted::Type(ty)) => looks_like_value_of_type(search, form, ty),
+        (_, Wanted::Type(ty)) => is_word_or_text_of_type(search, form, ty),
         _ => false,
     }
 }
 
 /// The fault of a tree that is refused where `wanted` is wanted, and in which no tree is refused.
-fn value_fault_of_tree<'a>(
+fn value_fault_of_refused_tree<'a>(
     search: &ValueSearch<'_>,
     form: &'a Form,
     wanted: Wanted<'a>,
 ) -> ValueFault<'a> {
-    if looks_like_wanted_value(search, form, wanted) {
+    if has_outer_form_of_wanted_value(search, form, wanted) {
         return ValueFault::Unnamed;
     }
     match wanted {
@@ -226,8 +236,8 @@ fn prepend_tree_number_to_path<'a>(found: Found<'a>, number: usize) -> Result<Fo
 
 /// The first fault in a tree that has to spell `wanted`. Each tree comes before those in it, and these come from left to
 /// right. A fault that has no name comes after all others.
-#[cycle(first_fault)]
-pub fn first_fault<'a>(
+#[cycle(first_value_fault)]
+pub fn first_value_fault<'a>(
     alloc: Global,
     search: &ValueSearch<'_>,
     form: &'a Form,
@@ -238,7 +248,7 @@ pub fn first_fault<'a>(
     ensures place { IfOk result (λ found. spec.is_led search.now.source.now search.now.results.now
         (spec.IsValue (spec.type_of wanted.entry)) form.now found ≡ true) }
 {
-    if is_accepted(alloc, search, form, wanted)? {
+    if is_accepted_value(alloc, search, form, wanted)? {
         return Ok(None);
     }
     if let Form::Node(trees) = form {
@@ -253,13 +263,13 @@ pub fn first_fault<'a>(
             }
         }
     }
-    let fault = value_fault_of_tree(search, form, wanted);
+    let fault = value_fault_of_refused_tree(search, form, wanted);
     let path = Items::new(alloc);
     Ok(Some(Found { path, fault }))
 }
 
 /// The first fault in the trees of a value, or in those of a command. The entries and keys of a map come before its values.
-#[cycle(first_fault)]
+#[cycle(first_value_fault)]
 pub fn first_value_fault_among_trees<'a>(
     alloc: Global,
     search: &ValueSearch<'_>,
@@ -270,7 +280,7 @@ pub fn first_value_fault_among_trees<'a>(
         (spec.parts_in types.entry) trees.now found ≡ true) }
 {
     if let Types::Entries(kind, _) = types {
-        if let Some(found) = first_entry_fault(alloc, trees, kind)? {
+        if let Some(found) = fault_of_first_bad_map_entry_or_key(alloc, trees, kind)? {
             return Ok(Some(found));
         }
     }
@@ -289,7 +299,7 @@ pub fn first_value_fault_among_trees<'a>(
 }
 
 /// The first fault in tree `number` of a value. In an entry of a map, it checks the value only.
-#[cycle(first_fault)]
+#[cycle(first_value_fault)]
 fn value_fault_at_tree_number<'a>(
     alloc: Global,
     search: &ValueSearch<'_>,
@@ -305,16 +315,16 @@ fn value_fault_at_tree_number<'a>(
     }
     let tree = &trees[number];
     let found = match types {
-        Types::Same(wanted) => first_fault(alloc, search, tree, wanted)?,
+        Types::Same(wanted) => first_value_fault(alloc, search, tree, wanted)?,
         Types::Items(items) => match items.get(number - 1) {
-            Some(item) => first_fault(alloc, search, tree, Wanted::Type(item))?,
+            Some(item) => first_value_fault(alloc, search, tree, Wanted::Type(item))?,
             None => None,
         },
         Types::Params(params) => match params.get(number - 1) {
-            Some(param) => first_fault(alloc, search, tree, Wanted::Type(&param.ty))?,
+            Some(param) => first_value_fault(alloc, search, tree, Wanted::Type(&param.ty))?,
             None => None,
         },
-        Types::Entries(_, wanted) => fault_in_entry(alloc, search, tree, wanted)?,
+        Types::Entries(_, wanted) => value_fault_in_map_entry(alloc, search, tree, wanted)?,
     };
     match found {
         Some(found) => Ok(Some(prepend_tree_number_to_path(found, number)?)),
@@ -323,8 +333,8 @@ fn value_fault_at_tree_number<'a>(
 }
 
 /// The first fault in the value of an entry of a map.
-#[cycle(first_fault)]
-fn fault_in_entry<'a>(
+#[cycle(first_value_fault)]
+fn value_fault_in_map_entry<'a>(
     alloc: Global,
     search: &ValueSearch<'_>,
     entry: &'a Form,
@@ -336,7 +346,7 @@ fn fault_in_entry<'a>(
 {
     let found = match entry {
         Form::Node(pair) => match pair.as_slice() {
-            [_, value] => first_fault(alloc, search, value, wanted)?,
+            [_, value] => first_value_fault(alloc, search, value, wanted)?,
             _ => None,
         },
         _ => None,

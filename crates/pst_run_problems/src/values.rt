@@ -1,12 +1,12 @@
 //! The problems of arguments and replies.
 
-use crate::command::{CaseSearch, command_at, result_type_of_command};
+use crate::command::{CaseSearch, find_command, result_type_of_command};
 use crate::ill::{ValueFault, value_fault_problem};
 use crate::value_fault::Found;
-use crate::variables::variable_in;
+use crate::variables::command_number_of_variable_tree;
 use pst_sexpr::Form;
 use pst_syntax_problems::{
-    FoundProblem, Problem, TypeText, in_single_quotes, short_text, with_note,
+    FoundProblem, Problem, TypeText, shortened_tree_text, strip_single_quotes, with_note,
 };
 use pst_value::Ty;
 use std::alloc::Global;
@@ -19,12 +19,12 @@ fn add_command_result_note(
     number: usize,
 ) -> FoundProblem {
     let (Some(command), Some(ty)) = (
-        command_at(search.parts, number),
+        find_command(search.parts, number),
         result_type_of_command(search.source, search.parts, number),
     ) else {
         return Ok(found);
     };
-    let call = short_text(alloc, command.form)?;
+    let call = shortened_tree_text(alloc, command.form)?;
     let ty = TypeText(ty);
     with_note(
         alloc,
@@ -35,22 +35,23 @@ fn add_command_result_note(
     )
 }
 
-/// The problem `found` of a tree that is not a value of the type `wanted`. A note says what its variable refers to, or
-/// how a value of the type is written.
-fn with_type_note(
+/// The problem `found` of a tree that is not a value of the type `wanted`. If the tree is a variable, a note says what
+/// it refers to, if that is a command of a known operation. Of another tree, a note says how a value of the type is
+/// written, if the type is a reference, or if it is text and the tree is a word.
+fn with_variable_or_spelling_note(
     alloc: Global,
     search: &CaseSearch<'_>,
     found: Option<Problem>,
     form: &Form,
     wanted: &Ty,
 ) -> FoundProblem {
-    if let Some(number) = variable_in(form) {
+    if let Some(number) = command_number_of_variable_tree(form) {
         return add_command_result_note(alloc, search, found, number);
     }
     match (form, wanted) {
         (Form::Word(word), Ty::Text) => {
             let word = word.as_str();
-            let text = in_single_quotes(word).unwrap_or(word);
+            let text = strip_single_quotes(word).unwrap_or(word);
             with_note(
                 alloc,
                 found,
@@ -68,7 +69,7 @@ fn with_type_note(
 
 /// The problem of the fault `found` in the tree that `path` leads to. If the fault has no name, `other` is the fault, and
 /// it is in that tree.
-pub fn found_value_fault_problem(
+pub fn problem_of_found_or_other_fault(
     alloc: Global,
     search: &CaseSearch<'_>,
     path: &[usize],
@@ -85,7 +86,9 @@ pub fn found_value_fault_problem(
     path.extend_from_slice(below.as_slice())?;
     let found = value_fault_problem(alloc, path.as_slice(), Some(fault))?;
     match fault {
-        ValueFault::OtherType(form, wanted) => with_type_note(alloc, search, found, form, wanted),
+        ValueFault::OtherType(form, wanted) => with_variable_or_spelling_note(
+            alloc, search, found, form, wanted,
+        ),
         _ => Ok(found),
     }
 }

@@ -1,6 +1,6 @@
 //! The variables in a command that it may not see.
 
-use crate::command::{Part, find_part_of_command, variable_number};
+use crate::command::{Part, command_number_of_variable, find_part_of_command};
 use crate::ill::{ValueFault, value_fault_problem};
 use pst_sexpr::Form;
 use pst_syntax_problems::FoundProblem;
@@ -8,7 +8,7 @@ use std::alloc::{AllocError, Global};
 
 /// The variables that a search looks for.
 #[derive(Clone, Copy, Drop)]
-pub enum Sought {
+pub enum SoughtVariable {
     /// One that names a command which is not earlier than the command with this number.
     Later(usize),
     /// One that names a command in another branch than the command with this number.
@@ -30,20 +30,24 @@ fn is_command_in_other_branch(parts: &[Part<'_>], number: usize, command: usize)
 }
 
 /// The number of the command that a tree names, if it is a variable.
-pub fn variable_in(form: &Form) -> Option<usize> {
+pub fn command_number_of_variable_tree(form: &Form) -> Option<usize> {
     match form {
-        Form::Word(word) => variable_number(word.as_str()),
+        Form::Word(word) => command_number_of_variable(word.as_str()),
         Form::Text(_) | Form::Node(_) => None,
     }
 }
 
 /// The fault of a tree that is no node, if it is a variable that the search looks for.
-fn variable_fault<'a>(parts: &[Part<'_>], sought: Sought, form: &Form) -> Option<ValueFault<'a>> {
-    match (sought, variable_in(form)) {
-        (Sought::Later(command), Some(number)) if number == 0 || number >= command => {
+fn variable_fault<'a>(
+    parts: &[Part<'_>],
+    sought: SoughtVariable,
+    form: &Form,
+) -> Option<ValueFault<'a>> {
+    match (sought, command_number_of_variable_tree(form)) {
+        (SoughtVariable::Later(command), Some(number)) if number == 0 || number >= command => {
             Some(ValueFault::Later { number, command })
         }
-        (Sought::OtherBranch(command), Some(number))
+        (SoughtVariable::OtherBranch(command), Some(number))
             if is_command_in_other_branch(parts, number, command) => {
             Some(ValueFault::OtherBranch(number))
         }
@@ -53,9 +57,9 @@ fn variable_fault<'a>(parts: &[Part<'_>], sought: Sought, form: &Form) -> Option
 
 /// The first variable in a tree that the search looks for. The path to the tree becomes the path to the variable; it
 /// stays the same if no variable is found.
-fn first_variable<'a>(
+fn first_variable_fault<'a>(
     parts: &[Part<'_>],
-    sought: Sought,
+    sought: SoughtVariable,
     path: &mut Vec<usize>,
     form: &Form,
 ) -> Result<Option<ValueFault<'a>>, AllocError> {
@@ -65,7 +69,7 @@ fn first_variable<'a>(
     for (number, tree) in trees.as_slice().iter().enumerate() {
         if number > 0 {
             path.push(number)?;
-            let found = first_variable(parts, sought, path, tree)?;
+            let found = first_variable_fault(parts, sought, path, tree)?;
             if found.is_some() {
                 return Ok(found);
             }
@@ -76,14 +80,14 @@ fn first_variable<'a>(
 }
 
 /// The problem of the first variable that the search looks for, in the command that `path` leads to.
-pub fn variable_problem(
+pub fn first_variable_problem(
     alloc: Global,
     parts: &[Part<'_>],
-    sought: Sought,
+    sought: SoughtVariable,
     path: &[usize],
     form: &Form,
 ) -> FoundProblem {
     let mut path = Vec::from_slice(alloc, path)?;
-    let ill = first_variable(parts, sought, &mut path, form)?;
+    let ill = first_variable_fault(parts, sought, &mut path, form)?;
     value_fault_problem(alloc, path.as_slice(), ill)
 }

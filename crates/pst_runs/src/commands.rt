@@ -39,14 +39,14 @@ struct Arguments {
 
 /// Returns the number of the operation `name`.
 #[tactic(auto, using(crate::proofs::Named::named))]
-fn find_operation(typed: &Typed, name: &Text) -> Option<u32>
+fn find_operation_number(typed: &Typed, name: &Text) -> Option<u32>
     ensures { result ≡ operation_number typed.now.items name.now }
 {
     let number = operation_number(typed.source().items.as_slice(), name.as_bytes())?;
     Some(number as u32)
 }
 
-fn arguments_of(alloc: Global, typed: &Typed, forms: &[Form]) -> Result<Arguments, AllocError>
+fn read_arguments(alloc: Global, typed: &Typed, forms: &[Form]) -> Result<Arguments, AllocError>
     ensures values { IfOk result (λ args.
         args.values ≡ spec.present (spec.arguments_of typed.now forms.now)) }
     ensures all { IfOk result (λ args.
@@ -80,8 +80,8 @@ fn read_command(
     let Some(name) = word_of(first) else {
         return Ok(None);
     };
-    let Arguments { values, are_all } = arguments_of(alloc, typed, arguments)?;
-    let Some(op) = find_operation(typed, name) else {
+    let Arguments { values, are_all } = read_arguments(alloc, typed, arguments)?;
+    let Some(op) = find_operation_number(typed, name) else {
         return Ok(Some(SpelledCommand::Unknown));
     };
     let command = Command { op, args: values };
@@ -93,7 +93,7 @@ fn read_command(
 }
 
 /// Returns the commands that trees spell. `None` if a tree does not have the form of a command.
-pub fn commands_of(
+pub fn read_commands(
     alloc: Global,
     typed: &Typed,
     forms: &[Form],

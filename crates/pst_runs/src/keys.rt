@@ -33,7 +33,7 @@ fn map_key_from_word(word: &Text) -> Option<Key>
 
 /// Returns the key that a tree spells.
 #[tactic(auto, unfolding(crate::specs::Values::key_of))]
-pub fn key_of(alloc: Global, form: &Form) -> Result<Option<Key>, AllocError>
+pub fn read_map_key(alloc: Global, form: &Form) -> Result<Option<Key>, AllocError>
     ensures { IfOk result (λ key. key ≡ spec.key_of form.now) }
 {
     match form {
@@ -44,7 +44,7 @@ pub fn key_of(alloc: Global, form: &Form) -> Result<Option<Key>, AllocError>
 }
 
 /// Returns the keys of the entries `(k v)` of a map. `None` if one of them is no entry, or its key spells none.
-pub fn keys_of(alloc: Global, entries: &[Form]) -> Result<Option<Items<Key>>, AllocError>
+pub fn read_map_keys(alloc: Global, entries: &[Form]) -> Result<Option<Items<Key>>, AllocError>
     ensures { IfOk result (λ keys. keys ≡ spec.each spec.entry_key entries.now) }
 {
     let mut keys = items_with_capacity(alloc, entries.len())?;
@@ -52,7 +52,7 @@ pub fn keys_of(alloc: Global, entries: &[Form]) -> Result<Option<Items<Key>>, Al
         let Some((key, _)) = map_entry_key_and_value(entry) else {
             return Ok(None);
         };
-        let Some(key) = key_of(alloc, key)? else {
+        let Some(key) = read_map_key(alloc, key)? else {
             return Ok(None);
         };
         keys.push(key)?;

@@ -15,7 +15,7 @@ mod values;
 mod write;
 
 pub use fault::{RunFault, RunFaultKind};
-pub use keys::{key_of, map_entry_key_and_value};
+pub use keys::{map_entry_key_and_value, read_map_key};
 pub use reader::read_runs;
 pub use values::{Spelling, read_value};
 pub use write::{WriteFault, run_tree, value_form, write_runs};

@@ -5,7 +5,7 @@ ghost use Rattle.pst_runs.specs.Forms as spec;
 ghost use Rattle.pst_runs.specs.Shown.{shown_option, shown_sections};
 ghost use Rattle.pst_sexpr.specs.Parts.{node_of};
 
-use crate::commands::{SpelledCase, SpelledCommand, commands_of};
+use crate::commands::{SpelledCase, SpelledCommand, read_commands};
 use crate::room::items_with_capacity;
 use pst_model::Typed;
 use pst_sexpr::{Form, node_of, word_of};
@@ -27,7 +27,7 @@ struct Sections<'a> {
 }
 
 /// Returns the parts of `form` after the word `name`. `None` if `form` is no node that begins with this word.
-fn parts_of_headed_node<'a>(name: &str, form: &'a Form) -> Option<&'a [Form]>
+fn section_parts<'a>(name: &str, form: &'a Form) -> Option<&'a [Form]>
     ensures { option_copied result ≡ spec.section name.now form.now }
 {
     let (first, parts) = node_of(form)?.split_first()?;
@@ -39,7 +39,7 @@ fn parts_of_headed_node<'a>(name: &str, form: &'a Form) -> Option<&'a [Form]>
 }
 
 /// Returns the commands of the section `name`.
-fn section_commands(
+fn read_section_commands(
     alloc: Global,
     typed: &Typed,
     name: &str,
@@ -47,13 +47,13 @@ fn section_commands(
 ) -> Result<Option<Items<SpelledCommand>>, AllocError>
     ensures { IfOk result (λ commands. commands ≡ spec.section_commands typed.now name.now form.now) }
 {
-    match parts_of_headed_node(name, form) {
-        Some(forms) => commands_of(alloc, typed, forms),
+    match section_parts(name, form) {
+        Some(forms) => read_commands(alloc, typed, forms),
         None => Ok(None),
     }
 }
 
-fn branch_of(
+fn read_branch(
     alloc: Global,
     typed: &Typed,
     form: &Form,
@@ -61,7 +61,7 @@ fn branch_of(
     ensures { IfOk result (λ commands. commands ≡ spec.branch_of typed.now form.now) }
 {
     match node_of(form) {
-        Some(forms) => commands_of(alloc, typed, forms),
+        Some(forms) => read_commands(alloc, typed, forms),
         None => Ok(None),
     }
 }
@@ -75,10 +75,10 @@ fn read_left_and_right_branches(
 ) -> Result<Option<Items<Items<SpelledCommand>>>, AllocError>
     ensures { IfOk result (λ branches. branches ≡ spec.two_branches typed.now left.now right.now) }
 {
-    let Some(left) = section_commands(alloc, typed, "left", left)? else {
+    let Some(left) = read_section_commands(alloc, typed, "left", left)? else {
         return Ok(None);
     };
-    let Some(right) = section_commands(alloc, typed, "right", right)? else {
+    let Some(right) = read_section_commands(alloc, typed, "right", right)? else {
         return Ok(None);
     };
     let mut branches = items_with_capacity(alloc, 2)?;
@@ -87,7 +87,7 @@ fn read_left_and_right_branches(
     Ok(Some(branches))
 }
 
-fn are_two_to_four(forms: &[Form]) -> bool
+fn is_allowed_branch_count(forms: &[Form]) -> bool
     ensures { result ≡ spec.are_two_to_four forms.now }
 {
     2 <= forms.len() && forms.len() <= 4
@@ -100,12 +100,12 @@ fn read_two_to_four_branches(
 ) -> Result<Option<Items<Items<SpelledCommand>>>, AllocError>
     ensures { IfOk result (λ branches. branches ≡ spec.each_branch typed.now forms.now) }
 {
-    if !are_two_to_four(forms) {
+    if !is_allowed_branch_count(forms) {
         return Ok(None);
     }
     let mut branches = items_with_capacity(alloc, forms.len())?;
     for form in forms {
-        let Some(branch) = branch_of(alloc, typed, form)? else {
+        let Some(branch) = read_branch(alloc, typed, form)? else {
             return Ok(None);
         };
         branches.push(branch)?;
@@ -113,7 +113,7 @@ fn read_two_to_four_branches(
     Ok(Some(branches))
 }
 
-fn branches_of(
+fn read_branches(
     alloc: Global,
     typed: &Typed,
     forms: &[Form],
@@ -122,7 +122,7 @@ fn branches_of(
 {
     match forms {
         [left, right] => read_left_and_right_branches(alloc, typed, left, right),
-        [branches] => match parts_of_headed_node("branches", branches) {
+        [branches] => match section_parts("branches", branches) {
             Some(forms) => read_two_to_four_branches(alloc, typed, forms),
             None => Ok(None),
         },
@@ -141,11 +141,11 @@ fn split_last_tree(parts: &[Form]) -> Option<(&[Form], &Form)>
 }
 
 /// Returns the sections of a case. The last tree is the suffix if it is `(suffix ..)`.
-fn sections_of(parts: &[Form]) -> Sections<'_>
+fn case_sections(parts: &[Form]) -> Sections<'_>
     ensures { shown_sections result ≡ spec.sections_of parts.now }
 {
     if let Some((front, last)) = split_last_tree(parts) {
-        if let Some(suffix) = parts_of_headed_node("suffix", last) {
+        if let Some(suffix) = section_parts("suffix", last) {
             return Sections {
                 front,
                 suffix: Some(suffix),
@@ -158,7 +158,7 @@ fn sections_of(parts: &[Form]) -> Sections<'_>
     }
 }
 
-fn suffix_of(
+fn read_suffix(
     alloc: Global,
     typed: &Typed,
     suffix: Option<&[Form]>,
@@ -166,7 +166,7 @@ fn suffix_of(
     ensures { IfOk result (λ commands. commands ≡ spec.suffix_of typed.now (option_copied suffix.entry)) }
 {
     match suffix {
-        Some(forms) => commands_of(alloc, typed, forms),
+        Some(forms) => read_commands(alloc, typed, forms),
         None => Ok(Some(Items::new(alloc))),
     }
 }
@@ -181,13 +181,13 @@ fn read_spelled_case(
     let Some((first, others)) = sections.front.split_first() else {
         return Ok(None);
     };
-    let Some(prefix) = section_commands(alloc, typed, "prefix", first)? else {
+    let Some(prefix) = read_section_commands(alloc, typed, "prefix", first)? else {
         return Ok(None);
     };
-    let Some(branches) = branches_of(alloc, typed, others)? else {
+    let Some(branches) = read_branches(alloc, typed, others)? else {
         return Ok(None);
     };
-    let Some(suffix) = suffix_of(alloc, typed, sections.suffix)? else {
+    let Some(suffix) = read_suffix(alloc, typed, sections.suffix)? else {
         return Ok(None);
     };
     Ok(Some(SpelledCase {
@@ -219,14 +219,14 @@ fn are_nodes(forms: &[Form]) -> bool
     forms.iter().all(|form| is_node(form))
 }
 
-fn with_replies<'a>(
+fn item_parts_with_replies<'a>(
     form: &'a Form,
     sections: &Sections<'_>,
     read: SpelledCase,
 ) -> Option<ItemParts<'a>>
     ensures { shown_option result ≡ spec.with_replies form.now (shown_sections sections.now) read }
 {
-    let lists = parts_of_headed_node("replies", form)?;
+    let lists = section_parts("replies", form)?;
     if has_reply_list_for_each_part(lists.len(), sections, &read) && are_nodes(lists) {
         Some(ItemParts {
             read,
@@ -237,14 +237,14 @@ fn with_replies<'a>(
     }
 }
 
-fn case_parts<'a>(
+fn read_case_item_parts<'a>(
     alloc: Global,
     typed: &Typed,
     parts: &'a [Form],
 ) -> Result<Option<ItemParts<'a>>, AllocError>
     ensures { IfOk result (λ item. shown_option item ≡ spec.case_parts typed.now parts.now) }
 {
-    let Some(read) = read_spelled_case(alloc, typed, &sections_of(parts))? else {
+    let Some(read) = read_spelled_case(alloc, typed, &case_sections(parts))? else {
         return Ok(None);
     };
     Ok(Some(ItemParts {
@@ -263,11 +263,11 @@ fn read_run_item_parts<'a>(
     let Some((front, replies)) = split_last_tree(parts) else {
         return Ok(None);
     };
-    let sections = sections_of(front);
+    let sections = case_sections(front);
     let Some(read) = read_spelled_case(alloc, typed, &sections)? else {
         return Ok(None);
     };
-    Ok(with_replies(replies, &sections, read))
+    Ok(item_parts_with_replies(replies, &sections, read))
 }
 
 /// Returns the case of an item with its lists of replies. `None` if the tree does not have the form of an item.
@@ -289,7 +289,7 @@ pub fn read_item_parts<'a>(
         return Ok(None);
     };
     if head.as_str() == "case" {
-        return case_parts(alloc, typed, parts);
+        return read_case_item_parts(alloc, typed, parts);
     }
     if head.as_str() == "run" {
         return read_run_item_parts(alloc, typed, parts);

@@ -6,7 +6,7 @@ ghost use Rattle.pst_runs.specs.Lawful.{AreLawful};
 use crate::fault::{ItemFault, RunFault, RunFaultKind};
 use crate::parts::{ItemParts, read_item_parts};
 use crate::reading::shape_spelled_case;
-use crate::replies::{history_of, reply_counts_match};
+use crate::replies::{read_history, reply_counts_match};
 use pst_case::{Run, Shaped};
 use pst_model::Typed;
 use pst_sexpr::{Form, Tree};
@@ -33,7 +33,7 @@ fn run_of_shaped_case_and_replies(
             command: 0,
         }));
     }
-    match history_of(alloc, typed, shaped.case(), lists)? {
+    match read_history(alloc, typed, shaped.case(), lists)? {
         Ok(history) => {
             let history = Some(history);
             Ok(Ok(Run { shaped, history }))

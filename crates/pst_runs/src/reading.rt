@@ -13,7 +13,7 @@ use pst_value::Items;
 use std::alloc::{AllocError, Global};
 
 /// Returns the commands of a part without those of unknown operations.
-fn readable_part(
+fn readable_commands_of_part(
     alloc: Global,
     commands: Items<SpelledCommand>,
 ) -> Result<Items<Command>, AllocError>
@@ -38,7 +38,7 @@ fn readable_branches(
 {
     let mut readable = items_with_capacity(alloc, branches.len())?;
     for branch in branches.into_vec() {
-        readable.push(readable_part(alloc, branch)?)?;
+        readable.push(readable_commands_of_part(alloc, branch)?)?;
     }
     Ok(readable)
 }
@@ -53,9 +53,9 @@ fn readable_case(alloc: Global, case: SpelledCase) -> Result<Case, AllocError>
         suffix,
     } = case;
     Ok(Case {
-        prefix: readable_part(alloc, prefix)?,
+        prefix: readable_commands_of_part(alloc, prefix)?,
         branches: readable_branches(alloc, branches)?,
-        suffix: readable_part(alloc, suffix)?,
+        suffix: readable_commands_of_part(alloc, suffix)?,
     })
 }
 
@@ -86,20 +86,20 @@ fn unreadable_part_fault(number: u32, commands: &[SpelledCommand]) -> Option<Cas
 }
 
 /// Returns the fault of the first command of the branches that cannot be read whole. `before` commands precede them.
-fn branches_unread(before: u32, branches: &[Items<SpelledCommand>]) -> Option<CaseFault>
+fn unreadable_branches_fault(before: u32, branches: &[Items<SpelledCommand>]) -> Option<CaseFault>
     requires { before + length (joined branches.now) + 1 < 2 ^ 32 }
     ensures { result ≡ spec.branches_unread before branches.now }
 {
     let (branch, branches) = branches.split_first()?;
     match unreadable_part_fault(before + 1, branch.as_slice()) {
         Some(fault) => Some(fault),
-        None => branches_unread(before + branch.len() as u32, branches),
+        None => unreadable_branches_fault(before + branch.len() as u32, branches),
     }
 }
 
 /// Returns the fault of the first command of a case that cannot be read whole.
 #[tactic(auto, using(crate::proofs::Limits::spelled_limits))]
-fn case_unread(case: &SpelledCase) -> Option<CaseFault>
+fn unreadable_case_fault(case: &SpelledCase) -> Option<CaseFault>
     requires { spec.over_limit case.now ≡ false }
     ensures { result ≡ spec.case_unread case.now }
 {
@@ -108,13 +108,13 @@ fn case_unread(case: &SpelledCase) -> Option<CaseFault>
     if let Some(fault) = unreadable_part_fault(1, case.prefix.as_slice()) {
         return Some(fault);
     }
-    if let Some(fault) = branches_unread(prefix, branches) {
+    if let Some(fault) = unreadable_branches_fault(prefix, branches) {
         return Some(fault);
     }
     unreadable_part_fault(prefix + joined_len(branches) + 1, case.suffix.as_slice())
 }
 
-fn is_over_limit(case: &SpelledCase) -> bool
+fn is_spelled_case_over_limit(case: &SpelledCase) -> bool
     ensures { result ≡ spec.over_limit case.now }
 {
     are_over_limit(
@@ -128,11 +128,12 @@ fn is_over_limit(case: &SpelledCase) -> bool
 fn unreadable_fault_comes_first(unread: &CaseFault, shape: &CaseFault) -> bool
     ensures { result ≡ spec.comes_before unread.now shape.now }
 {
-    unread.command < shape.command || (unread.command == shape.command && is_unknown(unread.kind))
+    unread.command < shape.command
+        || (unread.command == shape.command && is_unknown_operation_fault(unread.kind))
 }
 
 /// Returns whether the fault is that no operation has the name.
-fn is_unknown(kind: CaseFaultKind) -> bool
+fn is_unknown_operation_fault(kind: CaseFaultKind) -> bool
     ensures { result ≡ spec.is_unknown kind }
 {
     match kind {
@@ -171,13 +172,13 @@ pub fn shape_spelled_case(
     ensures refused { IfOk result (λ read. IfErr read (λ fault.
         spec.case_fault typed.now case ≡ Some fault)) }
 {
-    if is_over_limit(&case) {
+    if is_spelled_case_over_limit(&case) {
         return Ok(Err(CaseFault {
             kind: CaseFaultKind::OverLimit,
             command: 0,
         }));
     }
-    let unread = case_unread(&case);
+    let unread = unreadable_case_fault(&case);
     match shape(alloc, typed, readable_case(alloc, case)?) {
         Ok(shaped) => match unread {
             Some(fault) => Ok(Err(fault)),

@@ -23,7 +23,7 @@ fn trees_of_list(form: &Form) -> &[Form]
 }
 
 /// Returns the trees of list `number`, from 0, or no trees if there is no such list.
-fn listed_at(lists: &[Form], number: usize) -> &[Form]
+fn trees_of_list_at(lists: &[Form], number: usize) -> &[Form]
     ensures { result.now ≡ spec.listed_at lists.now number }
 {
     match lists.get(number) {
@@ -32,7 +32,7 @@ fn listed_at(lists: &[Form], number: usize) -> &[Form]
     }
 }
 
-fn reply_word(form: &Form) -> Option<Reply>
+fn reply_of_word(form: &Form) -> Option<Reply>
     ensures { result ≡ spec.reply_word (word_of form.now) }
 {
     let word = word_of(form)?;
@@ -67,7 +67,7 @@ fn read_reply(
 ) -> Result<Option<Reply>, AllocError>
     ensures { IfOk result (λ reply. reply ≡ spec.reply_of typed.now command.now form.now) }
 {
-    if let Some(reply) = reply_word(form) {
+    if let Some(reply) = reply_of_word(form) {
         return Ok(Some(reply));
     }
     match read_value(alloc, form, Spelling::of_replies(typed))? {
@@ -106,7 +106,7 @@ fn read_remaining_replies(
 /// Returns the replies of a part, whose commands are numbered from `number` on, or the number of the first command
 /// whose tree spells no reply.
 #[tactic(auto, using(crate::proofs::Behind::behind))]
-fn part_replies(
+fn read_part_replies(
     alloc: Global,
     typed: &Typed,
     number: u32,
@@ -142,7 +142,7 @@ fn read_remaining_branch_replies(
     let Some((list, lists)) = lists.split_first() else {
         return Ok(Ok(read));
     };
-    match part_replies(
+    match read_part_replies(
         alloc,
         typed,
         before + 1,
@@ -159,7 +159,7 @@ fn read_remaining_branch_replies(
 }
 
 /// Returns the history that lists of replies spell, or the number of the first command whose tree spells no reply.
-pub fn history_of(
+pub fn read_history(
     alloc: Global,
     typed: &Typed,
     case: &Case,
@@ -177,7 +177,7 @@ pub fn history_of(
     };
     let branches = case.branches.as_slice();
     let commands = case.prefix.as_slice();
-    let prefix = match part_replies(alloc, typed, 1, commands, trees_of_list(list))? {
+    let prefix = match read_part_replies(alloc, typed, 1, commands, trees_of_list(list))? {
         Ok(replies) => replies,
         Err(number) => return Ok(Err(number)),
     };
@@ -190,8 +190,8 @@ pub fn history_of(
         Err(number) => return Ok(Err(number)),
     };
     let first = before + joined_len(branches) + 1;
-    let forms = listed_at(lists, branches.len());
-    match part_replies(alloc, typed, first, case.suffix.as_slice(), forms)? {
+    let forms = trees_of_list_at(lists, branches.len());
+    match read_part_replies(alloc, typed, first, case.suffix.as_slice(), forms)? {
         Ok(suffix) => Ok(Ok(History {
             prefix,
             branches: branch_replies,
@@ -223,7 +223,7 @@ pub fn reply_counts_match(case: &Case, lists: &[Form]) -> bool
         Some((list, lists)) => {
             trees_of_list(list).len() == case.prefix.len()
                 && branch_reply_counts_match(case.branches.as_slice(), lists)
-                && listed_at(lists, case.branches.len()).len() == case.suffix.len()
+                && trees_of_list_at(lists, case.branches.len()).len() == case.suffix.len()
         }
         None => false,
     }

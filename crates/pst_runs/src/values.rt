@@ -2,7 +2,7 @@
 ghost use Rattle.std.specs.Prelude.{◌≡◌, IfOk};
 ghost use Rattle.pst_runs.specs.Values as spec;
 
-use crate::keys::{keys_of, map_entry_key_and_value};
+use crate::keys::{map_entry_key_and_value, read_map_keys};
 use crate::room::items_with_capacity;
 use pst_model::Typed;
 use pst_sexpr::{Form, MAX_LEVELS, are_digits, integer_of, magnitude_of, word_of};
@@ -54,7 +54,7 @@ fn read_variable_number(digits: &[u8]) -> Option<u32>
     u32::try_from(magnitude_of(digits)?).ok()
 }
 
-fn variable_of(word: &Text, symbolic: bool) -> Option<Value>
+fn read_variable_word(word: &Text, symbolic: bool) -> Option<Value>
     ensures { result ≡ spec.variable_of symbolic word.now }
 {
     match word.as_bytes() {
@@ -68,7 +68,7 @@ fn variable_of(word: &Text, symbolic: bool) -> Option<Value>
 }
 
 #[tactic(auto, unfolding(crate::specs::Values::word_value))]
-fn word_value(word: &Text, symbolic: bool) -> Option<Value>
+fn read_value_word(word: &Text, symbolic: bool) -> Option<Value>
     ensures { result ≡ spec.word_value symbolic word.now }
 {
     if word.as_str() == "true" {
@@ -79,14 +79,14 @@ fn word_value(word: &Text, symbolic: bool) -> Option<Value>
     }
     match integer_of(word) {
         Some(number) => Some(Value::Int(number)),
-        None => variable_of(word, symbolic),
+        None => read_variable_word(word, symbolic),
     }
 }
 
 /// Returns the value that a tree spells, with at most `room` levels of values.
 #[cycle(value)]
 #[tactic(auto, using(crate::proofs::Rooms::rooms))]
-fn value_in(
+fn read_value_within_levels(
     alloc: Global,
     form: &Form,
     spelling: Spelling,
@@ -98,14 +98,14 @@ fn value_in(
         return Ok(None);
     }
     match form {
-        Form::Word(word) => Ok(word_value(word, spelling.symbolic)),
+        Form::Word(word) => Ok(read_value_word(word, spelling.symbolic)),
         Form::Text(text) => Ok(Some(Value::Text(text.copy(alloc)?))),
-        Form::Node(parts) => node_value(alloc, parts.as_slice(), spelling, room - 1),
+        Form::Node(parts) => read_node_value(alloc, parts.as_slice(), spelling, room - 1),
     }
 }
 
 #[cycle(value)]
-fn node_value(
+fn read_node_value(
     alloc: Global,
     parts: &[Form],
     spelling: Spelling,
@@ -121,25 +121,25 @@ fn node_value(
         return Ok(None);
     };
     if head.as_str() == "tuple" {
-        return match values_in(alloc, parts, spelling, room)? {
+        return match read_values_within_levels(alloc, parts, spelling, room)? {
             Some(values) => Ok(Some(Value::Tuple(values))),
             None => Ok(None),
         };
     }
     if head.as_str() == "list" {
-        return match values_in(alloc, parts, spelling, room)? {
+        return match read_values_within_levels(alloc, parts, spelling, room)? {
             Some(values) => Ok(Some(Value::List(values))),
             None => Ok(None),
         };
     }
     if spelling.has_maps && head.as_str() == "map" {
-        return map_value(alloc, parts, spelling, room);
+        return read_map_value(alloc, parts, spelling, room);
     }
     Ok(None)
 }
 
 #[cycle(value)]
-fn values_in(
+fn read_values_within_levels(
     alloc: Global,
     forms: &[Form],
     spelling: Spelling,
@@ -149,7 +149,7 @@ fn values_in(
 {
     let mut values = items_with_capacity(alloc, forms.len())?;
     for form in forms {
-        let Some(value) = value_in(alloc, form, spelling, room)? else {
+        let Some(value) = read_value_within_levels(alloc, form, spelling, room)? else {
             return Ok(None);
         };
         values.push(value)?;
@@ -159,7 +159,7 @@ fn values_in(
 
 /// Returns the map of entries `(k v)` whose keys rise.
 #[cycle(value)]
-fn map_value(
+fn read_map_value(
     alloc: Global,
     entries: &[Form],
     spelling: Spelling,
@@ -167,10 +167,10 @@ fn map_value(
 ) -> Result<Option<Value>, AllocError>
     ensures { IfOk result (λ value. value ≡ spec.map_of (spec.value_in spelling room) entries.now) }
 {
-    let Some(keys) = keys_of(alloc, entries)? else {
+    let Some(keys) = read_map_keys(alloc, entries)? else {
         return Ok(None);
     };
-    let Some(values) = entry_values(alloc, entries, spelling, room)? else {
+    let Some(values) = read_map_entry_values(alloc, entries, spelling, room)? else {
         return Ok(None);
     };
     if rising(keys.as_slice()) {
@@ -181,7 +181,7 @@ fn map_value(
 }
 
 #[cycle(value)]
-fn entry_values(
+fn read_map_entry_values(
     alloc: Global,
     entries: &[Form],
     spelling: Spelling,
@@ -195,7 +195,7 @@ fn entry_values(
         let Some((_, form)) = map_entry_key_and_value(entry) else {
             return Ok(None);
         };
-        let Some(value) = value_in(alloc, form, spelling, room)? else {
+        let Some(value) = read_value_within_levels(alloc, form, spelling, room)? else {
             return Ok(None);
         };
         values.push(value)?;
@@ -211,5 +211,5 @@ pub fn read_value(
 ) -> Result<Option<Value>, AllocError>
     ensures { IfOk result (λ value. value ≡ spec.value_of spelling form.now) }
 {
-    value_in(alloc, form, spelling, MAX_LEVELS)
+    read_value_within_levels(alloc, form, spelling, MAX_LEVELS)
 }

@@ -29,7 +29,7 @@ impl Flags {
     }
 
     /// Lowers both flags.
-    pub fn lower(&self) {
+    pub fn lower_both_flags(&self) {
         self.first.store(false, Ordering::SeqCst);
         self.second.store(false, Ordering::SeqCst);
     }
@@ -38,13 +38,13 @@ impl Flags {
     /// whether it saw it.
     pub fn meet(&self, side: Side) -> bool {
         match side {
-            Side::First => meets(&self.first, &self.second),
-            Side::Second => meets(&self.second, &self.first),
+            Side::First => raise_flag_and_look_for_other(&self.first, &self.second),
+            Side::Second => raise_flag_and_look_for_other(&self.second, &self.first),
         }
     }
 }
 
-fn meets(mine: &AtomicBool, other: &AtomicBool) -> bool {
+fn raise_flag_and_look_for_other(mine: &AtomicBool, other: &AtomicBool) -> bool {
     mine.store(true, Ordering::SeqCst);
     for _ in 0..LOOKS {
         if other.load(Ordering::SeqCst) {

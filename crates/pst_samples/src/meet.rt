@@ -31,7 +31,7 @@ impl System for Meet {
     ghost reset_fails = { λ _ _. ⊥ };
 
     fn reset(&mut self) -> Result<(), CallFault> {
-        self.flags.lower();
+        self.flags.lower_both_flags();
         Ok(())
     }
 

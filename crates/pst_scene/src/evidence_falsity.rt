@@ -45,9 +45,9 @@ fn expression_without_negation(expr: &Expr) -> &Expr {
     }
 }
 
-/// Whether something is known of a part.
-fn is_evidence_known(evidence: &Evidence) -> bool {
-    !matches!(evidence, Evidence::Nothing)
+/// Whether a part says more than the expression around it: `true` and `false` alone say nothing.
+fn says_more_than_whole(found: &FalsePart<'_>) -> bool {
+    !matches!(found.part, Expr::Bool(_)) || !matches!(found.evidence, Evidence::Nothing)
 }
 
 /// The values that a comparison or its negation compares, if the expression is one.
@@ -111,7 +111,7 @@ fn false_part_of_expression<'a>(
     }
 }
 
-/// The part that makes the first false conjunct false, or the chosen one of an `if` if something is known of that part.
+/// The part that makes the first false conjunct false, or that of the chosen part of an `if` unless it is a bare `false`.
 #[cycle(falsity)]
 fn false_part_within_conjunct_or_if<'a>(
     alloc: Global,
@@ -139,7 +139,7 @@ fn false_part_within_conjunct_or_if<'a>(
                 None => None,
             };
             match found {
-                Some(part) if is_evidence_known(&part.evidence) => Ok(Some(part)),
+                Some(part) if says_more_than_whole(&part) => Ok(Some(part)),
                 _ => Ok(None),
             }
         }

@@ -3,25 +3,33 @@ ghost use Rattle.std.specs.Prelude.{◌≡◌, ◌+◌, ◌^◌, ◌<◌, IfOk, 
 ghost use Rattle.pst_case.specs.Shape.{commands_of};
 ghost use Rattle.pst_shrink.specs.Candidates as spec;
 
-use crate::parts::{count_commands, is_used, other_branch_commands, renumbered_commands_without};
+use crate::parts::{
+    count_case_commands, is_result_used, renumbered_branches_without, renumbered_commands_without,
+};
 use crate::renumbering::{Renumbering, new_command_numbers};
 use pst_case::{Case, Command, renumber_command, renumber_commands};
 use pst_value::Items;
 use std::alloc::{AllocError, Global};
 
 /// The case without command `number`.
-fn without_command(alloc: Global, case: &Case, number: u32) -> Result<Case, AllocError>
+fn case_without_command(alloc: Global, case: &Case, number: u32) -> Result<Case, AllocError>
     requires room { length (commands_of case.now) + 1 < 2 ^ 32 }
     ensures { IfOk result (λ smaller. smaller ≡ spec.without number case.now) }
 {
-    let count = count_commands(case);
+    let count = count_case_commands(case);
     let numbers = new_command_numbers(alloc, Renumbering::Without(number), count)?;
     let numbers = numbers.as_slice();
     let first = case.prefix.len() as u32 + 1;
     let first_of_suffix = count + 1 - case.suffix.len() as u32;
     Ok(Case {
         prefix: renumbered_commands_without(alloc, number, 1, case.prefix.as_slice(), numbers)?,
-        branches: other_branch_commands(alloc, number, first, case.branches.as_slice(), numbers)?,
+        branches: renumbered_branches_without(
+            alloc,
+            number,
+            first,
+            case.branches.as_slice(),
+            numbers,
+        )?,
         suffix: renumbered_commands_without(
             alloc,
             number,
@@ -33,7 +41,7 @@ fn without_command(alloc: Global, case: &Case, number: u32) -> Result<Case, Allo
 }
 
 /// The case with a command of a branch, which has the number, moved to the end of the prefix.
-fn with_command_moved(
+fn case_with_command_moved(
     alloc: Global,
     case: &Case,
     number: u32,
@@ -46,14 +54,20 @@ fn with_command_moved(
     let numbers = new_command_numbers(
         alloc,
         Renumbering::Moved(number, first),
-        count_commands(case),
+        count_case_commands(case),
     )?;
     let numbers = numbers.as_slice();
     let mut prefix = renumber_commands(alloc, case.prefix.as_slice(), numbers)?;
     prefix.push(renumber_command(alloc, command, numbers)?)?;
     Ok(Case {
         prefix,
-        branches: other_branch_commands(alloc, number, first, case.branches.as_slice(), numbers)?,
+        branches: renumbered_branches_without(
+            alloc,
+            number,
+            first,
+            case.branches.as_slice(),
+            numbers,
+        )?,
         suffix: renumber_commands(alloc, case.suffix.as_slice(), numbers)?,
     })
 }
@@ -64,10 +78,10 @@ fn cases_without_command(alloc: Global, case: &Case) -> Result<Items<Case>, Allo
     ensures { IfOk result (λ all. all ≡ spec.drops case.now (length (commands_of case.now))) }
 {
     let mut all = Items::new(alloc);
-    for before in 0..count_commands(case) {
+    for before in 0..count_case_commands(case) {
         let number = before + 1;
-        if !is_used(case, number) {
-            all.push(without_command(alloc, case, number)?)?;
+        if !is_result_used(case, number) {
+            all.push(case_without_command(alloc, case, number)?)?;
         }
     }
     Ok(all)
@@ -83,7 +97,7 @@ fn cases_with_command_moved(alloc: Global, case: &Case) -> Result<Items<Case>, A
     let mut first = case.prefix.len() as u32 + 1;
     for branch in case.branches.as_slice() {
         if let Some(command) = branch.as_slice().first() {
-            all.push(with_command_moved(alloc, case, first, command)?)?;
+            all.push(case_with_command_moved(alloc, case, first, command)?)?;
         }
         first += branch.len() as u32;
     }

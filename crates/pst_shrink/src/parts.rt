@@ -11,41 +11,41 @@ use std::alloc::{AllocError, Global};
 
 /// How many commands the case has.
 #[tactic(auto, using(crate::proofs::Counting::counting))]
-pub(crate) fn count_commands(case: &Case) -> u32
+pub(crate) fn count_case_commands(case: &Case) -> u32
     requires { length (commands_of case.now) < 2 ^ 32 }
     ensures { result ≡ length (commands_of case.now) }
 {
     case.prefix.len() as u32 + joined_len(case.branches.as_slice()) + case.suffix.len() as u32
 }
 
-fn command_uses(command: &Command, number: u32) -> bool
+fn command_uses_result(command: &Command, number: u32) -> bool
     ensures { result ≡ command_uses number command.now }
 {
     command.args.as_slice().iter().any(|arg| arg.uses(number))
 }
 
-fn any_uses(commands: &[Command], number: u32) -> bool
+fn any_command_uses_result(commands: &[Command], number: u32) -> bool
     ensures { result ≡ list_any (command_uses number) commands.now }
 {
-    commands.iter().any(|command| command_uses(command, number))
+    commands
+        .iter()
+        .any(|command| command_uses_result(command, number))
 }
 
-fn any_branch_uses(branches: &[Items<Command>], number: u32) -> bool
+fn any_branch_uses_result(branches: &[Items<Command>], number: u32) -> bool
     ensures { result ≡ list_any (list_any (command_uses number)) branches.now }
 {
-    branches
-        .iter()
-        .any(|branch| any_uses(branch.as_slice(), number))
+    branches.iter().any(|branch| any_command_uses_result(branch.as_slice(), number))
 }
 
 /// Whether some command uses the variable of the command with this number, or has a reference to its result.
 #[tactic(auto, using(crate::proofs::Counting::searching))]
-pub(crate) fn is_used(case: &Case, number: u32) -> bool
+pub(crate) fn is_result_used(case: &Case, number: u32) -> bool
     ensures { result ≡ is_used number case.now }
 {
-    any_uses(case.prefix.as_slice(), number)
-        || any_branch_uses(case.branches.as_slice(), number)
-        || any_uses(case.suffix.as_slice(), number)
+    any_command_uses_result(case.prefix.as_slice(), number)
+        || any_branch_uses_result(case.branches.as_slice(), number)
+        || any_command_uses_result(case.suffix.as_slice(), number)
 }
 
 /// The commands except command `number`, renumbered. The first of `commands` has the number `first`.
@@ -73,7 +73,7 @@ pub(crate) fn renumbered_commands_without(
 
 /// The branches without command `number`, renumbered. The first command of the first branch has the number
 /// `first`.
-pub(crate) fn other_branch_commands(
+pub(crate) fn renumbered_branches_without(
     alloc: Global,
     number: u32,
     first: u32,

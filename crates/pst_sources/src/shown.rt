@@ -57,7 +57,7 @@ pub fn line_from(input: &[u8], earlier: LineStart, from: usize, place: usize) ->
 
 /// Returns the place of the next line end, or of the `\r` before it, or the end of the input. It reads at most `WIDTH`
 /// + 2 bytes, and returns the place after them if they contain no line end.
-fn line_end(input: &[u8], from: usize) -> usize {
+fn shown_line_end(input: &[u8], from: usize) -> usize {
     let most = input.len().min(from.saturating_add(WIDTH + 2));
     let mut end = most;
     for at in from..most {
@@ -92,14 +92,14 @@ pub fn place_on(
     span: Span,
 ) -> Result<Place, AllocError> {
     let begin = line.place;
-    let is_long = line_end(input, begin).saturating_sub(begin) > WIDTH;
+    let is_long = shown_line_end(input, begin).saturating_sub(begin) > WIDTH;
     let offset = span.start.saturating_sub(begin);
     let from = if is_long && offset > BEFORE {
         char_start_from(input, span.start.saturating_sub(BEFORE))
     } else {
         begin
     };
-    let end = line_end(input, from);
+    let end = shown_line_end(input, from);
     let to = if is_long {
         end.min(char_start_from(input, from.saturating_add(WIDTH)))
     } else {

@@ -100,7 +100,7 @@ impl fmt::Display for SyntaxFault {
 impl Error for SyntaxFault {}
 
 /// The fault of that kind in that item; without memory there is no item.
-pub fn fault(kind: FaultKind, item: usize) -> SyntaxFault
+pub fn syntax_fault_in_item(kind: FaultKind, item: usize) -> SyntaxFault
     ensures { FaultOf kind item result }
 {
     match kind {

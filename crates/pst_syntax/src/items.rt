@@ -15,7 +15,7 @@ use crate::item_shapes::{
     param_shape,
 };
 use crate::limits::{MAX_DECLARED, MAX_EXPR_LEVELS, MAX_PARTS, MAX_TY_LEVELS};
-use crate::names::{declared, is_name, is_unreserved_name};
+use crate::names::{copy_declared_name, is_name, is_unreserved_name};
 use crate::read::{read_expr, read_ty};
 use pst_model::{Expr, Fun, Item, Op, Param};
 use pst_sexpr::Form;
@@ -44,7 +44,7 @@ fn is_param(params: &[Param], word: &Text) -> bool
         .any(|param| param.name.as_str() == word.as_str())
 }
 
-fn param_of(
+fn read_parameter_of_shape(
     alloc: Global,
     has_maps: bool,
     params: &[Param],
@@ -53,7 +53,7 @@ fn param_of(
     ensures { Gives result (spec.param_of has_maps params.now (shown_param shape.now)) }
 {
     let is_taken = is_param(params, shape.name);
-    let name = declared(
+    let name = copy_declared_name(
         alloc,
         is_unreserved_name(has_maps, shape.name),
         is_taken,
@@ -64,7 +64,7 @@ fn param_of(
 }
 
 /// Reads a parameter that follows `params`.
-fn known_param(
+fn read_parameter(
     alloc: Global,
     has_maps: bool,
     params: &[Param],
@@ -73,12 +73,12 @@ fn known_param(
     ensures { Gives result (known (param_shape form.now) (spec.param_of has_maps params.now)) }
 {
     match param_shape(form) {
-        Some(shape) => param_of(alloc, has_maps, params, &shape),
+        Some(shape) => read_parameter_of_shape(alloc, has_maps, params, &shape),
         None => Err(FaultKind::UnknownForm),
     }
 }
 
-fn params_of(alloc: Global, has_maps: bool, forms: &[Form]) -> Result<Items<Param>, FaultKind>
+fn read_parameters(alloc: Global, has_maps: bool, forms: &[Form]) -> Result<Items<Param>, FaultKind>
     ensures { Gives result (spec.params_of has_maps forms.now) }
 {
     if forms.len() > MAX_PARTS {
@@ -86,7 +86,7 @@ fn params_of(alloc: Global, has_maps: bool, forms: &[Form]) -> Result<Items<Para
     }
     let mut params = Items::new(alloc);
     for form in forms {
-        params.push(known_param(alloc, has_maps, params.as_slice(), form)?)?;
+        params.push(read_parameter(alloc, has_maps, params.as_slice(), form)?)?;
     }
     Ok(params)
 }
@@ -155,7 +155,7 @@ fn with_callback(
     }
 }
 
-fn callbacks_of(alloc: Global, has_maps: bool, forms: &[Form]) -> Result<Callbacks, FaultKind>
+fn read_callbacks(alloc: Global, has_maps: bool, forms: &[Form]) -> Result<Callbacks, FaultKind>
     ensures { Gives result (spec.callbacks_from has_maps spec.no_callbacks forms.now) }
 {
     let mut callbacks = Callbacks {
@@ -193,7 +193,7 @@ fn all_callbacks(callbacks: Callbacks) -> Option<AllCallbacks>
 fn whole_callbacks(alloc: Global, has_maps: bool, forms: &[Form]) -> Result<AllCallbacks, FaultKind>
     ensures { Gives result (spec.whole_callbacks has_maps forms.now) }
 {
-    all_callbacks(callbacks_of(alloc, has_maps, forms)?).ok_or(FaultKind::Missing)
+    all_callbacks(read_callbacks(alloc, has_maps, forms)?).ok_or(FaultKind::Missing)
 }
 
 /// Whether some item gives the type of the state: `(state ..)`.
@@ -269,7 +269,7 @@ fn has_op_room(items: &[Item]) -> bool
         < MAX_DECLARED
 }
 
-fn fun_of(
+fn read_function(
     alloc: Global,
     has_maps: bool,
     seen: &[Item],
@@ -280,13 +280,13 @@ fn fun_of(
         shape.now.result.now shape.now.body.now) }
 {
     let is_taken = has_fun(seen, shape.name);
-    let name = declared(
+    let name = copy_declared_name(
         alloc,
         is_unreserved_name(has_maps, shape.name),
         is_taken,
         shape.name,
     )?;
-    let params = params_of(alloc, has_maps, shape.params)?;
+    let params = read_parameters(alloc, has_maps, shape.params)?;
     let result = whole_ty(alloc, has_maps, shape.result)?;
     let body = whole_expr(alloc, has_maps, shape.body)?;
     Ok(Fun {
@@ -298,7 +298,7 @@ fn fun_of(
     })
 }
 
-fn op_parts(
+fn read_operation(
     alloc: Global,
     has_maps: bool,
     seen: &[Item],
@@ -309,8 +309,8 @@ fn op_parts(
         shape.now.result.now shape.now.callbacks.now) }
 {
     let is_taken = has_op(seen, shape.name);
-    let name = declared(alloc, is_name(shape.name), is_taken, shape.name)?;
-    let params = params_of(alloc, has_maps, shape.params)?;
+    let name = copy_declared_name(alloc, is_name(shape.name), is_taken, shape.name)?;
+    let params = read_parameters(alloc, has_maps, shape.params)?;
     let result = whole_ty(alloc, has_maps, shape.result)?;
     let AllCallbacks { pre, next, post } = whole_callbacks(alloc, has_maps, shape.callbacks)?;
     Ok(Op {
@@ -345,7 +345,7 @@ pub fn read_item(
         ItemShape::State(ty) => Ok(Item::State(whole_ty(alloc, has_maps, ty)?)),
         ItemShape::Init(value) => Ok(Item::Init(whole_expr(alloc, has_maps, value)?)),
         ItemShape::Command(calls) => Ok(Item::Command(whole_expr(alloc, has_maps, calls)?)),
-        ItemShape::Fun(shape) => Ok(Item::Fun(fun_of(alloc, has_maps, seen, &shape)?)),
-        ItemShape::Op(shape) => Ok(Item::Op(op_parts(alloc, has_maps, seen, &shape)?)),
+        ItemShape::Fun(shape) => Ok(Item::Fun(read_function(alloc, has_maps, seen, &shape)?)),
+        ItemShape::Op(shape) => Ok(Item::Op(read_operation(alloc, has_maps, seen, &shape)?)),
     }
 }

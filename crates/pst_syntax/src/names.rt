@@ -95,7 +95,7 @@ pub fn is_usable_operation_name(word: &Text) -> bool
 /// `BadName`: it is not valid. `DoubleName`: it is taken. `OverLimit`: it has more than `MAX_NAME` bytes.
 /// `NoMemory`: an allocation failed; the other faults do not allocate.
 #[tactic(auto, unfolding(crate::specs::Reading::declared))]
-pub fn declared(
+pub fn copy_declared_name(
     alloc: Global,
     is_lawful: bool,
     is_taken: bool,

@@ -12,7 +12,7 @@ ghost use Rattle.pst_syntax.specs.Shown.{shown, shown_ty, shown_clause};
 
 use crate::fault::FaultKind;
 use crate::limits::{MAX_PARTS, MAX_TY_LEVELS};
-use crate::names::{declared, is_unreserved_name, is_usable_operation_name};
+use crate::names::{copy_declared_name, is_unreserved_name, is_usable_operation_name};
 use crate::shape::{FoldShape, Shape, shape_of};
 use crate::ty_shapes::{ClauseShape, TyShape, clause_shape, ty_shape};
 use pst_model::{Clause, Expr};
@@ -24,7 +24,7 @@ use std::alloc::Global;
 fn read_bound_name(alloc: Global, has_maps: bool, name: &Text) -> Result<Text, FaultKind>
     ensures { Gives result (spec.bound has_maps name.now) }
 {
-    declared(alloc, is_unreserved_name(has_maps, name), false, name)
+    copy_declared_name(alloc, is_unreserved_name(has_maps, name), false, name)
 }
 
 /// A bound name beside another one.
@@ -37,7 +37,7 @@ fn read_distinct_bound_name(
     ensures { Gives result (spec.bound_beside has_maps other.now name.now) }
 {
     let is_taken = other.as_str() == name.as_str();
-    declared(alloc, is_unreserved_name(has_maps, name), is_taken, name)
+    copy_declared_name(alloc, is_unreserved_name(has_maps, name), is_taken, name)
 }
 
 /// The name of an operation at a use of it.
@@ -114,7 +114,7 @@ fn ty_parts(
             if types.len() > MAX_PARTS {
                 return Err(FaultKind::OverLimit);
             }
-            Ok(Ty::Tuple(tys(alloc, has_maps, types, room)?))
+            Ok(Ty::Tuple(read_types(alloc, has_maps, types, room)?))
         }
         TyShape::List(item) => Ok(Ty::List(boxed_ty(alloc, has_maps, item, room)?)),
         TyShape::Map(key, value) => Ok(Ty::Map(*key, boxed_ty(alloc, has_maps, value, room)?)),
@@ -130,7 +130,12 @@ fn boxed_ty(alloc: Global, has_maps: bool, form: &Form, room: usize) -> Result<B
 }
 
 #[cycle(read_ty)]
-fn tys(alloc: Global, has_maps: bool, forms: &[Form], room: usize) -> Result<Items<Ty>, FaultKind>
+fn read_types(
+    alloc: Global,
+    has_maps: bool,
+    forms: &[Form],
+    room: usize,
+) -> Result<Items<Ty>, FaultKind>
     ensures { Gives result (spec.each (spec.ty_of has_maps room) forms.now) }
 {
     let mut types = Items::new(alloc);
@@ -174,23 +179,31 @@ fn expr_parts(
         Shape::Let(name, value, body) => read_let(alloc, has_maps, name, value, body, room),
         Shape::If(test, yes, no) => read_if(alloc, has_maps, test, yes, no, room),
         Shape::And(a, b) => {
-            let a = boxed(alloc, has_maps, a, room)?;
-            Ok(Expr::And(a, boxed(alloc, has_maps, b, room)?))
+            let a = read_boxed_expression(alloc, has_maps, a, room)?;
+            Ok(Expr::And(a, read_boxed_expression(alloc, has_maps, b, room)?))
         }
         Shape::Or(a, b) => {
-            let a = boxed(alloc, has_maps, a, room)?;
-            Ok(Expr::Or(a, boxed(alloc, has_maps, b, room)?))
+            let a = read_boxed_expression(alloc, has_maps, a, room)?;
+            Ok(Expr::Or(a, read_boxed_expression(alloc, has_maps, b, room)?))
         }
-        Shape::Unary(operator, a) => Ok(Expr::Unary(*operator, boxed(alloc, has_maps, a, room)?)),
+        Shape::Unary(operator, a) => Ok(Expr::Unary(
+            *operator,
+            read_boxed_expression(alloc, has_maps, a, room)?,
+        )),
         Shape::Binary(operator, a, b) => {
-            let a = boxed(alloc, has_maps, a, room)?;
-            Ok(Expr::Binary(*operator, a, boxed(alloc, has_maps, b, room)?))
+            let a = read_boxed_expression(alloc, has_maps, a, room)?;
+            Ok(Expr::Binary(
+                *operator,
+                a,
+                read_boxed_expression(alloc, has_maps, b, room)?,
+            ))
         }
         Shape::Tuple(items) => read_tuple(alloc, has_maps, items, room),
         Shape::At(tuple, place) => {
-            build_tuple_item_expr(boxed(alloc, has_maps, tuple, room)?, place).ok_or(
-                FaultKind::OverLimit,
-            )
+            build_tuple_item_expr(
+                read_boxed_expression(alloc, has_maps, tuple, room)?,
+                place,
+            ).ok_or(FaultKind::OverLimit)
         }
         Shape::List(item, items) => read_list(alloc, has_maps, item, items, room),
         Shape::For(parts, body) => read_for(alloc, has_maps, parts, body, room),
@@ -202,16 +215,28 @@ fn expr_parts(
         Shape::Put(map, key, value) => read_put(alloc, has_maps, map, key, value, room),
         Shape::Call(operation, arguments) => {
             let operation = used_operation(alloc, operation)?;
-            Ok(Expr::Call(operation, exprs(alloc, has_maps, arguments, room)?))
+            Ok(Expr::Call(
+                operation,
+                read_expressions(alloc, has_maps, arguments, room)?,
+            ))
         }
         Shape::Apply(function, arguments) => {
-            application(alloc, function, exprs(alloc, has_maps, arguments, room)?)
+            application(
+                alloc,
+                function,
+                read_expressions(alloc, has_maps, arguments, room)?,
+            )
         }
     }
 }
 
 #[cycle(read_expr)]
-fn boxed(alloc: Global, has_maps: bool, form: &Form, room: usize) -> Result<Boxed<Expr>, FaultKind>
+fn read_boxed_expression(
+    alloc: Global,
+    has_maps: bool,
+    form: &Form,
+    room: usize,
+) -> Result<Boxed<Expr>, FaultKind>
     ensures { Gives result (spec.expr_of has_maps room form.now) }
 {
     Ok(Boxed::new(alloc, read_expr(alloc, has_maps, form, room)?)?)
@@ -227,7 +252,7 @@ fn read_tuple(alloc: Global, has_maps: bool, items: &[Form], room: usize) -> Res
     if items.len() > MAX_PARTS {
         return Err(FaultKind::OverLimit);
     }
-    Ok(Expr::Tuple(exprs(alloc, has_maps, items, room)?))
+    Ok(Expr::Tuple(read_expressions(alloc, has_maps, items, room)?))
 }
 
 /// A list of items of a type.
@@ -244,7 +269,7 @@ fn read_list(
         (ListOf item.now items.now)) }
 {
     let item = read_ty(alloc, has_maps, item, MAX_TY_LEVELS)?;
-    Ok(Expr::List(item, exprs(alloc, has_maps, items, room)?))
+    Ok(Expr::List(item, read_expressions(alloc, has_maps, items, room)?))
 }
 
 /// A body that sees a value under a name.
@@ -262,8 +287,12 @@ fn read_let(
         (Let name.now value.now body.now)) }
 {
     let name = read_bound_name(alloc, has_maps, name)?;
-    let value = boxed(alloc, has_maps, value, room)?;
-    Ok(Expr::Let(name, value, boxed(alloc, has_maps, body, room)?))
+    let value = read_boxed_expression(alloc, has_maps, value, room)?;
+    Ok(Expr::Let(
+        name,
+        value,
+        read_boxed_expression(alloc, has_maps, body, room)?,
+    ))
 }
 
 /// One of two expressions, by a test.
@@ -280,9 +309,9 @@ fn read_if(
         (spec.expr_parts has_maps (spec.ty_of has_maps ty_room) (spec.expr_of has_maps room)
         (If test.now yes.now no.now)) }
 {
-    let test = boxed(alloc, has_maps, test, room)?;
-    let yes = boxed(alloc, has_maps, yes, room)?;
-    Ok(Expr::If(test, yes, boxed(alloc, has_maps, no, room)?))
+    let test = read_boxed_expression(alloc, has_maps, test, room)?;
+    let yes = read_boxed_expression(alloc, has_maps, yes, room)?;
+    Ok(Expr::If(test, yes, read_boxed_expression(alloc, has_maps, no, room)?))
 }
 
 /// A comprehension.
@@ -302,7 +331,7 @@ fn read_for(
         return Err(FaultKind::OverLimit);
     }
     let clauses = read_clauses(alloc, has_maps, parts, room)?;
-    Ok(Expr::For(clauses, boxed(alloc, has_maps, body, room)?))
+    Ok(Expr::For(clauses, read_boxed_expression(alloc, has_maps, body, room)?))
 }
 
 /// A fold over a list.
@@ -319,15 +348,15 @@ fn read_fold(
         shape.now.body.now)) }
 {
     let name = read_bound_name(alloc, has_maps, shape.name)?;
-    let list = boxed(alloc, has_maps, shape.list, room)?;
+    let list = read_boxed_expression(alloc, has_maps, shape.list, room)?;
     let built = read_distinct_bound_name(alloc, has_maps, shape.name, shape.built)?;
-    let first = boxed(alloc, has_maps, shape.first, room)?;
+    let first = read_boxed_expression(alloc, has_maps, shape.first, room)?;
     Ok(Expr::Fold(
         name,
         list,
         built,
         first,
-        boxed(alloc, has_maps, shape.body, room)?,
+        read_boxed_expression(alloc, has_maps, shape.body, room)?,
     ))
 }
 
@@ -345,13 +374,17 @@ fn read_put(
         (spec.expr_parts has_maps (spec.ty_of has_maps ty_room) (spec.expr_of has_maps room)
         (Put map.now key.now value.now)) }
 {
-    let map = boxed(alloc, has_maps, map, room)?;
-    let key = boxed(alloc, has_maps, key, room)?;
-    Ok(Expr::Put(map, key, boxed(alloc, has_maps, value, room)?))
+    let map = read_boxed_expression(alloc, has_maps, map, room)?;
+    let key = read_boxed_expression(alloc, has_maps, key, room)?;
+    Ok(Expr::Put(
+        map,
+        key,
+        read_boxed_expression(alloc, has_maps, value, room)?,
+    ))
 }
 
 #[cycle(read_expr)]
-fn exprs(
+fn read_expressions(
     alloc: Global,
     has_maps: bool,
     forms: &[Form],

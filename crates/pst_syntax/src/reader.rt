@@ -7,18 +7,18 @@ ghost use Rattle.pst_syntax.specs.Items.{Answers, head_of_model, in_item, model_
 ghost use Rattle.pst_syntax.specs.declared.fault.FaultKind.{FaultKind};
 
 use crate::count::room_after;
-use crate::fault::{FaultKind, SyntaxFault, fault};
+use crate::fault::{FaultKind, SyntaxFault, syntax_fault_in_item};
 use crate::item_shapes::{ModelShape, model_shape};
 use crate::items::{has_command, has_init, has_state, read_item};
 use crate::limits::MAX_TREES;
 use crate::model::Model;
-use crate::names::{declared, is_name};
+use crate::names::{copy_declared_name, is_name};
 use pst_model::{Item, Source};
 use pst_sexpr::{Form, Tree};
 use pst_value::Items;
 use std::alloc::Global;
 
-fn items_of(alloc: Global, has_maps: bool, forms: &[Form]) -> Result<Items<Item>, SyntaxFault>
+fn read_items(alloc: Global, has_maps: bool, forms: &[Form]) -> Result<Items<Item>, SyntaxFault>
     ensures { Answers result (spec.items_from has_maps [] forms.now) }
 {
     let mut items = Items::new(alloc);
@@ -26,20 +26,20 @@ fn items_of(alloc: Global, has_maps: bool, forms: &[Form]) -> Result<Items<Item>
         let number = items.len() + 1;
         match read_item(alloc, has_maps, items.as_slice(), form) {
             Ok(item) => items.push(item)?,
-            Err(kind) => return Err(fault(kind, number)),
+            Err(kind) => return Err(syntax_fault_in_item(kind, number)),
         }
     }
     Ok(items)
 }
 
 /// The model that a tree spells.
-fn source_of(alloc: Global, form: &Form) -> Result<Source, SyntaxFault>
+fn read_source(alloc: Global, form: &Form) -> Result<Source, SyntaxFault>
     ensures answers { Answers result (model_of (form.now ∷ [])) }
     ensures head { (kind : FaultKind) →
         head_of_model (form.now ∷ []) ≡ Err kind → result ≡ Err (in_item 0 kind) }
 {
     if room_after(form, MAX_TREES).is_none() {
-        return Err(fault(FaultKind::OverLimit, 0));
+        return Err(syntax_fault_in_item(FaultKind::OverLimit, 0));
     }
     let Some(
         ModelShape {
@@ -49,18 +49,18 @@ fn source_of(alloc: Global, form: &Form) -> Result<Source, SyntaxFault>
         },
     ) = model_shape(form)
     else {
-        return Err(fault(FaultKind::UnknownForm, 0));
+        return Err(syntax_fault_in_item(FaultKind::UnknownForm, 0));
     };
-    let name = match declared(alloc, is_name(name), false, name) {
+    let name = match copy_declared_name(alloc, is_name(name), false, name) {
         Ok(name) => name,
-        Err(kind) => return Err(fault(kind, 0)),
+        Err(kind) => return Err(syntax_fault_in_item(kind, 0)),
     };
-    let items = items_of(alloc, has_maps, items)?;
+    let items = read_items(alloc, has_maps, items)?;
     if !(has_state(items.as_slice())
         && has_init(items.as_slice())
         && has_command(items.as_slice()))
     {
-        return Err(fault(FaultKind::Missing, 0));
+        return Err(syntax_fault_in_item(FaultKind::Missing, 0));
     }
     Ok(Source {
         has_maps,
@@ -88,8 +88,8 @@ pub fn read_model(alloc: Global, trees: &[Tree]) -> Result<Model, SyntaxFault>
         head_of_model trees.now ≡ Err kind → result ≡ Err (in_item 0 kind) }
 {
     let Some(tree) = trees.first() else {
-        return Err(fault(FaultKind::Missing, 0));
+        return Err(syntax_fault_in_item(FaultKind::Missing, 0));
     };
-    let source = source_of(alloc, tree.form())?;
+    let source = read_source(alloc, tree.form())?;
     Ok(Model::new(source))
 }

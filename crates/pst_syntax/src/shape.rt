@@ -135,7 +135,7 @@ fn fold_shape(parts: &[Form]) -> Option<Shape<'_>>
     }))
 }
 
-fn headed(head: Head, parts: &[Form]) -> Option<Shape<'_>>
+fn expression_shape_by_head(head: Head, parts: &[Form]) -> Option<Shape<'_>>
     ensures { shown_option result ≡ spec.headed head parts.now }
 {
     match (head, parts) {
@@ -165,7 +165,7 @@ fn node_shape(has_maps: bool, parts: &[Form]) -> Option<Shape<'_>>
     let (first, parts) = parts.split_first()?;
     let word = word_of(first)?;
     match head_of(has_maps, word.as_str()) {
-        Some(head) => headed(head, parts),
+        Some(head) => expression_shape_by_head(head, parts),
         None => if is_usable_name(has_maps, word) {
             Some(Shape::Apply(word, parts))
         } else {

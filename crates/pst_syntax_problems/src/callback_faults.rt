@@ -12,7 +12,7 @@ ghost use Rattle.pst_syntax.specs.ShownItems.{shown_callback_option};
 
 use crate::fault::Role;
 use crate::problem::path_to_part;
-use crate::telling::{Added, Faults, Walk, push_fault, push_fault_unless};
+use crate::telling::{AddingResult, FaultSearch, Faults, push_fault, push_fault_unless};
 use crate::whole_faults::add_single_expression_faults;
 use pst_sexpr::Form;
 use pst_syntax::{CallbackShape, FaultKind, callback_shape};
@@ -51,12 +51,12 @@ fn has_all_callbacks(seen: &[Option<CallbackShape<'_>>]) -> bool
 /// Adds the faults of the callback at `path`, after the callbacks `seen`.
 #[tactic(auto, using(crate::proofs::Keeping::keeping, crate::proofs::Seen::seen))]
 fn add_callback_faults(
-    walk: Walk,
+    walk: FaultSearch,
     faults: &mut Faults,
     seen: &[Option<CallbackShape<'_>>],
     path: &[usize],
     shape: &Option<CallbackShape<'_>>,
-) -> Added
+) -> AddingResult
     ensures { OnOk result (faults.new ≡ keep walk.limit faults.old
         (known_at path.now role.Callback (shown_callback_option shape.now)
         (spec.callback_faults_at walk.has_maps (callbacks_in seen.now) path.now))) }
@@ -95,11 +95,11 @@ fn add_callback_faults(
 /// Adds the faults of the callbacks of an operation, which are the parts from 4 on of the tree at `path`.
 #[tactic(auto, using(crate::proofs::Keeping::keeping))]
 pub fn add_callbacks_faults(
-    walk: Walk,
+    walk: FaultSearch,
     faults: &mut Faults,
     path: &[usize],
     forms: &[Form],
-) -> Added
+) -> AddingResult
     ensures { OnOk result (faults.new ≡ keep walk.limit faults.old
         (spec.callbacks_faults_at walk.has_maps [] path.now 4 forms.now)) }
 {

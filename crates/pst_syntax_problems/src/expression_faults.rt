@@ -11,11 +11,11 @@ ghost use Rattle.pst_syntax.specs.Shown.{shown};
 
 use crate::fault::Role;
 use crate::part_faults::{
-    add_bound_faults, add_map_faults, add_operation_name_faults, add_tuple_place_faults,
-    is_within_limits,
+    add_bound_name_faults, add_map_value_type_faults, add_operation_name_faults,
+    add_tuple_place_faults, is_expression_within_limits,
 };
 use crate::problem::path_to_part;
-use crate::telling::{Added, Faults, Walk, push_fault, push_fault_unless};
+use crate::telling::{AddingResult, FaultSearch, Faults, push_fault, push_fault_unless};
 use crate::type_faults::add_ty_part_faults;
 use pst_sexpr::Form;
 use pst_syntax::{ClauseShape, FaultKind, FoldShape, MAX_TY_LEVELS, Shape, clause_shape, shape_of};
@@ -25,12 +25,12 @@ use pst_value::Text;
 #[cycle(add_expr_faults)]
 #[tactic(auto, using(crate::proofs::Keeping::keeping, crate::proofs::Levels::expr_levels))]
 pub fn add_expr_faults(
-    walk: Walk,
+    walk: FaultSearch,
     faults: &mut Faults,
     path: &[usize],
     form: &Form,
     room: usize,
-) -> Added
+) -> AddingResult
     ensures { OnOk result (faults.new ≡ keep walk.limit faults.old
         (expr_faults_at walk.has_maps room role.Expression path.now form.now)) }
 {
@@ -51,22 +51,22 @@ pub fn add_expr_faults(
         faults,
         path,
         Role::Expression,
-        is_within_limits(&shape),
+        is_expression_within_limits(&shape),
         FaultKind::OverLimit,
     )?;
-    add_expr_parts_faults(walk, faults, path, &shape, room - 1)?;
+    add_expr_shape_faults(walk, faults, path, &shape, room - 1)?;
     Ok(())
 }
 
 #[cycle(add_expr_faults)]
 #[tactic(auto, using(crate::proofs::Keeping::keeping))]
-fn add_expr_parts_faults(
-    walk: Walk,
+fn add_expr_shape_faults(
+    walk: FaultSearch,
     faults: &mut Faults,
     path: &[usize],
     shape: &Shape<'_>,
     room: usize,
-) -> Added
+) -> AddingResult
     ensures { OnOk result (faults.new ≡ keep walk.limit faults.old
         (all_at (spec.spot_in walk.has_maps (expr_faults_at walk.has_maps room))
         (spec.spots walk.has_maps path.now (shown shape.now)))) }
@@ -82,27 +82,29 @@ fn add_expr_parts_faults(
         Shape::Or(a, b) => add_binary_faults(walk, faults, path, a, b, room),
         Shape::Binary(_, a, b) => add_binary_faults(walk, faults, path, a, b, room),
         Shape::Unary(_, a) => add_unary_faults(walk, faults, path, a, room),
-        Shape::Tuple(items) => add_exprs_faults(walk, faults, path, 1, items, room),
+        Shape::Tuple(items) => add_faults_of_exprs_from_part(walk, faults, path, 1, items, room),
         Shape::At(tuple, number) => add_tuple_item_faults(walk, faults, path, tuple, number, room),
         Shape::List(item, items) => add_list_faults(walk, faults, path, item, items, room),
         Shape::For(parts, body) => add_for_faults(walk, faults, path, parts, body, room),
         Shape::Fold(shape) => add_fold_faults(walk, faults, path, shape, room),
-        Shape::Map(_, value) => add_map_faults(walk, faults, path, value),
+        Shape::Map(_, value) => add_map_value_type_faults(walk, faults, path, value),
         Shape::Call(name, arguments) => add_call_faults(walk, faults, path, name, arguments, room),
-        Shape::Apply(_, arguments) => add_exprs_faults(walk, faults, path, 1, arguments, room),
+        Shape::Apply(_, arguments) => add_faults_of_exprs_from_part(
+            walk, faults, path, 1, arguments, room,
+        ),
     }
 }
 
 /// Adds the faults of an expression that is part `number` of the tree at `path`.
 #[cycle(add_expr_faults)]
 pub fn add_expr_part_faults(
-    walk: Walk,
+    walk: FaultSearch,
     faults: &mut Faults,
     path: &[usize],
     number: usize,
     form: &Form,
     room: usize,
-) -> Added
+) -> AddingResult
     ensures { OnOk result (faults.new ≡ keep walk.limit faults.old
         (expr_faults_at walk.has_maps room role.Expression (spec.below path.now number) form.now)) }
 {
@@ -113,7 +115,13 @@ pub fn add_expr_part_faults(
 /// Adds the faults of an expression that is part 1 of the tree at `path`.
 #[cycle(add_expr_faults)]
 #[tactic(auto, using(crate::proofs::Keeping::keeping))]
-fn add_unary_faults(walk: Walk, faults: &mut Faults, path: &[usize], a: &Form, room: usize) -> Added
+fn add_unary_faults(
+    walk: FaultSearch,
+    faults: &mut Faults,
+    path: &[usize],
+    a: &Form,
+    room: usize,
+) -> AddingResult
     ensures { OnOk result (faults.new ≡ keep walk.limit faults.old
         (all_at (spec.spot_in walk.has_maps (expr_faults_at walk.has_maps room))
         (spots_from path.now 1 (Expression a.now ∷ [])))) }
@@ -126,13 +134,13 @@ fn add_unary_faults(walk: Walk, faults: &mut Faults, path: &[usize], a: &Form, r
 #[cycle(add_expr_faults)]
 #[tactic(auto, using(crate::proofs::Keeping::keeping))]
 fn add_binary_faults(
-    walk: Walk,
+    walk: FaultSearch,
     faults: &mut Faults,
     path: &[usize],
     a: &Form,
     b: &Form,
     room: usize,
-) -> Added
+) -> AddingResult
     ensures { OnOk result (faults.new ≡ keep walk.limit faults.old
         (all_at (spec.spot_in walk.has_maps (expr_faults_at walk.has_maps room))
         (spots_from path.now 1 (Expression a.now ∷ Expression b.now ∷ [])))) }
@@ -146,14 +154,14 @@ fn add_binary_faults(
 #[cycle(add_expr_faults)]
 #[tactic(auto, using(crate::proofs::Keeping::keeping))]
 fn add_ternary_faults(
-    walk: Walk,
+    walk: FaultSearch,
     faults: &mut Faults,
     path: &[usize],
     a: &Form,
     b: &Form,
     c: &Form,
     room: usize,
-) -> Added
+) -> AddingResult
     ensures { OnOk result (faults.new ≡ keep walk.limit faults.old
         (all_at (spec.spot_in walk.has_maps (expr_faults_at walk.has_maps room))
         (spots_from path.now 1 (Expression a.now ∷ Expression b.now ∷ Expression c.now ∷ [])))) }
@@ -168,19 +176,19 @@ fn add_ternary_faults(
 #[cycle(add_expr_faults)]
 #[tactic(auto, using(crate::proofs::Keeping::keeping))]
 fn add_let_faults(
-    walk: Walk,
+    walk: FaultSearch,
     faults: &mut Faults,
     path: &[usize],
     name: &Text,
     value: &Form,
     body: &Form,
     room: usize,
-) -> Added
+) -> AddingResult
     ensures { OnOk result (faults.new ≡ keep walk.limit faults.old
         (all_at (spec.spot_in walk.has_maps (expr_faults_at walk.has_maps room))
         (spec.spots walk.has_maps path.now (Let name.now value.now body.now)))) }
 {
-    add_bound_faults(walk, faults, path, 1, false, name)?;
+    add_bound_name_faults(walk, faults, path, 1, false, name)?;
     add_expr_part_faults(walk, faults, path, 2, value, room)?;
     add_expr_part_faults(walk, faults, path, 3, body, room)?;
     Ok(())
@@ -190,13 +198,13 @@ fn add_let_faults(
 #[cycle(add_expr_faults)]
 #[tactic(auto, using(crate::proofs::Keeping::keeping))]
 fn add_tuple_item_faults(
-    walk: Walk,
+    walk: FaultSearch,
     faults: &mut Faults,
     path: &[usize],
     tuple: &Form,
     number: &Text,
     room: usize,
-) -> Added
+) -> AddingResult
     ensures { OnOk result (faults.new ≡ keep walk.limit faults.old
         (all_at (spec.spot_in walk.has_maps (expr_faults_at walk.has_maps room))
         (spec.spots walk.has_maps path.now (At tuple.now number.now)))) }
@@ -210,19 +218,19 @@ fn add_tuple_item_faults(
 #[cycle(add_expr_faults)]
 #[tactic(auto, using(crate::proofs::Keeping::keeping))]
 fn add_list_faults(
-    walk: Walk,
+    walk: FaultSearch,
     faults: &mut Faults,
     path: &[usize],
     item: &Form,
     items: &[Form],
     room: usize,
-) -> Added
+) -> AddingResult
     ensures { OnOk result (faults.new ≡ keep walk.limit faults.old
         (all_at (spec.spot_in walk.has_maps (expr_faults_at walk.has_maps room))
         (spec.spots walk.has_maps path.now (ListOf item.now items.now)))) }
 {
     add_ty_part_faults(walk, faults, Role::ItemType, path, 1, item, MAX_TY_LEVELS)?;
-    add_exprs_faults(walk, faults, path, 2, items, room)?;
+    add_faults_of_exprs_from_part(walk, faults, path, 2, items, room)?;
     Ok(())
 }
 
@@ -230,13 +238,13 @@ fn add_list_faults(
 #[cycle(add_expr_faults)]
 #[tactic(auto, using(crate::proofs::Keeping::keeping))]
 fn add_for_faults(
-    walk: Walk,
+    walk: FaultSearch,
     faults: &mut Faults,
     path: &[usize],
     parts: &[Form],
     body: &Form,
     room: usize,
-) -> Added
+) -> AddingResult
     ensures { OnOk result (faults.new ≡ keep walk.limit faults.old
         (all_at (spec.spot_in walk.has_maps (expr_faults_at walk.has_maps room))
         (spec.spots walk.has_maps path.now (For parts.now body.now)))) }
@@ -250,33 +258,33 @@ fn add_for_faults(
 #[cycle(add_expr_faults)]
 #[tactic(auto, using(crate::proofs::Keeping::keeping))]
 fn add_call_faults(
-    walk: Walk,
+    walk: FaultSearch,
     faults: &mut Faults,
     path: &[usize],
     name: &Text,
     arguments: &[Form],
     room: usize,
-) -> Added
+) -> AddingResult
     ensures { OnOk result (faults.new ≡ keep walk.limit faults.old
         (all_at (spec.spot_in walk.has_maps (expr_faults_at walk.has_maps room))
         (spec.spots walk.has_maps path.now (Call name.now arguments.now)))) }
 {
     add_operation_name_faults(walk, faults, path, name)?;
-    add_exprs_faults(walk, faults, path, 2, arguments, room)?;
+    add_faults_of_exprs_from_part(walk, faults, path, 2, arguments, room)?;
     Ok(())
 }
 
 /// Adds the faults of expressions that are the parts from `from` on of the tree at `path`.
 #[cycle(add_expr_faults)]
 #[tactic(auto, using(crate::proofs::Keeping::keeping))]
-fn add_exprs_faults(
-    walk: Walk,
+fn add_faults_of_exprs_from_part(
+    walk: FaultSearch,
     faults: &mut Faults,
     path: &[usize],
     from: usize,
     forms: &[Form],
     room: usize,
-) -> Added
+) -> AddingResult
     requires { from ≤ 2 }
     ensures { OnOk result (faults.new ≡ keep walk.limit faults.old
         (all_at (spec.spot_in walk.has_maps (expr_faults_at walk.has_maps room))
@@ -294,22 +302,22 @@ fn add_exprs_faults(
 #[cycle(add_expr_faults)]
 #[tactic(auto, using(crate::proofs::Keeping::keeping))]
 fn add_fold_faults(
-    walk: Walk,
+    walk: FaultSearch,
     faults: &mut Faults,
     path: &[usize],
     shape: &FoldShape<'_>,
     room: usize,
-) -> Added
+) -> AddingResult
     ensures { OnOk result (faults.new ≡ keep walk.limit faults.old
         (all_at (spec.spot_in walk.has_maps (expr_faults_at walk.has_maps room))
         (spec.spots walk.has_maps path.now
         (Fold shape.now.name.now shape.now.list.now shape.now.built.now shape.now.first.now
         shape.now.body.now)))) }
 {
-    add_bound_faults(walk, faults, path, 1, false, shape.name)?;
+    add_bound_name_faults(walk, faults, path, 1, false, shape.name)?;
     add_expr_part_faults(walk, faults, path, 2, shape.list, room)?;
     let is_taken = shape.name.as_str() == shape.built.as_str();
-    add_bound_faults(walk, faults, path, 3, is_taken, shape.built)?;
+    add_bound_name_faults(walk, faults, path, 3, is_taken, shape.built)?;
     add_expr_part_faults(walk, faults, path, 4, shape.first, room)?;
     add_expr_part_faults(walk, faults, path, 5, shape.body, room)?;
     Ok(())
@@ -319,12 +327,12 @@ fn add_fold_faults(
 #[cycle(add_expr_faults)]
 #[tactic(auto, using(crate::proofs::Keeping::keeping))]
 fn add_clauses_faults(
-    walk: Walk,
+    walk: FaultSearch,
     faults: &mut Faults,
     path: &[usize],
     forms: &[Form],
     room: usize,
-) -> Added
+) -> AddingResult
     ensures { OnOk result (faults.new ≡ keep walk.limit faults.old
         (all_at (spec.spot_in walk.has_maps (expr_faults_at walk.has_maps room))
         (spots_from (spec.below path.now 1) 0 (map Clause forms.now)))) }
@@ -342,13 +350,13 @@ fn add_clauses_faults(
 #[cycle(add_expr_faults)]
 #[tactic(auto, using(crate::proofs::Keeping::keeping))]
 fn add_clause_faults(
-    walk: Walk,
+    walk: FaultSearch,
     faults: &mut Faults,
     path: &[usize],
     number: usize,
     form: &Form,
     room: usize,
-) -> Added
+) -> AddingResult
     ensures { OnOk result (faults.new ≡ keep walk.limit faults.old
         (spec.clause_faults_at walk.has_maps (expr_faults_at walk.has_maps room) role.Clause
         (spec.below path.now number) form.now)) }
@@ -357,7 +365,7 @@ fn add_clause_faults(
     let path = path.as_slice();
     match clause_shape(form) {
         Some(ClauseShape::In(name, list)) => {
-            add_bound_faults(walk, faults, path, 1, false, name)?;
+            add_bound_name_faults(walk, faults, path, 1, false, name)?;
             add_expr_part_faults(walk, faults, path, 2, list, room)?;
             Ok(())
         }

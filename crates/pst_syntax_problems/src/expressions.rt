@@ -1,14 +1,16 @@
 //! What messages say of refused expressions.
 
-use crate::forms::{HeadedForm, expression_form, hint_for_foreign_word, nearest_head, type_form};
+use crate::forms::{
+    HeadedForm, expression_form, hint_for_foreign_word, nearest_expression_head_hint, type_form,
+};
 use crate::found_problem::{
-    FoundProblem, foreign_word_problem, missing_name_problem, missing_operation_problem,
-    problem_at, problem_at_part, problem_with_note, problem_with_note_at_part, with_note,
-    with_quotes_hint,
+    FoundProblem, missing_name_problem, missing_operation_name_problem, problem_at,
+    problem_at_part, problem_with_hint_if_foreign_word, problem_with_note,
+    problem_with_note_at_part, with_note, with_quotes_hint,
 };
 use crate::problem::path_to_part;
-use crate::tree::head_of;
-use crate::writing::counted;
+use crate::tree::head_word_of_node;
+use crate::writing::counted_noun;
 use pst_sexpr::{Form, is_integer, word_of};
 use pst_syntax::{FaultKind, MAX_PARTS};
 use pst_value::{LIMIT, Text};
@@ -16,27 +18,28 @@ use std::alloc::Global;
 use std::fmt;
 
 /// Whether a word is `true`, `false`, the state or the result.
-fn is_value(name: &str) -> bool {
+fn is_bool_state_or_result_word(name: &str) -> bool {
     matches!(name, "true" | "false" | "s" | "r")
 }
 
 /// Whether a tree that has to be a type spells a value, or has one in it.
 #[cycle(spells_value)]
-pub fn spells_value(has_maps: bool, form: &Form) -> bool {
+pub fn type_tree_contains_value(has_maps: bool, form: &Form) -> bool {
     match form {
-        Form::Word(word) => is_value(word.as_str()) || is_integer(word),
+        Form::Word(word) => is_bool_state_or_result_word(word.as_str()) || is_integer(word),
         Form::Text(_) => true,
         Form::Node(parts) => {
-            heads_expression(has_maps, form) || any_spells_value(has_maps, parts.as_slice())
+            has_head_of_expressions_only(has_maps, form)
+                || any_type_tree_contains_value(has_maps, parts.as_slice())
         }
     }
 }
 
 /// Whether one of the trees spells a value, or has one in it.
 #[cycle(spells_value)]
-fn any_spells_value(has_maps: bool, forms: &[Form]) -> bool {
+fn any_type_tree_contains_value(has_maps: bool, forms: &[Form]) -> bool {
     for form in forms {
-        if spells_value(has_maps, form) {
+        if type_tree_contains_value(has_maps, form) {
             return true;
         }
     }
@@ -44,8 +47,8 @@ fn any_spells_value(has_maps: bool, forms: &[Form]) -> bool {
 }
 
 /// Whether the head of a tree heads expressions and no types.
-fn heads_expression(has_maps: bool, form: &Form) -> bool {
-    match head_of(form) {
+fn has_head_of_expressions_only(has_maps: bool, form: &Form) -> bool {
+    match head_word_of_node(form) {
         Some(head) => {
             let head = head.as_str();
             type_form(head).is_none() && expression_form(has_maps, head).is_some()
@@ -55,7 +58,7 @@ fn heads_expression(has_maps: bool, form: &Form) -> bool {
 }
 
 /// The problem of a word that is no expression.
-fn unknown_word_problem(
+fn unknown_expression_word_problem(
     alloc: Global,
     has_maps: bool,
     path: &[usize],
@@ -71,18 +74,18 @@ fn unknown_word_problem(
         );
     }
     let what = format_args!("`{name}` is neither an integer nor a name");
-    let found = foreign_word_problem(alloc, path, name, what)?;
+    let found = problem_with_hint_if_foreign_word(alloc, path, name, what)?;
     with_quotes_hint(alloc, found, name)
 }
 
 /// How a form is written, or what to write in the place of one with `parts` parts.
 #[derive(Clone, Copy, Drop)]
-struct Written {
+struct PartCountNote {
     form: HeadedForm,
     parts: usize,
 }
 
-impl fmt::Display for Written {
+impl fmt::Display for PartCountNote {
     fn fmt<W: fmt::Write>(&self, f: &mut fmt::Formatter<W>) -> fmt::Result {
         let word = self.form.word;
         match word {
@@ -114,7 +117,7 @@ pub fn part_count_problem(
     parts: usize,
 ) -> FoundProblem {
     let word = form.word;
-    let takes = counted(form.least, "part");
+    let takes = counted_noun(form.least, "part");
     let least = if form.least == form.most {
         ""
     } else {
@@ -124,12 +127,12 @@ pub fn part_count_problem(
         alloc,
         path,
         format_args!("`{word}` takes {least}{takes}, here it has {parts}"),
-        Written { form, parts },
+        PartCountNote { form, parts },
     )
 }
 
 /// A hint for a word that heads no expression, if it heads a clause or is a word of another language.
-fn other_hint(name: &str) -> Option<&'static str> {
+fn hint_for_non_expression_head(name: &str) -> Option<&'static str> {
     match name {
         "in" | "when" => Some("clauses are in `(for (CLAUSE ..) BODY)`"),
         _ => hint_for_foreign_word(name),
@@ -137,7 +140,7 @@ fn other_hint(name: &str) -> Option<&'static str> {
 }
 
 /// The problem of a node whose first tree heads no form and is no name of a function.
-fn unknown_head_problem(
+fn unknown_expression_head_problem(
     alloc: Global,
     has_maps: bool,
     path: &[usize],
@@ -145,10 +148,10 @@ fn unknown_head_problem(
 ) -> FoundProblem {
     let name = word.as_str();
     let what = format_args!("no expression begins with `{name}`");
-    if let Some(hint) = other_hint(name) {
+    if let Some(hint) = hint_for_non_expression_head(name) {
         return problem_with_note_at_part(alloc, path, 0, what, format_args!("hint: {hint}"));
     }
-    match nearest_head(alloc, has_maps, name)? {
+    match nearest_expression_head_hint(alloc, has_maps, name)? {
         Some(hint) => problem_with_note_at_part(alloc, path, 0, what, hint),
         None => problem_at_part(alloc, path, 0, what),
     }
@@ -179,7 +182,7 @@ pub fn tuple_place_problem(alloc: Global, path: &[usize], place: &Form) -> Found
 }
 
 /// The problem of a tree that is no type of the keys of a map. `path` leads to it.
-pub fn map_keys_problem(alloc: Global, path: &[usize]) -> FoundProblem {
+pub fn bad_map_key_type_problem(alloc: Global, path: &[usize]) -> FoundProblem {
     problem_at(alloc, path, "the keys of a map are `int`, `bool` or `text`")
 }
 
@@ -207,11 +210,14 @@ fn wrong_part_problem(alloc: Global, path: &[usize], word: &str, parts: &[Form])
         ),
         ("map", _) => with_note(
             alloc,
-            map_keys_problem(alloc, path_to_part(path, alloc, 1)?.as_slice())?,
+            bad_map_key_type_problem(alloc, path_to_part(path, alloc, 1)?.as_slice())?,
             MAP_ENTRIES,
         ),
         ("for", _) => clause_list_problem(alloc, path_to_part(path, alloc, 1)?.as_slice()),
-        ("call", _) => missing_operation_problem(alloc, path_to_part(path, alloc, 1)?.as_slice()),
+        ("call", _) => missing_operation_name_problem(
+            alloc,
+            path_to_part(path, alloc, 1)?.as_slice(),
+        ),
         ("fold", [Form::Word(_), ..]) => missing_name_problem(
             alloc,
             path_to_part(path, alloc, 3)?.as_slice(),
@@ -221,7 +227,7 @@ fn wrong_part_problem(alloc: Global, path: &[usize], word: &str, parts: &[Form])
 }
 
 /// The problem of a node with the head `word` and the parts `parts` after it, which is no expression.
-fn node_problem(
+fn malformed_expression_node_problem(
     alloc: Global,
     has_maps: bool,
     path: &[usize],
@@ -239,13 +245,13 @@ fn node_problem(
             }
         }
         Some(_) => wrong_part_problem(alloc, path, head, parts),
-        None if is_value(head) || is_integer(word) => value_as_head_problem(
+        None if is_bool_state_or_result_word(head) || is_integer(word) => value_as_head_problem(
             alloc,
             path,
             word,
             parts.len(),
         ),
-        None => unknown_head_problem(alloc, has_maps, path, word),
+        None => unknown_expression_head_problem(alloc, has_maps, path, word),
     }
 }
 
@@ -257,7 +263,7 @@ fn not_an_expression_problem(
     form: &Form,
 ) -> FoundProblem {
     let parts = match form {
-        Form::Word(word) => return unknown_word_problem(alloc, has_maps, path, word),
+        Form::Word(word) => return unknown_expression_word_problem(alloc, has_maps, path, word),
         Form::Text(_) => &[],
         Form::Node(parts) => parts.as_slice(),
     };
@@ -265,33 +271,37 @@ fn not_an_expression_problem(
         return problem_at(alloc, path, "`()` is not an expression");
     };
     match word_of(first) {
-        Some(word) => node_problem(alloc, has_maps, path, word, parts),
+        Some(word) => malformed_expression_node_problem(alloc, has_maps, path, word, parts),
         None => problem_at(alloc, path, "an expression in brackets begins with a word"),
     }
 }
 
 /// The problem of a comprehension or a tuple with too many parts. `path` leads to it.
-fn too_many_parts_problem(alloc: Global, path: &[usize], parts: &[Form]) -> FoundProblem {
+fn too_many_clauses_or_items_problem(
+    alloc: Global,
+    path: &[usize],
+    parts: &[Form],
+) -> FoundProblem {
     match parts {
         [Form::Word(word), Form::Node(clauses), _] if word.as_str() == "for" => {
             let number = clauses.len();
             let what = format_args!("the comprehension has {number} clauses, at most {MAX_PARTS}");
             problem_at_part(alloc, path, 1, what)
         }
-        _ => too_many_items_problem(alloc, path, parts),
+        _ => too_many_tuple_items_problem(alloc, path, parts),
     }
 }
 
 /// The problem of a tuple, or of the type of tuples, with too many items. `parts` are its parts, its head
 /// among them.
-pub fn too_many_items_problem(alloc: Global, path: &[usize], parts: &[Form]) -> FoundProblem {
+pub fn too_many_tuple_items_problem(alloc: Global, path: &[usize], parts: &[Form]) -> FoundProblem {
     let number = parts.len().saturating_sub(1);
     let what = format_args!("the tuple has {number} items, at most {MAX_PARTS}");
     problem_at(alloc, path, what)
 }
 
 /// The problem of an expression that passes a limit, apart from that of its depth.
-fn large_expression_problem(alloc: Global, path: &[usize], form: &Form) -> FoundProblem {
+fn expression_over_limit_problem(alloc: Global, path: &[usize], form: &Form) -> FoundProblem {
     match form {
         Form::Word(word) => {
             let name = word.as_str();
@@ -306,7 +316,7 @@ fn large_expression_problem(alloc: Global, path: &[usize], form: &Form) -> Found
             let what = format_args!("the text has {length} bytes, at most {LIMIT}");
             problem_at(alloc, path, what)
         }
-        Form::Node(parts) => too_many_parts_problem(alloc, path, parts.as_slice()),
+        Form::Node(parts) => too_many_clauses_or_items_problem(alloc, path, parts.as_slice()),
     }
 }
 
@@ -319,7 +329,7 @@ pub fn expression_problem(
     kind: FaultKind,
 ) -> FoundProblem {
     match kind {
-        FaultKind::OverLimit => large_expression_problem(alloc, path, form),
+        FaultKind::OverLimit => expression_over_limit_problem(alloc, path, form),
         _ => not_an_expression_problem(alloc, has_maps, path, form),
     }
 }

@@ -1,6 +1,6 @@
 //! The forms of expressions, for messages: how many parts they take, and how they are written.
 
-use crate::names::{DidYouMean, NearestName};
+use crate::names::{DidYouMean, NearestNameSoFar};
 use std::alloc::{AllocError, Global};
 
 /// A form: its head word, the least and the greatest number of parts, and how it is written.
@@ -74,7 +74,7 @@ const TYPES: [HeadedForm; 4] = [
 ];
 
 /// Words of other languages, and what is written in their place.
-const FOREIGN: [(&str, &str); 123] = [
+const FOREIGN: [(&str, &str); 126] = [
     (">", "write `(< b a)` for `(> a b)`"),
     (">=", "write `(<= b a)` for `(>= a b)`"),
     ("!=", "write `(not (= a b))`"),
@@ -120,6 +120,9 @@ const FOREIGN: [(&str, &str); 123] = [
     ("head", "write `(nth a 0)`"),
     ("first", "write `(nth a 0)`"),
     ("car", "write `(nth a 0)`"),
+    ("rest", "write `(for ((in i (range 1 (len a)))) (nth a i))`"),
+    ("tail", "write `(for ((in i (range 1 (len a)))) (nth a i))`"),
+    ("cdr", "write `(for ((in i (range 1 (len a)))) (nth a i))`"),
     ("filter", "write `(for ((in x a) (when TEST)) x)`"),
     ("foldl", "write `(fold x LIST acc FIRST BODY)`"),
     ("foldr", "write `(fold x LIST acc FIRST BODY)`"),
@@ -283,7 +286,7 @@ pub fn is_head_of_map_form(word: &str) -> bool {
 }
 
 /// Whether a word heads a form, a clause or a type.
-pub fn is_head(has_maps: bool, word: &str) -> bool {
+pub fn is_known_head_word(has_maps: bool, word: &str) -> bool {
     expression_form(has_maps, word).is_some() || word == "ref" || word == "in" || word == "when"
 }
 
@@ -306,12 +309,12 @@ pub fn hint_for_foreign_word(word: &str) -> Option<&'static str> {
 }
 
 /// The nearest to `name` among the head words of `rows`, or `nearer` if none of them is nearer.
-fn nearest_of(
+fn nearer_head_word(
     alloc: Global,
     rows: &'static [HeadedForm],
     name: &str,
-    nearer: NearestName<'static>,
-) -> Result<NearestName<'static>, AllocError> {
+    nearer: NearestNameSoFar<'static>,
+) -> Result<NearestNameSoFar<'static>, AllocError> {
     let mut near = nearer;
     for row in rows {
         near = near.or(alloc, row.word, name)?;
@@ -320,14 +323,19 @@ fn nearest_of(
 }
 
 /// The head word of expressions that is probably meant by `name`, as a hint.
-pub fn nearest_head(
+pub fn nearest_expression_head_hint(
     alloc: Global,
     has_maps: bool,
     name: &str,
 ) -> Result<Option<DidYouMean<'static>>, AllocError> {
-    let near = nearest_of(alloc, EXPRESSIONS.as_slice(), name, NearestName::to(name))?;
+    let near = nearer_head_word(
+        alloc,
+        EXPRESSIONS.as_slice(),
+        name,
+        NearestNameSoFar::to(name),
+    )?;
     let near = if has_maps {
-        nearest_of(alloc, MAPS.as_slice(), name, near)?
+        nearer_head_word(alloc, MAPS.as_slice(), name, near)?
     } else {
         near
     };

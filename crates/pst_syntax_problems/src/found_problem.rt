@@ -11,7 +11,7 @@ use std::fmt::Display;
 pub type FoundProblem = Result<Option<Problem>, AllocError>;
 
 /// Adds `problem` to `problems`, if there is one.
-pub fn push_problem(
+pub fn push_problem_if_any(
     problems: &mut Vec<Problem>,
     problem: Option<Problem>,
 ) -> Result<(), AllocError> {
@@ -72,7 +72,7 @@ pub fn problem_with_note_at_part<D: Display + Drop, N: Display + Drop>(
 }
 
 /// A problem at `word`, with a hint on what to write instead if it is a word of another language.
-pub fn foreign_word_problem<D: Display + Drop>(
+pub fn problem_with_hint_if_foreign_word<D: Display + Drop>(
     alloc: Global,
     path: &[usize],
     word: &str,
@@ -85,13 +85,13 @@ pub fn foreign_word_problem<D: Display + Drop>(
 }
 
 /// What is in the single quotes around a word, if they are around it.
-pub fn in_single_quotes(word: &str) -> Option<&str> {
+pub fn strip_single_quotes(word: &str) -> Option<&str> {
     word.strip_prefix("'")?.strip_suffix("'")
 }
 
 /// The problem `found` of `word`, with a hint if the word begins a text in single quotes.
 pub fn with_quotes_hint(alloc: Global, found: Option<Problem>, word: &str) -> FoundProblem {
-    if let Some(text) = in_single_quotes(word) {
+    if let Some(text) = strip_single_quotes(word) {
         let hint = format_args!("hint: a text is in double quotes: `\"{text}\"`");
         return with_note(alloc, found, hint);
     }
@@ -102,7 +102,7 @@ pub fn with_quotes_hint(alloc: Global, found: Option<Problem>, word: &str) -> Fo
 }
 
 /// Whether a name may have `byte` after its first byte.
-fn is_in_names(byte: u8) -> bool {
+fn is_inner_name_byte(byte: u8) -> bool {
     byte.is_ascii_alphanumeric() || byte == b'_' || byte == b'-'
 }
 
@@ -110,7 +110,8 @@ fn is_in_names(byte: u8) -> bool {
 pub fn is_capitalized_name(word: &str) -> bool {
     let bytes = word.as_bytes();
     match bytes.first() {
-        Some(first) => first.is_ascii_uppercase() && bytes.iter().all(|byte| is_in_names(*byte)),
+        Some(first) => first.is_ascii_uppercase()
+            && bytes.iter().all(|byte| is_inner_name_byte(*byte)),
         None => false,
     }
 }
@@ -159,6 +160,6 @@ pub fn missing_name_problem(alloc: Global, path: &[usize]) -> FoundProblem {
 }
 
 /// The problem of a tree that is no name where an operation is named.
-pub fn missing_operation_problem(alloc: Global, path: &[usize]) -> FoundProblem {
+pub fn missing_operation_name_problem(alloc: Global, path: &[usize]) -> FoundProblem {
     problem_at(alloc, path, "expected the name of an operation here")
 }

@@ -1,6 +1,6 @@
 //! What other languages write in the place of expressions: operators between their operands, and assignments.
 
-use crate::writing::short_text;
+use crate::writing::shortened_tree_text;
 use pst_sexpr::{Form, word_of};
 use std::alloc::{AllocError, Global};
 
@@ -33,7 +33,7 @@ pub fn is_operator(word: &str) -> bool {
 }
 
 /// The rank of an operator: those of rank 0 are applied first.
-fn rank_of(operator: &str) -> usize {
+fn precedence_rank_of_operator(operator: &str) -> usize {
     match operator {
         "*" | "/" | "%" | "div" | "rem" => 0,
         "+" | "-" | "++" => 1,
@@ -63,21 +63,24 @@ fn application_text(
 
 /// An operand and the operator before it. The first operand has an empty word before it.
 #[derive(Drop)]
-struct Link<'a> {
+struct OperandAfterOperator<'a> {
     operator: &'a str,
     operand: String,
 }
 
 /// The operands among `parts`, each with the operator before it. `None` unless every second tree is a word, and the last
 /// tree an operand.
-fn links_of<'a>(alloc: Global, parts: &'a [Form]) -> Result<Option<Vec<Link<'a>>>, AllocError> {
+fn operands_with_operators_before<'a>(
+    alloc: Global,
+    parts: &'a [Form],
+) -> Result<Option<Vec<OperandAfterOperator<'a>>>, AllocError> {
     let mut links = Vec::new(alloc);
     let mut operator = "";
     let mut is_operand = true;
     for part in parts {
         if is_operand {
-            let operand = short_text(alloc, part)?;
-            links.push(Link { operator, operand })?;
+            let operand = shortened_tree_text(alloc, part)?;
+            links.push(OperandAfterOperator { operator, operand })?;
         } else if let Some(word) = word_of(part) {
             operator = word.as_str();
         } else {
@@ -93,17 +96,17 @@ fn links_of<'a>(alloc: Global, parts: &'a [Form]) -> Result<Option<Vec<Link<'a>>
 }
 
 /// The operand that the operator of `right` makes of the operand of `left` and its own.
-fn joined<'a>(
+fn link_after_applying_operator<'a>(
     alloc: Global,
-    left: Option<Link<'a>>,
-    right: Link<'a>,
-) -> Result<Option<Link<'a>>, AllocError> {
+    left: Option<OperandAfterOperator<'a>>,
+    right: OperandAfterOperator<'a>,
+) -> Result<Option<OperandAfterOperator<'a>>, AllocError> {
     let Some(left) = left else {
         return Ok(None);
     };
     let (first, second) = (left.operand.as_str(), right.operand.as_str());
     match application_text(alloc, right.operator, first, second)? {
-        Some(operand) => Ok(Some(Link {
+        Some(operand) => Ok(Some(OperandAfterOperator {
             operator: left.operator,
             operand,
         })),
@@ -112,18 +115,18 @@ fn joined<'a>(
 }
 
 /// The operands after the operators of `rank` are applied, from left to right. `None` if one of them is no operator.
-fn apply_rank<'a>(
+fn links_after_applying_rank<'a>(
     alloc: Global,
-    links: Vec<Link<'a>>,
+    links: Vec<OperandAfterOperator<'a>>,
     rank: usize,
-) -> Result<Option<Vec<Link<'a>>>, AllocError> {
+) -> Result<Option<Vec<OperandAfterOperator<'a>>>, AllocError> {
     let mut applied = Vec::new(alloc);
     for link in links {
-        if link.operator.is_empty() || rank_of(link.operator) != rank {
+        if link.operator.is_empty() || precedence_rank_of_operator(link.operator) != rank {
             applied.push(link)?;
             continue;
         }
-        match joined(alloc, applied.pop(), link)? {
+        match link_after_applying_operator(alloc, applied.pop(), link)? {
             Some(link) => applied.push(link)?,
             None => return Ok(None),
         }
@@ -131,16 +134,20 @@ fn apply_rank<'a>(
     Ok(Some(applied))
 }
 
-/// The expression that `parts` mean, if they are one operand or an operator is between each two operands.
-pub fn infix_text(alloc: Global, parts: &[Form]) -> Result<Option<String>, AllocError> {
+/// The expression that `parts` mean, if they are one operand or an operator is between each two operands. `None` if
+/// there are more than `MOST_TREES` of them.
+pub fn operator_first_text_of_infix_parts(
+    alloc: Global,
+    parts: &[Form],
+) -> Result<Option<String>, AllocError> {
     if parts.len() > MOST_TREES {
         return Ok(None);
     }
-    let Some(mut links) = links_of(alloc, parts)? else {
+    let Some(mut links) = operands_with_operators_before(alloc, parts)? else {
         return Ok(None);
     };
     for rank in 0..RANKS {
-        let Some(applied) = apply_rank(alloc, links, rank)? else {
+        let Some(applied) = links_after_applying_rank(alloc, links, rank)? else {
             return Ok(None);
         };
         links = applied;
@@ -152,7 +159,7 @@ pub fn infix_text(alloc: Global, parts: &[Form]) -> Result<Option<String>, Alloc
 }
 
 /// What a hint says of the operators among `parts`.
-pub fn operators_first(parts: &[Form]) -> &'static str {
+pub fn operators_come_first_phrase(parts: &[Form]) -> &'static str {
     if parts.len() > 3 {
         "operators come first"
     } else {
@@ -161,19 +168,19 @@ pub fn operators_first(parts: &[Form]) -> &'static str {
 }
 
 /// Whether a word means the new state in other languages.
-pub fn is_new_state(word: &str) -> bool {
+pub fn is_foreign_word_for_new_state(word: &str) -> bool {
     matches!(word, "s'" | "state'")
 }
 
 /// What the trees `parts` assign, if they are an assignment. `=` assigns to the new state, and in next also to `s`.
-pub fn assigned(is_next: bool, parts: &[Form]) -> Option<&[Form]> {
+pub fn assigned_trees_if_assignment(is_next: bool, parts: &[Form]) -> Option<&[Form]> {
     let [Form::Word(name), Form::Word(operator), value @ ..] = parts else {
         return None;
     };
     let name = name.as_str();
     let is_assignment = match operator.as_str() {
         ":=" | "<-" => true,
-        "=" | "==" => is_new_state(name) || (is_next && name == "s"),
+        "=" | "==" => is_foreign_word_for_new_state(name) || (is_next && name == "s"),
         _ => false,
     };
     if is_assignment { Some(value) } else { None }

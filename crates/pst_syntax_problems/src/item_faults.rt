@@ -14,47 +14,48 @@ use crate::callback_faults::add_callbacks_faults;
 use crate::fault::Role;
 use crate::param_faults::add_params_faults;
 use crate::seen_items::{
-    has_command, has_fun, has_init, has_op, has_room_for_function, has_room_for_operation,
-    has_state,
+    has_command, has_function_named, has_init, has_operation_named, has_room_for_function,
+    has_room_for_operation, has_state,
 };
 use crate::telling::{
-    Added, DeclaredName, Faults, Walk, push_fault, push_fault_unless, push_name_faults_at_part,
+    AddingResult, DeclaredName, FaultSearch, Faults, push_fault, push_fault_unless,
+    push_name_faults_at_part,
 };
 use crate::whole_faults::{
-    add_single_expression_faults, add_whole_expr_faults, add_whole_ty_faults,
+    add_outermost_expr_faults, add_outermost_type_faults, add_single_expression_faults,
 };
 use pst_sexpr::Form;
 use pst_syntax::{FaultKind, FunShape, ItemShape, OpShape, is_name, is_unreserved_name};
 
 /// Adds the faults of the state at `path`. `has_one` is true if there was a state before it.
 fn add_state_faults(
-    walk: Walk,
+    walk: FaultSearch,
     faults: &mut Faults,
     path: &[usize],
     has_one: bool,
     form: &Form,
-) -> Added
+) -> AddingResult
     ensures { OnOk result (faults.new ≡ keep walk.limit faults.old
         (unless_at path.now role.Item (not has_one) DoubleName
         (spec.whole_ty_at walk.has_maps (below path.now 1) form.now))) }
 {
     let role = Role::Item;
     push_fault_unless(walk, faults, path, role, !has_one, FaultKind::DoubleName)?;
-    add_whole_ty_faults(walk, faults, path, 1, form)?;
+    add_outermost_type_faults(walk, faults, path, 1, form)?;
     Ok(())
 }
 
 /// Adds the faults of a function or an operation at `path`, apart from its body or its callbacks. `has_room`
 /// says whether the model may have one more.
 fn add_declaration_faults(
-    walk: Walk,
+    walk: FaultSearch,
     faults: &mut Faults,
     path: &[usize],
     has_room: bool,
     name: DeclaredName<'_>,
     forms: &[Form],
     ty: &Form,
-) -> Added
+) -> AddingResult
     ensures { OnOk result (faults.new ≡ keep walk.limit faults.old
         (unless_at path.now role.Item has_room OverLimit
         (map (placed (below path.now 1) role.ItemName) (name_faults name.entry.is_lawful name.entry.is_taken name.entry.word.now)
@@ -65,26 +66,26 @@ fn add_declaration_faults(
     push_fault_unless(walk, faults, path, role, has_room, FaultKind::OverLimit)?;
     push_name_faults_at_part(walk, faults, path, 1, Role::ItemName, name)?;
     add_params_faults(walk, faults, path, forms)?;
-    add_whole_ty_faults(walk, faults, path, 3, ty)?;
+    add_outermost_type_faults(walk, faults, path, 3, ty)?;
     Ok(())
 }
 
 /// Adds the faults of a function at `path`, after the items `seen`.
 #[tactic(auto, using(crate::proofs::Keeping::keeping))]
 fn add_fun_faults(
-    walk: Walk,
+    walk: FaultSearch,
     faults: &mut Faults,
     seen: &[Option<ItemShape<'_>>],
     path: &[usize],
     shape: &FunShape<'_>,
-) -> Added
+) -> AddingResult
     ensures { OnOk result (faults.new ≡ keep walk.limit faults.old
         (spec.item_faults_at walk.has_maps (items_in seen.now) path.now (shown_fun shape.now))) }
 {
     let name = DeclaredName {
         word: shape.name,
         is_lawful: is_unreserved_name(walk.has_maps, shape.name),
-        is_taken: has_fun(seen, shape.name),
+        is_taken: has_function_named(seen, shape.name),
     };
     let has_room = has_room_for_function(seen);
     add_declaration_faults(
@@ -96,26 +97,26 @@ fn add_fun_faults(
         shape.params,
         shape.result,
     )?;
-    add_whole_expr_faults(walk, faults, path, 4, shape.body)?;
+    add_outermost_expr_faults(walk, faults, path, 4, shape.body)?;
     Ok(())
 }
 
 /// Adds the faults of an operation at `path`, after the items `seen`.
 #[tactic(auto, using(crate::proofs::Keeping::keeping))]
 fn add_op_faults(
-    walk: Walk,
+    walk: FaultSearch,
     faults: &mut Faults,
     seen: &[Option<ItemShape<'_>>],
     path: &[usize],
     shape: &OpShape<'_>,
-) -> Added
+) -> AddingResult
     ensures { OnOk result (faults.new ≡ keep walk.limit faults.old
         (spec.item_faults_at walk.has_maps (items_in seen.now) path.now (shown_op shape.now))) }
 {
     let name = DeclaredName {
         word: shape.name,
         is_lawful: is_name(shape.name),
-        is_taken: has_op(seen, shape.name),
+        is_taken: has_operation_named(seen, shape.name),
     };
     let has_room = has_room_for_operation(seen);
     add_declaration_faults(
@@ -134,12 +135,12 @@ fn add_op_faults(
 /// Adds the faults of the item at `path`, after the items `seen`.
 #[tactic(auto, using(crate::proofs::Keeping::keeping, crate::proofs::Seen::seen))]
 pub fn add_item_faults(
-    walk: Walk,
+    walk: FaultSearch,
     faults: &mut Faults,
     seen: &[Option<ItemShape<'_>>],
     path: &[usize],
     shape: &Option<ItemShape<'_>>,
-) -> Added
+) -> AddingResult
     ensures { OnOk result (faults.new ≡ keep walk.limit faults.old
         (known_at path.now role.Item (shown_item_option shape.now)
         (spec.item_faults_at walk.has_maps (items_in seen.now) path.now))) }

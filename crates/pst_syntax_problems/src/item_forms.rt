@@ -83,7 +83,7 @@ const FOREIGN: [(&str, &str); 22] = [
 ];
 
 /// The head of the items that `word`, a word of another language, means.
-pub fn item_meant(word: &str) -> Option<&'static str> {
+pub fn item_head_for_foreign_word(word: &str) -> Option<&'static str> {
     for (foreign, head) in FOREIGN.as_slice() {
         if *foreign == word {
             return Some(*head);

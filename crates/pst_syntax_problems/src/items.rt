@@ -5,14 +5,17 @@ use crate::found_problem::{
     FoundProblem, missing_name_problem, problem_at, problem_at_part, problem_with_note,
     problem_with_note_at_part, with_note,
 };
-use crate::infix::{ASSIGNMENT, assigned, infix_text, is_operator, operators_first};
-use crate::item_forms::{
-    CALLS, ITEM_FORMS, ItemForm, OPERATION, is_callback, item_form, item_meant,
+use crate::infix::{
+    ASSIGNMENT, assigned_trees_if_assignment, is_operator, operator_first_text_of_infix_parts,
+    operators_come_first_phrase,
 };
-use crate::names::{DidYouMean, NearestName, push_name};
+use crate::item_forms::{
+    CALLS, ITEM_FORMS, ItemForm, OPERATION, is_callback, item_form, item_head_for_foreign_word,
+};
+use crate::names::{DidYouMean, NearestNameSoFar, push_name};
 use crate::problem::{Problem, path_to_part};
-use crate::tree::{has_head, head_of};
-use crate::writing::{Listed, counted, short_text};
+use crate::tree::{has_head, head_word_of_node};
+use crate::writing::{CommaSeparatedNames, counted_noun, shortened_tree_text};
 use pst_sexpr::{Form, node_of};
 use pst_syntax::{FaultKind, MAX_DECLARED, MAX_PARTS};
 use pst_value::Items;
@@ -26,10 +29,10 @@ const ITEMS: &str =
 /// The problem of a tree whose head `head` heads no item.
 fn unknown_item_head_problem(alloc: Global, path: &[usize], head: &str) -> FoundProblem {
     let what = format_args!("no item of a model begins with `{head}`");
-    if let Some(meant) = item_meant(head) {
+    if let Some(meant) = item_head_for_foreign_word(head) {
         return problem_with_note_at_part(alloc, path, 0, what, DidYouMean(meant));
     }
-    let mut near = NearestName::to(head);
+    let mut near = NearestNameSoFar::to(head);
     for form in ITEM_FORMS.as_slice() {
         near = near.or(alloc, form.head, head)?;
     }
@@ -41,10 +44,10 @@ fn unknown_item_head_problem(alloc: Global, path: &[usize], head: &str) -> Found
 
 /// The problem of a tree that is no item.
 fn not_an_item_problem(alloc: Global, path: &[usize], form: &Form) -> FoundProblem {
-    if let Some(head) = head_of(form) {
+    if let Some(head) = head_word_of_node(form) {
         return unknown_item_head_problem(alloc, path, head.as_str());
     }
-    let shown = short_text(alloc, form)?;
+    let shown = shortened_tree_text(alloc, form)?;
     let shown = shown.as_str();
     let what = format_args!("`{shown}` is not an item of a model");
     match hint_for_foreign_word(shown) {
@@ -61,7 +64,7 @@ fn item_part_count_problem(
     number: usize,
 ) -> FoundProblem {
     let ItemForm { head, written, .. } = form;
-    let has = counted(number, "part");
+    let has = counted_noun(number, "part");
     let what = format_args!("`{head}` is not written like this: it has {has}");
     if head == "command" {
         return problem_with_note(alloc, path, what, CALLS);
@@ -91,14 +94,14 @@ fn signature_problem(
 }
 
 /// The form of an item, and its parts after its head.
-fn form_and_parts(item: &Form) -> Option<(ItemForm, &[Form])> {
+fn item_form_and_parts(item: &Form) -> Option<(ItemForm, &[Form])> {
     let (_, parts) = node_of(item)?.split_first()?;
-    Some((item_form(head_of(item)?.as_str())?, parts))
+    Some((item_form(head_word_of_node(item)?.as_str())?, parts))
 }
 
 /// The problem of a tree that has the form of no item.
 fn item_form_problem(alloc: Global, path: &[usize], item: &Form) -> FoundProblem {
-    let Some((form, parts)) = form_and_parts(item) else {
+    let Some((form, parts)) = item_form_and_parts(item) else {
         return not_an_item_problem(alloc, path, item);
     };
     let number = parts.len();
@@ -111,7 +114,7 @@ fn item_form_problem(alloc: Global, path: &[usize], item: &Form) -> FoundProblem
 
 /// The problem of an item with the fault `kind`.
 pub fn item_problem(alloc: Global, path: &[usize], item: &Form, kind: FaultKind) -> FoundProblem {
-    let head = match head_of(item) {
+    let head = match head_word_of_node(item) {
         Some(head) => head.as_str(),
         None => "",
     };
@@ -152,12 +155,12 @@ pub fn parameter_problem(alloc: Global, path: &[usize], form: &Form) -> FoundPro
 
 /// How the callback `head` is written in the place of one with `has` parts.
 #[derive(Clone, Copy, Drop)]
-struct CallbackForm<'a> {
+struct CallbackPartCountNote<'a> {
     head: &'a str,
     has: usize,
 }
 
-impl fmt::Display for CallbackForm<'_> {
+impl fmt::Display for CallbackPartCountNote<'_> {
     fn fmt<W: fmt::Write>(&self, f: &mut fmt::Formatter<W>) -> fmt::Result {
         let head = self.head;
         if self.has > 1 && head != "next" {
@@ -178,10 +181,10 @@ fn assignment_hint(
     parts: &[Form],
 ) -> Result<Option<String>, AllocError> {
     let is_next = head == "next";
-    let Some(value) = assigned(is_next, parts) else {
+    let Some(value) = assigned_trees_if_assignment(is_next, parts) else {
         return Ok(None);
     };
-    match infix_text(alloc, value)? {
+    match operator_first_text_of_infix_parts(alloc, value)? {
         Some(written) if is_next => Ok(Some(format!(in alloc;
             "hint: write `(next {written})`: the new state alone"
         )?)),
@@ -190,13 +193,17 @@ fn assignment_hint(
 }
 
 /// The hint on the parts of the callback `head`, if the second of them is an operator or a word of another language.
-fn operators_hint(alloc: Global, head: &str, parts: &[Form]) -> Result<Option<String>, AllocError> {
+fn operator_or_foreign_word_hint(
+    alloc: Global,
+    head: &str,
+    parts: &[Form],
+) -> Result<Option<String>, AllocError> {
     let [_, Form::Word(operator), _, ..] = parts else {
         return Ok(None);
     };
-    match infix_text(alloc, parts)? {
+    match operator_first_text_of_infix_parts(alloc, parts)? {
         Some(written) => {
-            let first = operators_first(parts);
+            let first = operators_come_first_phrase(parts);
             Ok(Some(format!(in alloc; "hint: write `({head} {written})`: {first}")?))
         }
         None if is_operator(operator.as_str()) => Ok(Some(String::from_str(alloc, OPERATORS)?)),
@@ -220,9 +227,9 @@ fn callback_part_count_problem(
     if let Some(hint) = assignment_hint(alloc, head, parts)? {
         return with_note(alloc, found, hint);
     }
-    match operators_hint(alloc, head, parts)? {
+    match operator_or_foreign_word_hint(alloc, head, parts)? {
         Some(hint) => with_note(alloc, found, hint),
-        None => with_note(alloc, found, CallbackForm { head, has }),
+        None => with_note(alloc, found, CallbackPartCountNote { head, has }),
     }
 }
 
@@ -233,7 +240,7 @@ pub fn callback_problem(
     form: &Form,
     kind: FaultKind,
 ) -> FoundProblem {
-    match (kind, head_of(form)) {
+    match (kind, head_word_of_node(form)) {
         (FaultKind::DoubleName, Some(head)) => {
             let head = head.as_str();
             let what = format_args!("the operation has two callbacks `{head}`");
@@ -255,7 +262,7 @@ pub fn callback_problem(
 }
 
 /// The problem of a tree that is no clause of a comprehension.
-pub fn clause_problem(alloc: Global, path: &[usize]) -> FoundProblem {
+pub fn not_a_comprehension_clause_problem(alloc: Global, path: &[usize]) -> FoundProblem {
     problem_with_note(
         alloc,
         path,
@@ -283,7 +290,7 @@ pub fn missing_callbacks_problem(alloc: Global, path: &[usize], item: &Form) -> 
         }
     }
     let path = Vec::from_slice(alloc, path)?;
-    let listed = Listed(&names);
+    let listed = CommaSeparatedNames(&names);
     let what = format_args!("the operation has no callback {listed}");
     let mut problem = Problem::new(alloc, path, what)?;
     for name in names.as_slice() {

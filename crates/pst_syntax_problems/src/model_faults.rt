@@ -15,7 +15,8 @@ use crate::item_faults::add_item_faults;
 use crate::problem::path_to_part;
 use crate::seen_items::has_required_items;
 use crate::telling::{
-    Added, DeclaredName, Faults, Walk, push_fault, push_fault_unless, push_name_faults_at_part,
+    AddingResult, DeclaredName, FaultSearch, Faults, push_fault, push_fault_unless,
+    push_name_faults_at_part,
 };
 use pst_sexpr::{Form, Tree};
 use pst_syntax::{FaultKind, MAX_TREES, is_name, item_shape, model_shape, room_after};
@@ -24,7 +25,12 @@ use std::alloc::{AllocError, Global};
 
 /// Adds the faults of the items, which are the parts from 2 on of the tree at `path`.
 #[tactic(auto, using(crate::proofs::Keeping::keeping))]
-fn add_items_faults(walk: Walk, faults: &mut Faults, path: &[usize], forms: &[Form]) -> Added
+fn add_items_faults(
+    walk: FaultSearch,
+    faults: &mut Faults,
+    path: &[usize],
+    forms: &[Form],
+) -> AddingResult
     ensures { OnOk result (faults.new ≡ keep walk.limit faults.old
         (spec.items_faults_at walk.has_maps [] path.now 2 forms.now)) }
 {
@@ -48,14 +54,19 @@ fn add_items_faults(walk: Walk, faults: &mut Faults, path: &[usize], forms: &[Fo
 
 /// Adds the faults of a model, apart from the number of its trees.
 #[tactic(auto, using(crate::proofs::Keeping::keeping))]
-fn add_named_model_faults(walk: Walk, faults: &mut Faults, path: &[usize], form: &Form) -> Added
+fn add_model_faults_except_tree_count(
+    walk: FaultSearch,
+    faults: &mut Faults,
+    path: &[usize],
+    form: &Form,
+) -> AddingResult
     ensures { OnOk result (faults.new ≡ keep walk.limit faults.old
         (spec.named_faults_at path.now (model_shape form.now))) }
 {
     let Some(shape) = model_shape(form) else {
         return push_fault(walk, faults, path, Role::Model, FaultKind::UnknownForm);
     };
-    let walk = Walk {
+    let walk = FaultSearch {
         has_maps: shape.has_maps,
         ..walk
     };
@@ -70,7 +81,7 @@ fn add_named_model_faults(walk: Walk, faults: &mut Faults, path: &[usize], form:
 }
 
 /// Whether a model has no more trees than it may have.
-fn has_few_trees(form: &Form) -> bool
+fn is_within_tree_limit(form: &Form) -> bool
     ensures { result ≡ nat_le (trees_in form.now) max_trees }
 {
     room_after(form, MAX_TREES).is_some()
@@ -78,12 +89,17 @@ fn has_few_trees(form: &Form) -> bool
 
 /// Adds the faults of the model at `path`.
 #[tactic(auto, using(crate::proofs::Keeping::keeping))]
-fn add_model_faults(walk: Walk, faults: &mut Faults, path: &[usize], form: &Form) -> Added
+fn add_model_faults(
+    walk: FaultSearch,
+    faults: &mut Faults,
+    path: &[usize],
+    form: &Form,
+) -> AddingResult
     ensures { OnOk result (faults.new ≡ keep walk.limit faults.old
         (unless_at path.now role.Model (nat_le (trees_in form.now) max_trees) OverLimit
         (spec.named_faults_at path.now (model_shape form.now)))) }
 {
-    let are_few = has_few_trees(form);
+    let are_few = is_within_tree_limit(form);
     push_fault_unless(
         walk,
         faults,
@@ -92,13 +108,17 @@ fn add_model_faults(walk: Walk, faults: &mut Faults, path: &[usize], form: &Form
         are_few,
         FaultKind::OverLimit,
     )?;
-    add_named_model_faults(walk, faults, path, form)?;
+    add_model_faults_except_tree_count(walk, faults, path, form)?;
     Ok(())
 }
 
 /// Adds the faults of the model that the first tree spells.
 #[tactic(auto, using(crate::proofs::Keeping::keeping))]
-fn add_faults(walk: Walk, faults: &mut Faults, trees: &[Tree]) -> Added
+fn add_first_tree_faults_or_missing(
+    walk: FaultSearch,
+    faults: &mut Faults,
+    trees: &[Tree],
+) -> AddingResult
     ensures { OnOk result (faults.new ≡ keep walk.limit faults.old (spec.placed_faults trees.now)) }
 {
     match trees {
@@ -123,12 +143,12 @@ pub fn model_syntax_faults(
 ) -> Result<Items<FormFault>, AllocError>
     ensures { IfOk result (λ faults. faults ≡ take limit (spec.placed_faults trees.now)) }
 {
-    let walk = Walk {
+    let walk = FaultSearch {
         alloc,
         has_maps: false,
         limit,
     };
     let mut faults = Items::new(alloc);
-    add_faults(walk, &mut faults, trees)?;
+    add_first_tree_faults_or_missing(walk, &mut faults, trees)?;
     Ok(faults)
 }

@@ -6,7 +6,7 @@ use std::fmt;
 use strsim::levenshtein;
 
 /// Whether `candidate` has as many bytes as `name`, and each of them is one of `name`.
-fn has_same_bytes(candidate: &str, name: &str) -> bool {
+fn has_length_and_only_bytes_of(candidate: &str, name: &str) -> bool {
     let bytes = name.as_bytes();
     candidate.len() == name.len()
         && candidate
@@ -18,17 +18,17 @@ fn has_same_bytes(candidate: &str, name: &str) -> bool {
 /// The nearest to a name among the candidates so far: at most two edits away, and fewer than the name has
 /// bytes. A name of three bytes that is two edits away has the same bytes in another order.
 #[derive(Clone, Copy, Drop)]
-pub struct NearestName<'a> {
+pub struct NearestNameSoFar<'a> {
     /// The number of edits that is too great.
     limit: usize,
     /// The nearest name so far.
     best: Option<&'a str>,
 }
 
-impl<'a> NearestName<'a> {
+impl<'a> NearestNameSoFar<'a> {
     /// No candidate yet.
-    pub fn to(name: &str) -> NearestName<'a> {
-        NearestName {
+    pub fn to(name: &str) -> NearestNameSoFar<'a> {
+        NearestNameSoFar {
             limit: 3.min(name.len()),
             best: None,
         }
@@ -40,11 +40,11 @@ impl<'a> NearestName<'a> {
         alloc: Global,
         candidate: &'a str,
         name: &str,
-    ) -> Result<NearestName<'a>, AllocError> {
+    ) -> Result<NearestNameSoFar<'a>, AllocError> {
         let edits = levenshtein(alloc, candidate, name)?;
-        let is_alike = edits < 2 || name.len() > 3 || has_same_bytes(candidate, name);
+        let is_alike = edits < 2 || name.len() > 3 || has_length_and_only_bytes_of(candidate, name);
         if is_alike && edits < self.limit {
-            Ok(NearestName {
+            Ok(NearestNameSoFar {
                 limit: edits,
                 best: Some(candidate),
             })
@@ -62,13 +62,13 @@ impl<'a> NearestName<'a> {
     }
 }
 
-/// The known name that is nearest to `name`, as a hint: see [`NearestName`].
-pub fn nearest<'a>(
+/// The known name that is nearest to `name`, as a hint: see [`NearestNameSoFar`].
+pub fn nearest_known_name_hint<'a>(
     alloc: Global,
     known: &'a Items<Text>,
     name: &str,
 ) -> Result<Option<DidYouMean<'a>>, AllocError> {
-    let mut near = NearestName::to(name);
+    let mut near = NearestNameSoFar::to(name);
     for candidate in known.as_slice() {
         near = near.or(alloc, candidate.as_str(), name)?;
     }

@@ -1,14 +1,14 @@
 //! Names of operations and functions that a model does not have.
 
 use crate::found_problem::{CAPITAL, FoundProblem, is_capitalized_name, problem_at, with_note};
-use crate::names::{nearest, push_name};
-use crate::writing::Listed;
+use crate::names::{nearest_known_name_hint, push_name};
+use crate::writing::CommaSeparatedNames;
 use pst_model::{Item, Op};
 use pst_value::{Items, Text};
 use std::alloc::{AllocError, Global};
 
 /// The operation `name`.
-pub fn operation_named<'a>(items: &'a [Item], name: &str) -> Option<&'a Op> {
+pub fn find_operation<'a>(items: &'a [Item], name: &str) -> Option<&'a Op> {
     for item in items {
         if let Item::Op(op) = item {
             if op.name.as_str() == name {
@@ -20,7 +20,7 @@ pub fn operation_named<'a>(items: &'a [Item], name: &str) -> Option<&'a Op> {
 }
 
 /// The names of the operations if `are_operations`, else those of the functions.
-fn names_of(
+fn operation_or_function_names(
     alloc: Global,
     items: &[Item],
     are_operations: bool,
@@ -45,14 +45,14 @@ pub fn unknown_operation_or_function_problem(
     name: &str,
     are_operations: bool,
 ) -> FoundProblem {
-    let known = names_of(alloc, items, are_operations)?;
+    let known = operation_or_function_names(alloc, items, are_operations)?;
     let kind = if are_operations {
         "operation"
     } else {
         "function"
     };
     let found = problem_at(alloc, path, format_args!("no {kind} has the name `{name}`"))?;
-    if let Some(hint) = nearest(alloc, &known, name)? {
+    if let Some(hint) = nearest_known_name_hint(alloc, &known, name)? {
         return with_note(alloc, found, hint);
     }
     if is_capitalized_name(name) {
@@ -61,6 +61,6 @@ pub fn unknown_operation_or_function_problem(
     if known.is_empty() {
         return Ok(found);
     }
-    let names = Listed(&known);
+    let names = CommaSeparatedNames(&known);
     with_note(alloc, found, format_args!("{kind}s: {names}"))
 }

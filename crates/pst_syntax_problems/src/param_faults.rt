@@ -14,9 +14,10 @@ ghost use Rattle.pst_syntax.specs.ShownItems.{shown_param_option};
 use crate::fault::Role;
 use crate::problem::path_to_part;
 use crate::telling::{
-    Added, DeclaredName, Faults, Walk, push_fault, push_fault_unless, push_name_faults_at_part,
+    AddingResult, DeclaredName, FaultSearch, Faults, push_fault, push_fault_unless,
+    push_name_faults_at_part,
 };
-use crate::whole_faults::add_whole_ty_faults;
+use crate::whole_faults::add_outermost_type_faults;
 use pst_sexpr::Form;
 use pst_syntax::{FaultKind, MAX_PARTS, ParamShape, is_unreserved_name, param_shape};
 use pst_value::{Items, Text};
@@ -29,7 +30,7 @@ fn is_allowed_parameter_count(forms: &[Form]) -> bool
 }
 
 /// Whether one of the parameters has the name.
-fn is_param(seen: &[Option<ParamShape<'_>>], word: &Text) -> bool
+fn has_parameter_named(seen: &[Option<ParamShape<'_>>], word: &Text) -> bool
     ensures { result ≡
         list_any (λ shape. holds (faults.is_named word.now) (shown_param_option shape)) seen.now }
 {
@@ -42,12 +43,12 @@ fn is_param(seen: &[Option<ParamShape<'_>>], word: &Text) -> bool
 /// Adds the faults of the parameter at `path`, after the parameters `seen`.
 #[tactic(auto, using(crate::proofs::Keeping::keeping, crate::proofs::Seen::seen))]
 fn add_param_faults(
-    walk: Walk,
+    walk: FaultSearch,
     faults: &mut Faults,
     seen: &[Option<ParamShape<'_>>],
     path: &[usize],
     shape: &Option<ParamShape<'_>>,
-) -> Added
+) -> AddingResult
     ensures { OnOk result (faults.new ≡ keep walk.limit faults.old
         (known_at path.now role.Parameter (shown_param_option shape.now)
         (spec.param_faults_at walk.has_maps (params_in seen.now) path.now))) }
@@ -58,21 +59,21 @@ fn add_param_faults(
     let name = DeclaredName {
         word: shape.name,
         is_lawful: is_unreserved_name(walk.has_maps, shape.name),
-        is_taken: is_param(seen, shape.name),
+        is_taken: has_parameter_named(seen, shape.name),
     };
     push_name_faults_at_part(walk, faults, path, 0, Role::ParameterName, name)?;
-    add_whole_ty_faults(walk, faults, path, 1, shape.ty)?;
+    add_outermost_type_faults(walk, faults, path, 1, shape.ty)?;
     Ok(())
 }
 
 /// Adds the faults of the parameters at `path`.
 #[tactic(auto, using(crate::proofs::Keeping::keeping))]
 fn add_each_parameter_faults(
-    walk: Walk,
+    walk: FaultSearch,
     faults: &mut Faults,
     path: &[usize],
     forms: &[Form],
-) -> Added
+) -> AddingResult
     ensures { OnOk result (faults.new ≡ keep walk.limit faults.old
         (spec.params_after_at walk.has_maps [] path.now 0 forms.now)) }
 {
@@ -93,7 +94,12 @@ fn add_each_parameter_faults(
 
 /// Adds the faults of a list of parameters, which is part 2 of the tree at `path`.
 #[tactic(auto, using(crate::proofs::Keeping::keeping))]
-pub fn add_params_faults(walk: Walk, faults: &mut Faults, path: &[usize], forms: &[Form]) -> Added
+pub fn add_params_faults(
+    walk: FaultSearch,
+    faults: &mut Faults,
+    path: &[usize],
+    forms: &[Form],
+) -> AddingResult
     ensures { OnOk result (faults.new ≡ keep walk.limit faults.old
         (spec.params_faults_at walk.has_maps (below path.now 2) forms.now)) }
 {

@@ -12,7 +12,7 @@ ghost use Rattle.pst_syntax.specs.Shown.{shown};
 use crate::fault::Role;
 use crate::problem::path_to_part;
 use crate::telling::{
-    Added, DeclaredName, Faults, Walk, push_fault_unless, push_name_faults_at_part,
+    AddingResult, DeclaredName, FaultSearch, Faults, push_fault_unless, push_name_faults_at_part,
 };
 use crate::type_faults::add_ty_part_faults;
 use pst_sexpr::{Form, value_of};
@@ -22,7 +22,7 @@ use pst_syntax::{
 use pst_value::{LIMIT, Text};
 
 /// Whether an expression keeps to the limits besides that of its depth.
-pub fn is_within_limits(shape: &Shape<'_>) -> bool
+pub fn is_expression_within_limits(shape: &Shape<'_>) -> bool
     ensures { result ≡ fits (shown shape.now) }
 {
     match shape {
@@ -35,14 +35,14 @@ pub fn is_within_limits(shape: &Shape<'_>) -> bool
 }
 
 /// Adds the faults of a bound name that is part `number` of the tree at `path`.
-pub fn add_bound_faults(
-    walk: Walk,
+pub fn add_bound_name_faults(
+    walk: FaultSearch,
     faults: &mut Faults,
     path: &[usize],
     number: usize,
     is_taken: bool,
     word: &Text,
-) -> Added
+) -> AddingResult
     ensures { OnOk result (faults.new ≡ keep walk.limit faults.old
         (part_at none_at none_at none_at (spec.below path.now number) role.Name
         (Declared (is_free walk.has_maps word.now) is_taken word.now))) }
@@ -58,7 +58,12 @@ pub fn add_bound_faults(
 
 /// Adds the fault of the place of an item of a tuple, which is part 2 of the tree at `path`.
 #[tactic(auto, using(crate::proofs::Keeping::keeping))]
-pub fn add_tuple_place_faults(walk: Walk, faults: &mut Faults, path: &[usize], word: &Text) -> Added
+pub fn add_tuple_place_faults(
+    walk: FaultSearch,
+    faults: &mut Faults,
+    path: &[usize],
+    word: &Text,
+) -> AddingResult
     ensures { OnOk result (faults.new ≡ keep walk.limit faults.old
         (part_at none_at none_at none_at (spec.below path.now 2) role.Place (Place word.now))) }
 {
@@ -70,11 +75,11 @@ pub fn add_tuple_place_faults(walk: Walk, faults: &mut Faults, path: &[usize], w
 
 /// Adds the fault of the name of an operation, which is part 1 of the tree at `path`.
 pub fn add_operation_name_faults(
-    walk: Walk,
+    walk: FaultSearch,
     faults: &mut Faults,
     path: &[usize],
     word: &Text,
-) -> Added
+) -> AddingResult
     ensures { OnOk result (faults.new ≡ keep walk.limit faults.old
         (part_at none_at none_at none_at (spec.below path.now 1) role.Operation (Operation word.now))) }
 {
@@ -92,7 +97,12 @@ pub fn add_operation_name_faults(
 
 /// Adds the faults of an empty map.
 #[tactic(auto, using(crate::proofs::Keeping::keeping))]
-pub fn add_map_faults(walk: Walk, faults: &mut Faults, path: &[usize], value: &Form) -> Added
+pub fn add_map_value_type_faults(
+    walk: FaultSearch,
+    faults: &mut Faults,
+    path: &[usize],
+    value: &Form,
+) -> AddingResult
     ensures { (e : spec.At) → OnOk result (faults.new ≡ keep walk.limit faults.old
         (all_at (spec.spot_in walk.has_maps e) (spots_from path.now 2 (OfType value.now ∷ [])))) }
 {

@@ -37,12 +37,12 @@ impl Problem {
     /// The problem with one more note.
     pub fn with<D: Display + Drop>(self, alloc: Global, note: D) -> Result<Problem, AllocError> {
         let mut problem = self;
-        problem.add(format!(in alloc; "{note}")?)?;
+        problem.add_note(format!(in alloc; "{note}")?)?;
         Ok(problem)
     }
 
     /// Adds a note.
-    fn add(&mut self, note: String) -> Result<(), AllocError> {
+    fn add_note(&mut self, note: String) -> Result<(), AllocError> {
         self.notes.push(note)?;
         Ok(())
     }

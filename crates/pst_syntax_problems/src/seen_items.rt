@@ -84,7 +84,7 @@ fn is_op_named(shape: &Option<ItemShape<'_>>, word: &Text) -> bool
 }
 
 /// Whether one of the items is a function with the name `word`.
-pub fn has_fun(seen: &[Option<ItemShape<'_>>], word: &Text) -> bool
+pub fn has_function_named(seen: &[Option<ItemShape<'_>>], word: &Text) -> bool
     ensures { result ≡
         list_any (λ shape. holds (faults.is_fun_named word.now) (shown_item_option shape)) seen.now }
 {
@@ -92,7 +92,7 @@ pub fn has_fun(seen: &[Option<ItemShape<'_>>], word: &Text) -> bool
 }
 
 /// Whether one of the items is an operation with the name `word`.
-pub fn has_op(seen: &[Option<ItemShape<'_>>], word: &Text) -> bool
+pub fn has_operation_named(seen: &[Option<ItemShape<'_>>], word: &Text) -> bool
     ensures { result ≡
         list_any (λ shape. holds (faults.is_op_named word.now) (shown_item_option shape)) seen.now }
 {

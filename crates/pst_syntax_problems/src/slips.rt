@@ -2,25 +2,29 @@
 
 use crate::forms::{expression_form, hint_for_foreign_word};
 use crate::found_problem::{FoundProblem, with_note};
-use crate::infix::{ASSIGNMENT, assigned, infix_text, is_new_state, operators_first};
+use crate::infix::{
+    ASSIGNMENT, assigned_trees_if_assignment, is_foreign_word_for_new_state,
+    operator_first_text_of_infix_parts, operators_come_first_phrase,
+};
 use crate::item_forms::CALLS;
 use crate::problem::Problem;
-use crate::tree::{has_head, head_of};
+use crate::tree::{has_head, head_word_of_node};
 use pst_sexpr::{Form, is_integer, node_of, tree_in, word_of};
 use pst_value::Text;
 use std::alloc::{AllocError, Global};
 
 /// Whether a tree is a word that heads a form of expressions.
-fn heads_form(has_maps: bool, form: &Form) -> bool {
+fn is_word_heading_expressions(has_maps: bool, form: &Form) -> bool {
     match word_of(form) {
         Some(word) => expression_form(has_maps, word.as_str()).is_some(),
         None => false,
     }
 }
 
-/// What to write in the place of a node with the trees `parts`, if the second of them is an operator and the
-/// first is none.
-fn rewrite_with_operator_first(
+/// What to write in the place of the trees `parts`, or else of the first three of them, if operators are between their
+/// operands. `None` if there are fewer than three, if the second is no word, or if the first heads a form of
+/// expressions.
+fn operator_first_text_of_all_or_three(
     alloc: Global,
     has_maps: bool,
     parts: &[Form],
@@ -28,12 +32,12 @@ fn rewrite_with_operator_first(
     let [left, Form::Word(_), _, ..] = parts else {
         return Ok(None);
     };
-    if heads_form(has_maps, left) {
+    if is_word_heading_expressions(has_maps, left) {
         return Ok(None);
     }
-    match infix_text(alloc, parts)? {
+    match operator_first_text_of_infix_parts(alloc, parts)? {
         Some(written) => Ok(Some(written)),
-        None => infix_text(alloc, parts.get(..3).unwrap_or(&[])),
+        None => operator_first_text_of_infix_parts(alloc, parts.get(..3).unwrap_or(&[])),
     }
 }
 
@@ -55,8 +59,8 @@ fn parts_of_node_or_infix_parent<'a>(
     }
 }
 
-/// Whether a word is `sign` and then a name.
-fn is_signed_name(word: &str, sign: &str) -> bool {
+/// Whether a word begins with `sign` and a lowercase ASCII letter after it.
+fn has_lowercase_letter_after_sign(word: &str, sign: &str) -> bool {
     match word.strip_prefix(sign) {
         Some(name) => name
             .as_bytes()
@@ -85,11 +89,11 @@ fn hint_for_malformed_word(word: &Text) -> Option<&'static str> {
         Some("an integer is decimal digits, after a `-` if it is negative")
     } else if name.contains(".") {
         Some("there are no fields or methods: item 1 of a tuple `t` is `(at t 1)`")
-    } else if is_signed_name(name, "!") {
+    } else if has_lowercase_letter_after_sign(name, "!") {
         Some("write `(not a)`")
-    } else if is_signed_name(name, "-") {
+    } else if has_lowercase_letter_after_sign(name, "-") {
         Some("write `(- 0 a)`")
-    } else if is_new_state(name) {
+    } else if is_foreign_word_for_new_state(name) {
         Some("the new state has no name: write `(next v)`, where `v` is the new state")
     } else if name.len() > 2 && name.ends_with("++") {
         Some("there is no assignment: write `(next (+ s 1))`, where `(+ s 1)` is the new state")
@@ -103,7 +107,7 @@ fn hint_for_malformed_part(form: &Form) -> Option<&'static str> {
     let word = word_of(form)?;
     if word.as_str().starts_with("'") {
         Some("a text is in double quotes")
-    } else if is_new_state(word.as_str()) {
+    } else if is_foreign_word_for_new_state(word.as_str()) {
         None
     } else {
         hint_for_malformed_word(word)
@@ -122,7 +126,7 @@ fn hint_for_first_malformed_part(forms: &[Form]) -> Option<&'static str> {
 
 /// The problem `found` of the tree `form`, with a hint if it is a word of another language or has one among
 /// its parts.
-pub fn with_word_hint(alloc: Global, form: &Form, found: Option<Problem>) -> FoundProblem {
+pub fn with_foreign_word_hint(alloc: Global, form: &Form, found: Option<Problem>) -> FoundProblem {
     let meant = match form {
         Form::Node(parts) => hint_for_first_malformed_part(parts.as_slice()),
         Form::Word(word) => hint_for_malformed_word(word),
@@ -147,7 +151,7 @@ fn without_notes(found: Option<Problem>) -> Option<Problem> {
 
 /// The problem `found` of the expression at `path`, with a hint if the expression is a clause of a form that another
 /// language chooses with.
-fn with_choice_hint(
+fn with_conditional_clause_hint(
     alloc: Global,
     model: &Form,
     path: &[usize],
@@ -156,7 +160,7 @@ fn with_choice_hint(
     let Some((_, before)) = path.split_last() else {
         return Ok(found);
     };
-    let around = tree_in(model, before.get(1..).unwrap_or(&[])).and_then(head_of);
+    let around = tree_in(model, before.get(1..).unwrap_or(&[])).and_then(head_word_of_node);
     match around.map(Text::as_str) {
         Some(word @ ("cond" | "case" | "match" | "switch")) => match hint_for_foreign_word(word) {
             Some(hint) => with_note(
@@ -171,17 +175,17 @@ fn with_choice_hint(
 }
 
 /// Whether the expression `form`, which `path` leads to, is the body of the command and has no head.
-fn is_list_of_calls(model: &Form, path: &[usize], form: &Form) -> bool {
+fn is_headless_command_body(model: &Form, path: &[usize], form: &Form) -> bool {
     let [_, item, _] = path else {
         return false;
     };
     let is_command = tree_in(model, &[*item]).is_some_and(|item| has_head(item, "command"));
-    is_command && node_of(form).is_some() && head_of(form).is_none()
+    is_command && node_of(form).is_some() && head_word_of_node(form).is_none()
 }
 
 /// The problem `found` of the expression `form`, which `path` leads to, with a hint if it is written as in
 /// another language. A hint on an assignment, or on an operator between its operands, is the only note.
-pub fn with_expression_hint(
+pub fn with_foreign_syntax_hint(
     alloc: Global,
     has_maps: bool,
     model: &Form,
@@ -189,23 +193,23 @@ pub fn with_expression_hint(
     form: &Form,
     found: Option<Problem>,
 ) -> FoundProblem {
-    let found = with_choice_hint(alloc, model, path, found)?;
-    if is_list_of_calls(model, path, form) {
+    let found = with_conditional_clause_hint(alloc, model, path, found)?;
+    if is_headless_command_body(model, path, form) {
         return with_note(alloc, found, CALLS);
     }
     let Some(parts) = parts_of_node_or_infix_parent(model, path, form) else {
-        return with_word_hint(alloc, form, found);
+        return with_foreign_word_hint(alloc, form, found);
     };
-    if assigned(false, parts).is_some() {
+    if assigned_trees_if_assignment(false, parts).is_some() {
         return with_note(alloc, without_notes(found), ASSIGNMENT);
     }
-    match rewrite_with_operator_first(alloc, has_maps, parts)? {
+    match operator_first_text_of_all_or_three(alloc, has_maps, parts)? {
         Some(written) => {
             let written = written.as_str();
-            let first = operators_first(parts);
+            let first = operators_come_first_phrase(parts);
             let hint = format_args!("hint: write `{written}`: {first}");
             with_note(alloc, without_notes(found), hint)
         }
-        None => with_word_hint(alloc, form, found),
+        None => with_foreign_word_hint(alloc, form, found),
     }
 }

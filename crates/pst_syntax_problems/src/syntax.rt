@@ -4,20 +4,20 @@ use crate::expressions::{deep_expression_problem, expression_problem, tuple_plac
 use crate::fault::{FormFault, Role};
 use crate::found_problem::{
     FoundProblem, bad_name_problem, long_name_problem, missing_name_problem,
-    missing_operation_problem, problem_at, problem_with_note, problem_with_note_at_part,
-    push_problem,
+    missing_operation_name_problem, problem_at, problem_with_note, problem_with_note_at_part,
+    push_problem_if_any,
 };
 use crate::items::{
-    callback_problem, clause_problem, item_problem, missing_callbacks_problem, parameter_problem,
-    too_many_parameters_problem,
+    callback_problem, item_problem, missing_callbacks_problem, not_a_comprehension_clause_problem,
+    parameter_problem, too_many_parameters_problem,
 };
 use crate::model_faults::model_syntax_faults;
-use crate::names::{DidYouMean, NearestName, push_name};
+use crate::names::{DidYouMean, NearestNameSoFar, push_name};
 use crate::problem::{MOST_PROBLEMS, Problem};
-use crate::slips::{with_expression_hint, with_word_hint};
-use crate::tree::{has_head, head_of};
+use crate::slips::{with_foreign_syntax_hint, with_foreign_word_hint};
+use crate::tree::{has_head, head_word_of_node};
 use crate::types::{deep_type_problem, item_type_problem, type_problem, with_parameter_order_hint};
-use crate::writing::Listed;
+use crate::writing::CommaSeparatedNames;
 use pst_sexpr::{Form, Tree, node_of, tree_in, word_of};
 use pst_syntax::{FaultKind, MAX_TREES};
 use pst_value::Items;
@@ -31,7 +31,7 @@ fn missing_items_problem(alloc: Global, items: &[Form]) -> FoundProblem {
             push_name(alloc, &mut names, word)?;
         }
     }
-    let names = Listed(&names);
+    let names = CommaSeparatedNames(&names);
     problem_with_note(
         alloc,
         &[0],
@@ -44,21 +44,24 @@ fn missing_items_problem(alloc: Global, items: &[Form]) -> FoundProblem {
 const MODEL: &str = "a model is `(model NAME ITEM ..)`, with maps `(model2 NAME ITEM ..)`";
 
 /// The hint that `head` probably means the head of a model, if it is similar.
-fn model_meant(alloc: Global, head: &str) -> Result<Option<DidYouMean<'static>>, AllocError> {
+fn nearest_model_head_hint(
+    alloc: Global,
+    head: &str,
+) -> Result<Option<DidYouMean<'static>>, AllocError> {
     if head.starts_with("model") || head.ends_with("model") {
         return Ok(Some(DidYouMean("model")));
     }
-    let near = NearestName::to(head).or(alloc, "model", head)?;
+    let near = NearestNameSoFar::to(head).or(alloc, "model", head)?;
     Ok(near.hint())
 }
 
 /// The problem of a tree that is no model and has the head `head`.
-fn other_head_problem(alloc: Global, head: &str) -> FoundProblem {
+fn non_model_head_problem(alloc: Global, head: &str) -> FoundProblem {
     if head == "case" || head == "run" {
         let what = format_args!("a `{head}` comes before the model");
         return problem_with_note_at_part(alloc, &[0], 0, what, MODEL);
     }
-    match model_meant(alloc, head)? {
+    match nearest_model_head_hint(alloc, head)? {
         Some(hint) => problem_with_note_at_part(
             alloc,
             &[0],
@@ -88,11 +91,11 @@ fn not_a_model_problem(alloc: Global, form: &Form) -> FoundProblem {
         }
         _ => {}
     }
-    match head_of(form) {
+    match head_word_of_node(form) {
         Some(head) if head.as_str() == "model" || head.as_str() == "model2" => {
             nameless_model_problem(alloc, node_of(form).unwrap_or(&[]).get(1..).unwrap_or(&[]))
         }
-        Some(head) => other_head_problem(alloc, head.as_str()),
+        Some(head) => non_model_head_problem(alloc, head.as_str()),
         None => problem_with_note(alloc, &[0], what, MODEL),
     }
 }
@@ -110,7 +113,7 @@ fn model_problem(alloc: Global, form: &Form, kind: FaultKind) -> FoundProblem {
 }
 
 /// The problem of a declared name with the fault `kind`.
-fn name_problem(
+fn declared_name_problem(
     alloc: Global,
     path: &[usize],
     form: &Form,
@@ -140,7 +143,12 @@ fn name_problem(
 }
 
 /// The problem of `fault`, whose part is `form`.
-fn fault_problem(alloc: Global, model: &Form, form: &Form, fault: &FormFault) -> FoundProblem {
+fn model_fault_problem(
+    alloc: Global,
+    model: &Form,
+    form: &Form,
+    fault: &FormFault,
+) -> FoundProblem {
     let FormFault { kind, role, .. } = *fault;
     let path = fault.path.as_slice();
     let has_maps = has_head(model, "model2");
@@ -156,11 +164,11 @@ fn fault_problem(alloc: Global, model: &Form, form: &Form, fault: &FormFault) ->
         Role::DeepType => deep_type_problem(alloc, path),
         Role::Expression => expression_problem(alloc, has_maps, path, form, kind),
         Role::DeepExpression => deep_expression_problem(alloc, path),
-        Role::Clause => clause_problem(alloc, path),
+        Role::Clause => not_a_comprehension_clause_problem(alloc, path),
         Role::Place => tuple_place_problem(alloc, path, form),
-        Role::Operation => missing_operation_problem(alloc, path),
+        Role::Operation => missing_operation_name_problem(alloc, path),
         Role::ModelName | Role::ItemName | Role::ParameterName | Role::Name => {
-            name_problem(alloc, path, form, role, kind)
+            declared_name_problem(alloc, path, form, role, kind)
         }
     }
 }
@@ -172,13 +180,15 @@ fn fault_problem_with_hint(
     form: &Form,
     fault: &FormFault,
 ) -> FoundProblem {
-    let found = fault_problem(alloc, model, form, fault)?;
+    let found = model_fault_problem(alloc, model, form, fault)?;
     match (fault.kind, fault.role) {
         (FaultKind::UnknownForm, Role::Expression) => {
             let has_maps = has_head(model, "model2");
-            with_expression_hint(alloc, has_maps, model, fault.path.as_slice(), form, found)
+            with_foreign_syntax_hint(alloc, has_maps, model, fault.path.as_slice(), form, found)
         }
-        (FaultKind::UnknownForm, Role::Item | Role::Callback) => with_word_hint(alloc, form, found),
+        (FaultKind::UnknownForm, Role::Item | Role::Callback) => with_foreign_word_hint(
+            alloc, form, found,
+        ),
         (FaultKind::UnknownForm, Role::Type) => {
             with_parameter_order_hint(alloc, model, fault.path.as_slice(), found)
         }
@@ -187,14 +197,17 @@ fn fault_problem_with_hint(
 }
 
 /// Whether something is missing that the faults before may account for, since they are in the same tree.
-fn may_stem_from_earlier_fault(fault: &FormFault, before: &[FormFault]) -> bool {
+fn is_missing_with_earlier_fault_inside(fault: &FormFault, before: &[FormFault]) -> bool {
     let path = fault.path.as_slice();
     let is_in = |other: &FormFault| other.path.as_slice().get(..path.len()) == Some(path);
     fault.kind == FaultKind::Missing && before.iter().any(is_in)
 }
 
 /// Adds `problem`, unless it is the last one once more.
-fn add_problem(problems: &mut Vec<Problem>, problem: Problem) -> Result<(), AllocError> {
+fn push_problem_unless_same_as_last(
+    problems: &mut Vec<Problem>,
+    problem: Problem,
+) -> Result<(), AllocError> {
     if let Some(last) = problems.last() {
         if last.path.as_slice() == problem.path.as_slice() && last.what == problem.what {
             return Ok(());
@@ -204,12 +217,13 @@ fn add_problem(problems: &mut Vec<Problem>, problem: Problem) -> Result<(), Allo
     Ok(())
 }
 
-/// The problems of a model that is refused for its form: one for each fault, in their order. What is missing
-/// is left out where another fault may account for it, and a model with too many trees has no other problem.
-pub fn form_problems(alloc: Global, trees: &[Tree]) -> Result<Vec<Problem>, AllocError> {
+/// The problems of a model that is refused for its form: one for each of its first `MOST_PROBLEMS + 1` faults, in their
+/// order. What is missing is left out where an earlier fault may account for it, and so is a problem that equals the
+/// last one. No problem comes after a fault of the whole model, as that it has too many trees.
+pub fn model_syntax_problems(alloc: Global, trees: &[Tree]) -> Result<Vec<Problem>, AllocError> {
     let mut problems = Vec::new(alloc);
     let Some(tree) = trees.first() else {
-        push_problem(
+        push_problem_if_any(
             &mut problems,
             problem_with_note(alloc, &[], "the file has no model", MODEL)?,
         )?;
@@ -223,11 +237,11 @@ pub fn form_problems(alloc: Global, trees: &[Tree]) -> Result<Vec<Problem>, Allo
         let Some(form) = tree_in(model, path) else {
             continue;
         };
-        if may_stem_from_earlier_fault(fault, before) {
+        if is_missing_with_earlier_fault_inside(fault, before) {
             continue;
         }
         if let Some(problem) = fault_problem_with_hint(alloc, model, form, fault)? {
-            add_problem(&mut problems, problem)?;
+            push_problem_unless_same_as_last(&mut problems, problem)?;
         }
         if fault.role == Role::Model {
             break;

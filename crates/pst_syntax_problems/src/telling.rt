@@ -13,7 +13,7 @@ use std::alloc::{AllocError, Global};
 
 /// What a walk over a model carries along.
 #[derive(Clone, Copy)]
-pub struct Walk {
+pub struct FaultSearch {
     /// The allocator.
     pub alloc: Global,
     /// Whether the language of the model has maps.
@@ -26,7 +26,7 @@ pub struct Walk {
 pub type Faults = Items<FormFault>;
 
 /// The result of adding faults.
-pub type Added = Result<(), AllocError>;
+pub type AddingResult = Result<(), AllocError>;
 
 /// A name where it is declared.
 #[derive(Clone, Copy)]
@@ -39,15 +39,15 @@ pub struct DeclaredName<'a> {
     pub is_taken: bool,
 }
 
-/// Adds the fault of the part at `path`.
+/// Adds the fault of the part at `path`. Does nothing if there are already as many faults as the limit of `walk`.
 #[tactic(auto, using(crate::proofs::Keeping::keeping))]
 pub fn push_fault(
-    walk: Walk,
+    walk: FaultSearch,
     faults: &mut Faults,
     path: &[usize],
     role: Role,
     kind: FaultKind,
-) -> Added
+) -> AddingResult
     ensures { OnOk result (faults.new ≡ keep walk.limit faults.old (placed path.now role kind ∷ [])) }
 {
     if faults.len() >= walk.limit {
@@ -61,13 +61,13 @@ pub fn push_fault(
 /// Adds the fault of the part at `path` unless `holds`.
 #[tactic(auto, using(crate::proofs::Keeping::keeping))]
 pub fn push_fault_unless(
-    walk: Walk,
+    walk: FaultSearch,
     faults: &mut Faults,
     path: &[usize],
     role: Role,
     holds: bool,
     kind: FaultKind,
-) -> Added
+) -> AddingResult
     ensures { OnOk result (faults.new ≡ keep walk.limit faults.old (unless_at path.now role holds kind [])) }
 {
     if holds {
@@ -80,12 +80,12 @@ pub fn push_fault_unless(
 /// Adds the faults of the name at `path`.
 #[tactic(auto, using(crate::proofs::Keeping::keeping, crate::proofs::Levels::name_steps))]
 fn push_name_faults(
-    walk: Walk,
+    walk: FaultSearch,
     faults: &mut Faults,
     path: &[usize],
     role: Role,
     name: DeclaredName<'_>,
-) -> Added
+) -> AddingResult
     ensures { OnOk result (faults.new ≡ keep walk.limit faults.old
         (map (placed path.now role) (name_faults name.entry.is_lawful name.entry.is_taken name.entry.word.now))) }
 {
@@ -99,13 +99,13 @@ fn push_name_faults(
 
 /// Adds the faults of the name that is part `number` of the tree at `path`.
 pub fn push_name_faults_at_part(
-    walk: Walk,
+    walk: FaultSearch,
     faults: &mut Faults,
     path: &[usize],
     number: usize,
     role: Role,
     name: DeclaredName<'_>,
-) -> Added
+) -> AddingResult
     ensures { OnOk result (faults.new ≡ keep walk.limit faults.old
         (map (placed (below path.now number) role) (name_faults name.entry.is_lawful name.entry.is_taken name.entry.word.now))) }
 {

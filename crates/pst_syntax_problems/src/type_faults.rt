@@ -9,7 +9,7 @@ ghost use Rattle.pst_syntax.specs.Shown.{shown_ty};
 
 use crate::fault::Role;
 use crate::problem::path_to_part;
-use crate::telling::{Added, Faults, Walk, push_fault, push_fault_unless};
+use crate::telling::{AddingResult, FaultSearch, Faults, push_fault, push_fault_unless};
 use pst_sexpr::Form;
 use pst_syntax::{FaultKind, MAX_PARTS, TyShape, ty_shape};
 
@@ -27,13 +27,13 @@ fn is_type_within_limits(shape: &TyShape<'_>) -> bool
 #[cycle(add_ty_faults)]
 #[tactic(auto, using(crate::proofs::Keeping::keeping, crate::proofs::Levels::ty_levels))]
 pub fn add_ty_faults(
-    walk: Walk,
+    walk: FaultSearch,
     faults: &mut Faults,
     role: Role,
     path: &[usize],
     form: &Form,
     room: usize,
-) -> Added
+) -> AddingResult
     ensures { OnOk result (faults.new ≡ keep walk.limit faults.old
         (ty_faults_at walk.has_maps room role path.now form.now)) }
 {
@@ -58,13 +58,13 @@ pub fn add_ty_faults(
 #[cycle(add_ty_faults)]
 #[tactic(auto, using(crate::proofs::Keeping::keeping))]
 fn add_ty_parts_faults(
-    walk: Walk,
+    walk: FaultSearch,
     faults: &mut Faults,
     role: Role,
     path: &[usize],
     shape: &TyShape<'_>,
     room: usize,
-) -> Added
+) -> AddingResult
     ensures { OnOk result (faults.new ≡ keep walk.limit faults.old
         (all_at (spec.spot_at none_at (λ inner. ty_faults_at walk.has_maps room role) none_at)
         (spec.ty_spots path.now (shown_ty shape.now)))) }
@@ -82,14 +82,14 @@ fn add_ty_parts_faults(
 #[cycle(add_ty_faults)]
 #[tactic(auto, using(crate::proofs::Keeping::keeping))]
 fn add_inner_ty_faults(
-    walk: Walk,
+    walk: FaultSearch,
     faults: &mut Faults,
     role: Role,
     path: &[usize],
     number: usize,
     form: &Form,
     room: usize,
-) -> Added
+) -> AddingResult
     ensures { OnOk result (faults.new ≡ keep walk.limit faults.old
         (all_at (spec.spot_at none_at (λ inner. ty_faults_at walk.has_maps room role) none_at)
         (spots_from path.now number (OfType form.now ∷ [])))) }
@@ -101,14 +101,14 @@ fn add_inner_ty_faults(
 /// Adds the faults of a type that is part `number` of the tree at `path`.
 #[cycle(add_ty_faults)]
 pub fn add_ty_part_faults(
-    walk: Walk,
+    walk: FaultSearch,
     faults: &mut Faults,
     role: Role,
     path: &[usize],
     number: usize,
     form: &Form,
     room: usize,
-) -> Added
+) -> AddingResult
     ensures { OnOk result (faults.new ≡ keep walk.limit faults.old
         (ty_faults_at walk.has_maps room role (spec.below path.now number) form.now)) }
 {
@@ -120,13 +120,13 @@ pub fn add_ty_part_faults(
 #[cycle(add_ty_faults)]
 #[tactic(auto, using(crate::proofs::Keeping::keeping))]
 fn add_tys_faults(
-    walk: Walk,
+    walk: FaultSearch,
     faults: &mut Faults,
     role: Role,
     path: &[usize],
     forms: &[Form],
     room: usize,
-) -> Added
+) -> AddingResult
     ensures { OnOk result (faults.new ≡ keep walk.limit faults.old
         (all_at (spec.spot_at none_at (λ inner. ty_faults_at walk.has_maps room role) none_at)
         (spots_from path.now 1 (map OfType forms.now)))) }

@@ -3,21 +3,21 @@
 use crate::infix::ASSIGNMENT;
 use crate::item_forms::CALLS;
 use crate::problem::Problem;
-use crate::tree::{has_head, head_word};
+use crate::tree::{has_head, head_word_or_empty};
 use pst_sexpr::{Form, node_of, tree_in};
 use std::alloc::{AllocError, Global};
 use std::fmt::Display;
 
 /// The head of the tree that the first `length` numbers of `path` lead to, or an empty word if it has none.
-fn head_on_path<'a>(model: &'a Form, path: &[usize], length: usize) -> &'a str {
+fn head_word_on_path_or_empty<'a>(model: &'a Form, path: &[usize], length: usize) -> &'a str {
     match tree_in(model, path.get(1..length).unwrap_or(&[])) {
-        Some(form) => head_word(form),
+        Some(form) => head_word_or_empty(form),
         None => "",
     }
 }
 
 /// The function that `what`, what is wrong with a problem, says to be unknown.
-fn unknown_function(what: &str) -> Option<&str> {
+fn unknown_function_named_in_message(what: &str) -> Option<&str> {
     what.strip_prefix("no function has the name `")?
         .strip_suffix("`")
 }
@@ -39,7 +39,7 @@ fn has_operation(model: &Form, name: &str) -> bool {
 }
 
 /// The hint on a `set` in a next. `path` leads to this word. With three parts, in a language with maps, it means `put`.
-fn hint_on_set(model: &Form, path: &[usize]) -> &'static str {
+fn put_or_assignment_hint_for_set(model: &Form, path: &[usize]) -> &'static str {
     let around = path.get(1..path.len().saturating_sub(1)).unwrap_or(&[]);
     match tree_in(model, around) {
         Some(Form::Node(trees)) if trees.len() == 4 && has_head(model, "model2") => {
@@ -50,7 +50,7 @@ fn hint_on_set(model: &Form, path: &[usize]) -> &'static str {
 }
 
 /// The problem with `note` in place of its notes.
-fn with_other_note<D: Display + Drop>(
+fn with_note_instead_of_others<D: Display + Drop>(
     alloc: Global,
     problem: Problem,
     note: D,
@@ -65,7 +65,7 @@ const NO_CALLS: &str = "command: expected (list call), found ";
 
 /// The problem of an ill-typed model, with a hint if the part is written as in another language: a command that is no list
 /// of calls, an operation that is applied, or an assignment.
-pub fn with_type_hint(
+pub fn with_call_or_assignment_hint(
     alloc: Global,
     model: &Form,
     problem: Problem,
@@ -75,18 +75,18 @@ pub fn with_type_hint(
     if what.starts_with(NO_CALLS) {
         return problem.with(alloc, CALLS);
     }
-    let Some(name) = unknown_function(what) else {
+    let Some(name) = unknown_function_named_in_message(what) else {
         return Ok(problem);
     };
-    if name == "set" && head_on_path(model, path, 3) == "next" {
-        let hint = hint_on_set(model, path);
-        return with_other_note(alloc, problem, hint);
+    if name == "set" && head_word_on_path_or_empty(model, path, 3) == "next" {
+        let hint = put_or_assignment_hint_for_set(model, path);
+        return with_note_instead_of_others(alloc, problem, hint);
     }
-    if head_on_path(model, path, 2) == "command" && has_operation(model, name) {
+    if head_word_on_path_or_empty(model, path, 2) == "command" && has_operation(model, name) {
         let hint = format!(in alloc;
             "hint: `{name}` is an operation: a call of it is `(call {name} ..)`"
         )?;
-        return with_other_note(alloc, problem, hint);
+        return with_note_instead_of_others(alloc, problem, hint);
     }
     Ok(problem)
 }

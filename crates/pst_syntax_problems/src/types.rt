@@ -1,18 +1,19 @@
 //! What messages say of refused types.
 
 use crate::expressions::{
-    map_keys_problem, part_count_problem, spells_value, too_many_items_problem,
+    bad_map_key_type_problem, part_count_problem, too_many_tuple_items_problem,
+    type_tree_contains_value,
 };
 use crate::forms::{hint_for_foreign_word, is_head_of_map_form, type_form};
 use crate::found_problem::{
-    FoundProblem, foreign_word_problem, problem_at, problem_with_note, problem_with_note_at_part,
-    with_note,
+    FoundProblem, problem_at, problem_with_hint_if_foreign_word, problem_with_note,
+    problem_with_note_at_part, with_note,
 };
 use crate::item_forms::{OPERATION, is_callback};
-use crate::names::{DidYouMean, NearestName};
+use crate::names::{DidYouMean, NearestNameSoFar};
 use crate::problem::{Problem, path_to_part};
 use crate::tree::has_head;
-use crate::writing::short_text;
+use crate::writing::shortened_tree_text;
 use pst_sexpr::{Form, node_of, tree_in, word_of};
 use pst_syntax::FaultKind;
 use pst_value::Text;
@@ -52,7 +53,7 @@ fn type_node_problem(
     if rest.len() < shown.least || rest.len() > shown.most {
         return part_count_problem(alloc, path, shown, rest.len());
     }
-    map_keys_problem(alloc, path_to_part(path, alloc, 1)?.as_slice())
+    bad_map_key_type_problem(alloc, path_to_part(path, alloc, 1)?.as_slice())
 }
 
 /// The problem of a tree that is no type.
@@ -78,16 +79,16 @@ fn unknown_type_word_problem(alloc: Global, path: &[usize], word: &str) -> Found
         return problem_at(alloc, path, format_args!("the type is written `{written}`"));
     }
     let what = format_args!("`{word}` is not a type");
-    match near_type(alloc, word)? {
+    match nearest_type_hint(alloc, word)? {
         Some(hint) if hint_for_foreign_word(word).is_none() => problem_with_note(
             alloc, path, what, hint,
         ),
-        _ => foreign_word_problem(alloc, path, word, what),
+        _ => problem_with_hint_if_foreign_word(alloc, path, word, what),
     }
 }
 
-/// The problem `found` of the type `form`, which `path` leads to, with a hint if it is the name of a parameter whose
-/// type comes before it.
+/// The problem `found` of the type that `path` leads to in `model`, with a hint if it is the name of a parameter whose
+/// type comes before it: if the node around it has two words, the first of them `int`, `bool` or `text`.
 pub fn with_parameter_order_hint(
     alloc: Global,
     model: &Form,
@@ -117,8 +118,8 @@ fn is_plain_type(word: &str) -> bool {
 }
 
 /// The type that `word` probably means, as a hint.
-fn near_type(alloc: Global, word: &str) -> Result<Option<DidYouMean<'static>>, AllocError> {
-    let mut near = NearestName::to(word);
+fn nearest_type_hint(alloc: Global, word: &str) -> Result<Option<DidYouMean<'static>>, AllocError> {
+    let mut near = NearestNameSoFar::to(word);
     for name in ["int", "bool", "text"] {
         near = near.or(alloc, name, word)?;
     }
@@ -145,7 +146,7 @@ fn unknown_type_head_problem(
 
 /// The problem of a tree that is not even similar to a type.
 fn nothing_like_a_type_problem(alloc: Global, path: &[usize], form: &Form) -> FoundProblem {
-    let shown = short_text(alloc, form)?;
+    let shown = shortened_tree_text(alloc, form)?;
     problem_with_note(
         alloc,
         path,
@@ -168,7 +169,11 @@ pub fn type_problem(
     kind: FaultKind,
 ) -> FoundProblem {
     match kind {
-        FaultKind::OverLimit => too_many_items_problem(alloc, path, node_of(form).unwrap_or(&[])),
+        FaultKind::OverLimit => too_many_tuple_items_problem(
+            alloc,
+            path,
+            node_of(form).unwrap_or(&[]),
+        ),
         _ => not_a_type_problem(alloc, has_maps, path, form),
     }
 }
@@ -203,7 +208,7 @@ pub fn item_type_problem(
     let length = path_length_to_item_type(model, path);
     let whole = path.get(..length).unwrap_or(path);
     let ty = tree_in(model, whole.get(1..).unwrap_or(&[]));
-    if ty.is_some_and(|ty| spells_value(has_maps, ty)) {
+    if ty.is_some_and(|ty| type_tree_contains_value(has_maps, ty)) {
         return problem_with_note(
             alloc,
             whole,

@@ -8,19 +8,19 @@ ghost use Rattle.pst_syntax.specs.declared.fault.FaultKind.TheVariants.{DoubleNa
 
 use crate::expression_faults::add_expr_part_faults;
 use crate::fault::Role;
-use crate::telling::{Added, Faults, Walk, push_fault_unless};
+use crate::telling::{AddingResult, FaultSearch, Faults, push_fault_unless};
 use crate::type_faults::add_ty_part_faults;
 use pst_sexpr::Form;
 use pst_syntax::{FaultKind, MAX_EXPR_LEVELS, MAX_TY_LEVELS};
 
 /// Adds the faults of a type that is part `number` of the tree at `path`, and of no other type.
-pub fn add_whole_ty_faults(
-    walk: Walk,
+pub fn add_outermost_type_faults(
+    walk: FaultSearch,
     faults: &mut Faults,
     path: &[usize],
     number: usize,
     form: &Form,
-) -> Added
+) -> AddingResult
     ensures { OnOk result (faults.new ≡ keep walk.limit faults.old
         (spec.whole_ty_at walk.has_maps (below path.now number) form.now)) }
 {
@@ -28,13 +28,13 @@ pub fn add_whole_ty_faults(
 }
 
 /// Adds the faults of an expression that is part `number` of the tree at `path`, and of no other expression.
-pub fn add_whole_expr_faults(
-    walk: Walk,
+pub fn add_outermost_expr_faults(
+    walk: FaultSearch,
     faults: &mut Faults,
     path: &[usize],
     number: usize,
     form: &Form,
-) -> Added
+) -> AddingResult
     ensures { OnOk result (faults.new ≡ keep walk.limit faults.old
         (spec.whole_expr_at walk.has_maps (below path.now number) form.now)) }
 {
@@ -44,18 +44,18 @@ pub fn add_whole_expr_faults(
 /// Adds the faults of a callback or an item with an expression at `path`. `has_one` is true if there was one before
 /// it.
 pub fn add_single_expression_faults(
-    walk: Walk,
+    walk: FaultSearch,
     faults: &mut Faults,
     role: Role,
     path: &[usize],
     has_one: bool,
     form: &Form,
-) -> Added
+) -> AddingResult
     ensures { OnOk result (faults.new ≡ keep walk.limit faults.old
         (unless_at path.now role (not has_one) DoubleName
         (spec.whole_expr_at walk.has_maps (below path.now 1) form.now))) }
 {
     push_fault_unless(walk, faults, path, role, !has_one, FaultKind::DoubleName)?;
-    add_whole_expr_faults(walk, faults, path, 1, form)?;
+    add_outermost_expr_faults(walk, faults, path, 1, form)?;
     Ok(())
 }

@@ -34,34 +34,34 @@ fn write_type<W: fmt::Write>(f: &mut fmt::Formatter<W>, ty: &Ty) -> fmt::Result 
         Ty::Call => f.write_str("call"),
         Ty::Tuple(items) => {
             f.write_str("(tuple")?;
-            write_types(f, items.as_slice())
+            write_types_and_close(f, items.as_slice())
         }
         Ty::List(item) => {
             f.write_str("(list ")?;
-            write_last(f, item.get())
+            write_type_and_close(f, item.get())
         }
         Ty::Ref(named) => {
             f.write_str("(ref ")?;
-            write_last(f, named.get())
+            write_type_and_close(f, named.get())
         }
         Ty::Map(keys, value) => {
             let keys = key_type_word(*keys);
             write!(f, "(map {keys} ")?;
-            write_last(f, value.get())
+            write_type_and_close(f, value.get())
         }
     }
 }
 
 /// Writes a type and a closing bracket.
 #[cycle(write_type)]
-fn write_last<W: fmt::Write>(f: &mut fmt::Formatter<W>, ty: &Ty) -> fmt::Result {
+fn write_type_and_close<W: fmt::Write>(f: &mut fmt::Formatter<W>, ty: &Ty) -> fmt::Result {
     write_type(f, ty)?;
     f.write_str(")")
 }
 
 /// Writes types with a blank before each, and a closing bracket.
 #[cycle(write_type)]
-fn write_types<W: fmt::Write>(f: &mut fmt::Formatter<W>, types: &[Ty]) -> fmt::Result {
+fn write_types_and_close<W: fmt::Write>(f: &mut fmt::Formatter<W>, types: &[Ty]) -> fmt::Result {
     for ty in types {
         f.write_str(" ")?;
         write_type(f, ty)?;
@@ -86,7 +86,7 @@ fn write_form<W: fmt::Write>(f: &mut fmt::Formatter<W>, form: &Form) -> fmt::Res
         Form::Text(text) => write_quoted(f, text.as_str()),
         Form::Node(parts) => {
             f.write_str("(")?;
-            write_parts(f, parts.as_slice())
+            write_form_parts_and_close(f, parts.as_slice())
         }
     }
 }
@@ -105,7 +105,10 @@ fn write_quoted<W: fmt::Write>(f: &mut fmt::Formatter<W>, text: &str) -> fmt::Re
 
 /// Writes trees with a blank between them, and a closing bracket.
 #[cycle(write_form)]
-fn write_parts<W: fmt::Write>(f: &mut fmt::Formatter<W>, parts: &[Form]) -> fmt::Result {
+fn write_form_parts_and_close<W: fmt::Write>(
+    f: &mut fmt::Formatter<W>,
+    parts: &[Form],
+) -> fmt::Result {
     for (number, part) in parts.iter().enumerate() {
         if number > 0 {
             f.write_str(" ")?;
@@ -115,8 +118,8 @@ fn write_parts<W: fmt::Write>(f: &mut fmt::Formatter<W>, parts: &[Form]) -> fmt:
     f.write_str(")")
 }
 
-/// A tree as it is written: all of it, or its first 40 bytes and `...`.
-pub fn short_text(alloc: Global, form: &Form) -> Result<String, AllocError> {
+/// A tree as it is written: all of it if that is shorter than 40 bytes, or else its first 40 bytes and `...`.
+pub fn shortened_tree_text(alloc: Global, form: &Form) -> Result<String, AllocError> {
     let form = FormText(form);
     let whole = format!(in alloc; "{form}")?;
     match whole.as_str().get(..40) {
@@ -127,7 +130,7 @@ pub fn short_text(alloc: Global, form: &Form) -> Result<String, AllocError> {
 
 /// The head of a signature, shown as `(NAME a:int b:text) of type bool`.
 #[derive(Clone, Copy, Drop)]
-pub struct Signature<'a> {
+pub struct SignatureText<'a> {
     /// The name of the function or the operation.
     pub name: &'a str,
     /// Its parameters.
@@ -136,7 +139,7 @@ pub struct Signature<'a> {
     pub gives: &'a Ty,
 }
 
-impl fmt::Display for Signature<'_> {
+impl fmt::Display for SignatureText<'_> {
     fn fmt<W: fmt::Write>(&self, f: &mut fmt::Formatter<W>) -> fmt::Result {
         f.write_str("(")?;
         f.write_str(self.name)?;
@@ -152,31 +155,31 @@ impl fmt::Display for Signature<'_> {
 
 /// A number of things, shown as `1 part` or `2 parts`.
 #[derive(Clone, Copy, Drop)]
-pub struct Count<'a> {
+pub struct CountedNoun<'a> {
     /// How many there are.
     pub number: usize,
     /// The word for one of them.
     pub word: &'a str,
 }
 
-impl fmt::Display for Count<'_> {
+impl fmt::Display for CountedNoun<'_> {
     fn fmt<W: fmt::Write>(&self, f: &mut fmt::Formatter<W>) -> fmt::Result {
-        let Count { number, word } = *self;
+        let CountedNoun { number, word } = *self;
         let ending = if number == 1 { "" } else { "s" };
         write!(f, "{number} {word}{ending}")
     }
 }
 
 /// `number` things, by the word for one of them.
-pub fn counted(number: usize, word: &str) -> Count<'_> {
-    Count { number, word }
+pub fn counted_noun(number: usize, word: &str) -> CountedNoun<'_> {
+    CountedNoun { number, word }
 }
 
 /// Names, shown with commas between them.
 #[derive(Clone, Copy, Drop)]
-pub struct Listed<'a>(pub &'a Items<Text>);
+pub struct CommaSeparatedNames<'a>(pub &'a Items<Text>);
 
-impl fmt::Display for Listed<'_> {
+impl fmt::Display for CommaSeparatedNames<'_> {
     fn fmt<W: fmt::Write>(&self, f: &mut fmt::Formatter<W>) -> fmt::Result {
         for (number, name) in self.0.as_slice().iter().enumerate() {
             if number > 0 {

@@ -1,6 +1,8 @@
 //! Clients that are texts, the lines of calls, and the values of answers.
 
-use pst_clients::{ClientAnswer, Clients, Connection, Notes, call_line, client_answer_of_line};
+use pst_clients::{
+    ClientAnswer, Clients, Connection, Notes, client_answer_of_line, client_call_line,
+};
 use pst_system::{RealCall, System};
 use pst_value::{Boxed, Items, Key, KeyTy, Text, Ty, Value};
 use std::alloc::{AllocError, Global};
@@ -157,14 +159,14 @@ fn the_last_line_and_failed_resets_are_known(rt: HostRuntime) -> Result<(), Fail
     let notes = Arc::new(alloc, Notes::new(alloc)?)?;
     let mut clients = one_client(rt, alloc, &notes, "7\nfailed\nfailed\ntrue\n")?;
     let _ = clients.call(&put(alloc, Value::Int(1))?);
-    let line = notes.waits().last_line(alloc, 0)?;
+    let line = notes.waits().printable_last_line_at_place(alloc, 0)?;
     assert_eq!(rt; line.as_str(), "[\"put\",1]");
-    assert!(rt; notes.waits().unanswered(0).is_none());
+    assert!(rt; notes.waits().unanswered_line_id(0).is_none());
     for failures in [1u64, 2, 0] {
         let _ = clients.reset();
-        assert!(rt; notes.failed_resets() == failures);
+        assert!(rt; notes.failed_resets_since_last_success() == failures);
     }
-    let line = notes.waits().last_line(alloc, 0)?;
+    let line = notes.waits().printable_last_line_at_place(alloc, 0)?;
     assert_eq!(rt; line.as_str(), "[\"reset\"]");
     Ok(())
 }
@@ -185,7 +187,7 @@ fn a_call_is_a_line_of_json(rt: HostRuntime) -> Result<(), Fail> {
     let alloc = rt.alloc();
     let quoted = Text::from_string(String::from_str(alloc, "a \"b\" \\")?);
     let map = map_of(alloc, Value::Text(quoted), Value::List(Items::new(alloc)))?;
-    let line = call_line(alloc, &put(alloc, map)?)?;
+    let line = client_call_line(alloc, &put(alloc, map)?)?;
     let text = std::str::from_utf8(line.as_slice()).unwrap_or("");
     assert_eq!(rt; text, "[\"put\",{\"-2\":\"a \\\"b\\\" \\\\\",\"3\":[]}]\n");
     Ok(())

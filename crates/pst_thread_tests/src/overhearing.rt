@@ -2,7 +2,7 @@
 
 use crate::driving::is_driven_so;
 use crate::hostile::Odd;
-use pst_driver::{MOST_KEPT, MisfitRecorder, Misfits, misfits_text};
+use pst_driver::{MOST_KEPT, MisfitRecorder, Misfits, misfit_lines_text};
 use pst_system::BoxedSystem;
 use pst_tests::support::{COUNTER, SAYING};
 use pst_tests::systems::{Liar, NoGet};
@@ -35,7 +35,7 @@ fn eight_misfits_are_kept(rt: HostRuntime) -> Result<(), Fail> {
         assert!(rt; is_driven_so(&rt, alloc, COUNTER, TWO_MISFITS, &mut liar) == Some(true));
     }
     assert_eq!(rt; misfits.count(), 10);
-    let text = misfits_text(alloc, &misfits)?;
+    let text = misfit_lines_text(alloc, &misfits)?;
     let line = "misfit: (get) answered true, wanted int";
     let lines = text.as_str().lines().filter(|other| *other == line).count();
     assert_eq!(rt; lines, MOST_KEPT);
@@ -56,7 +56,7 @@ fn odd_answers_are_spelled(rt: HostRuntime) -> Result<(), Fail> {
     for _ in 0..3u8 {
         assert!(rt; is_driven_so(&rt, alloc, SAYING, item, &mut odd) == Some(true));
     }
-    let text = misfits_text(alloc, &misfits)?;
+    let text = misfit_lines_text(alloc, &misfits)?;
     let wanted = "misfit: (inc) answered $1, wanted text\n\
         misfit: (inc) answered $1=1, wanted text\n\
         misfit: (inc) answered \"aaaaaaaaaaaaaaaaaaaaaaaaaaaaaaaaaaaaaaaaaaaaaaaaaaaaaaaaaaa.., wanted text\n";
@@ -79,7 +79,7 @@ fn what_fits_is_not_noted(rt: HostRuntime) -> Result<(), Fail> {
     for _ in 0..2u8 {
         assert!(rt; is_driven_so(&rt, alloc, COUNTER, item, &mut no_get) == Some(true));
     }
-    assert!(rt; misfits_text(alloc, &misfits)?.is_empty());
+    assert!(rt; misfit_lines_text(alloc, &misfits)?.is_empty());
     Ok(())
 }
 

@@ -8,14 +8,14 @@ use crate::plan::Plan;
 use crate::run::JudgedRun;
 use pst_case::Case;
 use pst_driver::DriveFault;
-use pst_gen::valid_or_none;
+use pst_gen::valid_case_if_accepted;
 use pst_judge::{Valid, verdict};
 use pst_shrink::{Attempt, AttemptOutcome};
 use pst_value::Items;
 use std::alloc::Global;
 
 /// Drives a valid case, and judges what was recorded.
-fn drive_once<D: Driver>(
+fn drive_and_judge_case_once<D: Driver>(
     alloc: Global,
     plan: &Plan,
     driver: &mut D,
@@ -36,7 +36,7 @@ fn drive_once<D: Driver>(
 
 /// Drives a valid case up to `repeats` times, a setting of the plan, and stops at the first history that is not
 /// explained.
-pub(crate) fn drive_repeatedly<D: Driver>(
+pub(crate) fn drive_and_judge_case_while_explained<D: Driver>(
     alloc: Global,
     plan: &Plan,
     driver: &mut D,
@@ -52,7 +52,7 @@ pub(crate) fn drive_repeatedly<D: Driver>(
     let _case = valid.shaped().case();
     let mut runs = Items::new(alloc);
     for _turn in 0..plan.settings().repeats {
-        let run = match drive_once(alloc, plan, driver, valid) {
+        let run = match drive_and_judge_case_once(alloc, plan, driver, valid) {
             Ok(run) => run,
             Err(fault) => return Err(fault),
         };
@@ -97,12 +97,22 @@ impl<'a, D: Driver> Attempt for Attempts<'a, D> {
 
     fn attempt(&mut self, case: &Case) -> Result<AttemptOutcome<JudgedRun>, DriveFault> {
         let case = case.copy(self.alloc)?;
-        let accepted = valid_or_none(self.plan.compiled(), self.alloc, self.plan.typed(), case)?;
+        let accepted = valid_case_if_accepted(
+            self.plan.compiled(),
+            self.alloc,
+            self.plan.typed(),
+            case,
+        )?;
         let Some(valid) = accepted else {
             return Ok(AttemptOutcome::NotValid);
         };
         self.driver.candidate_begins(self.driven);
-        let outcome = match drive_repeatedly(self.alloc, self.plan, self.driver, &valid) {
+        let outcome = match drive_and_judge_case_while_explained(
+            self.alloc,
+            self.plan,
+            self.driver,
+            &valid,
+        ) {
             Ok(outcome) => outcome,
             Err(fault) => return Err(fault),
         };

@@ -48,7 +48,7 @@ fn may_share_plans()
 }
 
 /// The parts of what came of shrinking may be sent to threads, and shared by them.
-fn may_share_taken()
+fn threads_may_share_failing_cases()
     ensures taken_sent { IsSend (taken_row run_row) }
     ensures taken_shared { IsSync (taken_row run_row) }
     ensures all_taken_sent { IsSend (items_row (taken_row run_row)) }
@@ -69,11 +69,11 @@ fn may_share_shrunk()
     ensures sent { IsSend (shrunk_row run_row) }
     ensures shared { IsSync (shrunk_row run_row) }
 {
-    may_share_taken()
+    threads_may_share_failing_cases()
 }
 
 /// The parts of outcomes may be sent to threads, and shared by them.
-fn may_share_parts()
+fn threads_may_share_outcome_parts()
     ensures place_sent { IsSend place_row }
     ensures place_shared { IsSync place_row }
     ensures case_sent { IsSend case_row }
@@ -97,7 +97,7 @@ fn may_share_outcomes()
     ensures sent { IsSend outcome_row }
     ensures shared { IsSync outcome_row }
 {
-    may_share_parts()
+    threads_may_share_outcome_parts()
 }
 
 /// A law: records may be sent to threads, and shared by them, and so may plans. The function does nothing.

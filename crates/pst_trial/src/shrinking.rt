@@ -47,7 +47,8 @@ impl ShrinkProgress {
         }
     }
 
-    /// A candidate of a trial is driven next, after `driven` others.
+    /// A candidate of a trial is driven next, after `driven` others. Does nothing if another trial is named and
+    /// `driven` is not 0.
     pub fn begin_candidate(&self, trial: u64, driven: u64) {
         if driven == 0 || self.current().is_none() || self.is_shrinking(trial) {
             self.word

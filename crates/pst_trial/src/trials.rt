@@ -7,7 +7,7 @@ ghost use Rattle.pst_trial.specs.JudgedRuns.{IsAnswer, MayFail};
 ghost use Rattle.pst_trial.specs.Sound.{IsSoundBy, IsTried};
 
 use crate::TrialFault;
-use crate::attempts::{Attempts, drive_repeatedly};
+use crate::attempts::{Attempts, drive_and_judge_case_while_explained};
 use crate::cases::trial_case;
 use crate::driver::Driver;
 use crate::outcome::TrialOutcome;
@@ -65,7 +65,7 @@ fn drive_and_shrink_trial_case<D: Driver>(
     ensures keeps { D.keeps driver.old driver.new }
 {
     let _case = valid.shaped().case();
-    let outcome = match drive_repeatedly(alloc, plan, driver, &valid) {
+    let outcome = match drive_and_judge_case_while_explained(alloc, plan, driver, &valid) {
         Ok(outcome) => outcome,
         Err(fault) => return Err(fault),
     };

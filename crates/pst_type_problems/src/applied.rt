@@ -6,9 +6,9 @@ use crate::trees::tree_part_or_whole;
 use pst_model::{Fun, Item, Param};
 use pst_sexpr::word_of;
 use pst_syntax_problems::{
-    FoundProblem, Problem, Signature, counted, hint_for_foreign_word, is_head_of_map_form,
-    nearest_head, operation_named, path_to_part, problem_at, problem_with_note_at_part,
-    unknown_operation_or_function_problem, with_note,
+    FoundProblem, Problem, SignatureText, counted_noun, find_operation, hint_for_foreign_word,
+    is_head_of_map_form, nearest_expression_head_hint, path_to_part, problem_at,
+    problem_with_note_at_part, unknown_operation_or_function_problem, with_note,
 };
 use pst_typing::Kind;
 use std::alloc::AllocError;
@@ -76,7 +76,7 @@ fn are_two_arguments_swapped(
 fn with_declaration_note(
     leaf: &BlamedPart<'_>,
     refused: Option<Problem>,
-    declared: &Signature<'_>,
+    declared: &SignatureText<'_>,
 ) -> FoundProblem {
     with_note(leaf.alloc, refused, format_args!("declared: {declared}"))
 }
@@ -85,7 +85,7 @@ fn with_declaration_note(
 /// the tree.
 fn argument_type_problem(
     leaf: &BlamedPart<'_>,
-    declared: &Signature<'_>,
+    declared: &SignatureText<'_>,
     place: usize,
     part: usize,
 ) -> FoundProblem {
@@ -107,7 +107,7 @@ fn argument_type_problem(
 /// order.
 fn argument_problem_with_order_hint(
     leaf: &BlamedPart<'_>,
-    declared: &Signature<'_>,
+    declared: &SignatureText<'_>,
     place: usize,
     part: usize,
 ) -> FoundProblem {
@@ -120,9 +120,9 @@ fn argument_problem_with_order_hint(
 }
 
 /// The problem of arguments whose number is not that of the parameters.
-fn argument_count_problem(leaf: &BlamedPart<'_>, declared: &Signature<'_>) -> FoundProblem {
+fn argument_count_problem(leaf: &BlamedPart<'_>, declared: &SignatureText<'_>) -> FoundProblem {
     let name = declared.name;
-    let takes = counted(declared.params.len(), "argument");
+    let takes = counted_noun(declared.params.len(), "argument");
     let found = leaf.kinds.len();
     let refused = problem_at(
         leaf.alloc,
@@ -134,9 +134,9 @@ fn argument_count_problem(leaf: &BlamedPart<'_>, declared: &Signature<'_>) -> Fo
 
 /// The problem of arguments that do not fit the parameters, if one does not. `first` is the number of the first
 /// argument in the tree.
-fn arguments_type_problem(
+fn argument_count_or_type_problem(
     leaf: &BlamedPart<'_>,
-    declared: &Signature<'_>,
+    declared: &SignatureText<'_>,
     first: usize,
 ) -> FoundProblem {
     if leaf.kinds.len() != declared.params.len() {
@@ -176,14 +176,14 @@ pub fn operation_call_type_problem(leaf: &BlamedPart<'_>) -> FoundProblem {
         return Ok(None);
     };
     let name = name.as_str();
-    match operation_named(leaf.context.items, name) {
+    match find_operation(leaf.context.items, name) {
         Some(op) => {
-            let declared = Signature {
+            let declared = SignatureText {
                 name,
                 params: op.params.as_slice(),
                 gives: &op.result,
             };
-            arguments_type_problem(leaf, &declared, 2)
+            argument_count_or_type_problem(leaf, &declared, 2)
         }
         None => unknown_name_at_part_problem(leaf, 1, name, true),
     }
@@ -207,7 +207,7 @@ fn unknown_function_problem_with_note<N: Display + Drop>(
 /// The problem of a function that no item declares, with the known name that is probably meant, or with the known
 /// functions.
 fn unknown_function_problem_with_suggestion(leaf: &BlamedPart<'_>, name: &str) -> FoundProblem {
-    match nearest_head(leaf.alloc, leaf.has_maps, name)? {
+    match nearest_expression_head_hint(leaf.alloc, leaf.has_maps, name)? {
         Some(hint) => unknown_function_problem_with_note(leaf, name, hint),
         None => unknown_name_at_part_problem(leaf, 0, name, false),
     }
@@ -222,7 +222,7 @@ fn unknown_function_problem(leaf: &BlamedPart<'_>, name: &str) -> FoundProblem {
         let hint = "hint: a model with maps begins with `(model2 NAME ..)`";
         return unknown_function_problem_with_note(leaf, name, hint);
     }
-    if operation_named(leaf.context.items, name).is_some() {
+    if find_operation(leaf.context.items, name).is_some() {
         return unknown_function_problem_with_note(
             leaf,
             name,
@@ -261,13 +261,13 @@ pub fn function_application_type_problem(leaf: &BlamedPart<'_>, name: &str) -> F
     let Some(fun) = find_declared_function(leaf.context.items, name) else {
         return unknown_function_problem(leaf, name);
     };
-    let declared = Signature {
+    let declared = SignatureText {
         name,
         params: fun.params.as_slice(),
         gives: &fun.result,
     };
     match inapplicable_function_problem(leaf, fun)? {
         Some(found) => Ok(Some(found)),
-        None => arguments_type_problem(leaf, &declared, 1),
+        None => argument_count_or_type_problem(leaf, &declared, 1),
     }
 }

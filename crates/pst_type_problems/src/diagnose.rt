@@ -2,7 +2,8 @@
 
 use crate::applied::{function_application_type_problem, operation_call_type_problem};
 use crate::lists::{
-    comprehension_type_problem, first_list_item_type_problem, fold_type_problem, nth_type_problem,
+    comprehension_type_problem, first_ill_typed_list_item_problem, fold_type_problem,
+    nth_type_problem,
 };
 use crate::operands::{
     first_operand_problem, map_wanted_problem, operand_type_problem, sequence_wanted_problem,
@@ -12,8 +13,9 @@ use crate::spelling::type_text_of_kind;
 use pst_model::{Expr, Op};
 use pst_sexpr::{Form, word_of};
 use pst_syntax_problems::{
-    FoundProblem, Listed, Problem, head_word, is_head_of_map_form, key_type_word, nearest,
-    operation_named, problem_at, problem_at_part, problem_with_note, with_note,
+    CommaSeparatedNames, FoundProblem, Problem, find_operation, head_word_or_empty,
+    is_head_of_map_form, key_type_word, nearest_known_name_hint, problem_at, problem_at_part,
+    problem_with_note, with_note,
 };
 use pst_typing::{Context, Kind, KindForm, key_type};
 use pst_value::{Items, KeyTy, Text, Ty};
@@ -42,7 +44,7 @@ fn with_known_names_note(leaf: &BlamedPart<'_>, found: Option<Problem>) -> Found
         let called = leaf.called;
         return with_note(leaf.alloc, found, format_args!("{called} sees no names"));
     }
-    let names = Listed(leaf.names);
+    let names = CommaSeparatedNames(leaf.names);
     with_note(leaf.alloc, found, format_args!("names known here: {names}"))
 }
 
@@ -76,7 +78,7 @@ fn undeclared_name_problem_with_hint<N: Display + Drop>(
 }
 
 /// The problem of the name of the operation `op` in the place of a call of it.
-fn uncalled_operation_problem(leaf: &BlamedPart<'_>, op: &Op) -> FoundProblem {
+fn operation_name_without_call_problem(leaf: &BlamedPart<'_>, op: &Op) -> FoundProblem {
     let name = op.name.as_str();
     let arguments = if op.params.is_empty() { "" } else { " .." };
     undeclared_name_problem_with_hint(
@@ -91,10 +93,10 @@ fn unknown_name_problem(leaf: &BlamedPart<'_>, name: &str) -> FoundProblem {
     if let Some(hint) = hint_on_special_name(name) {
         return undeclared_name_problem_with_hint(leaf, name, hint);
     }
-    if let Some(op) = operation_named(leaf.context.items, name) {
-        return uncalled_operation_problem(leaf, op);
+    if let Some(op) = find_operation(leaf.context.items, name) {
+        return operation_name_without_call_problem(leaf, op);
     }
-    match nearest(leaf.alloc, leaf.names, name)? {
+    match nearest_known_name_hint(leaf.alloc, leaf.names, name)? {
         Some(hint) => undeclared_name_problem_with_hint(leaf, name, hint),
         None => undeclared_name_problem(leaf, name),
     }
@@ -235,7 +237,7 @@ fn sequence_type_problem(leaf: &BlamedPart<'_>, head: &str) -> FoundProblem {
 }
 
 /// The problem of an `at`, if it has one.
-fn tuple_item_type_problem(leaf: &BlamedPart<'_>) -> FoundProblem {
+fn tuple_access_type_problem(leaf: &BlamedPart<'_>) -> FoundProblem {
     let Some(found) = leaf.kinds.first() else {
         return Ok(None);
     };
@@ -314,8 +316,8 @@ fn expression_form_type_problem(leaf: &BlamedPart<'_>, head: &str) -> FoundProbl
     match head {
         "if" => if_type_problem(leaf),
         "deref" => deref_type_problem(leaf),
-        "at" => tuple_item_type_problem(leaf),
-        "list" => first_list_item_type_problem(leaf),
+        "at" => tuple_access_type_problem(leaf),
+        "list" => first_ill_typed_list_item_problem(leaf),
         "for" => comprehension_type_problem(leaf),
         "fold" => fold_type_problem(leaf),
         "call" => operation_call_type_problem(leaf),
@@ -337,7 +339,7 @@ pub fn diagnose_blamed_part(leaf: &BlamedPart<'_>) -> FoundProblem {
     if let Some(word) = word_of(leaf.form) {
         return unknown_name_problem(leaf, word.as_str());
     }
-    match type_problem_by_head(leaf, head_word(leaf.form))? {
+    match type_problem_by_head(leaf, head_word_or_empty(leaf.form))? {
         Some(found) => Ok(Some(found)),
         None => problem_at(leaf.alloc, leaf.path, "this has no type"),
     }

@@ -13,4 +13,4 @@ mod trees;
 mod typing;
 mod walk;
 
-pub use typing::type_problems;
+pub use typing::type_problems_from_item_on;

@@ -50,7 +50,7 @@ fn list_item_type_problem(
 }
 
 /// The problem of the first item of a list that has another type, if there is one.
-pub fn first_list_item_type_problem(leaf: &BlamedPart<'_>) -> FoundProblem {
+pub fn first_ill_typed_list_item_problem(leaf: &BlamedPart<'_>) -> FoundProblem {
     let Expr::List(wanted, _) = leaf.expr else {
         return Ok(None);
     };

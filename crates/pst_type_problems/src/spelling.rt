@@ -12,7 +12,7 @@ const MOST_FORMS: usize = 64;
 
 /// How a reference is written.
 #[derive(Clone, Copy, Drop)]
-enum References {
+enum ReferenceSpelling {
     /// As the type that it is.
     Whole,
     /// As the type of its value.
@@ -23,7 +23,7 @@ enum References {
 pub fn type_text_of_kind(alloc: Global, kind: &Kind) -> Result<String, AllocError> {
     let mut text = String::new(alloc);
     let mut left = MOST_FORMS;
-    spell(&mut text, alloc, kind, References::Whole, &mut left)?;
+    push_type_text(&mut text, alloc, kind, ReferenceSpelling::Whole, &mut left)?;
     Ok(text)
 }
 
@@ -31,17 +31,17 @@ pub fn type_text_of_kind(alloc: Global, kind: &Kind) -> Result<String, AllocErro
 pub fn type_text_without_references(alloc: Global, kind: &Kind) -> Result<String, AllocError> {
     let mut text = String::new(alloc);
     let mut left = MOST_FORMS;
-    spell(&mut text, alloc, kind, References::Values, &mut left)?;
+    push_type_text(&mut text, alloc, kind, ReferenceSpelling::Values, &mut left)?;
     Ok(text)
 }
 
 /// Adds a type, and subtracts the number of its forms from `left`.
-#[cycle(spell)]
-fn spell(
+#[cycle(push_type_text)]
+fn push_type_text(
     text: &mut String,
     alloc: Global,
     kind: &Kind,
-    references: References,
+    references: ReferenceSpelling,
     left: &mut usize,
 ) -> Result<(), AllocError>
     ensures { left.new ≤ left.old }
@@ -66,10 +66,10 @@ fn spell(
             text, alloc, "(list ", &item, references, left,
         ),
         KindForm::Ref(named) => match references {
-            References::Whole => push_last_type_part_text(
+            ReferenceSpelling::Whole => push_last_type_part_text(
                 text, alloc, "(ref ", &named, references, left,
             ),
-            References::Values => spell(text, alloc, &named, references, left),
+            ReferenceSpelling::Values => push_type_text(text, alloc, &named, references, left),
         },
         KindForm::Map(keys, value) => {
             text.push_str("(map ")?;
@@ -80,29 +80,29 @@ fn spell(
 }
 
 /// Adds `opening`, the last part of a type, and a closing bracket.
-#[cycle(spell)]
+#[cycle(push_type_text)]
 fn push_last_type_part_text(
     text: &mut String,
     alloc: Global,
     opening: &str,
     kind: &Kind,
-    references: References,
+    references: ReferenceSpelling,
     left: &mut usize,
 ) -> Result<(), AllocError>
     ensures { left.new ≤ left.old }
 {
     text.push_str(opening)?;
-    spell(text, alloc, kind, references, left)?;
+    push_type_text(text, alloc, kind, references, left)?;
     text.push_str(")")
 }
 
 /// Adds the type of tuples with items of `kinds`.
-#[cycle(spell)]
+#[cycle(push_type_text)]
 fn push_tuple_type_text(
     text: &mut String,
     alloc: Global,
     kinds: &[Kind],
-    references: References,
+    references: ReferenceSpelling,
     left: &mut usize,
 ) -> Result<(), AllocError>
     ensures { left.new ≤ left.old }
@@ -113,7 +113,7 @@ fn push_tuple_type_text(
             return text.push_str(" ..)");
         }
         text.push_str(" ")?;
-        spell(text, alloc, kind, references, left)?;
+        push_type_text(text, alloc, kind, references, left)?;
     }
     text.push_str(")")
 }

@@ -1,7 +1,7 @@
 //! The trees of expressions and of their parts.
 
 use pst_sexpr::{Form, node_of};
-use pst_syntax_problems::head_word;
+use pst_syntax_problems::head_word_or_empty;
 use std::alloc::AllocError;
 
 /// Tree `number` in `form`, or `form` itself if it holds no such tree.
@@ -22,7 +22,7 @@ pub fn comprehension_clauses(form: &Form) -> &[Form] {
 
 /// Whether a clause goes over a list. Any other one is a test.
 pub fn clause_iterates_over_list(clause: &Form) -> bool {
-    head_word(clause) == "in"
+    head_word_or_empty(clause) == "in"
 }
 
 /// Goes from a tree to tree `number` in it: extends `path`, and returns that tree.
@@ -63,7 +63,7 @@ pub fn enter_expression_part<'a>(
     form: &'a Form,
     part: usize,
 ) -> Result<&'a Form, AllocError> {
-    match head_word(form) {
+    match head_word_or_empty(form) {
         "let" | "list" | "call" => enter_tree(path, form, part.saturating_add(2)),
         "fold" if part > 0 => enter_tree(path, form, part.saturating_add(3)),
         "fold" => enter_tree(path, form, 2),

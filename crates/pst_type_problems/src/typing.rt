@@ -3,12 +3,12 @@
 use crate::diagnose::{BlamedPart, diagnose_blamed_part};
 use crate::operands::expected_type_problem;
 use crate::trees::{enter_expression_part, tree_part_or_whole};
-use crate::walk::{expression_part_at_path, scope_names};
+use crate::walk::{expression_part_at_path_with_names, scope_names};
 use pst_model::{Expr, Fun, Item, Op, Source, state_of};
 use pst_sexpr::{Form, node_of};
 use pst_syntax_problems::{
-    FoundProblem, MOST_PROBLEMS, Problem, head_word, problem_at, problem_with_note, push_problem,
-    with_note,
+    FoundProblem, MOST_PROBLEMS, Problem, head_word_or_empty, problem_at, problem_with_note,
+    push_problem_if_any, with_note,
 };
 use pst_typing::{Blame, Context, Found, Kind, Scope, holds_call, holds_ref, infer};
 use pst_value::Ty;
@@ -16,7 +16,7 @@ use std::alloc::{AllocError, Global};
 
 /// The place of an expression: its tree, the path to it, what it is called, and the type that it must have.
 #[derive(Drop)]
-pub struct Site<'a> {
+pub struct ExpressionSite<'a> {
     pub form: &'a Form,
     pub path: &'a [usize],
     pub called: &'a str,
@@ -57,14 +57,14 @@ fn type_problem_of_blame(
     expr: &Expr,
     context: &Context<'_>,
     scope: &Scope<'_>,
-    site: &Site<'_>,
+    site: &ExpressionSite<'_>,
     blame: &Blame,
 ) -> FoundProblem {
     let alloc = context.alloc;
     let mut path = Vec::from_slice(alloc, site.path)?;
     let form = enter_expression_part_at_path(&mut path, site.form, blame.path.as_slice())?;
     let mut names = scope_names(alloc, scope)?;
-    let expr = expression_part_at_path(alloc, &mut names, expr, blame.path.as_slice())?;
+    let expr = expression_part_at_path_with_names(alloc, &mut names, expr, blame.path.as_slice())?;
     let leaf = BlamedPart {
         alloc,
         context,
@@ -80,12 +80,12 @@ fn type_problem_of_blame(
 }
 
 /// The problem of an expression of the kind `found`, if it has to have another kind.
-fn wanted_type_problem(alloc: Global, site: &Site<'_>, found: &Kind) -> FoundProblem {
+fn wanted_type_problem(alloc: Global, site: &ExpressionSite<'_>, found: &Kind) -> FoundProblem {
     if found.same(alloc, site.wanted)? {
         return Ok(None);
     }
     let refused = expected_type_problem(alloc, site.path, site.called, site.wanted, found)?;
-    if site.called == "next" && head_word(site.form) == "=" {
+    if site.called == "next" && head_word_or_empty(site.form) == "=" {
         return with_note(
             alloc,
             refused,
@@ -101,16 +101,16 @@ fn add_expression_type_problems(
     expr: &Expr,
     context: &Context<'_>,
     scope: &Scope<'_>,
-    site: &Site<'_>,
+    site: &ExpressionSite<'_>,
 ) -> Result<(), AllocError> {
     match infer(expr, context, scope)? {
-        Found::Kind(kind) => push_problem(
+        Found::Kind(kind) => push_problem_if_any(
             problems,
             wanted_type_problem(context.alloc, site, &kind)?,
         ),
         Found::Blamed(blames) => {
             for blame in blames.as_slice() {
-                push_problem(
+                push_problem_if_any(
                     problems,
                     type_problem_of_blame(expr, context, scope, site, blame)?,
                 )?;
@@ -133,7 +133,7 @@ fn context_with_all_items(here: ItemSite<'_>, is_post: bool) -> Context<'_> {
 /// The body of the callback `word`, if the tree is this callback.
 fn callback_body_in_tree<'a>(form: &'a Form, word: &str) -> Option<&'a Form> {
     match node_of(form)? {
-        [_, body] if head_word(form) == word => Some(body),
+        [_, body] if head_word_or_empty(form) == word => Some(body),
         _ => None,
     }
 }
@@ -163,7 +163,7 @@ fn add_callback_type_problems(
     let Some((place, body)) = find_callback_body(here.form, word) else {
         return Ok(());
     };
-    let site = Site {
+    let site = ExpressionSite {
         form: body,
         path: &[0, here.number, place, 1],
         called: word,
@@ -243,7 +243,7 @@ fn add_operation_type_problems(
     op: &Op,
     here: ItemSite<'_>,
 ) -> Result<(), AllocError> {
-    push_problem(problems, declared_type_problem(op, here)?)?;
+    push_problem_if_any(problems, declared_type_problem(op, here)?)?;
     add_pre_type_problems(problems, op, here)?;
     add_next_type_problems(problems, op, here)?;
     add_post_type_problems(problems, op, here)
@@ -264,7 +264,7 @@ fn add_function_type_problems(
         is_post: fun.is_post,
     };
     let scope = Scope::Parameters(fun.params.as_slice());
-    let site = Site {
+    let site = ExpressionSite {
         form: tree_part_or_whole(here.form, 4),
         path: &[0, number, 4],
         called: fun.name.as_str(),
@@ -283,7 +283,7 @@ fn add_item_body_type_problems(
     wanted: &Kind,
     here: ItemSite<'_>,
 ) -> Result<(), AllocError> {
-    let site = Site {
+    let site = ExpressionSite {
         form: tree_part_or_whole(here.form, 1),
         path: &[0, here.number, 1],
         called,
@@ -342,14 +342,15 @@ fn add_item_type_problems(
         Item::Op(op) => add_operation_type_problems(problems, op, here),
         Item::Init(expr) => add_init_type_problems(problems, expr, here),
         Item::Command(expr) => add_command_type_problems(problems, expr, here),
-        Item::State(state) => push_problem(problems, state_type_problem(state, here)?),
+        Item::State(state) => push_problem_if_any(problems, state_type_problem(state, here)?),
     }
 }
 
 /// The problems of item `number`, counted from 1, of a model that is not well typed, and of the items after it. The
 /// problem that the model is refused for comes first. Each is independent of the others, because functions and
-/// operations are used by the types that they declare.
-pub fn type_problems(
+/// operations are used by the types that they declare. Once there are more than `MOST_PROBLEMS` problems, the items
+/// after that are left out.
+pub fn type_problems_from_item_on(
     alloc: Global,
     source: &Source,
     model: &Form,
@@ -376,7 +377,7 @@ pub fn type_problems(
             add_item_type_problems(&mut problems, item, here)?;
         }
         if is_first && problems.is_empty() {
-            push_problem(
+            push_problem_if_any(
                 &mut problems,
                 problem_at(alloc, &[0, place], "the item is not well typed")?,
             )?;

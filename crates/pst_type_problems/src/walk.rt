@@ -108,7 +108,7 @@ fn expression_part_with_names<'a>(
 }
 
 /// The part of an expression that `path` leads to. Adds the names that the part sees.
-pub fn expression_part_at_path<'a>(
+pub fn expression_part_at_path_with_names<'a>(
     alloc: Global,
     names: &mut Items<Text>,
     expr: &'a Expr,

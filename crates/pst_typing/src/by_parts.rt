@@ -12,8 +12,8 @@ use crate::blame::{Blame, Found};
 use crate::context::Context;
 use crate::kinds::Kind;
 use crate::operators::{
-    binary_type, copy_kind, int_type, keys_type, kind_if, kind_of, kind_of_type_if_true, part_type,
-    text_type, unary_type, values_type,
+    binary_type, copy_kind, int_type, kind_if, kind_of, kind_of_map_keys, kind_of_type_if_true,
+    part_type, text_type, unary_type, values_type,
 };
 use crate::refusal::Refusal;
 use crate::scope::{Names, function_called, kind_of_variable, operation_called};
@@ -146,14 +146,14 @@ fn kind_of_list(alloc: Global, ty: &Ty, number: usize, kinds: &[Kind]) -> Result
         return Err(Refusal::Ill);
     }
     let item = Kind::of(alloc, ty)?;
-    if !all_are(alloc, kinds, &item)? {
+    if !are_all_of_kind(alloc, kinds, &item)? {
         return Err(Refusal::Ill);
     }
     Ok(item.list(alloc)?)
 }
 
 /// Whether all are one kind.
-fn all_are(alloc: Global, kinds: &[Kind], item: &Kind) -> Result<bool, AllocError>
+fn are_all_of_kind(alloc: Global, kinds: &[Kind], item: &Kind) -> Result<bool, AllocError>
     ensures { IfOk result (λ are. are ≡ spec.all_are kinds.now item.now) }
 {
     for kind in kinds {
@@ -206,7 +206,7 @@ fn kind_of_put(alloc: Global, kinds: &[Kind]) -> Result<Kind, Refusal>
     let [map, key, value] = kinds else {
         return Err(Refusal::Ill);
     };
-    let keys = keys_type(alloc, map)?;
+    let keys = kind_of_map_keys(alloc, map)?;
     if !key.same(alloc, &keys)? {
         return Err(Refusal::Ill);
     }
@@ -221,7 +221,7 @@ fn kind_of_call(context: &Context<'_>, name: &[u8], kinds: &[Kind]) -> Result<Ki
     let Some(operation) = operation_called(context.items, name) else {
         return Err(Refusal::Ill);
     };
-    if !each_is(context.alloc, kinds, operation.params.as_slice())? {
+    if !are_kinds_of_parameters(context.alloc, kinds, operation.params.as_slice())? {
         return Err(Refusal::Ill);
     }
     kind_of(context.alloc, &Ty::Call)
@@ -238,14 +238,18 @@ fn kind_of_apply(context: &Context<'_>, name: &[u8], kinds: &[Kind]) -> Result<K
     if function.is_post && !context.is_post {
         return Err(Refusal::Ill);
     }
-    if !each_is(context.alloc, kinds, function.params.as_slice())? {
+    if !are_kinds_of_parameters(context.alloc, kinds, function.params.as_slice())? {
         return Err(Refusal::Ill);
     }
     kind_of(context.alloc, &function.result)
 }
 
 /// Whether there are as many kinds as parameters, and each is the type of its parameter.
-fn each_is(alloc: Global, kinds: &[Kind], params: &[Param]) -> Result<bool, AllocError>
+fn are_kinds_of_parameters(
+    alloc: Global,
+    kinds: &[Kind],
+    params: &[Param],
+) -> Result<bool, AllocError>
     ensures { IfOk result (λ are. are ≡ spec.each_is kinds.now (types_of params.now)) }
 {
     let Some((kind, others)) = kinds.split_first() else {
@@ -257,5 +261,5 @@ fn each_is(alloc: Global, kinds: &[Kind], params: &[Param]) -> Result<bool, Allo
     if !kind.is(alloc, &param.ty)? {
         return Ok(false);
     }
-    each_is(alloc, others, rest)
+    are_kinds_of_parameters(alloc, others, rest)
 }

@@ -9,7 +9,7 @@ ghost use Rattle.pst_model.specs.declared.expr.Clause.TheVariants as clause;
 use crate::blame::Found;
 use crate::by_parts::kind_by_parts;
 use crate::context::Context;
-use crate::gathered::{Gathered, item_found};
+use crate::gathered::{Gathered, item_kind_if_list};
 use crate::scope::{Names, Scope, names_seen};
 use pst_model::{Clause, Expr};
 use pst_value::{Boxed, Text};
@@ -180,7 +180,7 @@ fn infer_fold(
 {
     let alloc = context.alloc;
     let found = infer_kind(list.get(), context, names)?;
-    let item = item_found(alloc, &found)?;
+    let item = item_kind_if_list(alloc, &found)?;
     let all = Gathered::new(alloc).with(alloc, found)?;
     let found = infer_kind(first.get(), context, names)?;
     let Some(item) = item else {
@@ -243,7 +243,7 @@ fn infer_items(
         (clause.In name.now list.now ∷ rest.now) body.now all more) }
 {
     let found = infer_kind(list, context, names)?;
-    let item = item_found(context.alloc, &found)?;
+    let item = item_kind_if_list(context.alloc, &found)?;
     let all = all.with(context.alloc, found)?;
     match item {
         Some(item) => {

@@ -90,7 +90,7 @@ fn blame_within_part(alloc: Global, number: usize, blame: Blame) -> Result<Blame
 }
 
 /// The kind of the items of what is found, if that is a list.
-pub fn item_found(alloc: Global, found: &Found) -> Result<Option<Kind>, AllocError>
+pub fn item_kind_if_list(alloc: Global, found: &Found) -> Result<Option<Kind>, AllocError>
     ensures { IfOk result (λ item. item ≡ spec.item_in found.now) }
 {
     let Found::Kind(list) = found else {

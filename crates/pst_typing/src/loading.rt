@@ -23,7 +23,7 @@ pub struct ModelFile {
 }
 
 /// The trees of a file.
-fn trees_of(alloc: Global, input: &[u8]) -> Result<Result<Vec<Tree>, Refusal>, AllocError>
+fn read_input_trees(alloc: Global, input: &[u8]) -> Result<Result<Vec<Tree>, Refusal>, AllocError>
     ensures { IfOk result
         (λ read. MatchResult read (λ trees. IsFile input.now trees.items)
         (λ refusal. IsRefusal input.now refusal)) }
@@ -40,7 +40,10 @@ fn trees_of(alloc: Global, input: &[u8]) -> Result<Result<Vec<Tree>, Refusal>, A
 }
 
 /// The model that the first tree spells.
-fn model_in(alloc: Global, trees: &[Tree]) -> Result<Result<Model, SyntaxFault>, AllocError>
+fn read_model_of_trees(
+    alloc: Global,
+    trees: &[Tree],
+) -> Result<Result<Model, SyntaxFault>, AllocError>
     ensures { IfOk result (λ model. model_of trees.now ≡ model) }
 {
     match read_model(alloc, trees) {
@@ -55,7 +58,7 @@ fn model_in(alloc: Global, trees: &[Tree]) -> Result<Result<Model, SyntaxFault>,
 }
 
 /// The model if it is well typed, or else the number of its first item that is not.
-fn typed_of(alloc: Global, model: Model) -> Result<Result<Typed, usize>, AllocError>
+fn check_read_model(alloc: Global, model: Model) -> Result<Result<Typed, usize>, AllocError>
     ensures { IfOk result
         (λ checked. MatchResult checked (λ typed. (typed ≡ model) × WellModel model)
         (λ number. IsIll model number)) }
@@ -74,15 +77,15 @@ pub fn load(alloc: Global, input: &[u8]) -> Result<Result<ModelFile, Refusal>, A
         (λ file. Holds input.now file.typed file.trees.items)
         (λ refusal. IsRefusal input.now refusal)) }
 {
-    let trees = match trees_of(alloc, input)? {
+    let trees = match read_input_trees(alloc, input)? {
         Ok(trees) => trees,
         Err(refusal) => return Ok(Err(refusal)),
     };
-    let model = match model_in(alloc, trees.as_slice())? {
+    let model = match read_model_of_trees(alloc, trees.as_slice())? {
         Ok(model) => model,
         Err(fault) => return Ok(Err(Refusal::NoModel(fault))),
     };
-    match typed_of(alloc, model)? {
+    match check_read_model(alloc, model)? {
         Ok(typed) => Ok(Ok(ModelFile { typed, trees })),
         Err(number) => Ok(Err(Refusal::IllTyped(number))),
     }

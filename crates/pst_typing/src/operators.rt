@@ -168,7 +168,7 @@ pub fn key_type(keys: KeyTy) -> Ty
 }
 
 /// The kind of a map's keys, as values.
-pub fn keys_type(alloc: Global, map: &Kind) -> Result<Kind, Refusal>
+pub fn kind_of_map_keys(alloc: Global, map: &Kind) -> Result<Kind, Refusal>
     ensures { Answers (spec.keys_type map.now) result }
 {
     match map.form(alloc)? {
@@ -191,7 +191,7 @@ pub fn values_type(alloc: Global, map: &Kind) -> Result<Kind, Refusal>
 fn is_map_with_key_type(alloc: Global, map: &Kind, key: &Kind) -> Result<bool, AllocError>
     ensures { IfOk result (λ has. has ≡ is_ty (spec.keys_type map.now) key.now) }
 {
-    match keys_type(alloc, map) {
+    match kind_of_map_keys(alloc, map) {
         Ok(kind) => kind.same(alloc, key),
         Err(Refusal::Ill) => Ok(false),
         Err(Refusal::NoMemory) => Err(AllocError),
@@ -237,7 +237,7 @@ fn kind_of_get_result(alloc: Global, map: &Kind, key: &Kind) -> Result<Kind, Ref
 fn keys_list_type(alloc: Global, map: &Kind) -> Result<Kind, Refusal>
     ensures { Answers (spec.unary_type true Keys map.now) result }
 {
-    let keys = keys_type(alloc, map)?;
+    let keys = kind_of_map_keys(alloc, map)?;
     Ok(keys.list(alloc)?)
 }
 

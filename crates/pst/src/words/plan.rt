@@ -11,7 +11,7 @@ use pst_trial::{
 use std::alloc::{AllocError, Global};
 
 /// A number of a campaign's plan. An option with the same name sets it.
-struct PlanNumber {
+struct NumberOption {
     name: &'static str,
     least: u64,
     most: u64,
@@ -20,57 +20,57 @@ struct PlanNumber {
 }
 
 /// The numbers of a campaign's plan, in the order of its help.
-const PLAN_NUMBERS: [PlanNumber; 8] = [
-    PlanNumber {
+const PLAN_NUMBERS: [NumberOption; 8] = [
+    NumberOption {
         name: "seed",
         least: 0,
         most: u64::MAX,
         default: "0",
         help: "Chooses the cases: the same seed generates the same ones",
     },
-    PlanNumber {
+    NumberOption {
         name: "trials",
         least: 0,
         most: MAX_TRIALS as u64,
         default: "100",
         help: "How many cases are tried",
     },
-    PlanNumber {
+    NumberOption {
         name: "commands",
         least: 1,
         most: MAX_COMMANDS as u64,
         default: "16",
         help: "At most N commands in a case",
     },
-    PlanNumber {
+    NumberOption {
         name: "branches",
         least: 1,
         most: MAX_BRANCHES as u64,
         default: "2",
         help: "How many branches run at the same time",
     },
-    PlanNumber {
+    NumberOption {
         name: "suffix",
         least: 0,
         most: MAX_SUFFIX as u64,
         default: "0",
         help: "How many commands come after the branches",
     },
-    PlanNumber {
+    NumberOption {
         name: "repeats",
         least: 1,
         most: MAX_REPEATS as u64,
         default: "5",
         help: "Drives a case up to N times, until a run is not explained",
     },
-    PlanNumber {
+    NumberOption {
         name: "workers",
         least: 1,
         most: 16,
         default: "4",
         help: "How many systems run at the same time",
     },
-    PlanNumber {
+    NumberOption {
         name: "limit",
         least: 0,
         most: MAX_LIMIT as u64,
@@ -80,15 +80,15 @@ const PLAN_NUMBERS: [PlanNumber; 8] = [
 ];
 
 /// The numbers of `generate` that a campaign does not have: which trials there are.
-const TRIAL_NUMBERS: [PlanNumber; 2] = [
-    PlanNumber {
+const TRIAL_NUMBERS: [NumberOption; 2] = [
+    NumberOption {
         name: "first",
         least: 0,
         most: u64::MAX,
         default: "0",
         help: "The number of the first trial whose case is printed",
     },
-    PlanNumber {
+    NumberOption {
         name: "trials",
         least: 0,
         most: u64::MAX,
@@ -98,7 +98,7 @@ const TRIAL_NUMBERS: [PlanNumber; 2] = [
 ];
 
 /// The option that gives a number of a campaign's plan.
-fn plan_number_option<'a>(alloc: Global, number: &PlanNumber) -> Arg<'a> {
+fn plan_number_option<'a>(alloc: Global, number: &NumberOption) -> Arg<'a> {
     Arg::new(alloc, number.name)
         .long(number.name)
         .value_name("N")
@@ -109,7 +109,7 @@ fn plan_number_option<'a>(alloc: Global, number: &PlanNumber) -> Arg<'a> {
 }
 
 /// Whether a number of a campaign's plan chooses the cases of its trials.
-fn plan_number_chooses_cases(number: &PlanNumber) -> bool {
+fn plan_number_chooses_cases(number: &NumberOption) -> bool {
     matches!(number.name, "seed" | "commands" | "branches" | "suffix")
 }
 

@@ -7,7 +7,7 @@ use crate::memory::refused::Refused;
 use crate::models::COUNTER_AND_ITEMS;
 use pst_case::{Case, CaseFaultKind, Run};
 use pst_cli::{Status, judge_text};
-use pst_gen::{generate, valid_or_none};
+use pst_gen::{generate, valid_case_if_accepted};
 use pst_judge::{Valid, verdict};
 use pst_model::Typed;
 use pst_runs::{RunFaultKind, WriteFault, read_runs, write_runs};
@@ -60,13 +60,13 @@ pub fn verdict_answer(alloc: Global) -> Result<String, Refused> {
 
 /// Returns `valid`, or an error if the case is not valid.
 fn valid_text(alloc: Global, typed: &Typed, case: Case) -> Result<String, Refused> {
-    match valid_or_none(&Plain::new(typed), alloc, typed, case)? {
+    match valid_case_if_accepted(&Plain::new(typed), alloc, typed, case)? {
         Some(_) => Ok(String::from_str(alloc, "valid")?),
         None => Err(Refused::Otherwise("not valid")),
     }
 }
 
-/// Calls `valid_or_none`, which uses `every`, and returns whether the case of the run is valid.
+/// Calls `valid_case_if_accepted`, which uses `every`, and returns whether the case of the run is valid.
 pub fn valid_answer(alloc: Global) -> Result<String, Refused> {
     let typed = typed_of(alloc)?;
     let runs = runs_of(alloc, &typed)?;

@@ -2,7 +2,7 @@
 ghost use Rattle.std.specs.Prelude.{◌≡◌, IfOk, map};
 ghost use Rattle.pst_runs.specs.Written as spec;
 
-use crate::write::values::each_value;
+use crate::write::values::forms_of_values;
 use pst_case::{Case, Command};
 use pst_model::{Source, operation_of};
 use pst_sexpr::{Form, headed, list_of};
@@ -12,14 +12,14 @@ use std::alloc::{AllocError, Global};
 fn command_form(alloc: Global, model: &Source, command: &Command) -> Result<Form, AllocError>
     ensures { IfOk result (λ form. form ≡ spec.command_form model.now command.now) }
 {
-    let args = each_value(alloc, command.args.as_slice())?;
+    let args = forms_of_values(alloc, command.args.as_slice())?;
     match operation_of(model.items.as_slice(), command.op as usize) {
         Some(operation) => headed(alloc, operation.name.as_str(), args),
         None => headed(alloc, "", args),
     }
 }
 
-fn each_command(
+fn command_forms(
     alloc: Global,
     model: &Source,
     commands: &[Command],
@@ -34,7 +34,7 @@ fn each_command(
 }
 
 /// Returns a node of `word` and the commands.
-fn section_form(
+fn section_form_of_commands(
     alloc: Global,
     model: &Source,
     word: &str,
@@ -42,7 +42,7 @@ fn section_form(
 ) -> Result<Form, AllocError>
     ensures { IfOk result (λ form. form ≡ spec.section_form model.now word.now commands.now) }
 {
-    headed(alloc, word, each_command(alloc, model, commands)?)
+    headed(alloc, word, command_forms(alloc, model, commands)?)
 }
 
 fn branch_forms(
@@ -54,7 +54,7 @@ fn branch_forms(
 {
     let mut forms = Items::new(alloc);
     for branch in branches {
-        forms.push(Form::Node(each_command(alloc, model, branch.as_slice())?))?;
+        forms.push(Form::Node(command_forms(alloc, model, branch.as_slice())?))?;
     }
     Ok(forms)
 }
@@ -69,8 +69,8 @@ fn branches_forms(
 {
     match branches {
         [left, right] => {
-            let left = section_form(alloc, model, "left", left.as_slice())?;
-            let right = section_form(alloc, model, "right", right.as_slice())?;
+            let left = section_form_of_commands(alloc, model, "left", left.as_slice())?;
+            let right = section_form_of_commands(alloc, model, "right", right.as_slice())?;
             let mut forms = list_of(alloc, left)?;
             forms.push(right)?;
             Ok(forms)
@@ -86,11 +86,11 @@ fn branches_forms(
 pub fn case_forms(alloc: Global, model: &Source, case: &Case) -> Result<Items<Form>, AllocError>
     ensures { IfOk result (λ forms. forms ≡ spec.case_forms model.now case.now) }
 {
-    let prefix = section_form(alloc, model, "prefix", case.prefix.as_slice())?;
+    let prefix = section_form_of_commands(alloc, model, "prefix", case.prefix.as_slice())?;
     let mut forms = list_of(alloc, prefix)?;
     forms.append(branches_forms(alloc, model, case.branches.as_slice())?)?;
     if !case.suffix.is_empty() {
-        forms.push(section_form(alloc, model, "suffix", case.suffix.as_slice())?)?;
+        forms.push(section_form_of_commands(alloc, model, "suffix", case.suffix.as_slice())?)?;
     }
     Ok(forms)
 }

@@ -20,7 +20,7 @@ fn reply_form(alloc: Global, reply: &Reply) -> Result<Form, AllocError>
 }
 
 /// The replies of a part.
-fn list_form(alloc: Global, replies: &[Reply]) -> Result<Form, AllocError>
+fn reply_list_form(alloc: Global, replies: &[Reply]) -> Result<Form, AllocError>
     ensures { IfOk result (λ form. form ≡ spec.list_form replies.now) }
 {
     let mut forms = Items::new(alloc);
@@ -30,12 +30,12 @@ fn list_form(alloc: Global, replies: &[Reply]) -> Result<Form, AllocError>
     Ok(Form::Node(forms))
 }
 
-fn each_list(alloc: Global, branches: &[Items<Reply>]) -> Result<Items<Form>, AllocError>
+fn reply_list_forms(alloc: Global, branches: &[Items<Reply>]) -> Result<Items<Form>, AllocError>
     ensures { IfOk result (λ forms. forms ≡ map spec.list_form branches.now) }
 {
     let mut forms = Items::new(alloc);
     for branch in branches {
-        forms.push(list_form(alloc, branch.as_slice())?)?;
+        forms.push(reply_list_form(alloc, branch.as_slice())?)?;
     }
     Ok(forms)
 }
@@ -45,10 +45,10 @@ fn each_list(alloc: Global, branches: &[Items<Reply>]) -> Result<Items<Form>, Al
 pub fn replies_form(alloc: Global, history: &History) -> Result<Form, AllocError>
     ensures { IfOk result (λ form. form ≡ spec.replies_form history.now) }
 {
-    let mut lists = list_of(alloc, list_form(alloc, history.prefix.as_slice())?)?;
-    lists.append(each_list(alloc, history.branches.as_slice())?)?;
+    let mut lists = list_of(alloc, reply_list_form(alloc, history.prefix.as_slice())?)?;
+    lists.append(reply_list_forms(alloc, history.branches.as_slice())?)?;
     if !history.suffix.is_empty() {
-        lists.push(list_form(alloc, history.suffix.as_slice())?)?;
+        lists.push(reply_list_form(alloc, history.suffix.as_slice())?)?;
     }
     headed(alloc, "replies", lists)
 }

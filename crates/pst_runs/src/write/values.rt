@@ -8,13 +8,13 @@ use pst_sexpr::{Form, headed, word};
 use pst_value::{Items, Key, Text, Value};
 use std::alloc::{AllocError, Global};
 
-fn integer(alloc: Global, number: i64) -> Result<Form, AllocError>
+fn integer_form(alloc: Global, number: i64) -> Result<Form, AllocError>
     ensures { IfOk result (λ form. form ≡ Word (signed_decimal number)) }
 {
     Ok(Form::Word(Text::from_string(format!(in alloc; "{number}")?)))
 }
 
-fn variable(alloc: Global, number: u32) -> Result<Form, AllocError>
+fn variable_form(alloc: Global, number: u32) -> Result<Form, AllocError>
     ensures { IfOk result (λ form. form ≡ Word (codes "$" ++ decimal number)) }
 {
     Ok(Form::Word(Text::from_string(format!(in alloc; "${number}")?)))
@@ -31,22 +31,22 @@ fn bool_form(alloc: Global, holds: bool) -> Result<Form, AllocError>
 }
 
 /// The tree of a key.
-fn key_form(alloc: Global, key: &Key) -> Result<Form, AllocError>
+fn map_key_form(alloc: Global, key: &Key) -> Result<Form, AllocError>
     ensures { IfOk result (λ form. form ≡ key_form key.now) }
 {
     match key {
-        Key::Int(number) => integer(alloc, *number),
+        Key::Int(number) => integer_form(alloc, *number),
         Key::Bool(holds) => bool_form(alloc, *holds),
         Key::Text(text) => Ok(Form::Text(text.copy(alloc)?)),
     }
 }
 
 /// The tree of a key and its value.
-fn entry_form(alloc: Global, key: &Key, value: Form) -> Result<Form, AllocError>
+fn map_entry_form(alloc: Global, key: &Key, value: Form) -> Result<Form, AllocError>
     ensures { IfOk result (λ form. form ≡ Node (key_form key.now ∷ value ∷ [])) }
 {
     let mut parts = Items::new(alloc);
-    parts.push(key_form(alloc, key)?)?;
+    parts.push(map_key_form(alloc, key)?)?;
     parts.push(value)?;
     Ok(Form::Node(parts))
 }
@@ -59,27 +59,27 @@ pub fn value_form(alloc: Global, value: &Value) -> Result<Form, AllocError>
     ensures { IfOk result (λ form. form ≡ value_form value.now) }
 {
     match value {
-        Value::Int(number) => integer(alloc, *number),
+        Value::Int(number) => integer_form(alloc, *number),
         Value::Bool(holds) => bool_form(alloc, *holds),
         Value::Text(text) => Ok(Form::Text(text.copy(alloc)?)),
-        Value::Tuple(parts) => headed(alloc, "tuple", each_value(alloc, parts.as_slice())?),
-        Value::List(parts) => headed(alloc, "list", each_value(alloc, parts.as_slice())?),
+        Value::Tuple(parts) => headed(alloc, "tuple", forms_of_values(alloc, parts.as_slice())?),
+        Value::List(parts) => headed(alloc, "list", forms_of_values(alloc, parts.as_slice())?),
         Value::Map(keys, values) => {
             headed(
                 alloc,
                 "map",
-                each_entry(alloc, keys.get().as_slice(), values.get().as_slice())?,
+                map_entry_forms(alloc, keys.get().as_slice(), values.get().as_slice())?,
             )
         }
-        Value::Var(number) => variable(alloc, *number),
+        Value::Var(number) => variable_form(alloc, *number),
         Value::Ref(_, part) => value_form(alloc, part.get()),
-        Value::Call(_, parts) => Ok(Form::Node(each_value(alloc, parts.as_slice())?)),
+        Value::Call(_, parts) => Ok(Form::Node(forms_of_values(alloc, parts.as_slice())?)),
     }
 }
 
 /// The trees of values.
 #[cycle(value_form)]
-pub fn each_value(alloc: Global, values: &[Value]) -> Result<Items<Form>, AllocError>
+pub fn forms_of_values(alloc: Global, values: &[Value]) -> Result<Items<Form>, AllocError>
     ensures { IfOk result (λ forms. forms ≡ map value_form values.now) }
 {
     let mut forms = Items::new(alloc);
@@ -91,7 +91,7 @@ pub fn each_value(alloc: Global, values: &[Value]) -> Result<Items<Form>, AllocE
 
 /// The trees of the entries of a map.
 #[cycle(value_form)]
-fn each_entry(alloc: Global, keys: &[Key], values: &[Value]) -> Result<Items<Form>, AllocError>
+fn map_entry_forms(alloc: Global, keys: &[Key], values: &[Value]) -> Result<Items<Form>, AllocError>
     ensures { IfOk result (λ forms. forms ≡ entries_form keys.now (map value_form values.now)) }
 {
     let mut entries = Items::new(alloc);
@@ -101,7 +101,7 @@ fn each_entry(alloc: Global, keys: &[Key], values: &[Value]) -> Result<Items<For
             return Ok(entries);
         };
         let form = value_form(alloc, value)?;
-        entries.push(entry_form(alloc, key, form)?)?;
+        entries.push(map_entry_form(alloc, key, form)?)?;
         rest = others;
     }
     Ok(entries)

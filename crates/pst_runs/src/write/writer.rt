@@ -39,7 +39,7 @@ fn run_trees(alloc: Global, typed: &Typed, runs: &[Run]) -> Result<Vec<Tree>, Al
 }
 
 /// Writes a tree and a line end.
-fn write_line<W: Sink>(tree: &Tree, writer: &mut W) -> Result<(), WriteFailed>
+fn write_tree_line<W: Sink>(tree: &Tree, writer: &mut W) -> Result<(), WriteFailed>
     requires { W.broken writer.old ≡ false }
     ensures { Writes (W.taken writer.old) (W.taken writer.new) (W.broken writer.new) result
         (line_of tree.now) }
@@ -49,13 +49,13 @@ fn write_line<W: Sink>(tree: &Tree, writer: &mut W) -> Result<(), WriteFailed>
 }
 
 /// Writes each tree, with a line end after it.
-fn write_lines<W: Sink>(trees: &[Tree], writer: &mut W) -> Result<(), WriteFailed>
+fn write_tree_lines<W: Sink>(trees: &[Tree], writer: &mut W) -> Result<(), WriteFailed>
     requires { W.broken writer.old ≡ false }
     ensures { Writes (W.taken writer.old) (W.taken writer.new) (W.broken writer.new) result
         (lines_of trees.now) }
 {
     for tree in trees {
-        write_line(tree, writer)?;
+        write_tree_line(tree, writer)?;
     }
     Ok(())
 }
@@ -85,6 +85,6 @@ pub fn write_runs<W: Sink>(
 {
     prove_runs_are_read_back(typed, runs);
     let trees = run_trees(alloc, typed, runs)?;
-    write_lines(trees.as_slice(), writer)?;
+    write_tree_lines(trees.as_slice(), writer)?;
     Ok(())
 }

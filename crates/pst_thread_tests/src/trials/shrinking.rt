@@ -3,7 +3,7 @@
 use crate::trials::plans::{one_command, plan_of, record_of};
 use pst_case::Case;
 use pst_eval::Plain;
-use pst_gen::valid_or_none;
+use pst_gen::valid_case_if_accepted;
 use pst_model::Typed;
 use pst_samples::{Racy, Stuck};
 use pst_shrink::ShrinkEnd;
@@ -88,7 +88,7 @@ fn size(case: &Case) -> usize {
 
 /// Whether the case has the shape of the model and is valid by it.
 fn is_accepted(alloc: Global, typed: &Typed, case: &Case) -> Result<bool, AllocError> {
-    let accepted = valid_or_none(&Plain::new(typed), alloc, typed, case.copy(alloc)?)?;
+    let accepted = valid_case_if_accepted(&Plain::new(typed), alloc, typed, case.copy(alloc)?)?;
     Ok(accepted.is_some())
 }
 

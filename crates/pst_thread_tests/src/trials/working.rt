@@ -3,7 +3,7 @@ ghost use Rattle.std.specs.Prelude.{◌≡◌, None};
 ghost use Rattle.std.specs.Arc.{arc_value};
 
 use crate::trials::plans::plan_of;
-use pst_campaign::work;
+use pst_campaign::run_trials_until_none_is_left;
 use pst_ledger::{Cause, Closed, Entry, Ledger};
 use pst_samples::Stuck;
 use pst_system::BoxedSystem;
@@ -37,7 +37,7 @@ fn closed_by_one<R: Threads + Wait + Sync>(
     let trials = plan.settings().trials as u64;
     let (ledger, mut seats) = Ledger::<Record>::open(alloc, trials, 1).ok()?;
     let mut seat = seats.pop()?;
-    work(rt, alloc, plan, &ledger, &mut seat, &mut system);
+    run_trials_until_none_is_left(rt, alloc, plan, &ledger, &mut seat, &mut system);
     seats.push(seat).ok()?;
     ledger.close(seats).ok()
 }

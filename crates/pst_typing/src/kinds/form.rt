@@ -35,7 +35,7 @@ pub fn form_of(alloc: Global, nodes: &Rc<Nodes>, number: usize) -> Result<KindFo
         Node::Int => Ok(KindForm::Int),
         Node::Bool => Ok(KindForm::Bool),
         Node::Text => Ok(KindForm::Text),
-        Node::Tuple(parts) => Ok(KindForm::Tuple(parts_of(alloc, nodes, parts.as_slice())?)),
+        Node::Tuple(parts) => Ok(KindForm::Tuple(kinds_of_nodes(alloc, nodes, parts.as_slice())?)),
         Node::List(part) => Ok(KindForm::List(Kind::of_node(nodes, *part)?)),
         Node::Map(keys, part) => Ok(KindForm::Map(*keys, Kind::of_node(nodes, *part)?)),
         Node::Ref(part) => Ok(KindForm::Ref(Kind::of_node(nodes, *part)?)),
@@ -44,7 +44,11 @@ pub fn form_of(alloc: Global, nodes: &Rc<Nodes>, number: usize) -> Result<KindFo
 }
 
 /// The kinds of nodes.
-fn parts_of(alloc: Global, nodes: &Rc<Nodes>, parts: &[usize]) -> Result<Items<Kind>, AllocError>
+fn kinds_of_nodes(
+    alloc: Global,
+    nodes: &Rc<Nodes>,
+    parts: &[usize],
+) -> Result<Items<Kind>, AllocError>
     requires { AreBelow (length nodes.now.value) parts.now }
     ensures { IfOk result (λ kinds. kinds ≡ map (type_at nodes.now.value) parts.now) }
 {

@@ -2,8 +2,8 @@ use Rattle.std.specs.Arc.{arc_value}
 use Rattle.pst_campaign.proofs.crews.work_on_system_with_crew.Given as goal
 
 -- the relations of the system, and the model of the plan
-abbrev pub ghosts-work_with_named_relations : goal.ghosts-work_with_named_relations
-ghosts-work_with_named_relations g a = record {
+abbrev pub ghosts-work_with_new_crew : goal.ghosts-work_with_new_crew
+ghosts-work_with_new_crew g a = record {
   model = (arc_value a.plan.now).model;
   answering = g.S.Subject.may_answer a.system;
   failing = g.S.Subject.may_fail a.system;

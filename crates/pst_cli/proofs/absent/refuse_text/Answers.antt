@@ -13,4 +13,4 @@ returns-in-NoSystem g c =
     rw c.in-NoSystem.is (subst OfWord c.as_slice.ensures (subst OfName c.as_bytes.ensures.value (subst OfEnd c.as_slice-in-NoSystem.ensures c.write_refusal_parts.ensures)))
 
 pub returns-in-NoMemory : goal.returns-in-NoMemory
-returns-in-NoMemory g c = rw c.in-NoMemory.is c.send-in-NoMemory.ensures
+returns-in-NoMemory g c = rw c.in-NoMemory.is c.write_with_status_or_lost-in-NoMemory.ensures

@@ -11,7 +11,7 @@ use Rattle.pst_cli.proofs.objects.json_output_of_judge_command.Goals as goal
 pub returns-in-Err-clause-output : goal.returns-in-Err-clause-output
 returns-in-Err-clause-output g c =
     refused c.in-Err.refusal (rw c.in-Err.is at c.in_ok-file.ensures)
-    c.in_ok-refusal_object-in-Err.ensures.text c.in_ok-refusal_object-in-Err.ensures.status
+    c.in_ok-output_of_refusal_json_object-in-Err.ensures.text c.in_ok-output_of_refusal_json_object-in-Err.ensures.status
 
 pub returns-clause-output : goal.returns-clause-output
 returns-clause-output g c =
@@ -23,7 +23,7 @@ returns-clause-output g c =
     answered m trees answers (rw c.in-Ok.is at c.in_ok-file.ensures)
     (subst AreAnswered (sym items) c.in_ok-answers.ensures)
     (c.in_ok-text.ensures ∙ ap (shown_objects c.args.shown 1) c.as_slice-2.ensures.value)
-    (c.worst_status-status.ensures ∙ ap (worst_status Accepted) c.as_slice-3.ensures.value)
+    (c.worst_status_of_item_results-status.ensures ∙ ap (worst_status Accepted) c.as_slice-3.ensures.value)
 
 pub returns-clause-held : goal.returns-clause-held
 returns-clause-held g c =

@@ -20,4 +20,4 @@ returns-clause-reported g c =
       repeats_each = c.in_ok-reports.ensures.reported;
       lines = t ∙ ap joined c.as_slice.ensures.value;
       worst = e ∙ ap (worst_of Accepted) c.as_slice.ensures.value;
-    }) c.joined.result c.joined.ensures.text c.joined.ensures.status
+    }) c.joined_outputs_with_worst_status.result c.joined_outputs_with_worst_status.ensures.text c.joined_outputs_with_worst_status.ensures.status

@@ -3,11 +3,11 @@ use Rattle.pst_driver.proofs.Naming.{kept_driven}
 use Rattle.pst_driver.proofs.Known.{prefix_known, suffix_known}
 use Rattle.pst_driver.proofs.kept.drive_with_crew.Goals as goal
 
-pub call_commands_in_order-requires : goal.call_commands_in_order-requires
-call_commands_in_order-requires g c = rw c.as_slice.ensures (prefix_known _ _ c.requires.shaped)
+pub call_commands_while_replies_are_values-requires : goal.call_commands_while_replies_are_values-requires
+call_commands_while_replies_are_values-requires g c = rw c.as_slice.ensures (prefix_known _ _ c.requires.shaped)
 
-pub run_suffix-requires : goal.run_suffix-requires
-run_suffix-requires g c = rw c.as_slice-4.ensures (suffix_known _ _ c.requires.shaped)
+pub run_suffix_if_replies_are_values-requires : goal.run_suffix_if_replies_are_values-requires
+run_suffix_if_replies_are_values-requires g c = rw c.as_slice-4.ensures (suffix_known _ _ c.requires.shaped)
 
 pub returns-clause-driven : goal.returns-clause-driven
 returns-clause-driven g c = λ same.

@@ -31,8 +31,8 @@ number_after-number-requires g c =
     let b : length (joined c.as_slice-commands.result.now) ≡ length (joined c.args.shaped.now.case.branches) = ap (λ x. length (joined x)) c.as_slice-commands.ensures ∙ ap (λ x. length (joined x.branches)) c.case-case.ensures.same in
     omega (arith, h, k, n, b)
 
-pub part_events-requires : goal.part_events-requires
-part_events-requires g c =
+pub append_events_of_part-requires : goal.append_events_of_part-requires
+append_events_of_part-requires g c =
     let h = prefix_within (g.C.Callbacks.model c.args.callbacks.now) c.args.shaped.now.case c.requires.shape in
     let k = branches_within (g.C.Callbacks.model c.args.callbacks.now) c.args.shaped.now.case c.requires.shape in
     let w = suffix_within (g.C.Callbacks.model c.args.callbacks.now) c.args.shaped.now.case c.requires.shape in

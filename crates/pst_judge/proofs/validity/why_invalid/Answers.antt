@@ -10,8 +10,8 @@ pub returns-in-Err : goal.returns-in-Err
 returns-in-Err g c =
     if_ok_map _ _ c.first_interleaving_reason.result (λ v r. init_fails (g.C.Callbacks.model c.args.callbacks.now) c.args.shaped.now.case c.in-Err.fault v (rw c.in-Err.is at c.in_ok-opening.ensures.says) (rw c.fault_in.ensures at r)) c.first_interleaving_reason.ensures
 
-pub with_numbers-requires : goal.with_numbers-requires
-with_numbers-requires g c =
+pub append_numbered_commands-requires : goal.append_numbered_commands-requires
+append_numbered_commands-requires g c =
     let h = prefix_within (g.C.Callbacks.model c.args.callbacks.now) c.args.shaped.now.case (rw c.requires at c.case-case.ensures.shape) in
     let n : length c.as_slice-commands.result.now ≡ length c.args.shaped.now.case.prefix = ap length c.as_slice-commands.ensures ∙ ap (λ x. length x.prefix) c.case-case.ensures.same in
     omega (arith, h, n)

@@ -32,8 +32,8 @@ number_after-number-requires g c =
     let b : length (joined c.as_slice-branches.result.now) ≡ length (joined c.args.shaped.now.case.branches) = ap (λ x. length (joined x)) c.as_slice-branches.ensures ∙ ap (λ x. length (joined x.branches)) c.case-case.ensures.same in
     omega (arith, h, k, n, b)
 
-pub with_numbers-requires : goal.with_numbers-requires
-with_numbers-requires g c =
+pub append_numbered_commands-requires : goal.append_numbered_commands-requires
+append_numbered_commands-requires g c =
     let h = prefix_within (g.C.Callbacks.model c.args.callbacks.now) c.args.shaped.now.case c.requires.shape in
     let k = branches_within (g.C.Callbacks.model c.args.callbacks.now) c.args.shaped.now.case c.requires.shape in
     let w = suffix_within (g.C.Callbacks.model c.args.callbacks.now) c.args.shaped.now.case c.requires.shape in

@@ -7,13 +7,13 @@ use Rattle.pst_reasons.proofs.allowing.find_allowed_values.Goals as goal
 
 pub returns-clause-allowed : goal.returns-clause-allowed
 returns-clause-allowed g c =
-    rw (c.as_slice.ensures.value, c.in_ok-others.ensures, c.new.ensures.items) at c.add_allowed.ensures.allowed
+    rw (c.as_slice.ensures.value, c.in_ok-others.ensures, c.new.ensures.items) at c.add_allowed_answers.ensures.allowed
 
 pub returns-clause-exact : goal.returns-clause-exact
 returns-clause-exact g c =
     let m = g.C.Callbacks.model c.args.callbacks.now in
     let others = without c.args.number c.args.core.now in
-    let all = rw (c.as_slice.ensures.value, c.in_ok-others.ensures, c.new.ensures.items) at c.add_allowed.ensures.all in
-    if_ok_map _ _ c.add_allowed.result
+    let all = rw (c.as_slice.ensures.value, c.in_ok-others.ensures, c.new.ensures.items) at c.add_allowed_answers.ensures.all in
+    if_ok_map _ _ c.add_allowed_answers.result
     (λ found whether is one. let P : Bool → Type 0 = λ b. IsWhetherAll m c.args.shaped.now.case c.args.history.now others c.args.number b found.values in have_each_allowed m c.args.shaped.now.case c.args.history.now others c.args.number one found.values (subst P is whether))
     all

@@ -8,4 +8,4 @@ pub loop-taken-preserved : goal.loop-taken-preserved
 loop-taken-preserved c m keeps all =
     let Stand : Vec JudgedPart Global → Type 0 = λ taken. All (StandsIn m keeps c.args.parts.now) taken.items in
     let both = before_last Stand c.loop-taken.yielded c.in-Some.taken all in
-    c.fill_places-places.ensures m keeps c.args.parts.now (c.loop-taken.invariant m keeps both.0) both.1
+    c.put_judged_parts_into_places-places.ensures m keeps c.args.parts.now (c.loop-taken.invariant m keeps both.0) both.1

@@ -8,11 +8,11 @@ decreases-read_ty l = 3 * l.room
 abbrev pub decreases-ty_parts : goal.decreases-ty_parts
 decreases-ty_parts l = 3 * l.room + 2
 
-abbrev pub decreases-tys : goal.decreases-tys
-decreases-tys l = 3 * l.room + 1
+abbrev pub decreases-read_types : goal.decreases-read_types
+decreases-read_types l = 3 * l.room + 1
 
-abbrev pub invariant-tys-loop-form : goal.invariant-tys-loop-form
-invariant-tys-loop-form l = each (ty_of l.has_maps l.room) l.forms ≡ (each (ty_of l.has_maps l.room) (drop l.form-index l.forms) >>= (λ more. Ok (l.types ++ more)))
+abbrev pub invariant-read_types-loop-form : goal.invariant-read_types-loop-form
+invariant-read_types-loop-form l = each (ty_of l.has_maps l.room) l.forms ≡ (each (ty_of l.has_maps l.room) (drop l.form-index l.forms) >>= (λ more. Ok (l.types ++ more)))
 
 abbrev pub decreases-boxed_ty : goal.decreases-boxed_ty
 decreases-boxed_ty l = 3 * l.room + 1

@@ -13,19 +13,19 @@ pub add_expr_faults-returns : goal.add_expr_faults-returns
 add_expr_faults-returns t c =
     let ne : c.args.room ≢ 0 = search rules in
     let e : shape_of c.args.walk.has_maps c.args.form.now ≡ Some (shown c.in-Some.shape) = sym c.shape_of.ensures ∙ ap shown_option c.in-Some.is in
-    expr_whole c.args.walk.limit c.args.walk.has_maps c.args.room role.Expression c.args.path.now c.args.form.now (shown c.in-Some.shape) c.is_within_limits.result
-    c.args.faults.now c.push_fault_unless.new.faults c.add_expr_parts_faults.new.faults ne e c.is_within_limits.ensures c.in_ok-push_fault_unless.ensures c.in_ok-add_expr_parts_faults.ensures
+    expr_whole c.args.walk.limit c.args.walk.has_maps c.args.room role.Expression c.args.path.now c.args.form.now (shown c.in-Some.shape) c.is_expression_within_limits.result
+    c.args.faults.now c.push_fault_unless.new.faults c.add_expr_shape_faults.new.faults ne e c.is_expression_within_limits.ensures c.in_ok-push_fault_unless.ensures c.in_ok-add_expr_shape_faults.ensures
 
-pub add_exprs_faults-loop-form-preserved : goal.add_exprs_faults-loop-form-preserved
-add_exprs_faults-loop-form-preserved t c = record {
+pub add_faults_of_exprs_from_part-loop-form-preserved : goal.add_faults_of_exprs_from_part-loop-form-preserved
+add_faults_of_exprs_from_part-loop-form-preserved t c = record {
   number = omega arith;
   same = more c.args.walk.limit (spot_in c.args.walk.has_maps (expr_faults_at c.args.walk.has_maps c.args.room)) Expression c.args.path.now
       c.loop-form.number c.loop-form.form-index c.args.forms.now c.form-item.result _ c.loop-form.faults c.add_expr_part_faults.new.faults
       c.loop-form-test.true c.form-item.is c.loop-form.invariant.same c.in_ok-add_expr_part_faults.ensures;
 }
 
-pub add_exprs_faults-returns : goal.add_exprs_faults-returns
-add_exprs_faults-returns t c =
+pub add_faults_of_exprs_from_part-returns : goal.add_faults_of_exprs_from_part-returns
+add_faults_of_exprs_from_part-returns t c =
     ended c.args.walk.limit (spot_in c.args.walk.has_maps (expr_faults_at c.args.walk.has_maps c.args.room)) Expression c.args.path.now
     c.loop-form.number c.loop-form.form-index c.args.forms.now _ c.loop-form.faults
     c.loop-form-test.false c.loop-form.invariant.same
@@ -57,8 +57,8 @@ add_for_faults-returns t c =
     (spots_from (below c.args.path.now 1) 0 (map Clause c.args.parts.now)) (record { path = below c.args.path.now 2; role = role.Expression; part = Expression c.args.body.now })
     c.args.faults.now c.add_clauses_faults.new.faults c.add_expr_part_faults.new.faults c.in_ok-add_clauses_faults.ensures c.in_ok-add_expr_part_faults.ensures
 
-pub add_expr_parts_faults-returns-in-Map : goal.add_expr_parts_faults-returns-in-Map
-add_expr_parts_faults-returns-in-Map t c =
-    subst (λ (shape : Borrowed). OnOk c.add_map_faults.result (c.add_map_faults.new.faults ≡ keep c.args.walk.limit c.args.faults.now
+pub add_expr_shape_faults-returns-in-Map : goal.add_expr_shape_faults-returns-in-Map
+add_expr_shape_faults-returns-in-Map t c =
+    subst (λ (shape : Borrowed). OnOk c.add_map_value_type_faults.result (c.add_map_value_type_faults.new.faults ≡ keep c.args.walk.limit c.args.faults.now
     (all_at (spot_in c.args.walk.has_maps (expr_faults_at c.args.walk.has_maps c.args.room)) (spots c.args.walk.has_maps c.args.path.now (shown shape)))))
-    (sym c.in-Map.is) (c.add_map_faults.ensures (expr_faults_at c.args.walk.has_maps c.args.room))
+    (sym c.in-Map.is) (c.add_map_value_type_faults.ensures (expr_faults_at c.args.walk.has_maps c.args.room))

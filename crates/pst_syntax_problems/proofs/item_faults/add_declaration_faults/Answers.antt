@@ -16,6 +16,6 @@ returns c =
     let params = params_faults_at maps (below path 2) c.args.forms.now in
     let ty = whole_ty_at maps (below path 3) c.args.ty.now in
     both_unless limit path role.Item c.args.has_room c.args.has_room OverLimit (name ++ (params ++ ty))
-    c.args.faults.now c.push_fault_unless.new.faults c.add_whole_ty_faults.new.faults refl c.in_ok-push_fault_unless.ensures
-    (both limit c.push_fault_unless.new.faults c.push_name_faults_at_part.new.faults c.add_whole_ty_faults.new.faults name (params ++ ty) c.in_ok-push_name_faults_at_part.ensures
-    (both limit c.push_name_faults_at_part.new.faults c.add_params_faults.new.faults c.add_whole_ty_faults.new.faults params ty c.in_ok-add_params_faults.ensures c.in_ok-add_whole_ty_faults.ensures))
+    c.args.faults.now c.push_fault_unless.new.faults c.add_outermost_type_faults.new.faults refl c.in_ok-push_fault_unless.ensures
+    (both limit c.push_fault_unless.new.faults c.push_name_faults_at_part.new.faults c.add_outermost_type_faults.new.faults name (params ++ ty) c.in_ok-push_name_faults_at_part.ensures
+    (both limit c.push_name_faults_at_part.new.faults c.add_params_faults.new.faults c.add_outermost_type_faults.new.faults params ty c.in_ok-add_params_faults.ensures c.in_ok-add_outermost_type_faults.ensures))

@@ -24,8 +24,8 @@ returns c =
     declared c.args.walk.limit path role.Item OverLimit
     (λ (is_lawful is_taken : Bool). map (placed (below path 1) role.ItemName) (name_faults is_lawful is_taken shape.name.now))
     (params_faults_at maps (below path 2) shape.params.now) (whole_ty_at maps (below path 3) shape.result.now) (whole_expr_at maps (below path 4) shape.body.now)
-    c.has_room_for_function-has_room.result c.is_unreserved_name.result c.has_fun.result (has_room is_fun seen) (is_free maps shape.name.now) (list_any (is_fun_named shape.name.now) seen)
-    c.args.faults.now c.add_declaration_faults.new.faults c.add_whole_expr_faults.new.faults
+    c.has_room_for_function-has_room.result c.is_unreserved_name.result c.has_function_named.result (has_room is_fun seen) (is_free maps shape.name.now) (list_any (is_fun_named shape.name.now) seen)
+    c.args.faults.now c.add_declaration_faults.new.faults c.add_outermost_expr_faults.new.faults
     (c.has_room_for_function-has_room.ensures ∙ ap (λ (n : ℕ). nat_lt n max_declared) (sym (count_shown is_fun shown_item_option c.args.seen.now)))
-    c.is_unreserved_name.ensures (c.has_fun.ensures ∙ sym (any_shown (is_fun_named shape.name.now) shown_item_option c.args.seen.now))
-    c.in_ok-add_declaration_faults.ensures c.in_ok-add_whole_expr_faults.ensures
+    c.is_unreserved_name.ensures (c.has_function_named.ensures ∙ sym (any_shown (is_fun_named shape.name.now) shown_item_option c.args.seen.now))
+    c.in_ok-add_declaration_faults.ensures c.in_ok-add_outermost_expr_faults.ensures

@@ -24,8 +24,8 @@ returns c =
     declared c.args.walk.limit path role.Item OverLimit
     (λ (is_lawful is_taken : Bool). map (placed (below path 1) role.ItemName) (name_faults is_lawful is_taken shape.name.now))
     (params_faults_at maps (below path 2) shape.params.now) (whole_ty_at maps (below path 3) shape.result.now) (callbacks_faults_at maps [] path 4 shape.callbacks.now)
-    c.has_room_for_operation-has_room.result c.is_name.result c.has_op.result (has_room is_op seen) (is_name shape.name.now) (list_any (is_op_named shape.name.now) seen)
+    c.has_room_for_operation-has_room.result c.is_name.result c.has_operation_named.result (has_room is_op seen) (is_name shape.name.now) (list_any (is_op_named shape.name.now) seen)
     c.args.faults.now c.add_declaration_faults.new.faults c.add_callbacks_faults.new.faults
     (c.has_room_for_operation-has_room.ensures ∙ ap (λ (n : ℕ). nat_lt n max_declared) (sym (count_shown is_op shown_item_option c.args.seen.now)))
-    c.is_name.ensures (c.has_op.ensures ∙ sym (any_shown (is_op_named shape.name.now) shown_item_option c.args.seen.now))
+    c.is_name.ensures (c.has_operation_named.ensures ∙ sym (any_shown (is_op_named shape.name.now) shown_item_option c.args.seen.now))
     c.in_ok-add_declaration_faults.ensures c.in_ok-add_callbacks_faults.ensures

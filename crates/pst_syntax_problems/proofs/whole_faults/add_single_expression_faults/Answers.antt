@@ -9,4 +9,4 @@ pub returns : goal.returns
 returns c =
     both_unless c.args.walk.limit c.args.path.now c.args.role (not c.args.has_one) (not c.args.has_one) DoubleName
     (whole_expr_at c.args.walk.has_maps (below c.args.path.now 1) c.args.form.now)
-    c.args.faults.now c.push_fault_unless.new.faults c.add_whole_expr_faults.new.faults refl c.in_ok-push_fault_unless.ensures c.in_ok-add_whole_expr_faults.ensures
+    c.args.faults.now c.push_fault_unless.new.faults c.add_outermost_expr_faults.new.faults refl c.in_ok-push_fault_unless.ensures c.in_ok-add_outermost_expr_faults.ensures

@@ -6,10 +6,10 @@ use Rattle.pst_trial.proofs.sharing.may_share_shrunk.Goals as goal
 
 pub returns-clause-sent : goal.returns-clause-sent
 returns-clause-sent c =
-    let e = c.may_share_taken.ensures in
+    let e = c.threads_may_share_failing_cases.ensures in
     declared_send (the_type run_row) (e.all_taken_sent, (e.taken_sent, (e.tried_sent, (search sendable, tt))))
 
 pub returns-clause-shared : goal.returns-clause-shared
 returns-clause-shared c =
-    let e = c.may_share_taken.ensures in
+    let e = c.threads_may_share_failing_cases.ensures in
     declared_sync (the_type run_row) (e.all_taken_shared, (e.taken_shared, (e.tried_shared, (search sendable, tt))))

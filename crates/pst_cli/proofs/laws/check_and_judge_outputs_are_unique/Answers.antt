@@ -1,0 +1,14 @@
+use Rattle.pst_cli.proofs.OneOutput.{OfParts, one_check_output, one_judge_output}
+use Rattle.pst_cli.proofs.laws.check_and_judge_outputs_are_unique.Goals as goal
+
+pub returns : goal.returns
+returns c =
+    let parts : OfParts = record {
+      reading = c.one_reading.ensures;
+      fault = c.one_fault.ensures;
+      either = c.trees_have_no_fault.ensures;
+      ill = c.ill_typed_item_is_unique.ensures;
+      not_well = c.ill_is_not_well.ensures;
+      judgement = c.judgement_is_unique.ensures;
+    } in
+    record { check = one_check_output parts; judge = one_judge_output parts }

@@ -1,9 +1,0 @@
-use Rattle.std.proofs.Common.{refl}
-use Rattle.pst_cli.specs.KeepingOn.{answered}
-use Rattle.pst_typing.specs.Loading.{items_of}
-use Rattle.pst_rejudge.specs.Lines.{lines_of}
-use Rattle.pst_cli.proofs.laws.streams_are_files.Goals as goal
-
-pub returns : goal.returns
-returns c = λ input bytes m trees answers holds spelled answers_are.
-    answered m trees answers holds (c.lines_are_items.ensures m (lines_of bytes) (items_of trees) answers spelled answers_are) refl refl

@@ -1,0 +1,13 @@
+use Rattle.pst_cli.proofs.Reporting.{Completes}
+use Rattle.pst_cli.specs.declared.status.Status.TheVariants.{Accepted}
+use Rattle.pst_system.specs.Kept.{AreKept}
+use Rattle.pst_cli.proofs.run.drive_and_report_items.Given as goal
+
+abbrev pub invariant-loop-index : goal.invariant-loop-index
+invariant-loop-index g l =
+    let now = (g.dyn-1.0.entry l.system.vtable).1 in
+    let before = (g.dyn-1.0.entry l.initial.system.vtable).1 in
+    record {
+      completes : Completes l.compiled (before.answers l.initial.system.value) (before.fails l.initial.system.value) (before.reset_fails l.initial.system.value) l.runs 1 l.index Accepted l.status l.text.items;
+      kept : AreKept (now.answers l.system.value) (before.answers l.initial.system.value) (now.fails l.system.value) (before.fails l.initial.system.value) (now.reset_fails l.system.value) (before.reset_fails l.initial.system.value);
+    }

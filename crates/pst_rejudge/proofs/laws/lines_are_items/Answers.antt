@@ -1,5 +1,0 @@
-use Rattle.pst_rejudge.proofs.Answering.{all_items}
-use Rattle.pst_rejudge.proofs.laws.lines_are_items.Goals as goal
-
-pub returns : goal.returns
-returns c = λ m lines forms answers. all_items m c.one_reading.ensures lines forms answers
