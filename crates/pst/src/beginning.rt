@@ -4,6 +4,7 @@
 use crate::explained;
 use pst_case::{Case, Command, History, Reply};
 use pst_cli::explanation_of_run_unless_explained;
+use pst_driver::has_only_value_replies;
 use pst_value::Items;
 use std::alloc::{AllocError, Global};
 
@@ -64,19 +65,6 @@ fn first_command_and_reply_if_certain<'a>(
 fn has_at_most_one_branch_with_commands(case: &Case) -> bool {
     let branches = case.branches.as_slice().iter();
     branches.filter(|branch| !branch.is_empty()).count() <= 1
-}
-
-/// Returns whether all replies are values.
-fn are_all_replies_values(replies: &[Reply]) -> bool {
-    replies.iter().all(|reply| matches!(reply, Reply::Value(_)))
-}
-
-/// Returns whether all replies of a run are values.
-fn has_only_values(history: &History) -> bool {
-    let mut branches = history.branches.as_slice().iter();
-    are_all_replies_values(history.prefix.as_slice())
-        && branches.all(|replies| are_all_replies_values(replies.as_slice()))
-        && are_all_replies_values(history.suffix.as_slice())
 }
 
 /// Returns two empty branches.
@@ -151,7 +139,9 @@ pub fn print_failure_explanation_to_stderr<R: Eprint>(
     case: Case,
     history: History,
 ) {
-    let in_turn = if has_at_most_one_branch_with_commands(&case) && has_only_values(&history) {
+    let in_turn = if has_at_most_one_branch_with_commands(&case)
+        && has_only_value_replies(&history)
+    {
         IN_TURN_NOTE
     } else {
         ""

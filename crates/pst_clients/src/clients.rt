@@ -6,6 +6,7 @@ use crate::ahead::ReadAhead;
 use crate::answers::{ClientAnswer, client_answer_of_line};
 use crate::calls::client_call_line;
 use crate::connection::{ClientState, Connection, LostAnswer};
+use crate::hints::{hint_on_answer_of_wrong_type, hint_on_answer_without_value};
 use crate::notes::{BadLine, ClientId, NoteKind, Notes};
 use pst_system::{CallFault, RealCall, System};
 use pst_value::{Items, Ty, Value};
@@ -27,40 +28,6 @@ const STRAY_HINT: &str = "; print one line for each line, and log lines to stand
 
 /// How long a client that answers a reset as it did not before may take to print another line, in milliseconds.
 const LATE: u64 = 100;
-
-/// Whether a line begins as a JSON number does.
-fn begins_like_json_number(answer: &str) -> bool {
-    match answer.as_bytes().first() {
-        Some(byte) => byte.is_ascii_digit() || *byte == b'-',
-        None => false,
-    }
-}
-
-/// What to answer in place of a line that is no value.
-fn hint_on_answer_without_value(answer: &str) -> &'static str {
-    match answer.trim() {
-        "null" => "; for an option answer [] or [x] (docs/language.md, Patterns)",
-        "" => "(an empty line)",
-        "True" | "False" | "None" => "; print JSON, as json.dumps does: true, false",
-        number if begins_like_json_number(number) => {
-            "; a number is an integer from -9223372036854775808 to 9223372036854775807"
-        }
-        _ => "",
-    }
-}
-
-/// What to answer where a type is wanted.
-fn hint_on_answer_of_wrong_type(ty: &Ty) -> &'static str {
-    match ty {
-        Ty::Int => "; type int is a number such as 7",
-        Ty::Bool => "; type bool is true or false",
-        Ty::Text => "; type text is a string of printable ASCII such as \"a\"",
-        Ty::Tuple(_) => "; a tuple is an array with a part of each of its types",
-        Ty::List(_) => "; a list is an array, each item of its item type",
-        Ty::Map(..) => "; a map is an object such as {\"a\":1}, with keys and values of its types",
-        _ => "",
-    }
-}
 
 /// The clients of one worker, one for each branch.
 ///

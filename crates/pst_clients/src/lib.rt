@@ -9,6 +9,7 @@ mod answers;
 mod calls;
 mod clients;
 mod connection;
+mod hints;
 mod notes;
 mod opening;
 mod printed;

@@ -50,9 +50,9 @@ fn are_all_branch_replies_values(branches: &[Items<Reply>]) -> bool
     are_all_replies_values(branch.as_slice()) && are_all_branch_replies_values(branches)
 }
 
-/// Whether each reply of the history is a value.
+/// Returns whether each reply of a history is a value, and none a refusal.
 #[tactic(auto, using(crate::proofs::Answering::answering))]
-fn has_only_value_replies(history: &History) -> bool
+pub fn has_only_value_replies(history: &History) -> bool
     ensures { result ≡ all_answers (replies_of history.now) }
 {
     are_all_replies_values(history.prefix.as_slice())

@@ -37,26 +37,21 @@ fn print_bool(alloc: Global, holds: bool) -> Result<Form, AllocError>
 }
 
 /// A node of a word and a tree.
-fn headed_node_with_one_part(alloc: Global, head: &str, first: Form) -> Result<Form, AllocError>
+fn node_of_one(alloc: Global, head: &str, first: Form) -> Result<Form, AllocError>
     ensures { IfOk result (λ form. form ≡ headed head.now (first ∷ [])) }
 {
     headed(alloc, head, list_of(alloc, first)?)
 }
 
 /// A node of a word and two trees.
-fn headed_node_with_two_parts(
-    alloc: Global,
-    head: &str,
-    first: Form,
-    second: Form,
-) -> Result<Form, AllocError>
+fn node_of_two(alloc: Global, head: &str, first: Form, second: Form) -> Result<Form, AllocError>
     ensures { IfOk result (λ form. form ≡ headed head.now (first ∷ second ∷ [])) }
 {
     headed(alloc, head, list_of_two_forms(alloc, first, second)?)
 }
 
 /// A node of a word and three trees.
-fn headed_node_with_three_parts(
+fn node_of_three(
     alloc: Global,
     head: &str,
     first: Form,
@@ -87,7 +82,7 @@ fn print_tuple_item(alloc: Global, tuple: Form, number: u64) -> Result<Form, All
     ensures { IfOk result (λ form. form ≡ headed (codes "at") (tuple ∷ Word (decimal number) ∷ [])) }
 {
     let place = print_tuple_place(alloc, number)?;
-    headed_node_with_two_parts(alloc, "at", tuple, place)
+    node_of_two(alloc, "at", tuple, place)
 }
 
 fn print_list(alloc: Global, ty: &Ty, items: Items<Form>) -> Result<Form, AllocError>
@@ -122,11 +117,7 @@ fn print_fold(
     headed(alloc, "fold", parts)
 }
 
-fn print_operation_call(
-    alloc: Global,
-    operation: &Text,
-    args: Items<Form>,
-) -> Result<Form, AllocError>
+fn print_call(alloc: Global, operation: &Text, args: Items<Form>) -> Result<Form, AllocError>
     ensures { IfOk result (λ form. form ≡ headed (codes "call") (Word operation.now ∷ args)) }
 {
     let operation = print_name(alloc, operation)?;
@@ -134,11 +125,7 @@ fn print_operation_call(
 }
 
 /// An application of a function.
-fn print_function_application(
-    alloc: Global,
-    function: &Text,
-    args: Items<Form>,
-) -> Result<Form, AllocError>
+fn print_application(alloc: Global, function: &Text, args: Items<Form>) -> Result<Form, AllocError>
     ensures { IfOk result (λ form. form ≡ headed function.now args) }
 {
     headed(alloc, function.as_str(), args)
@@ -160,35 +147,25 @@ pub fn expr_form(alloc: Global, expr: &Expr) -> Result<Form, AllocError>
         }
         Expr::If(test, yes, no) => {
             let (test, yes) = (form_of(alloc, test)?, form_of(alloc, yes)?);
-            headed_node_with_three_parts(alloc, "if", test, yes, form_of(alloc, no)?)
+            node_of_three(alloc, "if", test, yes, form_of(alloc, no)?)
         }
-        Expr::And(a, b) => headed_node_with_two_parts(
-            alloc,
-            "and",
-            form_of(alloc, a)?,
-            form_of(alloc, b)?,
-        ),
-        Expr::Or(a, b) => headed_node_with_two_parts(
-            alloc,
-            "or",
-            form_of(alloc, a)?,
-            form_of(alloc, b)?,
-        ),
-        Expr::Unary(operator, a) => headed_node_with_one_part(
+        Expr::And(a, b) => node_of_two(alloc, "and", form_of(alloc, a)?, form_of(alloc, b)?),
+        Expr::Or(a, b) => node_of_two(alloc, "or", form_of(alloc, a)?, form_of(alloc, b)?),
+        Expr::Unary(operator, a) => node_of_one(
             alloc,
             unary_operator_word(*operator),
             form_of(alloc, a)?,
         ),
         Expr::Binary(operator, a, b) => {
             let word = binary_operator_word(*operator);
-            headed_node_with_two_parts(alloc, word, form_of(alloc, a)?, form_of(alloc, b)?)
+            node_of_two(alloc, word, form_of(alloc, a)?, form_of(alloc, b)?)
         }
         Expr::Tuple(parts) => headed(alloc, "tuple", print_expressions(alloc, parts.as_slice())?),
         Expr::At(tuple, number) => print_tuple_item(alloc, form_of(alloc, tuple)?, *number),
         Expr::List(ty, items) => print_list(alloc, ty, print_expressions(alloc, items.as_slice())?),
         Expr::For(clauses, body) => {
             let clauses = Form::Node(print_clauses(alloc, clauses.as_slice())?);
-            headed_node_with_two_parts(alloc, "for", clauses, form_of(alloc, body)?)
+            node_of_two(alloc, "for", clauses, form_of(alloc, body)?)
         }
         Expr::Fold(bound, items, built, first, body) => {
             let (items, first) = (form_of(alloc, items)?, form_of(alloc, first)?);
@@ -197,14 +174,14 @@ pub fn expr_form(alloc: Global, expr: &Expr) -> Result<Form, AllocError>
         Expr::Map(kind, ty) => print_empty_map(alloc, *kind, ty),
         Expr::Put(map, key, value) => {
             let (map, key) = (form_of(alloc, map)?, form_of(alloc, key)?);
-            headed_node_with_three_parts(alloc, "put", map, key, form_of(alloc, value)?)
+            node_of_three(alloc, "put", map, key, form_of(alloc, value)?)
         }
-        Expr::Call(called, args) => print_operation_call(
+        Expr::Call(called, args) => print_call(
             alloc,
             called,
             print_expressions(alloc, args.as_slice())?,
         ),
-        Expr::Apply(called, args) => print_function_application(
+        Expr::Apply(called, args) => print_application(
             alloc,
             called,
             print_expressions(alloc, args.as_slice())?,

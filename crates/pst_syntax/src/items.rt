@@ -16,7 +16,8 @@ use crate::item_shapes::{
 };
 use crate::limits::{MAX_DECLARED, MAX_EXPR_LEVELS, MAX_PARTS, MAX_TY_LEVELS};
 use crate::names::{copy_declared_name, is_name, is_unreserved_name};
-use crate::read::{read_expr, read_ty};
+use crate::read::read_expr;
+use crate::types::read_ty;
 use pst_model::{Expr, Fun, Item, Op, Param};
 use pst_sexpr::Form;
 use pst_value::{Boxed, Items, Text, Ty};

@@ -15,6 +15,7 @@ mod read;
 mod reader;
 mod shape;
 mod ty_shapes;
+mod types;
 
 pub use count::room_after;
 pub use fault::{FaultKind, SyntaxFault};

@@ -1,4 +1,4 @@
-//! Reading expressions, types and clauses.
+//! Reading expressions and clauses.
 
 ghost use Rattle.std.specs.Option.{ok_or};
 ghost use Rattle.std.specs.Prelude.{◌≡◌, ◌-◌, ◌<◌, Ok};
@@ -8,13 +8,14 @@ ghost use Rattle.pst_syntax.specs.Limits.{ty_room};
 ghost use Rattle.pst_syntax.specs.Reading as spec;
 ghost use Rattle.pst_syntax.specs.Reading.{Gives};
 ghost use Rattle.pst_syntax.specs.Shape.{Fold, For, If, Let, ListOf, Put, Tuple};
-ghost use Rattle.pst_syntax.specs.Shown.{shown, shown_ty, shown_clause};
+ghost use Rattle.pst_syntax.specs.Shown.{shown, shown_clause};
 
 use crate::fault::FaultKind;
 use crate::limits::{MAX_PARTS, MAX_TY_LEVELS};
 use crate::names::{copy_declared_name, is_unreserved_name, is_usable_operation_name};
 use crate::shape::{FoldShape, Shape, shape_of};
-use crate::ty_shapes::{ClauseShape, TyShape, clause_shape, ty_shape};
+use crate::ty_shapes::{ClauseShape, clause_shape};
+use crate::types::read_ty;
 use pst_model::{Clause, Expr};
 use pst_sexpr::{Form, value_of};
 use pst_value::{Boxed, Items, LIMIT, Text, Ty};
@@ -81,70 +82,6 @@ fn application(alloc: Global, function: &Text, arguments: Items<Expr>) -> Result
     Ok(Expr::Apply(function.copy(alloc)?, arguments))
 }
 
-/// Reads a type with `room` levels of room. `has_maps` says whether the language has maps.
-#[cycle(read_ty)]
-#[tactic(auto, using(crate::proofs::Rooms::ty_rooms))]
-pub fn read_ty(alloc: Global, has_maps: bool, form: &Form, room: usize) -> Result<Ty, FaultKind>
-    ensures { Gives result (spec.ty_of has_maps room form.now) }
-{
-    let Some(shape) = ty_shape(has_maps, form) else {
-        return Err(FaultKind::UnknownForm);
-    };
-    if room == 0 {
-        return Err(FaultKind::OverLimit);
-    }
-    ty_parts(alloc, has_maps, &shape, room - 1)
-}
-
-#[cycle(read_ty)]
-fn ty_parts(
-    alloc: Global,
-    has_maps: bool,
-    shape: &TyShape<'_>,
-    room: usize,
-) -> Result<Ty, FaultKind>
-    ensures { Gives result (spec.ty_parts (spec.ty_of has_maps room) (shown_ty shape.now)) }
-{
-    match shape {
-        TyShape::Int => Ok(Ty::Int),
-        TyShape::Bool => Ok(Ty::Bool),
-        TyShape::Text => Ok(Ty::Text),
-        TyShape::Call => Ok(Ty::Call),
-        TyShape::Tuple(types) => {
-            if types.len() > MAX_PARTS {
-                return Err(FaultKind::OverLimit);
-            }
-            Ok(Ty::Tuple(read_types(alloc, has_maps, types, room)?))
-        }
-        TyShape::List(item) => Ok(Ty::List(boxed_ty(alloc, has_maps, item, room)?)),
-        TyShape::Map(key, value) => Ok(Ty::Map(*key, boxed_ty(alloc, has_maps, value, room)?)),
-        TyShape::Ref(target) => Ok(Ty::Ref(boxed_ty(alloc, has_maps, target, room)?)),
-    }
-}
-
-#[cycle(read_ty)]
-fn boxed_ty(alloc: Global, has_maps: bool, form: &Form, room: usize) -> Result<Boxed<Ty>, FaultKind>
-    ensures { Gives result (spec.ty_of has_maps room form.now) }
-{
-    Ok(Boxed::new(alloc, read_ty(alloc, has_maps, form, room)?)?)
-}
-
-#[cycle(read_ty)]
-fn read_types(
-    alloc: Global,
-    has_maps: bool,
-    forms: &[Form],
-    room: usize,
-) -> Result<Items<Ty>, FaultKind>
-    ensures { Gives result (spec.each (spec.ty_of has_maps room) forms.now) }
-{
-    let mut types = Items::new(alloc);
-    for form in forms {
-        types.push(read_ty(alloc, has_maps, form, room)?)?;
-    }
-    Ok(types)
-}
-
 /// Reads an expression with `room` levels of room. `has_maps` says whether the language has maps.
 #[cycle(read_expr)]
 #[tactic(auto, using(crate::proofs::Rooms::expr_rooms))]
@@ -179,31 +116,26 @@ fn expr_parts(
         Shape::Let(name, value, body) => read_let(alloc, has_maps, name, value, body, room),
         Shape::If(test, yes, no) => read_if(alloc, has_maps, test, yes, no, room),
         Shape::And(a, b) => {
-            let a = read_boxed_expression(alloc, has_maps, a, room)?;
-            Ok(Expr::And(a, read_boxed_expression(alloc, has_maps, b, room)?))
+            let a = read_boxed(alloc, has_maps, a, room)?;
+            Ok(Expr::And(a, read_boxed(alloc, has_maps, b, room)?))
         }
         Shape::Or(a, b) => {
-            let a = read_boxed_expression(alloc, has_maps, a, room)?;
-            Ok(Expr::Or(a, read_boxed_expression(alloc, has_maps, b, room)?))
+            let a = read_boxed(alloc, has_maps, a, room)?;
+            Ok(Expr::Or(a, read_boxed(alloc, has_maps, b, room)?))
         }
         Shape::Unary(operator, a) => Ok(Expr::Unary(
             *operator,
-            read_boxed_expression(alloc, has_maps, a, room)?,
+            read_boxed(alloc, has_maps, a, room)?,
         )),
         Shape::Binary(operator, a, b) => {
-            let a = read_boxed_expression(alloc, has_maps, a, room)?;
-            Ok(Expr::Binary(
-                *operator,
-                a,
-                read_boxed_expression(alloc, has_maps, b, room)?,
-            ))
+            let a = read_boxed(alloc, has_maps, a, room)?;
+            Ok(Expr::Binary(*operator, a, read_boxed(alloc, has_maps, b, room)?))
         }
         Shape::Tuple(items) => read_tuple(alloc, has_maps, items, room),
         Shape::At(tuple, place) => {
-            build_tuple_item_expr(
-                read_boxed_expression(alloc, has_maps, tuple, room)?,
-                place,
-            ).ok_or(FaultKind::OverLimit)
+            build_tuple_item_expr(read_boxed(alloc, has_maps, tuple, room)?, place).ok_or(
+                FaultKind::OverLimit,
+            )
         }
         Shape::List(item, items) => read_list(alloc, has_maps, item, items, room),
         Shape::For(parts, body) => read_for(alloc, has_maps, parts, body, room),
@@ -215,23 +147,20 @@ fn expr_parts(
         Shape::Put(map, key, value) => read_put(alloc, has_maps, map, key, value, room),
         Shape::Call(operation, arguments) => {
             let operation = used_operation(alloc, operation)?;
-            Ok(Expr::Call(
-                operation,
-                read_expressions(alloc, has_maps, arguments, room)?,
-            ))
+            Ok(Expr::Call(operation, read_exprs(alloc, has_maps, arguments, room)?))
         }
         Shape::Apply(function, arguments) => {
             application(
                 alloc,
                 function,
-                read_expressions(alloc, has_maps, arguments, room)?,
+                read_exprs(alloc, has_maps, arguments, room)?,
             )
         }
     }
 }
 
 #[cycle(read_expr)]
-fn read_boxed_expression(
+fn read_boxed(
     alloc: Global,
     has_maps: bool,
     form: &Form,
@@ -252,7 +181,7 @@ fn read_tuple(alloc: Global, has_maps: bool, items: &[Form], room: usize) -> Res
     if items.len() > MAX_PARTS {
         return Err(FaultKind::OverLimit);
     }
-    Ok(Expr::Tuple(read_expressions(alloc, has_maps, items, room)?))
+    Ok(Expr::Tuple(read_exprs(alloc, has_maps, items, room)?))
 }
 
 /// A list of items of a type.
@@ -269,7 +198,7 @@ fn read_list(
         (ListOf item.now items.now)) }
 {
     let item = read_ty(alloc, has_maps, item, MAX_TY_LEVELS)?;
-    Ok(Expr::List(item, read_expressions(alloc, has_maps, items, room)?))
+    Ok(Expr::List(item, read_exprs(alloc, has_maps, items, room)?))
 }
 
 /// A body that sees a value under a name.
@@ -287,12 +216,8 @@ fn read_let(
         (Let name.now value.now body.now)) }
 {
     let name = read_bound_name(alloc, has_maps, name)?;
-    let value = read_boxed_expression(alloc, has_maps, value, room)?;
-    Ok(Expr::Let(
-        name,
-        value,
-        read_boxed_expression(alloc, has_maps, body, room)?,
-    ))
+    let value = read_boxed(alloc, has_maps, value, room)?;
+    Ok(Expr::Let(name, value, read_boxed(alloc, has_maps, body, room)?))
 }
 
 /// One of two expressions, by a test.
@@ -309,9 +234,9 @@ fn read_if(
         (spec.expr_parts has_maps (spec.ty_of has_maps ty_room) (spec.expr_of has_maps room)
         (If test.now yes.now no.now)) }
 {
-    let test = read_boxed_expression(alloc, has_maps, test, room)?;
-    let yes = read_boxed_expression(alloc, has_maps, yes, room)?;
-    Ok(Expr::If(test, yes, read_boxed_expression(alloc, has_maps, no, room)?))
+    let test = read_boxed(alloc, has_maps, test, room)?;
+    let yes = read_boxed(alloc, has_maps, yes, room)?;
+    Ok(Expr::If(test, yes, read_boxed(alloc, has_maps, no, room)?))
 }
 
 /// A comprehension.
@@ -331,7 +256,7 @@ fn read_for(
         return Err(FaultKind::OverLimit);
     }
     let clauses = read_clauses(alloc, has_maps, parts, room)?;
-    Ok(Expr::For(clauses, read_boxed_expression(alloc, has_maps, body, room)?))
+    Ok(Expr::For(clauses, read_boxed(alloc, has_maps, body, room)?))
 }
 
 /// A fold over a list.
@@ -348,15 +273,15 @@ fn read_fold(
         shape.now.body.now)) }
 {
     let name = read_bound_name(alloc, has_maps, shape.name)?;
-    let list = read_boxed_expression(alloc, has_maps, shape.list, room)?;
+    let list = read_boxed(alloc, has_maps, shape.list, room)?;
     let built = read_distinct_bound_name(alloc, has_maps, shape.name, shape.built)?;
-    let first = read_boxed_expression(alloc, has_maps, shape.first, room)?;
+    let first = read_boxed(alloc, has_maps, shape.first, room)?;
     Ok(Expr::Fold(
         name,
         list,
         built,
         first,
-        read_boxed_expression(alloc, has_maps, shape.body, room)?,
+        read_boxed(alloc, has_maps, shape.body, room)?,
     ))
 }
 
@@ -374,17 +299,13 @@ fn read_put(
         (spec.expr_parts has_maps (spec.ty_of has_maps ty_room) (spec.expr_of has_maps room)
         (Put map.now key.now value.now)) }
 {
-    let map = read_boxed_expression(alloc, has_maps, map, room)?;
-    let key = read_boxed_expression(alloc, has_maps, key, room)?;
-    Ok(Expr::Put(
-        map,
-        key,
-        read_boxed_expression(alloc, has_maps, value, room)?,
-    ))
+    let map = read_boxed(alloc, has_maps, map, room)?;
+    let key = read_boxed(alloc, has_maps, key, room)?;
+    Ok(Expr::Put(map, key, read_boxed(alloc, has_maps, value, room)?))
 }
 
 #[cycle(read_expr)]
-fn read_expressions(
+fn read_exprs(
     alloc: Global,
     has_maps: bool,
     forms: &[Form],

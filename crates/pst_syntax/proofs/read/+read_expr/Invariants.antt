@@ -8,8 +8,8 @@ decreases-read_expr l = 5 * l.room
 abbrev pub decreases-expr_parts : goal.decreases-expr_parts
 decreases-expr_parts l = 5 * l.room + 4
 
-abbrev pub decreases-read_expressions : goal.decreases-read_expressions
-decreases-read_expressions l = 5 * l.room + 1
+abbrev pub decreases-read_exprs : goal.decreases-read_exprs
+decreases-read_exprs l = 5 * l.room + 1
 
 abbrev pub decreases-read_clauses : goal.decreases-read_clauses
 decreases-read_clauses l = 5 * l.room + 2
@@ -17,14 +17,14 @@ decreases-read_clauses l = 5 * l.room + 2
 abbrev pub decreases-read_clause : goal.decreases-read_clause
 decreases-read_clause l = 5 * l.room + 1
 
-abbrev pub invariant-read_expressions-loop-form : goal.invariant-read_expressions-loop-form
-invariant-read_expressions-loop-form l = each (expr_of l.has_maps l.room) l.forms ≡ (each (expr_of l.has_maps l.room) (drop l.form-index l.forms) >>= (λ more. Ok (l.expressions ++ more)))
+abbrev pub invariant-read_exprs-loop-form : goal.invariant-read_exprs-loop-form
+invariant-read_exprs-loop-form l = each (expr_of l.has_maps l.room) l.forms ≡ (each (expr_of l.has_maps l.room) (drop l.form-index l.forms) >>= (λ more. Ok (l.expressions ++ more)))
 
 abbrev pub invariant-read_clauses-loop-form : goal.invariant-read_clauses-loop-form
 invariant-read_clauses-loop-form l = each (clause_of l.has_maps (expr_of l.has_maps l.room)) l.forms ≡ (each (clause_of l.has_maps (expr_of l.has_maps l.room)) (drop l.form-index l.forms) >>= (λ more. Ok (l.clauses ++ more)))
 
-abbrev pub decreases-read_boxed_expression : goal.decreases-read_boxed_expression
-decreases-read_boxed_expression l = 5 * l.room + 1
+abbrev pub decreases-read_boxed : goal.decreases-read_boxed
+decreases-read_boxed l = 5 * l.room + 1
 
 abbrev pub decreases-read_let : goal.decreases-read_let
 decreases-read_let l = 5 * l.room + 3

@@ -1,6 +1,6 @@
 use Rattle.std.proofs.Common.{◌≡◌, ◌+◌, ◌*◌, ◌++◌, drop, Ok}
 use Rattle.pst_syntax.specs.Reading.{◌>>=◌, each, ty_of}
-use Rattle.pst_syntax.proofs.read.+read_ty.Given as goal
+use Rattle.pst_syntax.proofs.types.+read_ty.Given as goal
 
 abbrev pub decreases-read_ty : goal.decreases-read_ty
 decreases-read_ty l = 3 * l.room
